@@ -1,3 +1,2 @@
-pub mod Held
-pub mod GatheredMore
+pub mod Becoming
 pub mod WithHolds

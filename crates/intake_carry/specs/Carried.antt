@@ -1,12 +1,60 @@
--- What is carried of the SYSMODs of files.
-use Rattle.std.specs.Prelude.{Bool, List}
-use Rattle.std.specs.List.{Any}
+-- What becomes of the statements of files: the items of PTFIN and of the hold file, in order.
+use Rattle.std.specs.Prelude.{◌≡◌, Bool, List, [], ◌∷◌, ◌++◌, map, Option, Some, None, option_map, IfSome, IsPermutation}
+use Rattle.std.specs.List.Sorted.{IsSortedByKey}
+use Rattle.terms.specs.Types as terms
 use Rattle.mcs.specs.declared.file.Item.{Item}
-use Rattle.mcs.specs.declared.file.Item.TheVariants as item
+use Rattle.mcs.specs.declared.file.Item.TheVariants.{Sysmod, Assign}
+use Rattle.mcs.specs.declared.hold_item.HoldItem.{HoldItem}
 use Rattle.intake_read.specs.declared.items.WideSysmod.{WideSysmod}
+use Rattle.intake_read.specs.declared.items.WideFile.{WideFile}
 use Rattle.intake_sysmod.specs.NoLooser.{IsNoLooser}
+use Rattle.intake_carry.specs.declared.placed.PlacedItem.{PlacedItem}
+use Rattle.intake_carry.specs.Become.{Become}
+use Rattle.intake_carry.specs.Holds.{place_cmp, HoldBecomes, ReleaseBecomes}
 
--- The item is no SYSMOD, or no looser than one of these.
-abbrev pub IsCarriedOf : Bool → List WideSysmod → Item → Type 0
-IsCarriedOf decide stated (item.Sysmod s) = Any (λ w. IsNoLooser decide w s) stated
-IsCarriedOf decide stated (item.Assign a) = Unit {0}
+-- the item that a SYSMOD is, if it is carried
+abbrev pub item_in : Option terms.Sysmod → List Item
+item_in None = []
+item_in (Some s) = Sysmod s ∷ []
+
+-- its holds
+abbrev pub holds_in : Option terms.Sysmod → List terms.Hold
+holds_in None = []
+holds_in (Some s) = s.holds
+
+-- A SYSMOD is left out, or it becomes one that is no looser, with its internal holds. Its other holds are outside.
+pub record SysmodBecomes (decide : Bool) (stated : WideSysmod) (items : List Item) (outside : List PlacedItem) :
+    Type 0 where
+  pub sysmod : Option terms.Sysmod
+  pub items_are : items ≡ item_in sysmod
+  pub no_looser : IfSome sysmod (IsNoLooser decide stated)
+  pub held : Become (HoldBecomes (option_map (λ s. s.id) sysmod)) stated.holds.items (holds_in sysmod) outside
+
+-- what a file becomes: its SYSMODs, and outside of them the holds of these, other holds, and releases
+pub record FileBecomes (decide : Bool) (stated : WideFile) (items : List Item) (outside : List PlacedItem) :
+    Type 0 where
+  pub of_sysmods : List PlacedItem
+  pub holds : List PlacedItem
+  pub releases : List PlacedItem
+  pub outside_are : outside ≡ of_sysmods ++ holds ++ releases
+  pub sysmods_become : Become (SysmodBecomes decide) stated.sysmods.items items of_sysmods
+  pub holds_become : Become (HoldBecomes None) stated.holds.items [] holds
+  pub releases_become : Become ReleaseBecomes stated.releases.items [] releases
+
+-- the items by the places of their statements, from the first file to the last
+pub record AreInOrder (placed : List PlacedItem) (items : List HoldItem) : Type 0 where
+  pub ordered : List PlacedItem
+  pub same : IsPermutation placed ordered
+  pub rising : IsSortedByKey (λ p. p.place) place_cmp ordered
+  pub items_are : items ≡ map (λ p. p.item) ordered
+
+-- PTFIN has what the SYSMODs of the files become, in their order, and then assignments. The hold file has the holds and
+-- releases that are outside SYSMODs, in the order of their statements.
+pub record FilesBecome (decide : Bool) (files : List WideFile) (items : List Item) (hold_items : List HoldItem) :
+    Type 0 where
+  pub sysmods : List Item
+  pub assigns : List terms.Assign
+  pub outside : List PlacedItem
+  pub items_are : items ≡ sysmods ++ map Assign assigns
+  pub become : Become (FileBecomes decide) files sysmods outside
+  pub in_order : AreInOrder outside hold_items

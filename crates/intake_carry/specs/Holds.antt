@@ -1,23 +1,23 @@
--- What is kept of the holds and releases of a file. Their operands are those of ++HOLD and ++RELEASE in IBM z/OS SMP/E
+-- What the holds and releases of a file become. Their operands are those of ++HOLD and ++RELEASE in IBM z/OS SMP/E
 -- Reference, "SMP/E modification control statements"; FIXCAT holds hold nothing unless a command asks for them.
-use Rattle.std.specs.Prelude.{◌≡◌, ◌⊎◌, ℕ, List, [], ◌++◌, Option, Some, All, Vec}
+use Rattle.std.specs.Prelude.{◌≡◌, ℕ, Bool, false, List, [], ◌∷◌, Option, Some, IsTrue, IsFalse, Vec}
 use Rattle.std.specs.declared.alloc.Global.{Global}
-use Rattle.std.specs.List.{Any, flat_map}
+use Rattle.std.specs.declared.cmp.Ordering.{Ordering}
+use Rattle.std.specs.Ordering.{nat_cmp, ordering_then}
 use Rattle.terms.specs.declared.kinds.HoldKind.{HoldKind}
 use Rattle.terms.specs.declared.kinds.HoldKind.TheVariants as kind
 use Rattle.terms.specs.Types as terms
-use Rattle.terms.specs.Types.{Text}
+use Rattle.terms.specs.Types.{Text, Id}
 use Rattle.terms.specs.Forms.{IsClass, IsDate}
+use Rattle.intake_cards.specs.declared.place.CardPlace.{CardPlace}
 use Rattle.intake_read.specs.declared.items.WideHoldKind.{WideHoldKind}
 use Rattle.intake_read.specs.declared.items.WideHoldKind.TheVariants.{Error, System, User, Fixcat}
 use Rattle.intake_read.specs.declared.items.WideHold.{WideHold}
 use Rattle.intake_read.specs.declared.items.WideRelease.{WideRelease}
-use Rattle.intake_read.specs.declared.items.WideFile.{WideFile}
-use Rattle.mcs.specs.declared.file.Item.{Item}
-use Rattle.mcs.specs.declared.file.Item.TheVariants.{Sysmod, Assign}
 use Rattle.mcs.specs.declared.hold_item.HoldItem.{HoldItem}
 use Rattle.mcs.specs.declared.hold_item.HoldItem.TheVariants.{Hold, Release}
 use Rattle.intake_read.specs.Stated.{text_in}
+use Rattle.intake_carry.specs.declared.placed.PlacedItem.{PlacedItem}
 
 abbrev pub wide_kind : HoldKind → WideHoldKind
 wide_kind kind.Error = Error
@@ -54,47 +54,28 @@ pub record IsHold (stated : WideHold) (carried : terms.Hold) : Type 0 where
   pub class_is : IsFormed IsClass (text_in stated.class) carried.class
   pub date_is : IsFormed IsDate (text_in stated.date) carried.date
 
--- Some hold of the hold file is it. The hold file's items have their places in the files until they are in order.
-abbrev pub IsOutside : WideHold → HoldItem → Type 0
-IsOutside stated (Hold h) = IsHold stated h
-IsOutside stated (Release r) = ⊥
+-- by file, and then by card
+abbrev pub place_cmp : CardPlace → CardPlace → Ordering
+place_cmp a b = ordering_then (nat_cmp a.file b.file) (nat_cmp a.card b.card)
 
-abbrev pub IsReleasedBy : WideRelease → HoldItem → Type 0
-IsReleasedBy stated (Hold h) = ⊥
-IsReleasedBy stated (Release r) = IsRelease stated r
+-- an item of the hold file, whose statement begins there
+abbrev pub placed_at : CardPlace → HoldItem → PlacedItem
+placed_at place item = record { place = place; item = item }
 
--- It is a FIXCAT hold, or one of the SYSMOD's, or one of the hold file.
-abbrev pub IsHeldBy : List terms.Hold → List HoldItem → WideHold → Type 0
-IsHeldBy inside outside stated =
-    (stated.kind ≡ Some Fixcat) ⊎ Any (IsHold stated) inside ⊎ Any (IsOutside stated) outside
+-- The hold is internal: a SYSTEM hold on the SYSMOD that it is in. A SYSMOD that is left out has no id.
+abbrev pub IsInternal : Option Id → WideHold → Type 0
+IsInternal own stated = (stated.kind ≡ Some System) × (own ≡ Some stated.id.items)
 
--- It is a FIXCAT release, or one of the hold file.
-abbrev pub IsReleased : List HoldItem → WideRelease → Type 0
-IsReleased outside stated = (stated.kind ≡ Some Fixcat) ⊎ Any (IsReleasedBy stated) outside
+-- A FIXCAT hold becomes nothing, an internal hold one of its SYSMOD, and any other one an item of the hold file.
+pub data HoldBecomes (own : Option Id) (stated : WideHold) : List terms.Hold → List PlacedItem → Type 0 where
+  IsLeftOut : stated.kind ≡ Some Fixcat → HoldBecomes own stated [] []
+  IsInside : (hold : terms.Hold) → IsHold stated hold → IsTrue hold.internal → IsInternal own stated
+      → HoldBecomes own stated (hold ∷ []) []
+  IsOutside : (hold : terms.Hold) → IsHold stated hold → IsFalse hold.internal → (¬ IsInternal own stated)
+      → HoldBecomes own stated [] (placed_at stated.place (Hold hold) ∷ [])
 
-abbrev pub IsAHold : HoldItem → Type 0
-IsAHold (Hold h) = Unit {0}
-IsAHold (Release r) = ⊥
-
--- a hold, or a release that the files state
-abbrev pub IsStatedRelease : List WideRelease → HoldItem → Type 0
-IsStatedRelease stated (Hold h) = Unit {0}
-IsStatedRelease stated (Release r) = Any (λ w. IsRelease w r) stated
-
--- the holds of PTFIN
-abbrev pub holds_in : Item → List terms.Hold
-holds_in (Sysmod s) = s.holds
-holds_in (Assign a) = []
-
-abbrev pub holds_inside : List Item → List terms.Hold
-holds_inside items = flat_map holds_in items
-
--- the holds of a file, those in SYSMODs too
-abbrev pub stated_holds : WideFile → List WideHold
-stated_holds f = f.holds.items ++ flat_map (λ s. s.holds.items) f.sysmods.items
-
--- No hold of the files is lost, and releases are just theirs, but for FIXCAT.
-pub record AreHeld (files : List WideFile) (items : List Item) (outside : List HoldItem) : Type 0 where
-  pub held : All (λ f. All (IsHeldBy (holds_inside items) outside) (stated_holds f)) files
-  pub released : All (λ f. All (IsReleased outside) f.releases.items) files
-  pub stated : All (IsStatedRelease (flat_map (λ f. f.releases.items) files)) outside
+-- A FIXCAT release becomes nothing, and any other one an item of the hold file.
+pub data ReleaseBecomes (stated : WideRelease) : List terms.Hold → List PlacedItem → Type 0 where
+  IsNoRelease : stated.kind ≡ Some Fixcat → ReleaseBecomes stated [] []
+  IsReleased : (release : terms.Release) → IsRelease stated release
+      → ReleaseBecomes stated [] (placed_at stated.place (Release release) ∷ [])

@@ -1,3 +1,3 @@
+pub mod Become
 pub mod Carried
 pub mod Holds
-pub mod Gathered

@@ -1,9 +1,7 @@
 //! The statements of files.
-ghost use Rattle.std.specs.Prelude.{◌≡◌, ◌++◌, ◌∷◌, [], IfOk, All};
-ghost use Rattle.std.specs.List.{flat_map};
-ghost use Rattle.intake_carry.specs.Carried.{IsCarriedOf};
-ghost use Rattle.intake_carry.specs.Holds.{AreHeld};
-ghost use Rattle.intake_carry.specs.Gathered.{placed_items, item_in, AreSysmodsOf, AreFilesOf};
+ghost use Rattle.std.specs.Prelude.{◌≡◌, ◌++◌, IfOk};
+ghost use Rattle.intake_carry.specs.Become.{Become};
+ghost use Rattle.intake_carry.specs.Carried.{item_in, SysmodBecomes, FileBecomes, FilesBecome};
 
 use crate::assigns::{assigns_of, with_assigns};
 use crate::copies::OtherCopies;
@@ -30,8 +28,7 @@ pub(crate) struct CarriedItems {
 // With what becomes of one SYSMOD more.
 fn with_part(gathered: CarriedItems, part: CarriedPart) -> Result<CarriedItems, AllocError>
     ensures items { IfOk result (λ all. all.items.items ≡ gathered.items.items ++ item_in part.sysmod) }
-    ensures outside { IfOk result (λ all. placed_items all.outside.items
-        ≡ placed_items gathered.outside.items ++ placed_items part.outside.items) }
+    ensures outside { IfOk result (λ all. all.outside.items ≡ gathered.outside.items ++ part.outside.items) }
 {
     let mut items = gathered.items;
     let mut outside = gathered.outside;
@@ -51,8 +48,8 @@ fn sysmods_of(
     remarks: &mut Remarks,
     file: &WideFile,
 ) -> Result<CarriedItems, HoldError>
-    ensures { IfOk result (λ all. AreSysmodsOf options.now.decide file.now.sysmods.items all.items.items
-        (placed_items all.outside.items)) }
+    ensures { IfOk result (λ all. Become (SysmodBecomes options.now.decide) file.now.sysmods.items all.items.items
+        all.outside.items) }
 {
     let mut gathered = CarriedItems {
         items: Vec::new(alloc),
@@ -68,8 +65,7 @@ fn sysmods_of(
 // These items, then those of others.
 fn joined(one: CarriedItems, other: CarriedItems) -> Result<CarriedItems, AllocError>
     ensures items { IfOk result (λ all. all.items.items ≡ one.items.items ++ other.items.items) }
-    ensures outside { IfOk result (λ all. placed_items all.outside.items
-        ≡ placed_items one.outside.items ++ placed_items other.outside.items) }
+    ensures outside { IfOk result (λ all. all.outside.items ≡ one.outside.items ++ other.outside.items) }
 {
     let mut items = one.items;
     let mut outside = one.outside;
@@ -83,8 +79,7 @@ fn joined(one: CarriedItems, other: CarriedItems) -> Result<CarriedItems, AllocE
 // With these holds and releases in the hold file.
 fn with_outside(gathered: CarriedItems, more: Vec<PlacedItem>) -> Result<CarriedItems, AllocError>
     ensures items { IfOk result (λ all. all.items.items ≡ gathered.items.items) }
-    ensures outside { IfOk result (λ all. placed_items all.outside.items
-        ≡ placed_items gathered.outside.items ++ placed_items more.items) }
+    ensures outside { IfOk result (λ all. all.outside.items ≡ gathered.outside.items ++ more.items) }
 {
     let items = gathered.items;
     let mut outside = gathered.outside;
@@ -101,8 +96,7 @@ fn of_file(
     remarks: &mut Remarks,
     file: &WideFile,
 ) -> Result<CarriedItems, HoldError>
-    ensures { IfOk result (λ all. AreFilesOf options.now.decide (file.now ∷ []) all.items.items
-        (placed_items all.outside.items)) }
+    ensures { IfOk result (λ all. FileBecomes options.now.decide file.now all.items.items all.outside.items) }
 {
     tell_notes(alloc, remarks, file.notes.as_slice())?;
     tell_swallowed(alloc, remarks, file.swallowed.as_slice())?;
@@ -123,8 +117,8 @@ fn of_files(
     remarks: &mut Remarks,
     files: &[WideFile],
 ) -> Result<CarriedItems, HoldError>
-    ensures { IfOk result (λ all. AreFilesOf options.now.decide files.now all.items.items
-        (placed_items all.outside.items)) }
+    ensures { IfOk result (λ all. Become (FileBecomes options.now.decide) files.now all.items.items
+        all.outside.items) }
 {
     let mut gathered = CarriedItems {
         items: Vec::new(alloc),
@@ -152,13 +146,12 @@ fn are_refused(
     Ok(any)
 }
 
-/// What the files state, as RECEIVE takes it: each SYSMOD that is carried is no looser than one of the files, and no
-/// ERROR, SYSTEM or USER hold is lost. All else is told in the remarks. `Refused` comes, with all remarks, where a hold
-/// or a release of such a kind can't be said, and `Memory` where memory runs out.
+/// What the files state, as RECEIVE takes it, in the order of the files: each SYSMOD that is carried is no looser than
+/// it is stated, and no ERROR, SYSTEM or USER hold or release is lost. The remarks tell all else. Returns `Refused`,
+/// with all remarks, if a hold or a release of such a kind cannot be carried, and `Memory` if memory runs out.
 pub fn narrow(alloc: Global, files: &[WideFile], options: Options) -> Result<Narrowed, NarrowError>
-    ensures no_looser { IfOk result (λ narrowed. All
-        (IsCarriedOf options.decide (flat_map (λ f. f.sysmods.items) files.now)) narrowed.items.items) }
-    ensures held { IfOk result (λ narrowed. AreHeld files.now narrowed.items.items narrowed.hold_items.items) }
+    ensures { IfOk result (λ narrowed. FilesBecome options.decide files.now narrowed.items.items
+        narrowed.hold_items.items) }
 {
     let mut options = options;
     options.sort();

@@ -1,10 +1,10 @@
 //! `++HOLD` and `++RELEASE`.
-ghost use Rattle.std.specs.Prelude.{◌≡◌, Some, IfOk, IfSome, IfNone, IsTrue};
+ghost use Rattle.std.specs.Prelude.{◌≡◌, ◌↔◌, Some, IfOk, IfSome, IfNone, IsTrue};
 ghost use Rattle.terms.specs.declared.kinds.HoldKind.TheVariants.{System};
 ghost use Rattle.terms.specs.Forms.{IsClass, IsDate, IsReason};
 ghost use Rattle.intake_read.specs.declared.items.WideHoldKind.TheVariants.{Fixcat};
 ghost use Rattle.intake_read.specs.Stated.{text_in};
-ghost use Rattle.intake_carry.specs.Holds.{wide_kind, IsFormed, IsKey, IsHoldKey, IsHold, IsRelease};
+ghost use Rattle.intake_carry.specs.Holds.{wide_kind, IsFormed, IsKey, IsHoldKey, IsHold, IsInternal, IsRelease};
 
 use crate::comment::comment_of;
 use crate::errors::HoldError;
@@ -233,6 +233,14 @@ fn is_internal(key: &Release, own: Option<Id>) -> bool
     key.kind == HoldKind::System && own == Some(key.id)
 }
 
+// The same of the hold of the file.
+fn stays_inside(stated: &WideHold, key: &Release, own: Option<Id>) -> bool
+    requires { IsHoldKey stated.now key.now }
+    ensures { IsTrue result ↔ IsInternal own stated.now }
+{
+    is_internal(key, own)
+}
+
 // Tells that it is left out, since it is of FIXCAT.
 fn tell_fixcat(
     alloc: Global,
@@ -271,7 +279,7 @@ pub(crate) fn carried_hold(
 ) -> Result<Option<Hold>, HoldError>
     ensures some { IfOk result (λ found. IfSome found (IsHold stated.now)) }
     ensures internal { IfOk result (λ found. IfSome found (λ hold. IsTrue hold.internal
-        → (hold.kind ≡ System) × (own ≡ Some hold.id))) }
+        ↔ IsInternal own stated.now)) }
     ensures none { IfOk result (λ found. IfNone found (stated.now.kind ≡ Some Fixcat)) }
 {
     let subject = Subject {
@@ -293,7 +301,7 @@ pub(crate) fn carried_hold(
         stated.dropped.as_slice(),
         stated.odd.as_slice(),
     )?;
-    let internal = is_internal(&key, own);
+    let internal = stays_inside(stated, &key, own);
     Ok(Some(hold_of(alloc, remarks, &subject, stated, key, internal)?))
 }
 

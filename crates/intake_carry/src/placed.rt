@@ -1,8 +1,10 @@
 //! Holds and releases of the hold file, in the order of the files.
-ghost use Rattle.std.specs.Prelude.{◌≡◌, ◌∷◌, ◌++◌, [], IfOk, OnOk, All, IsPermutation};
+ghost use Rattle.std.specs.Prelude.{◌≡◌, ◌∷◌, ◌++◌, [], IfOk, OnOk, None, map, IsPermutation};
+ghost use Rattle.std.specs.List.Sorted.{IsSortedByKey};
 ghost use Rattle.mcs.specs.declared.hold_item.HoldItem.TheVariants.{Hold as AHold, Release as ARelease};
-ghost use Rattle.intake_carry.specs.Holds.{IsHeldBy, IsAHold, IsReleased, IsStatedRelease};
-ghost use Rattle.intake_carry.specs.Gathered.{placed_items};
+ghost use Rattle.intake_carry.specs.Become.{Become};
+ghost use Rattle.intake_carry.specs.Holds.{placed_at, place_cmp, HoldBecomes, ReleaseBecomes};
+ghost use Rattle.intake_carry.specs.Carried.{AreInOrder};
 
 use crate::errors::HoldError;
 use crate::holds::{carried_hold, carried_release};
@@ -25,7 +27,7 @@ pub(crate) fn put_outside(
     place: CardPlace,
     hold: Hold,
 ) -> Result<(), AllocError>
-    ensures { OnOk result (placed_items placed.new.items ≡ placed_items placed.old.items ++ AHold hold ∷ []) }
+    ensures { OnOk result (placed.new.items ≡ placed.old.items ++ placed_at place (AHold hold) ∷ []) }
 {
     placed.push(PlacedItem {
         place,
@@ -40,7 +42,7 @@ fn put_release(
     place: CardPlace,
     release: Release,
 ) -> Result<(), AllocError>
-    ensures { OnOk result (placed_items placed.new.items ≡ placed_items placed.old.items ++ ARelease release ∷ []) }
+    ensures { OnOk result (placed.new.items ≡ placed.old.items ++ placed_at place (ARelease release) ∷ []) }
 {
     placed.push(PlacedItem {
         place,
@@ -55,8 +57,7 @@ pub(crate) fn placed_holds(
     remarks: &mut Remarks,
     stated: &[WideHold],
 ) -> Result<Vec<PlacedItem>, HoldError>
-    ensures held { IfOk result (λ placed. All (IsHeldBy [] (placed_items placed.items)) stated.now) }
-    ensures holds { IfOk result (λ placed. All IsAHold (placed_items placed.items)) }
+    ensures { IfOk result (λ placed. Become (HoldBecomes None) stated.now [] placed.items) }
 {
     let mut placed = Vec::with_capacity(alloc, stated.len())?;
     for hold in stated {
@@ -74,8 +75,7 @@ pub(crate) fn placed_releases(
     remarks: &mut Remarks,
     stated: &[WideRelease],
 ) -> Result<Vec<PlacedItem>, HoldError>
-    ensures released { IfOk result (λ placed. All (IsReleased (placed_items placed.items)) stated.now) }
-    ensures stated { IfOk result (λ placed. All (IsStatedRelease stated.now) (placed_items placed.items)) }
+    ensures { IfOk result (λ placed. Become ReleaseBecomes stated.now [] placed.items) }
 {
     let mut placed = Vec::with_capacity(alloc, stated.len())?;
     for release in stated {
@@ -89,7 +89,8 @@ pub(crate) fn placed_releases(
 
 // By their places.
 fn by_place(mut placed: Vec<PlacedItem>) -> Vec<PlacedItem>
-    ensures { IsPermutation placed.items result.items }
+    ensures same { IsPermutation placed.items result.items }
+    ensures rising { IsSortedByKey (λ one. one.place) place_cmp result.items }
 {
     placed.sort_unstable_by_key(|one| one.place);
     placed
@@ -97,7 +98,7 @@ fn by_place(mut placed: Vec<PlacedItem>) -> Vec<PlacedItem>
 
 // The items without their places.
 fn items_of(alloc: Global, placed: Vec<PlacedItem>) -> Result<Vec<HoldItem>, AllocError>
-    ensures { IfOk result (λ items. items.items ≡ placed_items placed.items) }
+    ensures { IfOk result (λ items. items.items ≡ map (λ one. one.item) placed.items) }
 {
     let mut items = Vec::with_capacity(alloc, placed.len())?;
     for one in placed {
@@ -108,7 +109,7 @@ fn items_of(alloc: Global, placed: Vec<PlacedItem>) -> Result<Vec<HoldItem>, All
 
 /// The items in the order of the files.
 pub(crate) fn in_order(alloc: Global, placed: Vec<PlacedItem>) -> Result<Vec<HoldItem>, AllocError>
-    ensures { IfOk result (λ items. IsPermutation (placed_items placed.items) items.items) }
+    ensures { IfOk result (λ items. AreInOrder placed.items items.items) }
 {
     let items = items_of(alloc, by_place(placed))?;
     Ok(items)

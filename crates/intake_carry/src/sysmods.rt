@@ -1,10 +1,11 @@
 //! SYSMODs with their holds.
-ghost use Rattle.std.specs.Prelude.{◌≡◌, [], IfOk, IfSome, OnOk, IsTrue, All};
+ghost use Rattle.std.specs.Prelude.{◌≡◌, ◌++◌, ◌∷◌, [], IfOk, IfSome, OnOk, IsTrue, IsFalse, Some, option_map};
 ghost use Rattle.terms.specs.declared.kinds.HoldKind.TheVariants.{System};
-ghost use Rattle.intake_read.specs.declared.items.WideHold.{WideHold as AnyWideHold};
-ghost use Rattle.intake_carry.specs.Holds.{IsHold, IsHeldBy, IsAHold, holds_inside};
 ghost use Rattle.intake_sysmod.specs.NoLooser.{IsNoLooser};
-ghost use Rattle.intake_carry.specs.Gathered.{placed_items, item_in, IsPartOf};
+ghost use Rattle.intake_carry.specs.Become.{Become};
+ghost use Rattle.mcs.specs.declared.hold_item.HoldItem.TheVariants.{Hold as AHold};
+ghost use Rattle.intake_carry.specs.Holds.{placed_at, HoldBecomes};
+ghost use Rattle.intake_carry.specs.Carried.{item_in, holds_in, SysmodBecomes};
 
 use crate::copies::OtherCopies;
 use crate::errors::HoldError;
@@ -40,13 +41,11 @@ fn put_hold(
     hold: Hold,
 ) -> Result<(), AllocError>
     requires { IsTrue hold.internal → (hold.kind ≡ System) × (hold.id ≡ sysmod.old.id) }
-    ensures same { OnOk result (sysmod.new ≡ record sysmod.old { holds = sysmod.new.holds }) }
-    ensures held { OnOk result ((w : AnyWideHold) → IsHold w hold
-        → IsHeldBy sysmod.new.holds (placed_items outside.new.items) w) }
-    ensures kept { OnOk result ((w : AnyWideHold) → IsHeldBy sysmod.old.holds (placed_items outside.old.items) w
-        → IsHeldBy sysmod.new.holds (placed_items outside.new.items) w) }
-    ensures outside { OnOk result (All IsAHold (placed_items outside.old.items)
-        → All IsAHold (placed_items outside.new.items)) }
+    ensures inside { OnOk result (IsTrue hold.internal
+        → (sysmod.new ≡ record sysmod.old { holds = sysmod.old.holds ++ hold ∷ [] })
+        × (outside.new.items ≡ outside.old.items)) }
+    ensures outside { OnOk result (IsFalse hold.internal → (sysmod.new ≡ sysmod.old)
+        × (outside.new.items ≡ outside.old.items ++ placed_at place (AHold hold) ∷ [])) }
 {
     if hold.internal {
         sysmod.push_hold(hold)?;
@@ -89,10 +88,10 @@ fn put_holds(
     stated: &WideSysmod,
     sysmod: &mut Sysmod,
 ) -> Result<Vec<PlacedItem>, HoldError>
+    requires { sysmod.old.holds ≡ [] }
     ensures same { OnOk result (sysmod.new ≡ record sysmod.old { holds = sysmod.new.holds }) }
-    ensures held { IfOk result (λ outside. All (IsHeldBy sysmod.new.holds (placed_items outside.items))
-        stated.now.holds.items) }
-    ensures outside { IfOk result (λ outside. All IsAHold (placed_items outside.items)) }
+    ensures held { IfOk result (λ outside. Become (HoldBecomes (Some sysmod.old.id)) stated.now.holds.items
+        sysmod.new.holds outside.items) }
 {
     let own = id_in(sysmod);
     let mut outside = Vec::new(alloc);
@@ -157,10 +156,10 @@ fn carried_part(
     stated: &WideSysmod,
     mut sysmod: Sysmod,
 ) -> Result<CarriedPart, HoldError>
+    requires { sysmod.holds ≡ [] }
     ensures same { IfOk result (λ part. IfSome part.sysmod (λ s. s ≡ record sysmod { holds = s.holds })) }
-    ensures held { IfOk result (λ part. All
-        (IsHeldBy (holds_inside (item_in part.sysmod)) (placed_items part.outside.items)) stated.now.holds.items) }
-    ensures outside { IfOk result (λ part. All IsAHold (placed_items part.outside.items)) }
+    ensures held { IfOk result (λ part. Become (HoldBecomes (option_map (λ s. s.id) part.sysmod)) stated.now.holds.items
+        (holds_in part.sysmod) part.outside.items) }
 {
     tell_later_holds(alloc, remarks, stated)?;
     let outside = put_holds(alloc, remarks, stated, &mut sysmod)?;
@@ -206,7 +205,8 @@ pub(crate) fn part_of(
     remarks: &mut Remarks,
     stated: &WideSysmod,
 ) -> Result<CarriedPart, HoldError>
-    ensures { IfOk result (IsPartOf options.now.decide stated.now) }
+    ensures { IfOk result (λ part. SysmodBecomes options.now.decide stated.now (item_in part.sysmod)
+        part.outside.items) }
 {
     let Some(sysmod) = carried_copy(alloc, options, copies, remarks, stated)? else {
         let holds = stated.holds.as_slice();

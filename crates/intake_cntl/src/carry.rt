@@ -2,10 +2,9 @@
 
 use crate::command_remarks::{CommandRemarks, RemarkWords};
 use crate::group_extend::with_excluded;
-use crate::known::KnownSysmod;
-use crate::scan::{CommandEnd, WideCommand, words_in};
-use crate::spelled::{CarriedCommand, OperandForm, Spelled, command_of, is_dropped, spelling_of};
+use crate::spelled::{CarriedCommand, OperandForm, Spelled, command_of, spelling_of};
 use fields::{Class, Id, Reason as HoldReason, Source, ZoneName};
+use intake_asked::{CommandEnd, KnownSysmod, WideCommand, is_no_decision};
 use intake_cards::{Deed, RemarkReason};
 use intake_read::{CardPlace, WideOperand};
 use std::alloc::{AllocError, Global};
@@ -61,7 +60,7 @@ pub(crate) fn carry_command(
     if !is_whole(alloc, told, wide)? {
         return Ok(None);
     }
-    if is_dropped(head) {
+    if is_no_decision(head) {
         tell_command(alloc, told, wide, Deed::Dropped, RemarkReason::NoDecision)?;
         return Ok(None);
     }
@@ -75,7 +74,7 @@ pub(crate) fn carry_command(
     if wide.is_behind {
         tell_command(alloc, told, wide, Deed::Carried, RemarkReason::OwnCard)?;
     }
-    let operands = carried_operands(alloc, told, &command, known, &wide.operands)?;
+    let operands = carried_operands(alloc, told, &command, known, wide)?;
     Ok(Some(Carried {
         place: wide.place,
         word: command.word,
@@ -136,13 +135,16 @@ fn carried_operands<'a>(
     told: &mut CommandRemarks,
     command: &'a CarriedCommand,
     known: Option<&'a [KnownSysmod]>,
-    operands: &'a [WideOperand],
+    wide: &'a WideCommand,
 ) -> Result<Vec<CarriedOperand>, AllocError> {
     let mut carried: Vec<CarriedOperand> = Vec::new(alloc);
+    let operands = wide.operands.as_slice();
+    let bypassed = wide.bypassed.as_slice();
     for operand in operands {
         let asked = AskedOperand {
             command,
             operand,
+            bypassed,
             known,
         };
         let Some(one) = carried_operand(alloc, told, &asked)? else {
@@ -159,6 +161,7 @@ fn carried_operands<'a>(
         let asked = AskedOperand {
             command,
             operand,
+            bypassed,
             known,
         };
         if asked.form() == Some(OperandForm::GroupExtend) && operand.value.is_some() {
@@ -178,6 +181,8 @@ pub(crate) fn has_word(operands: &[CarriedOperand], word: &[u8]) -> bool {
 pub(crate) struct AskedOperand<'a> {
     command: &'a CarriedCommand,
     pub(crate) operand: &'a WideOperand,
+    /// The words of BYPASS's list.
+    bypassed: &'a [WideOperand],
     pub(crate) known: Option<&'a [KnownSysmod]>,
 }
 
@@ -424,16 +429,11 @@ fn bypass(
     list: &[u8],
 ) -> Result<Option<Value>, AllocError> {
     let mut members: Vec<CarriedMember> = Vec::new(alloc);
-    let words = words_in(alloc, list, asked.operand.place)?;
-    if words.is_empty() {
+    if asked.bypassed.is_empty() {
         asked.refuse(alloc, told, list, RemarkReason::Missing)?;
     }
-    for word in &words {
-        let asked = AskedOperand {
-            command: asked.command,
-            operand: word,
-            known: asked.known,
-        };
+    for operand in asked.bypassed {
+        let asked = AskedOperand { operand, ..*asked };
         let Some(member) = carried_member(alloc, told, &asked)? else {
             continue;
         };
@@ -516,6 +516,7 @@ fn with_group<'a>(
     let asked = AskedOperand {
         command,
         operand,
+        bypassed: &[],
         known: None,
     };
     carried.retain(|operand| operand.word != b"GROUP".as_slice());

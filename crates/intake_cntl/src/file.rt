@@ -1,14 +1,14 @@
 //! Whole command files.
 ghost use Rattle.std.specs.Prelude.{List, IfOk, IfSome};
+ghost use Rattle.intake_asked.specs.Said.{AreSaid};
 ghost use Rattle.terms.specs.Types as terms;
 ghost use Rattle.terms.specs.Commands.{IsCommandFile};
 
 use crate::carry::{Carried, carry_command};
 use crate::command_remarks::{CommandRemarks, RemarkWords};
-use crate::known::KnownSysmod;
 use crate::print::put_command;
-use crate::scan::{WideCommand, wide_commands};
-use cntl::{CntlError, read_cntl};
+use cntl::{CntlError, Command, read_cntl};
+use intake_asked::{CommandComment, KnownSysmod, WideCommand, WideCommands, are_said, says};
 use intake_cards::{Deed, PrintedCards, Remark, RemarkReason, Tail};
 use intake_read::{Card, CardPlace};
 use std::alloc::{AllocError, Global};
@@ -27,35 +27,61 @@ pub struct CommandFile {
     pub others: usize,
 }
 
-/// The command file as records that are read here, or every word that keeps it from that. `known` are the SYSMODs that
-/// are known. Returns an error if memory runs out.
+/// The commands of these cards as records that say just what they ask for, or every word that keeps them from that.
+/// `known` are the SYSMODs that are known. Returns an error if memory runs out.
 pub fn command_file(
     alloc: Global,
     cards: &[Card],
-    known: Option<&[KnownSysmod]>,
+    wide: &WideCommands,
+    known: &Option<Vec<KnownSysmod>>,
 ) -> Result<CommandFile, AllocError>
-    ensures { IfOk result (λ file. IfSome file.bytes (λ bytes. (cs : List terms.Command)
-        × IsCommandFile bytes.items cs)) }
+    ensures { IfOk result (λ file. IfSome file.bytes (λ bytes. (commands : List terms.Command)
+        × IsCommandFile bytes.items commands × AreSaid known.now wide.now.commands.items commands)) }
 {
     let mut told = CommandRemarks::new(alloc);
-    let mut bytes = Vec::new(alloc);
-    let mut count = 0usize;
-    let mut others = 0usize;
-    let wide_commands = wide_commands(alloc, cards)?;
-    tell_cards(alloc, &mut told, cards, &wide_commands.cut)?;
-    for wide in &wide_commands.commands {
-        if append(alloc, &mut told, &mut bytes, known, wide)? {
-            count = count.saturating_add(1);
+    tell_cards(alloc, &mut told, cards, &wide.cut)?;
+    tell_comments(alloc, &mut told, &wide.comments)?;
+    let made = records_of(alloc, &mut told, wide.commands.as_slice(), known)?;
+    let bytes = if told.refusals > 0 {
+        None
+    } else {
+        read_back(alloc, made.bytes, wide.commands.as_slice(), known)?
+    };
+    Ok(CommandFile {
+        bytes,
+        remarks: told.remarks,
+        carried: made.carried,
+        others: made.others,
+    })
+}
+
+/// The records of commands, and how many of these there are.
+#[derive(Drop)]
+struct CommandRecords {
+    bytes: Vec<u8>,
+    carried: usize,
+    others: usize,
+}
+
+fn records_of(
+    alloc: Global,
+    told: &mut CommandRemarks,
+    commands: &[WideCommand],
+    known: &Option<Vec<KnownSysmod>>,
+) -> Result<CommandRecords, AllocError> {
+    let mut made = CommandRecords {
+        bytes: Vec::new(alloc),
+        carried: 0,
+        others: 0,
+    };
+    for wide in commands {
+        if append(alloc, told, &mut made.bytes, known, wide)? {
+            made.carried = made.carried.saturating_add(1);
         } else {
-            others = others.saturating_add(1);
+            made.others = made.others.saturating_add(1);
         }
     }
-    Ok(CommandFile {
-        bytes: read_back(alloc, bytes, told.refusals > 0)?,
-        remarks: told.remarks,
-        carried: count,
-        others,
-    })
+    Ok(made)
 }
 
 // Tells the texts of columns 73 to 80, and the cards that are cut.
@@ -91,6 +117,29 @@ fn tell_cards(
     Ok(())
 }
 
+// Tells what stands in comments inside commands, from the second card on, where each comment opens.
+fn tell_comments(
+    alloc: Global,
+    told: &mut CommandRemarks,
+    comments: &[CommandComment],
+) -> Result<(), AllocError> {
+    for comment in comments {
+        let words = RemarkWords {
+            command: comment.command.as_slice(),
+            operand: b"",
+            text: comment.text.as_slice(),
+        };
+        told.tell(
+            alloc,
+            comment.place,
+            words,
+            Deed::Dropped,
+            RemarkReason::StatementInComment,
+        )?;
+    }
+    Ok(())
+}
+
 fn tell_card(
     alloc: Global,
     told: &mut CommandRemarks,
@@ -113,11 +162,15 @@ fn append(
     alloc: Global,
     told: &mut CommandRemarks,
     bytes: &mut Vec<u8>,
-    known: Option<&[KnownSysmod]>,
+    known: &Option<Vec<KnownSysmod>>,
     wide: &WideCommand,
 ) -> Result<bool, AllocError> {
     let before = told.refusals;
-    let Some(command) = carry_command(alloc, told, known, wide)? else {
+    let listed = match known {
+        Some(known) => Some(known.as_slice()),
+        None => None,
+    };
+    let Some(command) = carry_command(alloc, told, listed, wide)? else {
         return Ok(false);
     };
     if told.refusals != before {
@@ -127,20 +180,60 @@ fn append(
     put_command(alloc, &mut cards, &command)?;
     let records = cards.into_bytes()?;
     let reason = match read_cntl(alloc, &records) {
-        Ok(_) => {
-            bytes.extend_from_slice(&records)?;
-            return Ok(true);
+        Ok(read) => {
+            if is_said(alloc, known, wide, read.as_slice())? {
+                bytes.extend_from_slice(&records)?;
+                return Ok(true);
+            }
+            RemarkReason::NotRead
         }
         Err(CntlError::Memory) => return Err(AllocError),
         Err(CntlError::Fault { code, .. }) => reason_of(&command, code),
     };
+    tell_unread(alloc, told, &command, reason)?;
+    Ok(false)
+}
+
+// Names a command whose records are not read as it is, with the operand that it must have and has not.
+fn tell_unread(
+    alloc: Global,
+    told: &mut CommandRemarks,
+    command: &Carried,
+    reason: RemarkReason,
+) -> Result<(), AllocError> {
+    let operand = match reason {
+        RemarkReason::Missing => needed_by(command.word),
+        _ => b"",
+    };
     let words = RemarkWords {
         command: command.word,
-        operand: b"",
+        operand,
         text: b"",
     };
-    told.tell(alloc, command.place, words, Deed::Refused, reason)?;
-    Ok(false)
+    told.tell(alloc, command.place, words, Deed::Refused, reason)
+}
+
+// The operand that the command can't be without.
+fn needed_by(command: &[u8]) -> &'static [u8] {
+    match command {
+        b"SET" => b"BOUNDARY",
+        b"REJECT" => b"SELECT",
+        b"REPORT" => b"ERRSYSMODS",
+        _ => b"",
+    }
+}
+
+// Whether what was read is one command, which says just what this one asks for.
+fn is_said(
+    alloc: Global,
+    known: &Option<Vec<KnownSysmod>>,
+    wide: &WideCommand,
+    read: &[Command],
+) -> Result<bool, AllocError> {
+    match read {
+        [said] => says(alloc, known, wide, said),
+        _ => Ok(false),
+    }
 }
 
 // Why a command of known words is not read.
@@ -154,16 +247,23 @@ fn reason_of(command: &Carried, code: CommandCode) -> RemarkReason {
     }
 }
 
-// The records, where nothing keeps them from being read.
-fn read_back(alloc: Global, bytes: Vec<u8>, is_refused: bool) -> Result<Option<Vec<u8>>, AllocError>
-    ensures { IfOk result (λ read. IfSome read (λ bytes. (cs : List terms.Command) × IsCommandFile bytes.items cs)) }
+// The records, if they are read as commands that say just what these ask for.
+fn read_back(
+    alloc: Global,
+    bytes: Vec<u8>,
+    wide: &[WideCommand],
+    known: &Option<Vec<KnownSysmod>>,
+) -> Result<Option<Vec<u8>>, AllocError>
+    ensures { IfOk result (λ read. IfSome read (λ bytes. (commands : List terms.Command)
+        × IsCommandFile bytes.items commands × AreSaid known.now wide.now commands)) }
 {
-    if is_refused {
+    let said = match read_cntl(alloc, &bytes) {
+        Ok(said) => said,
+        Err(CntlError::Memory) => return Err(AllocError),
+        Err(CntlError::Fault { .. }) => return Ok(None),
+    };
+    if !are_said(alloc, known, wide, said.as_slice())? {
         return Ok(None);
     }
-    match read_cntl(alloc, &bytes) {
-        Ok(_) => Ok(Some(bytes)),
-        Err(CntlError::Memory) => Err(AllocError),
-        Err(CntlError::Fault { .. }) => Ok(None),
-    }
+    Ok(Some(bytes))
 }

@@ -2,7 +2,7 @@
 
 use crate::carry::{AskedOperand, CarriedOperand, MOST, Value, has_word, put_once};
 use crate::command_remarks::CommandRemarks;
-use crate::known::KnownSysmod;
+use intake_asked::KnownSysmod;
 use intake_cards::{Deed, RemarkReason};
 use std::alloc::{AllocError, Global};
 use terms::Kind;
@@ -16,7 +16,7 @@ const KEPT_OUT: &[KeptOut] = &[
 ];
 
 /// The operands, with the known SYSMODs of each type that GROUPEXTEND keeps out in EXCLUDE. It keeps those that SELECT
-/// names.
+/// or GROUP names.
 pub(crate) fn with_excluded(
     alloc: Global,
     told: &mut CommandRemarks,
@@ -55,7 +55,7 @@ pub(crate) fn with_excluded(
     Ok(carried)
 }
 
-// Puts the ids of the SYSMODs of the type, but for those that SELECT names, into the list.
+// Puts the ids of the SYSMODs of the type, but for those that SELECT or GROUP names, into the list.
 fn put_of_kind(
     alloc: Global,
     known: &[KnownSysmod],
@@ -74,9 +74,10 @@ fn put_of_kind(
 
 fn is_selected(carried: &[CarriedOperand], id: &[u8]) -> bool {
     for operand in carried {
-        if operand.word == b"SELECT".as_slice() {
-            if let Value::List(ids) = &operand.value {
-                return ids.iter().any(|other| other.as_slice() == id);
+        let selects = operand.word == b"SELECT".as_slice() || operand.word == b"GROUP".as_slice();
+        if let Value::List(ids) = &operand.value {
+            if selects && ids.iter().any(|other| other.as_slice() == id) {
+                return true;
             }
         }
     }

@@ -1,6 +1,7 @@
 //! A shop's command file as one that the program reads.
 //! Words that SMP/E abbreviates are spelled out, words that change no decision are dropped, each with a remark, and
-//! every other word that the profile lacks is named; then there is no file. If there is one, `cntl` has read it.
+//! every other word that the profile lacks is named; then there is no file. If there is one, `cntl` has read it as
+//! commands that say just what the shop's commands ask for.
 //! Every call that allocates fails with `AllocError` if memory runs out.
 #![tactic(auto)]
 
@@ -8,11 +9,7 @@ mod carry;
 mod command_remarks;
 mod file;
 mod group_extend;
-mod known;
 mod print;
-mod scan;
 mod spelled;
 
 pub use file::{CommandFile, command_file};
-pub use known::{KnownList, KnownSysmod, read_known};
-pub use scan::{CommandEnd, WideCommand, WideCommands, wide_commands};

@@ -189,9 +189,6 @@ const COMMANDS: &[(&[u8], &[Row], &[Row])] = &[
     (b"REPORT", REPORT, NO_MEMBERS),
 ];
 
-/// Commands that change no decision: return codes keep no command from running here, and there is no log.
-const DROPPED: &[&[u8]] = &[b"RESETRC", b"LOG", b"DEBUG"];
-
 /// The command of this word, where it is carried.
 pub(crate) fn command_of(word: &[u8]) -> Option<CarriedCommand> {
     for (known, operands, members) in COMMANDS {
@@ -204,16 +201,6 @@ pub(crate) fn command_of(word: &[u8]) -> Option<CarriedCommand> {
         }
     }
     None
-}
-
-/// Whether the command of this word changes no decision.
-pub(crate) fn is_dropped(word: &[u8]) -> bool {
-    for dropped in DROPPED {
-        if *dropped == word {
-            return true;
-        }
-    }
-    false
 }
 
 /// How the word is spelled, where it is one of these.

@@ -1,29 +1,25 @@
 -- What was kept is what narrowing made, under the names that the call had for it.
-use Rattle.std.proofs.Common.{◌≡◌, Bool, List, All, subst}
-use Rattle.std.specs.List.{flat_map}
+use Rattle.std.proofs.Common.{◌≡◌, Bool, List, subst}
 use Rattle.terms.specs.Types.{Text}
 use Rattle.mcs.specs.Files as ptfin
 use Rattle.mcs.specs.HoldItems as hold
 use Rattle.mcs.specs.declared.file.Item.{Item}
 use Rattle.mcs.specs.declared.hold_item.HoldItem.{HoldItem}
 use Rattle.intake_read.specs.declared.items.WideFile.{WideFile}
-use Rattle.intake_carry.specs.Carried.{IsCarriedOf}
-use Rattle.intake_carry.specs.Holds.{AreHeld}
+use Rattle.intake_carry.specs.Carried.{FilesBecome}
 use Rattle.intake_command.specs.declared.surroundings.IntakeHost.{Ghosts}
 use Rattle.intake_command.specs.Keeping.{KeepsService}
 use Rattle.intake_command.specs.Serving.{ServesFiles}
 
 pub served : {H : Type 0} (host : Ghosts H) (decide : Bool) (lent folder : Text) (files : List WideFile)
     (given items : List Item) (held outside : List HoldItem) (before after : H)
-    → lent ≡ folder → given ≡ items → held ≡ outside
-    → All (IsCarriedOf decide (flat_map (λ f. f.sysmods.items) files)) items → AreHeld files items outside
+    → lent ≡ folder → given ≡ items → held ≡ outside → FilesBecome decide files items outside
     → KeepsService host before lent (ptfin.items given) (hold.items held) after → ServesFiles host decide folder
-served host decide lent folder files given items held outside before after f a b no_looser are_held kept = record {
+served host decide lent folder files given items held outside before after f a b become kept = record {
   files = files;
   items = items;
   outside = outside;
-  no_looser = no_looser;
-  held = are_held;
+  become = become;
   before = before;
   after = after;
   kept = subst (λ t. KeepsService host before t (ptfin.items items) (hold.items outside) after) f

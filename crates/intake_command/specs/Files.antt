@@ -1,8 +1,30 @@
 -- The files of the folder.
-use Rattle.std.specs.Prelude.{ℕ, List, Option, option_map}
+use Rattle.std.specs.Prelude.{ℕ, List, [], ◌∷◌, ◌++◌, Option, None, option_map, map, codes, IsTrue, All}
+use Rattle.std.specs.List.{flat_map}
 use Rattle.terms.specs.Types.{Text}
+use Rattle.terms.specs.Lookups.{is_in}
 use Rattle.intake_command.specs.declared.files.Named.{Named}
+use Rattle.intake_command.specs.Acts.{FolderFiles}
 
 -- a file's name, and its bytes, if it is to be there
 abbrev pub named : Named → Text × Option (List ℕ)
 named file = (file.name.now, option_map (λ bytes. bytes.items) file.bytes)
+
+-- the files that a run may write
+abbrev pub outputs : List Text
+outputs = codes "ptfin" ∷ codes "hold" ∷ codes "stand-ins" ∷ codes "remarks" ∷ codes "cntl" ∷ codes "cntl.remarks" ∷ []
+
+-- Each has a path, and another one until all are there.
+abbrev pub paths_of : Text → Text → List Text
+paths_of folder name = (folder ++ codes "/" ++ name) ∷ (folder ++ codes "/" ++ name ++ codes ".new") ∷ []
+
+abbrev pub output_paths : Text → List Text
+output_paths folder = flat_map (paths_of folder) outputs
+
+-- none of the files that a run may write
+abbrev pub no_outputs : FolderFiles
+no_outputs = map (λ name. (name, None)) outputs
+
+-- all of them are files that a run may write
+abbrev pub AreOutputs : FolderFiles → Type 0
+AreOutputs files = All (λ file. IsTrue (is_in outputs file.0)) files

@@ -1,3 +1,5 @@
+pub mod Acts
+pub mod Done
 pub mod Files
 pub mod Keeping
 pub mod Serving

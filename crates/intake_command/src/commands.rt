@@ -1,20 +1,34 @@
 //! A command file.
-ghost use Rattle.std.specs.Prelude.{List, IfSome};
+ghost use Rattle.std.specs.Prelude.{◌≡◌, ◌×◌, List, IfOk, IfSome, OnOk, OnErr, All, option_map};
+ghost use Rattle.std.specs.String.{string_bytes};
 ghost use Rattle.terms.specs.Types as terms;
 ghost use Rattle.terms.specs.Commands.{IsCommandFile};
+ghost use Rattle.intake_asked.specs.Said.{AreSaid};
+ghost use Rattle.intake_command.specs.Acts.{Gives, IsQuiet};
+ghost use Rattle.intake_command.specs.Done.{HasDone};
+ghost use Rattle.intake_command.specs.Keeping.{KeepsFiles, KeepsNothing};
+ghost use Rattle.intake_command.specs.Serving.{ServesCommands, IsKnownList, IsCommandEnd, IsWithin, folder_of};
 
-use crate::fault::IntakeFault;
 use crate::keep::{keep_commands, keep_remarks};
-use crate::options::IntakeOptions;
-use crate::remarks::tell;
-use crate::sources::{InputFiles, cards_of, read};
-use crate::summary::{by_reason, print};
+use crate::printing::print;
+use crate::reading::read;
 use crate::surroundings::IntakeHost;
-use intake_cntl::{KnownList, KnownSysmod, command_file, read_known};
+use intake_asked::{KnownList, KnownSysmod, WideCommand, read_known, wide_commands};
+use intake_cntl::command_file;
+use intake_words::{InputFiles, IntakeFault, IntakeOptions, cards_of, command_summary, tell};
 use std::alloc::Global;
 
 /// The status where a command file has words that are not carried.
 const REFUSED_STATUS: u8 = 12;
+
+/// What comes of a command file: its records, where all of it is carried, and what is said of it.
+#[derive(Drop)]
+struct MadeCommands {
+    wide: Vec<WideCommand>,
+    bytes: Option<Vec<u8>>,
+    remarks: Vec<u8>,
+    summary: Vec<u8>,
+}
 
 /// Puts the command file into the folder where all of it is carried, and the remarks in any case.
 pub(crate) fn serve_commands<H: IntakeHost>(
@@ -22,10 +36,60 @@ pub(crate) fn serve_commands<H: IntakeHost>(
     host: &mut H,
     asked: &IntakeOptions,
     name: &str,
-) -> Result<u8, IntakeFault> {
+) -> Result<u8, IntakeFault>
+    ensures ok { IfOk result (λ status. HasDone H.IntakeHost (ServesCommands asked.now name.now status)
+        host.old host.new) }
+    ensures err { OnErr result (HasDone H.IntakeHost (All (IsWithin (folder_of asked.now))) host.old host.new) }
+{
+    let bytes = read(alloc, host, name)?;
+    let known = known_sysmods(alloc, host, &asked.known)?;
+    let made = made_of(alloc, asked, name, bytes, &known)?;
+    let summary = made.summary.clone()?;
+    let status = keep_made(alloc, host, asked.out.as_str(), made, &known)?;
+    print(host, &summary)?;
+    Ok(status)
+}
+
+// The SYSMODs of the list, if one is named.
+fn known_sysmods<H: IntakeHost>(
+    alloc: Global,
+    host: &mut H,
+    name: &Option<String>,
+) -> Result<Option<Vec<KnownSysmod>>, IntakeFault>
+    ensures ok { IfOk result (λ known. HasDone H.IntakeHost (IsKnownList (option_map string_bytes name.now) known)
+        host.old host.new) }
+    ensures err { OnErr result (HasDone H.IntakeHost (All IsQuiet) host.old host.new) }
+{
+    match name {
+        Some(name) => {
+            let bytes = read(alloc, host, name.as_str())?;
+            let list = listed(alloc, name.as_str(), &bytes)?;
+            Ok(Some(list))
+        }
+        None => Ok(None),
+    }
+}
+
+fn listed(alloc: Global, name: &str, bytes: &[u8]) -> Result<Vec<KnownSysmod>, IntakeFault> {
+    match read_known(alloc, bytes)? {
+        KnownList::Sysmods(known) => Ok(known),
+        KnownList::BadLine(line) => Err(IntakeFault::of_known_line(alloc, name, line)),
+    }
+}
+
+// What becomes of the commands of these bytes.
+fn made_of(
+    alloc: Global,
+    asked: &IntakeOptions,
+    name: &str,
+    bytes: Vec<u8>,
+    known: &Option<Vec<KnownSysmod>>,
+) -> Result<MadeCommands, IntakeFault>
+    ensures { IfOk result (λ made. IfSome made.bytes (λ bytes. (said : List terms.Command)
+        × IsCommandFile bytes.items said × AreSaid known.now made.wide.items said)) }
+{
     let mut sources = InputFiles::new(alloc);
     let mut remarks = Vec::new(alloc);
-    let bytes = read(alloc, host, name)?;
     let cards = cards_of(
         alloc,
         &mut sources,
@@ -35,70 +99,43 @@ pub(crate) fn serve_commands<H: IntakeHost>(
         asked.code,
         &mut remarks,
     )?;
-    let known = match &asked.known {
-        Some(name) => Some(known_sysmods(alloc, host, name.as_str())?),
-        None => None,
-    };
-    let file = match &known {
-        Some(known) => command_file(alloc, &cards, Some(known.as_slice()))?,
-        None => command_file(alloc, &cards, None)?,
-    };
+    let wide = wide_commands(alloc, &cards)?;
+    let file = command_file(alloc, &cards, &wide, known)?;
     if file.carried == 0 && file.others == 0 {
         return Err(IntakeFault::NoStatement);
     }
     tell(alloc, &sources, &file.remarks, &mut remarks)?;
-    let mut summary = Vec::new(alloc);
-    let carried = file.carried;
-    let others = file.others;
-    let line = if file.bytes.is_some() {
-        format!(in alloc; "COMMAND {carried:>7} carried {others:>7} not\n")?
-    } else {
-        String::from_str(
-            alloc,
-            "COMMAND none is written: see what is refused in cntl.remarks\n",
-        )?
-    };
-    summary.extend_from_slice(line.as_bytes())?;
-    by_reason(alloc, &file.remarks, &mut summary)?;
-    let folder = asked.out.as_str();
-    let status = keep(alloc, host, folder, file.bytes, remarks)?;
-    print(alloc, host, folder, &summary, &["cntl", "cntl.remarks"])?;
-    Ok(status)
+    let is_written = file.bytes.is_some();
+    let summary = command_summary(alloc, file.carried, file.others, is_written, &file.remarks)?;
+    Ok(MadeCommands {
+        wide: wide.commands,
+        bytes: file.bytes,
+        remarks,
+        summary,
+    })
 }
 
-// The SYSMODs of the list of this name.
-fn known_sysmods<H: IntakeHost>(
-    alloc: Global,
-    host: &mut H,
-    name: &str,
-) -> Result<Vec<KnownSysmod>, IntakeFault> {
-    let bytes = read(alloc, host, name)?;
-    match read_known(alloc, &bytes)? {
-        KnownList::Sysmods(known) => Ok(known),
-        KnownList::BadLine(line) => {
-            let name = Vec::from_slice(alloc, name.as_bytes())?;
-            Err(IntakeFault::KnownLine(name, line))
-        }
-    }
-}
-
-// Puts the files into the folder, and answers the status.
-fn keep<H: IntakeHost>(
+// Puts the command file and its remarks into the folder, or the remarks alone, and answers the status.
+fn keep_made<H: IntakeHost>(
     alloc: Global,
     host: &mut H,
     folder: &str,
-    bytes: Option<Vec<u8>>,
-    remarks: Vec<u8>,
+    made: MadeCommands,
+    known: &Option<Vec<KnownSysmod>>,
 ) -> Result<u8, IntakeFault>
-    requires { IfSome bytes (λ bytes. (cs : List terms.Command) × IsCommandFile bytes.items cs) }
+    requires { IfSome made.bytes (λ bytes. (said : List terms.Command) × IsCommandFile bytes.items said
+        × AreSaid known.now made.wide.items said) }
+    ensures ok { IfOk result (λ status. KeepsFiles H.IntakeHost host.old folder.now
+        (IsCommandEnd known.now made.wide.items status) host.new) }
+    ensures err { OnErr result (KeepsNothing H.IntakeHost host.old folder.now host.new) }
 {
-    match bytes {
-        Some(bytes) => {
-            keep_commands(alloc, host, folder, bytes, remarks)?;
+    match made.bytes {
+        Some(cntl) => {
+            keep_commands(alloc, host, folder, cntl, made.remarks)?;
             Ok(0)
         }
         None => {
-            keep_remarks(alloc, host, folder, remarks)?;
+            keep_remarks(alloc, host, folder, made.remarks)?;
             Ok(REFUSED_STATUS)
         }
     }

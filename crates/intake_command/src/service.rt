@@ -1,25 +1,41 @@
 //! Files of SYSMODs and of holds.
-ghost use Rattle.std.specs.Prelude.{IfOk};
+ghost use Rattle.std.specs.Prelude.{◌≡◌, ◌⊎◌, IfOk, OnOk, OnErr, All, map};
 ghost use Rattle.std.specs.String.{string_bytes};
-ghost use Rattle.intake_command.specs.Serving.{ServesFiles};
+ghost use Rattle.mcs.specs.Files as ptfin;
+ghost use Rattle.mcs.specs.HoldItems as hold;
+ghost use Rattle.intake_carry.specs.Carried.{FilesBecome};
+ghost use Rattle.intake_command.specs.Acts.{IsQuiet, Gives};
+ghost use Rattle.intake_command.specs.Done.{HasDone};
+ghost use Rattle.intake_command.specs.Keeping.{IsServiceFiles, KeepsFiles, KeepsNothing};
+ghost use Rattle.intake_command.specs.Serving.{AreRead, ServesFiles, IsWithin, folder_of};
 
-use crate::fault::IntakeFault;
 use crate::keep::keep_service;
 use crate::members::members;
-use crate::options::IntakeOptions;
-use crate::remarks::tell;
-use crate::sources::{InputFiles, cards_of, read};
-use crate::summary::{print, service_summary};
-use crate::summary_json::json_summary;
+use crate::printing::print;
+use crate::reading::read;
 use crate::surroundings::IntakeHost;
-use intake_cards::{Deed, Remark};
 use intake_carry::{NarrowError, Narrowed, narrow};
 use intake_read::{WideFile, read_wide};
-use intake_sysmod::Options;
+use intake_sysmod::{Options, RelfileMember};
+use intake_words::{
+    InputFiles, IntakeFault, IntakeOptions, cards_of, refused, stand_ins_file, summary_of, tell,
+};
+use mcs::{HoldItem, Item};
 use std::alloc::{AllocError, Global};
 
 /// The status where something is left out that may be asked for.
 const LEFT_OUT_STATUS: u8 = 4;
+
+/// What is to be put into the folder, and what is to be said of it.
+#[derive(Drop)]
+struct MadeFiles {
+    items: Vec<Item>,
+    hold_items: Vec<HoldItem>,
+    stand_ins: Option<Vec<u8>>,
+    remarks: Vec<u8>,
+    summary: Vec<u8>,
+    is_whole: bool,
+}
 
 /// Puts what the files state into the folder, and the remarks beside it, and answers the status.
 pub(crate) fn serve_files<H: IntakeHost>(
@@ -27,43 +43,26 @@ pub(crate) fn serve_files<H: IntakeHost>(
     host: &mut H,
     asked: &IntakeOptions,
 ) -> Result<u8, IntakeFault>
-    ensures { IfOk result (λ _. ServesFiles H.IntakeHost asked.now.decide (string_bytes asked.now.out)) }
+    ensures ok { OnOk result (HasDone H.IntakeHost (ServesFiles asked.now) host.old host.new) }
+    ensures status { IfOk result (λ status. (status ≡ 0) ⊎ (status ≡ 4)) }
+    ensures err { OnErr result (HasDone H.IntakeHost (All (IsWithin (folder_of asked.now))) host.old host.new) }
 {
     let mut sources = InputFiles::new(alloc);
     let mut remarks = Vec::new(alloc);
     let files = wide_files(alloc, host, &mut sources, asked, &mut remarks)?;
     let members = members(alloc, host, &mut sources, asked, &files, &mut remarks)?;
-    let options = Options {
-        decide: asked.decide,
-        syslibs: asked.syslibs.clone()?,
-        members,
-    };
-    let narrowed = match narrow(alloc, &files, options) {
-        Ok(narrowed) => narrowed,
-        Err(NarrowError::Memory) => return Err(IntakeFault::Memory),
-        Err(NarrowError::Refused(remarks)) => return Err(refused(alloc, &sources, &remarks)?),
-    };
-    tell(alloc, &sources, &narrowed.remarks, &mut remarks)?;
-    let folder = asked.out.as_str();
-    let text = summary(alloc, asked, &narrowed)?;
-    let stand_ins = stand_ins_file(alloc, asked, &narrowed)?;
-    keep_service(
-        alloc,
-        host,
-        folder,
-        &narrowed.items,
-        &narrowed.hold_items,
-        stand_ins,
-        remarks,
-    )?;
-    print(
-        alloc,
-        host,
-        folder,
-        &text,
-        &["ptfin", "hold", "stand-ins", "remarks"],
-    )?;
-    Ok(status(&narrowed))
+    let made = made_of(alloc, &sources, asked, &files, members, remarks)?;
+    let summary = made.summary.clone()?;
+    let status = status(made.is_whole);
+    keep_made(alloc, host, asked, made)?;
+    print(host, &summary)?;
+    Ok(status)
+}
+
+fn status(is_whole: bool) -> u8
+    ensures { (result ≡ 0) ⊎ (result ≡ 4) }
+{
+    if is_whole { 0 } else { LEFT_OUT_STATUS }
 }
 
 // What the files state, one after the other.
@@ -73,78 +72,115 @@ fn wide_files<H: IntakeHost>(
     sources: &mut InputFiles,
     asked: &IntakeOptions,
     remarks: &mut Vec<u8>,
-) -> Result<Vec<WideFile>, IntakeFault> {
+) -> Result<Vec<WideFile>, IntakeFault>
+    ensures ok { IfOk result (λ files. HasDone H.IntakeHost
+        (AreRead (map string_bytes asked.now.files.items) files.items) host.old host.new) }
+    ensures err { OnErr result (HasDone H.IntakeHost (All IsQuiet) host.old host.new) }
+{
     let mut files = Vec::new(alloc);
-    let mut is_empty = true;
-    for name in &asked.files {
-        let name = name.as_str();
-        let bytes = read(alloc, host, name)?;
-        let cards = cards_of(
-            alloc, sources, name, &bytes, asked.form, asked.code, remarks,
-        )?;
-        drop(bytes);
-        let file = match read_wide(alloc, &cards) {
-            Ok(file) => file,
-            Err(error) => return Err(IntakeFault::of_statement(alloc, sources, error)?),
-        };
-        if has_statement(&file) {
-            is_empty = false;
-        }
+    for name in asked.files.iter() {
+        let file = wide_file(alloc, host, sources, asked, name.as_str(), remarks)?;
         files.push(file)?;
     }
-    if is_empty {
+    if !has_statement(&files) {
         return Err(IntakeFault::NoStatement);
     }
     Ok(files)
 }
 
-fn has_statement(file: &WideFile) -> bool {
-    !file.sysmods.is_empty()
+fn wide_file<H: IntakeHost>(
+    alloc: Global,
+    host: &mut H,
+    sources: &mut InputFiles,
+    asked: &IntakeOptions,
+    name: &str,
+    remarks: &mut Vec<u8>,
+) -> Result<WideFile, IntakeFault>
+    ensures ok { OnOk result ((bytes : List ℕ) × H.does host.old (Gives name.now bytes) host.new) }
+    ensures err { OnErr result (HasDone H.IntakeHost (All IsQuiet) host.old host.new) }
+{
+    let bytes = read(alloc, host, name)?;
+    statements_of(alloc, sources, asked, name, bytes, remarks)
+}
+
+// What a file of these bytes states.
+fn statements_of(
+    alloc: Global,
+    sources: &mut InputFiles,
+    asked: &IntakeOptions,
+    name: &str,
+    bytes: Vec<u8>,
+    remarks: &mut Vec<u8>,
+) -> Result<WideFile, IntakeFault> {
+    let cards = cards_of(
+        alloc, sources, name, &bytes, asked.form, asked.code, remarks,
+    )?;
+    drop(bytes);
+    match read_wide(alloc, &cards) {
+        Ok(file) => Ok(file),
+        Err(error) => Err(IntakeFault::of_statement(alloc, sources, &error)),
+    }
+}
+
+fn has_statement(files: &[WideFile]) -> bool {
+    files.iter().any(|file| !file.sysmods.is_empty()
         || !file.holds.is_empty()
         || !file.releases.is_empty()
         || !file.assigns.is_empty()
-        || !file.others.is_empty()
+        || !file.others.is_empty())
 }
 
-// If something is refused, nothing is written: each such remark is a line of the fault.
-fn refused(
+// What becomes of the files.
+fn made_of(
     alloc: Global,
     sources: &InputFiles,
-    remarks: &[Remark],
-) -> Result<IntakeFault, AllocError> {
-    let mut lines = Vec::new(alloc);
-    for remark in remarks {
-        if remark.deed == Deed::Refused {
-            let file = remark.place.file;
-            let line = remark.line(alloc, sources.name(file), sources.unit(file))?;
-            lines.push(line)?;
-        }
-    }
-    Ok(IntakeFault::Statements(lines))
-}
-
-fn status(narrowed: &Narrowed) -> u8 {
-    if narrowed.remarks.iter().any(|remark| remark.matters()) {
-        LEFT_OUT_STATUS
-    } else {
-        0
-    }
-}
-
-fn summary(
-    alloc: Global,
     asked: &IntakeOptions,
-    narrowed: &Narrowed,
-) -> Result<Vec<u8>, AllocError> {
-    if asked.json {
-        json_summary(alloc, narrowed)
-    } else {
-        service_summary(alloc, asked.decide, narrowed)
-    }
+    files: &[WideFile],
+    members: Vec<RelfileMember>,
+    remarks: Vec<u8>,
+) -> Result<MadeFiles, IntakeFault>
+    ensures { IfOk result (λ made. FilesBecome asked.now.decide files.now made.items.items made.hold_items.items) }
+{
+    let options = Options {
+        decide: asked.decide,
+        syslibs: asked.syslibs.clone()?,
+        members,
+    };
+    let narrowed = match narrow(alloc, files, options) {
+        Ok(narrowed) => narrowed,
+        Err(NarrowError::Memory) => return Err(IntakeFault::Memory),
+        Err(NarrowError::Refused(remarks)) => return Err(refused(alloc, sources, &remarks)),
+    };
+    let made = told(alloc, sources, asked, narrowed, remarks)?;
+    Ok(made)
 }
 
-// A line for each stand-in: its name, and the type, name and library of the element that it is for.
-fn stand_ins_file(
+// With what is said of it.
+fn told(
+    alloc: Global,
+    sources: &InputFiles,
+    asked: &IntakeOptions,
+    narrowed: Narrowed,
+    mut remarks: Vec<u8>,
+) -> Result<MadeFiles, AllocError>
+    ensures items { IfOk result (λ made. made.items.items ≡ narrowed.items.items) }
+    ensures holds { IfOk result (λ made. made.hold_items.items ≡ narrowed.hold_items.items) }
+{
+    tell(alloc, sources, &narrowed.remarks, &mut remarks)?;
+    let summary = summary_of(alloc, asked.decide, asked.json, &narrowed)?;
+    let stand_ins = stand_ins(alloc, asked, &narrowed)?;
+    let is_whole = is_whole(&narrowed);
+    Ok(MadeFiles {
+        items: narrowed.items,
+        hold_items: narrowed.hold_items,
+        stand_ins,
+        remarks,
+        summary,
+        is_whole,
+    })
+}
+
+fn stand_ins(
     alloc: Global,
     asked: &IntakeOptions,
     narrowed: &Narrowed,
@@ -152,14 +188,31 @@ fn stand_ins_file(
     if !asked.decide {
         return Ok(None);
     }
-    let mut lines = Vec::new(alloc);
-    for one in &narrowed.named {
-        lines.extend_from_slice(one.stand_in.as_bytes())?;
-        for word in [&one.word, &one.name, &one.library] {
-            lines.push(b' ')?;
-            lines.extend_from_slice(word.as_slice())?;
-        }
-        lines.push(b'\n')?;
-    }
-    Ok(Some(lines))
+    Ok(Some(stand_ins_file(alloc, &narrowed.named)?))
+}
+
+// Whether nothing is left out that may be asked for.
+fn is_whole(narrowed: &Narrowed) -> bool {
+    !narrowed.remarks.iter().any(|remark| remark.matters())
+}
+
+fn keep_made<H: IntakeHost>(
+    alloc: Global,
+    host: &mut H,
+    asked: &IntakeOptions,
+    made: MadeFiles,
+) -> Result<(), IntakeFault>
+    ensures ok { OnOk result (KeepsFiles H.IntakeHost host.old (folder_of asked.now)
+        (IsServiceFiles (ptfin.items made.items.items) (hold.items made.hold_items.items)) host.new) }
+    ensures err { OnErr result (KeepsNothing H.IntakeHost host.old (folder_of asked.now) host.new) }
+{
+    keep_service(
+        alloc,
+        host,
+        asked.out.as_str(),
+        &made.items,
+        &made.hold_items,
+        made.stand_ins,
+        made.remarks,
+    )
 }

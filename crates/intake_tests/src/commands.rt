@@ -2,8 +2,9 @@
 
 use crate::narrow_lines::compare;
 use crate::wide::file_of;
+use intake_asked::{KnownList, KnownSysmod, read_known, wide_commands};
 use intake_cards::{Layout, read_cards};
-use intake_cntl::{KnownList, KnownSysmod, command_file, read_known};
+use intake_cntl::command_file;
 use std::alloc::Global;
 use std::test::Fail;
 
@@ -20,7 +21,11 @@ ACCEPT SELECT(UA00001,UA00002) BYPASS(PRE,REQ,IFREQ,ID,APPLYCHECK).
 /// Comments, anywhere.
 const COMMENTED: &str = "\
 /* A */ LIST /* B. */ /* ) */ . /* C */ => LIST.
-REJECT SELECT(UA00001 /* A| B */ ,UA00002). => REJECT SELECT(UA00001,UA00002).
+REJECT SELECT(UA00001 /* A| B */ ,UA00002). => REJECT SELECT(UA00001,UA00002).|\
+line 1: REJECT: dropped: it stands in a comment: B
+/* ALL| OF IT */ LIST. => LIST.
+APPLY PTFS /* A| CHECK.| LIST. */ . => APPLY PTFS.|line 1: APPLY: dropped: it stands in a comment: CHECK.
+APPLY PTFS /* A| */ CHECK. => APPLY PTFS CHECK.
 ";
 
 /// What is spelled out.
@@ -81,7 +86,9 @@ APPLY SELECT(UA1). => line 1: APPLY SELECT: refused: a bad value: UA1
 APPLY SELECT. => line 1: APPLY SELECT: refused: it is missing
 APPLY BYPASS(X.PRE). => line 1: APPLY X.PRE: refused: the profile has no such operand
 SET BDY(A,B). => line 1: SET BDY: refused: a bad value: A,B
-SET. => line 1: SET: refused: it is missing
+SET. => line 1: SET BOUNDARY: refused: it is missing
+REJECT. => line 1: REJECT SELECT: refused: it is missing
+REPORT. => line 1: REPORT ERRSYSMODS: refused: it is missing
 RESTORE CHECK. => line 1: RESTORE: refused: SELECT or GROUP is missing
 RECEIVE S(UA00001). => line 1: RECEIVE S: refused: the profile has no such operand: UA00001
 LOG('A. B').|LIST SYSMODS. => line 1: LOG: dropped: it changes no decision: 'A. B'|\
@@ -98,6 +105,9 @@ APPLY SELECT(AA00001) GROUPEXTEND EXCLUDE(UA00009,AA00002,UM00001).|\
 line 1: APPLY S: carried otherwise: spelled out: SELECT|line 1: APPLY E: carried otherwise: spelled out: EXCLUDE|\
 line 1: APPLY GROUPEXTEND: carried otherwise: EXCLUDE names the APARs or USERMODs of --known: NOAPARS|\
 line 1: APPLY GROUPEXTEND: carried otherwise: EXCLUDE names the APARs or USERMODs of --known: NOUSERMODS
+APPLY SELECT(AA00001) GROUP GROUPEXTEND(NOAPARS). => APPLY GROUP(AA00001) GROUPEXTEND EXCLUDE(AA00002).|\
+line 1: APPLY GROUP: carried otherwise: GROUP has the ids of SELECT|\
+line 1: APPLY GROUPEXTEND: carried otherwise: EXCLUDE names the APARs or USERMODs of --known: NOAPARS
 APPLY PTFS SOURCEID(HIPER,RSU*). => APPLY PTFS SOURCEID(HIPER,RSU2401,RSU2402).|\
 line 1: APPLY SOURCEID: carried otherwise: the list names the source ids of --known that begin so: RSU*
 APPLY PTFS SOURCEID(PUT*). => line 1: APPLY SOURCEID: refused: no source id of --known begins so: PUT*
@@ -111,9 +121,10 @@ const LIST: &[u8] =
 
 // What comes of a command file: the records without the blanks at their ends, and none where there is no file; then
 // the remarks.
-fn outcome(alloc: Global, text: &[u8], known: Option<&[KnownSysmod]>) -> Result<String, Fail> {
+fn outcome(alloc: Global, text: &[u8], known: &Option<Vec<KnownSysmod>>) -> Result<String, Fail> {
     let found = read_cards(alloc, 0, text, Some(Layout::Text), None)?;
-    let file = command_file(alloc, &found.cards, known)?;
+    let commands = wide_commands(alloc, &found.cards)?;
+    let file = command_file(alloc, &found.cards, &commands, known)?;
     let mut lines = Vec::new(alloc);
     if let Some(bytes) = &file.bytes {
         for record in bytes.chunks(80) {
@@ -132,7 +143,7 @@ fn outcome(alloc: Global, text: &[u8], known: Option<&[KnownSysmod]>) -> Result<
 // A failure, unless these lines come of these cards. There is a bar between two lines, and between two cards.
 fn check_case(
     alloc: Global,
-    known: Option<&[KnownSysmod]>,
+    known: &Option<Vec<KnownSysmod>>,
     cards: &str,
     lines: &str,
 ) -> Result<(), Fail> {
@@ -144,7 +155,7 @@ fn check_case(
 }
 
 // Each case is a command file, by its cards, and behind an arrow the lines that come of it.
-fn check(alloc: Global, known: Option<&[KnownSysmod]>, cases: &str) -> Result<(), Fail> {
+fn check(alloc: Global, known: &Option<Vec<KnownSysmod>>, cases: &str) -> Result<(), Fail> {
     for line in cases.lines() {
         let (cards, lines) = line.split_once(" => ").ok_or("no arrow in a case")?;
         check_case(alloc, known, cards, lines)?;
@@ -154,9 +165,9 @@ fn check(alloc: Global, known: Option<&[KnownSysmod]>, cases: &str) -> Result<()
 
 #[test]
 fn carries_drops_or_names(rt: HostRuntime) -> Result<(), Fail> {
-    check_case(rt.alloc(), None, "/* nothing */", "")?;
+    check_case(rt.alloc(), &None, "/* nothing */", "")?;
     for cases in [AS_THEY_STAND, COMMENTED, SPELLED_OUT, DROPPED, NAMED] {
-        check(rt.alloc(), None, cases)?;
+        check(rt.alloc(), &None, cases)?;
     }
     Ok(())
 }
@@ -166,7 +177,7 @@ fn known_sysmods_tell_what_is_meant(rt: HostRuntime) -> Result<(), Fail> {
     let KnownList::Sysmods(known) = read_known(rt.alloc(), LIST)? else {
         return Err("the list is in form".into());
     };
-    check(rt.alloc(), Some(known.as_slice()), KNOWN_ONES)
+    check(rt.alloc(), &Some(known), KNOWN_ONES)
 }
 
 #[test]
@@ -195,7 +206,7 @@ fn a_long_line_is_refused_unless_it_is_a_comment(rt: HostRuntime) -> Result<(), 
     ] {
         let alloc = rt.alloc();
         let text = format!(in alloc; "{before}{long}{behind}\nLIST.\n")?;
-        let got = outcome(alloc, text.as_bytes(), None)?;
+        let got = outcome(alloc, text.as_bytes(), &None)?;
         let lines = file_of(alloc, wanted)?;
         compare(
             before,

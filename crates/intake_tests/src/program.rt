@@ -1,7 +1,8 @@
 //! The program over files in memory: statuses, what is left in the folder, and what is told on standard error.
 
 use fields::{Id, Reason};
-use intake_command::{IntakeFault, IntakeHost, Named, command, keep_service};
+use intake_command::{IntakeHost, Named, command, keep_service};
+use intake_words::IntakeFault;
 use mcs::HoldItem;
 use std::alloc::Global;
 use std::io::{Error, ErrorKind};
@@ -104,13 +105,7 @@ impl Memory {
 }
 
 impl IntakeHost for Memory {
-    ghost gives = { λ _ _ _ _. Unit {0} };
-
-    ghost withholds = { λ _ _ _ _. Unit {0} };
-
-    ghost keeps = { λ _ _ _ _. Unit {0} };
-
-    ghost loses = { λ _ _ _ _ _. Unit {0} };
+    ghost does = { λ _ _ _. Unit {0} };
 
     fn read(&mut self, name: &str) -> io::Result<Vec<u8>> {
         for (known, bytes) in FILES {

@@ -4,7 +4,7 @@ use crate::cards::{Spelled, case, file_of, record};
 use cntl::{CntlError, Command, Install, read_cntl};
 use fields::spelling::command_code_text;
 use fields::{Bypass, Reasons, ReceiveWhat, RestoreList, Source, ZoneName};
-use rec80::{Record, Records, Word, flag, ids, one, operand, rising};
+use rec80::{Record, Records, Word, flag, ids, listed_ids, one, operand, rising};
 use std::alloc::{AllocError, Global};
 use std::process::Abort;
 use std::test::Fail;
@@ -17,7 +17,8 @@ fn operand_in<'a>(alloc: Global, cards: &'a [Record], name: &[u8]) -> Option<Wor
     operand(operands.only()?, name)
 }
 
-// Whether there is such an operand, and its list as ids, as sources and as the name of a zone, if it is that.
+// Whether there is such an operand, and its list as ids, as so many ids in any order, as sources and as the name of a
+// zone, if it is that.
 fn taken(alloc: Global, cards: &[Record], name: &[u8]) -> Spelled {
     let mut spelled = Spelled::new();
     let found = operand_in(alloc, cards, name);
@@ -40,6 +41,10 @@ fn put_ids(alloc: Global, spelled: &mut Spelled, word: &Word<'_>) {
     if let Ok(list) = ids(alloc, word) {
         spelled.put_ids(b"ids", &list);
     }
+    if let Ok(list) = listed_ids(alloc, word) {
+        spelled.put(b" listed ");
+        spelled.put_number(list.len());
+    }
 }
 
 fn put_sources(alloc: Global, spelled: &mut Spelled, word: &Word<'_>) {
@@ -52,7 +57,7 @@ fn put_sources(alloc: Global, spelled: &mut Spelled, word: &Word<'_>) {
 
 /// The operands of a command, and how each is taken.
 const OPERANDS: &str = "\
-SELECT => list ids(UA00001 UA00002 ) UA00001 UA00002
+SELECT => list ids(UA00001 UA00002 ) listed 2 UA00001 UA00002
 SOURCEID => list  A B
 CHECK => there
 TEXT => none

@@ -1,6 +1,6 @@
-//! Tests of the parts below the jobs: what the readers of fields, texts, records, commands and statements return, by
-//! tables of cards and results; which candidates stay and which ones cause failures; sets that grow; and what `smpe
-//! why` tells about ids in a zone. The crate contains only tests.
+//! Tests of the lower floors: what the readers of fields, texts, records, commands and statements return, by tables of
+//! cards and results; which candidates stay and which ones cause failures; and sets that grow. The crate contains only
+//! tests.
 #![tactic(auto)]
 
 #[cfg(test)]
@@ -9,6 +9,8 @@ mod cards;
 mod commands;
 #[cfg(test)]
 mod fields_read;
+#[cfg(test)]
+mod global_zones;
 #[cfg(test)]
 mod holds;
 #[cfg(test)]
@@ -20,12 +22,8 @@ mod records_read;
 #[cfg(test)]
 mod solving;
 #[cfg(test)]
+mod sorted_lists;
+#[cfg(test)]
 mod sysmod_values;
 #[cfg(test)]
 mod texts;
-#[cfg(test)]
-mod why_cards;
-#[cfg(test)]
-mod why_facts;
-#[cfg(test)]
-mod why_service;

@@ -119,23 +119,33 @@ fn candidates_stay_or_fail_by_their_causers(rt: HostRuntime) -> Result<(), Syste
     Ok(())
 }
 
-// The needs of a chain: each of so many candidates needs the one before it, and the first one needs `start`.
-fn chain(alloc: Global, n: u32, start: &[u32]) -> Result<Vec<Need>, AllocError> {
+/// How many candidates a chain has.
+const LEN: u32 = 5_000;
+
+// The needs of a chain: each candidate needs the next one, and the last one needs one of these, if any are named.
+fn chain(alloc: Global, last: Option<&[u32]>) -> Result<Vec<Need>, AllocError> {
     let mut needs = Vec::new(alloc);
-    for of in 0..n {
-        let before = [of.saturating_sub(1)];
-        let any = if of > 0 { &before } else { start };
+    for next in 1..LEN {
+        let any = [next].to_vec(alloc)?;
+        needs.push(Need { of: next - 1, any })?;
+    }
+    if let Some(any) = last {
         let any = any.to_vec(alloc)?;
-        needs.push(Need { of, any })?;
+        needs.push(Need { of: LEN - 1, any })?;
     }
     Ok(needs)
 }
 
-// How many of so many eligible candidates stay in a chain with this start, how many strikes that takes, and whether
-// both solvers agree.
-fn chained(alloc: Global, n: u32, start: &[u32]) -> Result<(usize, u128, bool), SystemError> {
-    let eligible = vec![in alloc; true; n as usize]?;
-    let s = System::from_needs(eligible, chain(alloc, n, start)?)?;
+// How many candidates stay in a chain with this end, how many strikes that takes, and whether both solvers agree. All
+// are eligible, but the last one perhaps not.
+fn chained(
+    alloc: Global,
+    last: Option<&[u32]>,
+    is_eligible: bool,
+) -> Result<(usize, u128, bool), SystemError> {
+    let mut eligible = vec![in alloc; true; LEN as usize - 1]?;
+    eligible.push(is_eligible)?;
+    let s = System::from_needs(eligible, chain(alloc, last)?)?;
     let (kept, count) = Worklist::count(alloc, &s)?;
     let swept = Sweep.greatest(alloc, &s)?;
     let members = kept.flags().iter().filter(|flag| **flag).count();
@@ -144,9 +154,13 @@ fn chained(alloc: Global, n: u32, start: &[u32]) -> Result<(usize, u128, bool), 
 
 #[test]
 fn a_chain_of_thousands_falls_or_stays(rt: HostRuntime) -> Result<(), SystemError> {
-    // one falls from its start, and one is a ring
-    assert_eq!(rt; chained(rt.alloc(), 5000, &[])?, (0, 4999, true));
-    assert_eq!(rt; chained(rt.alloc(), 5000, &[4999])?, (5000, 0, true));
+    // Nothing serves the need of the last one.
+    assert_eq!(rt; chained(rt.alloc(), Some(&[]), true)?, (0, 4999, true));
+    // The chain is a ring.
+    assert_eq!(rt; chained(rt.alloc(), Some(&[0]), true)?, (5000, 0, true));
+    // The last one needs nothing, and is eligible or not.
+    assert_eq!(rt; chained(rt.alloc(), None, true)?, (5000, 0, true));
+    assert_eq!(rt; chained(rt.alloc(), None, false)?, (0, 4998, true));
     Ok(())
 }
 

@@ -4,7 +4,7 @@ use crate::cards::{id, name};
 use fields::{Id, IdList, Name, Source, Srel};
 use std::alloc::{AllocError, Global};
 use std::test::Fail;
-use sysmods_values::{Action, ElemChange, Sysmod, Ver};
+use sysmods_values::{Action, ElemChange, IfReq, Sysmod, Ver};
 use terms::{ElemType, Kind};
 use text80::Line;
 
@@ -23,6 +23,13 @@ fn ver(alloc: Global, srel: Srel, fmid: Id) -> Ver {
         del: IdList::new(alloc),
         ifs: Vec::new(alloc),
     }
+}
+
+// An `++IF` of this function.
+fn condition(alloc: Global, function: Id, other: Id) -> Result<IfReq, AllocError> {
+    let mut req = IdList::new(alloc);
+    req.insert(other)?;
+    Ok(IfReq { function, req })
 }
 
 // An element statement of a data element with one record.
@@ -78,6 +85,8 @@ fn a_sysmod_names_ids_by_its_vers(rt: HostRuntime) -> Result<(), Fail> {
     assert_eq!(rt; named_for(rt.alloc(), &fix, none)?.len(), 0);
     let named = named_for(rt.alloc(), &fix, high)?;
     assert_eq!(rt; named.as_slice(), [other, function].as_slice());
+    fix.push_if(0, condition(rt.alloc(), function, id(b"UA00009")?)?)?;
+    assert_eq!(rt; fix.vers.first().map(|ver| ver.ifs.len()), Some(1));
     Ok(())
 }
 

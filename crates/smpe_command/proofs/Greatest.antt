@@ -6,7 +6,7 @@ use Rattle.machine.specs.Machine as machine
 use Rattle.smpe.specs.declared.jobs.Answer.{Answer}
 use Rattle.smpe.specs.Ending.{answer_of}
 use Rattle.smpe.specs.Messages.{answer_status}
-use Rattle.smpe_command.specs.Serving.{greatest}
+use Rattle.smpe_command.specs.ServiceSet.{greatest}
 
 pub greatest_more : (xs : List machine.Answer) (a : machine.Answer)
     → greatest (xs ++ a ∷ []) ≡ max (greatest xs) (answer_status a)

@@ -1,3 +1,4 @@
+mod Copying
 mod Greatest
 mod Looked
 mod OneJob

@@ -19,8 +19,7 @@ use Rattle.smpe.specs.FromEmpty.{empty_system}
 use Rattle.smpe.specs.Going.{JobsGo, JobsPassed}
 use Rattle.smpe_command.specs.declared.host.Host.{Ghosts as HostGhosts}
 use Rattle.smpe_command.specs.Database.{JobsOver}
-use Rattle.smpe_command.specs.ServiceSet.{JobsInMemory, set_jobs}
-use Rattle.smpe_command.specs.Serving.{TriesSet, TriesWith, tried_with}
+use Rattle.smpe_command.specs.ServiceSet.{JobsInMemory, TriesSet, TriesWith, apply_records, set_jobs, tried_with}
 
 -- a list of one item is that item
 pub only_one : {X : Type 0} (xs : List X) (x : X) → length xs ≡ 1 → x ≡ get_or xs 0 x → xs ≡ x ∷ []
@@ -56,7 +55,7 @@ module _ {V W : Type 0} (f : V → List machine.Answer) (k : W → List machine.
     ends_as a b s (Err e) (Err d) same ended =
         subst (λ x. EndsJobs g a b s jobs (sink.taken out) (sink.taken out') k (Err x)) same ended
 
-    goes_as : (a b : Held S) (r : Result V JobError) (q : Result W JobError) → Alike r q
+    pub goes_as : (a b : Held S) (r : Result V JobError) (q : Result W JobError) → Alike r q
         → JobsGo g a b jobs (sink.taken out) (sink.taken out') f r
         → JobsGo g a b jobs (sink.taken out) (sink.taken out') k q
     goes_as a b (Ok v) (Ok w) same went =
@@ -66,7 +65,7 @@ module _ {V W : Type 0} (f : V → List machine.Answer) (k : W → List machine.
     goes_as a b (Err e) (Err d) same went =
         subst (λ x. JobsGo g a b jobs (sink.taken out) (sink.taken out') k (Err x)) same went
 
-    write_as : (r : Result V JobError) (q : Result W JobError) → Alike r q → is_write r ≡ is_write q
+    pub write_as : (r : Result V JobError) (q : Result W JobError) → Alike r q → is_write r ≡ is_write q
     write_as (Ok v) (Ok w) same = refl
     write_as (Ok v) (Err d) same = absurd same
     write_as (Err e) (Ok w) same = absurd same
@@ -79,7 +78,7 @@ module _ {V W : Type 0} (f : V → List machine.Answer) (k : W → List machine.
         let first : e ≡ d = subst (λ (r : Result V JobError). IfErr r (λ x. x ≡ d)) is refl in
         ap (λ x. Err x) (sym same ∙ sym first)
 
-    pub over_as : {H : Type 0} (host : HostGhosts H S) (h after : H) (db : Text) (r : Result V JobError)
+    pub over_as : {H M : Type 0} (host : HostGhosts H S M) (h after : H) (db : Text) (r : Result V JobError)
         (q : Result W JobError) → Alike r q → JobsOver host g sink h db jobs out f r after out'
         → JobsOver host g sink h db jobs out k q after out'
     over_as host h after db r q same (inl (why, fails, is, out_is)) =
@@ -128,4 +127,4 @@ module _ {V W : Type 0} (f : V → List machine.Answer) (k : W → List machine.
         → TriesSet sink out srel commands cntl files f r out' → TriesSet sink out srel commands cntl files k q out'
     tries_as srel commands cntl files (inl short) = inl (short_as short)
     tries_as srel commands cntl files (inr (date, on, tried)) =
-        inr (date, on, with_as srel date (tried_with commands cntl) files tried)
+        inr (date, on, with_as srel date (tried_with apply_records commands cntl) files tried)

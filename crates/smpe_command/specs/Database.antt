@@ -34,7 +34,15 @@ use Rattle.smpe.specs.Ending.{EndsJobs, StaysClosed, answer_of, is_write}
 use Rattle.smpe.specs.Going.{JobsGo}
 use Rattle.smpe_command.specs.declared.host.Host.{Ghosts as HostGhosts}
 
-module _ {H D : Type 0} (host : HostGhosts H D) (g : Ghosts D) where
+-- The connection became this store. The store's tables, created if there were none, stand for what was found. A database
+-- that was not blank is as it was, whatever its tables hold.
+pub record IsStoreOver {S : Type 0} (g : Ghosts S) (conn store : Held S) : Type 0 where
+  pub stands : (i : Inventory) → IsFound g conn i → Stands (Tables g store) (Leaves g store) i
+  pub ours : HasCleanDisk (state g store) → HasOwnTables (state g store).now
+  pub same : HasCleanDisk (state g store) → ¬ IsBlank (state g conn).now → IsUnchanged (state g conn) (state g store)
+  pub crash : Survives (state g conn) (state g store) (IsSetUp (state g conn).now)
+
+module _ {H D M : Type 0} (host : HostGhosts H D M) (g : Ghosts D) where
   -- The database could not be made the store's, for this reason, and was closed. It was left in this way: what was last
   -- committed is as before, and a crash leaves that, or the tables that were created in a database that had none.
   pub record Unready (opened : H) (conn : Held D) (why : StoreError) (after : H) : Type 0 where
@@ -53,16 +61,11 @@ module _ {H D : Type 0} (host : HostGhosts H D) (g : Ghosts D) where
   FailsToOpen h db why after = ((error : Error) × host.refuses h db error after × (why ≡ told error))
       ⊎ ((conn : Held D) × (opened : H) × host.opens h db conn opened × Unready opened conn why after)
 
-  -- The database of this name was opened. The store's tables, created if there were none, stand for what was found. A
-  -- database that was not blank is as it was, whatever its tables hold.
+  -- The database of this name was opened, and its connection became this store.
   pub record Opens (h : H) (db : Text) (store : Held D) (after : H) : Type 0 where
     pub conn : Held D
     pub opens : host.opens h db conn after
-    pub stands : (i : Inventory) → IsFound g conn i → Stands (Tables g store) (Leaves g store) i
-    pub ours : HasCleanDisk (state g store) → HasOwnTables (state g store).now
-    pub same : HasCleanDisk (state g store) → ¬ IsBlank (state g conn).now
-        → IsUnchanged (state g conn) (state g store)
-    pub crash : Survives (state g conn) (state g store) (IsSetUp (state g conn).now)
+    pub over : IsStoreOver g conn store
 
   -- The database of this name was opened, a job ended in this way over each state for which it was found to stand, and
   -- it was closed. The cause of a fault is since the opening. Zones that were closed stay so. Whatever the tables hold,

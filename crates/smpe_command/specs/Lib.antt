@@ -1,7 +1,9 @@
 pub mod Asking
 pub mod Reading
 pub mod Database
+pub mod Told
 pub mod ServiceSet
+pub mod Copied
 pub mod Serving
 pub mod Answering
 pub mod Careful

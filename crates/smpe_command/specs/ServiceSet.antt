@@ -1,5 +1,5 @@
 -- What a service set would do in an empty system.
-use Rattle.std.specs.Prelude.{◌≡◌, ◌⊎◌, ℕ, List, [], ◌∷◌, Some, None, Result, Err, codes}
+use Rattle.std.specs.Prelude.{◌≡◌, ◌⊎◌, ℕ, max, List, [], ◌∷◌, Option, Some, None, Result, Ok, Err, codes}
 use Rattle.sqlite.specs.Store.{Ghosts}
 use Rattle.sqlite.specs.Held.{Held, state, IsNew}
 use Rattle.sqlite.specs.State.{HasCleanDisk}
@@ -14,6 +14,7 @@ use Rattle.store_schema.specs.declared.error.StoreError.{StoreError}
 use Rattle.store_schema.specs.declared.error.StoreError.TheVariants.{OtherSchema, NoState}
 use Rattle.store_schema.specs.Known.{HasOtherNumber, HasNoState}
 use Rattle.store.specs.View.{IsFound}
+use Rattle.smpe_invocation.specs.declared.asked.CommandJob.{CommandJob}
 use Rattle.smpe_zones.specs.Definitions.{definition}
 use Rattle.smpe_zones.specs.Kept.{kept}
 use Rattle.smpe.specs.declared.error.JobError.{JobError}
@@ -22,6 +23,7 @@ use Rattle.smpe.specs.Commands.{job_error}
 use Rattle.smpe.specs.Ending.{EndsJobs}
 use Rattle.smpe.specs.FromEmpty.{empty_system}
 use Rattle.smpe.specs.ListJob.{two_records}
+use Rattle.smpe.specs.Messages.{answer_status}
 
 -- all of the set is received
 abbrev pub receive_records : List ℕ
@@ -37,6 +39,25 @@ set_jobs srel date cntl files =
     NewZone (definition (codes "DLIB") Distribution srel None)
     ∷ NewZone (definition (codes "TGT") Target srel (Some (codes "DLIB")))
     ∷ RunFiles date receive_records files ∷ RunFiles date cntl files ∷ []
+
+-- the greatest status of these answers
+abbrev pub greatest : List machine.Answer → ℕ
+greatest [] = 0
+greatest (answer ∷ more) = max (answer_status answer) (greatest more)
+
+abbrev pub greatest_told : Result (List machine.Answer) JobError → Result ℕ JobError
+greatest_told (Ok answers) = Ok (greatest answers)
+greatest_told (Err error) = Err error
+
+-- the commands that a service set is tried with: those of the file, or these, which try to apply all of it
+abbrev pub tried_with : List ℕ → Option CommandJob → List ℕ → List ℕ
+tried_with all None cntl = all
+tried_with all (Some commands) cntl = cntl
+
+-- and on which date: without a file, nothing that is printed has it
+abbrev pub IsTriedOn : Option CommandJob → Text → Type 0
+IsTriedOn None date = Unit {0}
+IsTriedOn (Some commands) date = date ≡ commands.date
 
 module _ {S : Type 0} (g : Ghosts S) (conn : Held S) where
   -- The connection did not create the tables, for this reason. Only one that already has other tables reports another
@@ -67,3 +88,23 @@ JobsInMemory sink jobs out answers r out' = ((r ≡ Err Memory) × (out' ≡ out
     × (FailsToMake over_memory conn out r out'
     ⊎ ((store : Held MemStore)
     × EndsJobs over_memory conn store empty_system jobs (sink.taken out) (sink.taken out') answers r)))
+
+module _ {O : Type 0} (sink : SinkGhosts O) (out : O) (srel : Text) where
+  -- The jobs of a service set with these commands ran over an empty system in memory, or memory ran out for the command
+  -- that receives it.
+  abbrev pub TriesWith : Text → List ℕ → Files → {V : Type 0} → (V → List machine.Answer) → Result V JobError → O
+      → Type 0
+  TriesWith date cntl files answers r out' = ((r ≡ Err Memory) × (out' ≡ out))
+      ⊎ JobsInMemory sink (set_jobs srel date cntl files) out answers r out'
+
+  -- A service set is tried with the commands that were given, on their date, or with those that apply all of it, on any
+  -- date.
+  abbrev pub TriesSet : Option CommandJob → List ℕ → Files → {V : Type 0} → (V → List machine.Answer)
+      → Result V JobError → O → Type 0
+  TriesSet commands cntl files answers r out' = ((r ≡ Err Memory) × (out' ≡ out))
+      ⊎ ((date : Text) × IsTriedOn commands date × TriesWith date (tried_with apply_records commands cntl) files answers r out')
+
+  -- It is tried, and the status is the greatest one.
+  abbrev pub ChecksSet : Option CommandJob → List ℕ → Files → Result ℕ JobError → O → Type 0
+  ChecksSet commands cntl files r out' = (answers : Result (List machine.Answer) JobError)
+      × TriesSet commands cntl files (λ all. all) answers out' × (r ≡ greatest_told answers)

@@ -6,21 +6,21 @@ ghost use Rattle.smpe.specs.declared.error.JobError.{JobError};
 ghost use Rattle.smpe.specs.declared.jobs.Answer.{Answer};
 ghost use Rattle.smpe_zones.specs.Definitions.{definition};
 ghost use Rattle.smpe_command.specs.Database.{JobOver};
-ghost use Rattle.smpe_command.specs.Serving.{Serves, ServesCheck, ServesList, ServesMigrate, ServesRun, ServesWhy};
-ghost use Rattle.smpe_command.specs.Serving.{ServesVerify, ServesZone, job_told, status_told};
+ghost use Rattle.smpe_command.specs.Serving.{Serves, ServesList, ServesMigrate, ServesRun, ServesVerify, ServesZone};
+ghost use Rattle.smpe_command.specs.Serving.{job_told, status_told};
 
 use crate::careful::looked;
-use crate::database::{found_over, job_over, migrate_over, verified_over};
+use crate::checks::check;
+use crate::database::{job_over, migrate_over, verified_over};
 use crate::host::Host;
 use crate::job_files::{JobFiles, read_files};
-use crate::service_set::{greatest_status, tried};
-use fields::{Id, Srel, YyDdd, ZoneName};
-use report::{Sink, write_all};
+use crate::questions::{put_told, why};
+use fields::{Srel, YyDdd, ZoneName};
+use report::Sink;
 use smpe::{
-    CommandJob, DatabaseFile, Fault, Invocation, Job, JobError, list_commands, migrated_line,
-    status_of, zone_line,
+    DatabaseFile, Fault, Invocation, Job, JobError, list_commands, migrated_line, status_of,
+    zone_line,
 };
-use smpe_why::tell;
 use std::alloc::Global;
 use terms::ZoneKind;
 
@@ -31,7 +31,8 @@ pub(crate) fn served<'a, H: Host, O: Sink>(
     asked: &'a Invocation,
     out: &mut O,
 ) -> Result<u8, Fault<'a>>
-    ensures { Serves H.Host H.Disk.Store O.Sink host.old asked.entry.now out.old result host.new out.new }
+    ensures { Serves H.Host H.Disk.Store H.Copied.Store O.Sink host.old asked.entry.now out.old result host.new
+        out.new }
 {
     match asked {
         Invocation::Zone {
@@ -60,21 +61,20 @@ pub(crate) fn served<'a, H: Host, O: Sink>(
             out,
         ),
         Invocation::List { db, zone } => job_told(list(alloc, host, db, *zone, out)),
-        Invocation::Why { db, zone, ids } => {
-            job_told(why(alloc, host, db, *zone, ids.as_slice(), out))
-        }
-        Invocation::Check {
-            srel,
-            ptfin,
-            hold,
-            commands,
-        } => check(alloc, host, *srel, ptfin.as_str(), hold, commands, out),
+        Invocation::Why {
+            db,
+            zone,
+            ids,
+            options,
+        } => why(alloc, host, db, *zone, ids.as_slice(), options, out),
+        Invocation::Check { system, set } => check(alloc, host, system, set, out),
         Invocation::Migrate { db } => job_told(migrate(alloc, host, db, out)),
         Invocation::Verify { db } => job_told(verify(alloc, host, db, out)),
     }
 }
 
-fn job_told<'a>(code: Result<u8, JobError>) -> Result<u8, Fault<'a>>
+/// The error of a job is a fault of the program.
+pub(crate) fn job_told<'a>(code: Result<u8, JobError>) -> Result<u8, Fault<'a>>
     ensures { result ≡ job_told code }
 {
     Ok(code?)
@@ -168,43 +168,6 @@ fn run_files<H: Host, O: Sink>(
     Ok(status_of(&answer))
 }
 
-// All of it is made before any of it is written.
-fn why<H: Host, O: Sink>(
-    alloc: Global,
-    host: &mut H,
-    db: &DatabaseFile,
-    zone: ZoneName,
-    ids: &[Id],
-    out: &mut O,
-) -> Result<u8, JobError>
-    ensures { ServesWhy H.Host H.Disk.Store O.Sink host.old (string_bytes db.now.name)
-        out.old zone ids.now result host.new out.new }
-{
-    let found = found_over(alloc, host, db, zone)?;
-    let told = tell(alloc, &found, ids)?;
-    write_all(told.text.as_slice(), out)?;
-    Ok(told.status)
-}
-
-// The files are read before anything is made.
-fn check<'a, H: Host, O: Sink>(
-    alloc: Global,
-    host: &mut H,
-    srel: Srel,
-    ptfin: &'a str,
-    hold: &'a Option<String>,
-    commands: &'a Option<CommandJob>,
-    out: &mut O,
-) -> Result<u8, Fault<'a>>
-    ensures { ServesCheck H.Host O.Sink host.old out.old srel (Some ptfin.entry.now)
-        (option_map string_bytes hold.entry.now) commands.entry.now result host.new out.new }
-{
-    let cntl = commands.as_ref().map(|commands| commands.cntl.as_str());
-    let files = read_files(alloc, host, cntl, Some(ptfin), hold.as_deref())?;
-    let answers = tried(alloc, srel, commands, &files, out)?;
-    Ok(greatest_status(answers.as_slice()))
-}
-
 fn migrate<H: Host, O: Sink>(
     alloc: Global,
     host: &mut H,
@@ -230,6 +193,5 @@ fn verify<H: Host, O: Sink>(
 {
     let found = verified_over(alloc, host, db)?;
     let told = smpe_verify::tell(alloc, found)?;
-    write_all(told.text.as_slice(), out)?;
-    Ok(told.status)
+    put_told(told.text.as_slice(), told.status, out)
 }

@@ -8,11 +8,14 @@
 
 mod asked_words;
 mod careful;
+mod checks;
+mod copied;
 mod database;
 mod host;
 mod job_files;
 mod jobs;
 mod program;
+mod questions;
 mod service_set;
 
 pub use host::Host;

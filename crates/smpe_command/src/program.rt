@@ -21,7 +21,7 @@ pub fn command<H: Host, O: Sink, E: Sink>(
     out: &mut O,
     err: &mut E,
 ) -> u8
-    ensures words { IfOk words.now (λ all. Answers H.Host H.Disk.Store O.Sink E.Sink
+    ensures words { IfOk words.now (λ all. Answers H.Host H.Disk.Store H.Copied.Store O.Sink E.Sink
         (map (λ word. word.items) all.items) host.old out.old err.old result host.new out.new err.new) }
     ensures none { IfErr words.now (λ error. Tells H.Host E.Sink host.old err.old (Arg Memory) result host.new err.new
         × (out.new ≡ out.old)) }

@@ -122,21 +122,56 @@ fn start_of(record: usize) -> usize {
 }
 
 fn shown(byte: u8) -> char {
-    if byte == b' ' || byte.is_ascii_graphic() {
-        char::from(byte)
-    } else {
-        '?'
+    if is_odd(byte) { '?' } else { char::from(byte) }
+}
+
+/// Whether a file has only whole records.
+pub(crate) fn is_whole(file: &[u8]) -> bool {
+    file.len() % RECORD == 0
+}
+
+/// What the bytes of a record are.
+#[derive(Clone, Copy)]
+pub(crate) enum RecordForm {
+    /// All are printable.
+    Card,
+    /// One is not ASCII, as nearly all bytes of EBCDIC are.
+    Foreign,
+    /// A line ends among them.
+    Text,
+    /// The one in this column, counted from 1, is of another kind.
+    Odd(usize),
+    /// There are only so many.
+    Cut(usize),
+}
+
+impl RecordForm {
+    /// The form of a record, counted from 1.
+    pub(crate) fn of(file: &[u8], record: usize) -> RecordForm {
+        let mut length = 0usize;
+        let mut odd = None;
+        for &byte in file.iter().skip(start_of(record)).take(RECORD) {
+            length = length.saturating_add(1);
+            if !byte.is_ascii() {
+                return RecordForm::Foreign;
+            }
+            if byte == b'\n' {
+                return RecordForm::Text;
+            }
+            if odd.is_none() && is_odd(byte) {
+                odd = Some(length);
+            }
+        }
+        match odd {
+            Some(column) => RecordForm::Odd(column),
+            None if length < RECORD => RecordForm::Cut(length),
+            None => RecordForm::Card,
+        }
     }
 }
 
-/// Whether a record, counted from 1, has a byte that is not ASCII, as nearly all bytes of EBCDIC are.
-pub(crate) fn is_foreign(file: &[u8], record: usize) -> bool {
-    for byte in file.iter().skip(start_of(record)).take(RECORD) {
-        if !byte.is_ascii() {
-            return true;
-        }
-    }
-    false
+fn is_odd(byte: u8) -> bool {
+    byte != b' ' && !byte.is_ascii_graphic()
 }
 
 /// The text of a record, counted from 1. A question mark stands for each character that is not printable.

@@ -5,7 +5,9 @@
 
 mod card;
 mod operand;
+mod related;
 mod report;
 
 pub use operand::{empty_hint, operand_hint};
+pub use related::{RelatedZone, related_name};
 pub use report::{ReadFile, ReportWatch, zone_hint};

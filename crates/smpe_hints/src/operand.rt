@@ -19,7 +19,7 @@ impl Form {
         match option {
             "--name" | "--related" | "--zone" => Some(Form::ZoneName),
             "--srel" => Some(Form::Srel),
-            "--id" => Some(Form::Id),
+            "--id" | "--why" => Some(Form::Id),
             "--date" => Some(Form::Date),
             "--wait" => Some(Form::Seconds),
             _ => None,
@@ -79,6 +79,10 @@ impl<'a> CommandLine<'a> {
         }
         None
     }
+
+    fn has(self, option: &str) -> bool {
+        self.value(option).is_some()
+    }
 }
 
 /// The value of an option, if the words have it.
@@ -100,7 +104,14 @@ pub fn operand_hint(alloc: Global, words: &[Vec<u8>]) -> Result<Option<String>, 
             return Ok(Some(told));
         }
     }
-    missing_hint(alloc, words)
+    match words.at(1) {
+        Some("check") => Ok(match check_fault(words) {
+            Some(told) => Some(String::from_str(alloc, told)?),
+            None => None,
+        }),
+        Some("why") => bypass_hint(alloc, words),
+        _ => Ok(None),
+    }
 }
 
 fn value_hint(
@@ -120,14 +131,31 @@ fn value_hint(
     }
 }
 
-fn missing_hint(alloc: Global, words: CommandLine<'_>) -> Result<Option<String>, AllocError> {
-    if words.value("--cntl").is_some() && words.value("--date").is_none() {
-        return Ok(Some(String::from_str(
-            alloc,
+// What `check` lacks, or has that does not go together.
+fn check_fault(words: CommandLine<'_>) -> Option<&'static str> {
+    Some(match (words.has("--db"), words.has("--srel")) {
+        (true, true) =>
+            "--srel and --db: check takes the SREL of an empty system or a database, not both",
+        (false, false) =>
+            "--srel is missing, or --db: check needs the SREL of an empty system, or a database",
+        (true, false) if !words.has("--zone") =>
+            "--zone is missing: with --db, check needs a zone of the database, as TGT1",
+        (false, true) if words.has("--zone") || words.has("--why") || words.has("--wait") =>
+            "--zone, --why and --wait go with --db, and an empty system has none",
+        _ if words.has("--cntl") && !words.has("--date") =>
             "--date is missing: with --cntl, check needs the date of the job, as 2024-05-17",
-        )?));
+        _ => return None,
+    })
+}
+
+// Nothing else can be wrong with the words of `why`.
+fn bypass_hint(alloc: Global, words: CommandLine<'_>) -> Result<Option<String>, AllocError> {
+    match words.value("--bypass") {
+        Some(value) => Ok(Some(format!(in alloc;
+            "--bypass has \"{value}\": it is the list of a BYPASS, as HOLDSYSTEM(ACTION),PRE"
+        )?)),
+        None => Ok(None),
     }
-    Ok(None)
 }
 
 /// What to say about a job that has printed nothing.

@@ -1,6 +1,7 @@
 //! What in a report needs more words.
-use crate::card::{card_fault, card_text, is_foreign, set_of};
+use crate::card::{RecordForm, card_fault, card_text, is_whole, set_of};
 use crate::operand::value_of;
+use crate::related::{RelatedZone, related_told};
 use std::alloc::{AllocError, Global};
 
 /// It looks at so many bytes of a line.
@@ -188,11 +189,17 @@ impl ReportWatch {
         Ok(())
     }
 
-    /// What to say, a line each, about a report for which these words asked over these files.
-    pub fn hints(&self, words: &[Vec<u8>], files: &[ReadFile]) -> Result<Vec<String>, AllocError> {
+    /// What to say, a line each, about a report for which these words asked over these files, and over a database that
+    /// knows this about the related zone.
+    pub fn hints(
+        &self,
+        words: &[Vec<u8>],
+        files: &[ReadFile],
+        related: &RelatedZone,
+    ) -> Result<Vec<String>, AllocError> {
         let mut lines = Vec::new(self.alloc);
         for notice in &self.notices {
-            if let Some(line) = told(self.alloc, notice, words, files)? {
+            if let Some(line) = told(self.alloc, notice, words, files, related)? {
                 lines.push(line)?;
             }
         }
@@ -205,6 +212,7 @@ fn told(
     notice: &Notice,
     words: &[Vec<u8>],
     files: &[ReadFile],
+    related: &RelatedZone,
 ) -> Result<Option<String>, AllocError> {
     match notice {
         Notice::Card {
@@ -229,7 +237,7 @@ fn told(
             "zone {zone} is not defined in this database; smpe zone defines one"
         )?)),
         Notice::NoZoneAsked => zone_told(alloc, value_of(words, "--zone")),
-        Notice::Related => related_told(alloc, words),
+        Notice::Related => Ok(Some(related_told(alloc, words, related)?)),
     }
 }
 
@@ -244,18 +252,42 @@ fn card_told(
         return Ok(None);
     };
     for file in files {
-        if file.name.as_str() == name && is_foreign(file.bytes.as_slice(), record) {
-            return Ok(Some(format!(in alloc;
-                "{name} record {record} is not ASCII; smpe-intake and iconv convert EBCDIC"
-            )?));
-        }
         if file.name.as_str() == name {
-            let card = card_text(alloc, file.bytes.as_slice(), record)?;
-            let fault = card_fault(alloc, file.bytes.as_slice(), record, code)?;
-            return Ok(Some(format!(in alloc; "{name} record {record} is \"{card}\": {fault}")?));
+            return record_told(alloc, file, record, code);
         }
     }
     Ok(None)
+}
+
+fn record_told(
+    alloc: Global,
+    file: &ReadFile,
+    record: usize,
+    code: &str,
+) -> Result<Option<String>, AllocError> {
+    let name = file.name.as_str();
+    let bytes = file.bytes.as_slice();
+    match RecordForm::of(bytes, record) {
+        RecordForm::Foreign => Ok(Some(format!(in alloc;
+            "{name} record {record} is not ASCII; smpe-intake and iconv convert EBCDIC"
+        )?)),
+        // (of a file with another length, this is said when it is read)
+        RecordForm::Text if !is_whole(bytes) => Ok(None),
+        RecordForm::Text => Ok(Some(format!(in alloc;
+            "{name} record {record} has the end of a line in it; smpe-cards makes records of text"
+        )?)),
+        RecordForm::Cut(length) => Ok(Some(format!(in alloc;
+            "{name} record {record} has only {length} bytes, and a record has 80: is the file cut off?"
+        )?)),
+        RecordForm::Odd(column) => Ok(Some(format!(in alloc;
+            "{name} record {record} has a tab or another character that is not printable in column {column}"
+        )?)),
+        RecordForm::Card => {
+            let card = card_text(alloc, bytes, record)?;
+            let fault = card_fault(alloc, bytes, record, code)?;
+            Ok(Some(format!(in alloc; "{name} record {record} is \"{card}\": {fault}")?))
+        }
+    }
 }
 
 /// What to say about a zone that a SET names and that is not defined, after `smpe: no zone`.
@@ -292,21 +324,5 @@ fn zone_told(alloc: Global, zone: Option<&str>) -> Result<Option<String>, AllocE
             "zone {zone} is not defined in this database; smpe zone defines one"
         )?)),
         None => Ok(None),
-    }
-}
-
-fn related_told(alloc: Global, words: &[Vec<u8>]) -> Result<Option<String>, AllocError> {
-    let is_target = value_of(words, "--kind") == Some("target");
-    match value_of(words, "--related") {
-        Some(related) if is_target => Ok(Some(format!(in alloc;
-            "--related {related} is no distribution zone of this database, or has a target zone already"
-        )?)),
-        Some(related) => Ok(Some(format!(in alloc;
-            "--related {related} is for a target zone, and a distribution zone has none"
-        )?)),
-        None => Ok(Some(String::from_str(
-            alloc,
-            "--related is missing: a target zone names its distribution zone",
-        )?)),
     }
 }

@@ -1,14 +1,18 @@
 -- What a bad operand excludes.
-use Rattle.std.proofs.Common.{◌≡◌, ◌||◌, List, ap, refl, true, codes, slice_index, nat_lt, arith}
+use Rattle.std.proofs.Common.{◌≡◌, ◌||◌, List, ◌∙◌, ap, sym, refl, true, codes, slice_index, nat_lt, arith}
 use Rattle.std.specs.Prelude.{Option, Some, None}
 use Rattle.std.specs.String.{string_bytes}
 use Rattle.std.proofs.lemmas.Bool.Decides.{nat_tests}
 use Rattle.terms.specs.Types.{Text}
 use Rattle.clap.specs.Words.{Row}
 use Rattle.smpe_invocation.specs.Answers.{Excludes}
-use Rattle.smpe_invocation.specs.Values.{HasCommands, HasDate, HasOptions, HasText, HasValues, Lacks}
+use Rattle.smpe_invocation.specs.Values.{HasCommands, HasDate, HasOptions, HasSystem, HasText, HasValues, Lacks}
 use Rattle.smpe_invocation.specs.declared.fault.ArgFault.{ArgFault}
 use Rattle.smpe_invocation.specs.declared.fault.ArgFault.TheVariants.{Memory, Clap, BadOperand}
+use Rattle.std.proofs.lemmas.Option.{none-some}
+use Rattle.smpe_invocation.specs.declared.asked.CheckedSystem.{CheckedSystem}
+use Rattle.smpe_invocation.specs.declared.asked.CheckedSystem.TheVariants.{Empty, Copied}
+use Rattle.smpe_invocation.specs.declared.asked.SystemCopy.{SystemCopy}
 use Rattle.smpe_invocation.specs.declared.asked.CommandJob.{CommandJob}
 use Rattle.smpe_invocation.specs.declared.asked.Invocation.{Invocation}
 use Rattle.smpe_invocation.specs.declared.asked.Invocation.TheVariants as asked
@@ -33,8 +37,8 @@ module _ (rows : List Row) where
   zone_in (asked.Zone db name kind srel related, h) = (db, name, kind, srel, related, h.1)
   zone_in (asked.Run db date cntl ptfin hold careful, h) = two_words (codes "zone") (codes "run") refl h.0
   zone_in (asked.List db zone, h) = two_words (codes "zone") (codes "list") refl h.0
-  zone_in (asked.Why db zone ids, h) = two_words (codes "zone") (codes "why") refl h.0
-  zone_in (asked.Check srel ptfin hold commands, h) = two_words (codes "zone") (codes "check") refl h.0
+  zone_in (asked.Why db zone ids options, h) = two_words (codes "zone") (codes "why") refl h.0
+  zone_in (asked.Check system set, h) = two_words (codes "zone") (codes "check") refl h.0
   zone_in (asked.Migrate db, h) = two_words (codes "zone") (codes "migrate") refl h.0
   zone_in (asked.Verify db, h) = two_words (codes "zone") (codes "verify") refl h.0
 
@@ -44,8 +48,8 @@ module _ (rows : List Row) where
   run_in (asked.Zone db name kind srel related, h) = two_words (codes "run") (codes "zone") refl h.0
   run_in (asked.Run db date cntl ptfin hold careful, h) = (db, date, cntl, ptfin, hold, careful, h.1)
   run_in (asked.List db zone, h) = two_words (codes "run") (codes "list") refl h.0
-  run_in (asked.Why db zone ids, h) = two_words (codes "run") (codes "why") refl h.0
-  run_in (asked.Check srel ptfin hold commands, h) = two_words (codes "run") (codes "check") refl h.0
+  run_in (asked.Why db zone ids options, h) = two_words (codes "run") (codes "why") refl h.0
+  run_in (asked.Check system set, h) = two_words (codes "run") (codes "check") refl h.0
   run_in (asked.Migrate db, h) = two_words (codes "run") (codes "migrate") refl h.0
   run_in (asked.Verify db, h) = two_words (codes "run") (codes "verify") refl h.0
 
@@ -54,28 +58,28 @@ module _ (rows : List Row) where
   list_in (asked.Zone db name kind srel related, h) = two_words (codes "list") (codes "zone") refl h.0
   list_in (asked.Run db date cntl ptfin hold careful, h) = two_words (codes "list") (codes "run") refl h.0
   list_in (asked.List db zone, h) = (db, zone, h.1)
-  list_in (asked.Why db zone ids, h) = two_words (codes "list") (codes "why") refl h.0
-  list_in (asked.Check srel ptfin hold commands, h) = two_words (codes "list") (codes "check") refl h.0
+  list_in (asked.Why db zone ids options, h) = two_words (codes "list") (codes "why") refl h.0
+  list_in (asked.Check system set, h) = two_words (codes "list") (codes "check") refl h.0
   list_in (asked.Migrate db, h) = two_words (codes "list") (codes "migrate") refl h.0
   list_in (asked.Verify db, h) = two_words (codes "list") (codes "verify") refl h.0
 
   pub why_in : (i : Invocation) × HasValues (codes "why", rows) i
-      → (db : _) × (zone : _) × (ids : _) × HasOptions rows (asked.Why db zone ids)
+      → (db : _) × (zone : _) × (ids : _) × (options : _) × HasOptions rows (asked.Why db zone ids options)
   why_in (asked.Zone db name kind srel related, h) = two_words (codes "why") (codes "zone") refl h.0
   why_in (asked.Run db date cntl ptfin hold careful, h) = two_words (codes "why") (codes "run") refl h.0
   why_in (asked.List db zone, h) = two_words (codes "why") (codes "list") refl h.0
-  why_in (asked.Why db zone ids, h) = (db, zone, ids, h.1)
-  why_in (asked.Check srel ptfin hold commands, h) = two_words (codes "why") (codes "check") refl h.0
+  why_in (asked.Why db zone ids options, h) = (db, zone, ids, options, h.1)
+  why_in (asked.Check system set, h) = two_words (codes "why") (codes "check") refl h.0
   why_in (asked.Migrate db, h) = two_words (codes "why") (codes "migrate") refl h.0
   why_in (asked.Verify db, h) = two_words (codes "why") (codes "verify") refl h.0
 
   pub check_in : (i : Invocation) × HasValues (codes "check", rows) i
-      → (srel : _) × (ptfin : _) × (hold : _) × (commands : _) × HasOptions rows (asked.Check srel ptfin hold commands)
+      → (system : _) × (set : _) × HasOptions rows (asked.Check system set)
   check_in (asked.Zone db name kind srel related, h) = two_words (codes "check") (codes "zone") refl h.0
   check_in (asked.Run db date cntl ptfin hold careful, h) = two_words (codes "check") (codes "run") refl h.0
   check_in (asked.List db zone, h) = two_words (codes "check") (codes "list") refl h.0
-  check_in (asked.Why db zone ids, h) = two_words (codes "check") (codes "why") refl h.0
-  check_in (asked.Check srel ptfin hold commands, h) = (srel, ptfin, hold, commands, h.1)
+  check_in (asked.Why db zone ids options, h) = two_words (codes "check") (codes "why") refl h.0
+  check_in (asked.Check system set, h) = (system, set, h.1)
   check_in (asked.Migrate db, h) = two_words (codes "check") (codes "migrate") refl h.0
   check_in (asked.Verify db, h) = two_words (codes "check") (codes "verify") refl h.0
 
@@ -84,8 +88,8 @@ module _ (rows : List Row) where
   migrate_in (asked.Zone db name kind srel related, h) = two_words (codes "migrate") (codes "zone") refl h.0
   migrate_in (asked.Run db date cntl ptfin hold careful, h) = two_words (codes "migrate") (codes "run") refl h.0
   migrate_in (asked.List db zone, h) = two_words (codes "migrate") (codes "list") refl h.0
-  migrate_in (asked.Why db zone ids, h) = two_words (codes "migrate") (codes "why") refl h.0
-  migrate_in (asked.Check srel ptfin hold commands, h) = two_words (codes "migrate") (codes "check") refl h.0
+  migrate_in (asked.Why db zone ids options, h) = two_words (codes "migrate") (codes "why") refl h.0
+  migrate_in (asked.Check system set, h) = two_words (codes "migrate") (codes "check") refl h.0
   migrate_in (asked.Migrate db, h) = (db, h.1)
   migrate_in (asked.Verify db, h) = two_words (codes "migrate") (codes "verify") refl h.0
 
@@ -94,8 +98,8 @@ module _ (rows : List Row) where
   verify_in (asked.Zone db name kind srel related, h) = two_words (codes "verify") (codes "zone") refl h.0
   verify_in (asked.Run db date cntl ptfin hold careful, h) = two_words (codes "verify") (codes "run") refl h.0
   verify_in (asked.List db zone, h) = two_words (codes "verify") (codes "list") refl h.0
-  verify_in (asked.Why db zone ids, h) = two_words (codes "verify") (codes "why") refl h.0
-  verify_in (asked.Check srel ptfin hold commands, h) = two_words (codes "verify") (codes "check") refl h.0
+  verify_in (asked.Why db zone ids options, h) = two_words (codes "verify") (codes "why") refl h.0
+  verify_in (asked.Check system set, h) = two_words (codes "verify") (codes "check") refl h.0
   verify_in (asked.Migrate db, h) = two_words (codes "verify") (codes "migrate") refl h.0
   verify_in (asked.Verify db, h) = (db, h.1)
 
@@ -109,3 +113,14 @@ module _ (rows : List Row) where
       → (date : Text) × HasDate rows date
   dated_in named (None, h) = absurd (named h)
   dated_in named (Some commands, h) = (commands.date, h.1)
+
+  -- a service set that is checked in a copy of a database is not checked in an empty system, and the other way round
+  pub empty_in : Lacks (codes "db") rows → (system : CheckedSystem) × HasSystem rows system
+      → (srel : Text) × HasSystem rows (Empty srel)
+  empty_in none (Empty srel, h) = (srel, h)
+  empty_in none (Copied copy, h) = absurd (none-some (string_bytes copy.db.name) (sym none ∙ h.0.0))
+
+  pub copied_in : ¬ Lacks (codes "db") rows → (system : CheckedSystem) × HasSystem rows system
+      → (copy : SystemCopy) × HasSystem rows (Copied copy)
+  copied_in some (Empty srel, h) = absurd (some h.1)
+  copied_in some (Copied copy, h) = (copy, h)

@@ -15,6 +15,10 @@ option id = record (new_rule id) { long = Some id }
 abbrev pub flag : Text → Rule
 flag id = record (option id) { action = Some SetTrue }
 
+-- one that is optional and may be repeated
+abbrev pub several : Text → Rule
+several id = record (option id) { action = Some Append }
+
 -- `--id TEXT`, which is required
 abbrev pub needed : Text → Rule
 needed id = record (option id) { required = true }
@@ -57,16 +61,17 @@ run_shape = with_options (codes "run") (database_options (needed (codes "date") 
 abbrev pub list_shape : Shape
 list_shape = with_options (codes "list") (database_options (needed (codes "zone") ∷ []))
 
--- `why --db F [--wait SECONDS] --zone Z --id ID [--id ID]..`
+-- `why --db F [--wait SECONDS] --zone Z --id ID [--id ID].. [--together] [--group] [--bypass LIST]`
 abbrev pub why_shape : Shape
-why_shape = with_options (codes "why")
-    (database_options (needed (codes "zone") ∷ repeated (codes "id") ∷ []))
+why_shape = with_options (codes "why") (database_options (needed (codes "zone") ∷ repeated (codes "id")
+    ∷ flag (codes "together") ∷ flag (codes "group") ∷ option (codes "bypass") ∷ []))
 
--- `check --srel S --ptfin F [--hold F] [--cntl F --date YYYY-MM-DD]`
+-- `check --ptfin F [--hold F] [--cntl F --date YYYY-MM-DD]` with `--srel S`, or with `--db F [--wait SECONDS] --zone Z
+-- [--why ID]..`
 abbrev pub check_shape : Shape
 check_shape = with_options (codes "check")
-    (needed (codes "srel") ∷ needed (codes "ptfin") ∷ option (codes "hold") ∷ option (codes "cntl")
-    ∷ option (codes "date") ∷ [])
+    (option (codes "srel") ∷ option (codes "db") ∷ option (codes "wait") ∷ option (codes "zone") ∷ several (codes "why")
+    ∷ needed (codes "ptfin") ∷ option (codes "hold") ∷ option (codes "cntl") ∷ option (codes "date") ∷ [])
 
 -- `migrate --db F [--wait SECONDS]`
 abbrev pub migrate_shape : Shape

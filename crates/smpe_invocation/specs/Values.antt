@@ -1,5 +1,5 @@
 -- The values of the options, as clap's matches have them.
-use Rattle.std.specs.Prelude.{◌≡◌, ◌↔◌, ◌≤◌, ℕ, All, IsTrue, Bool, List, Option, Some, None, codes, option_map}
+use Rattle.std.specs.Prelude.{◌≡◌, ◌↔◌, ◌≤◌, ℕ, All, IsTrue, Bool, List, [], ◌∷◌, Option, Some, None, codes, option_map}
 use Rattle.std.specs.Prelude.{IfSome}
 use Rattle.std.specs.Str.Parse.{IsNumeral, digits_value, without_leading_plus}
 use Rattle.std.specs.String.{string_bytes}
@@ -9,10 +9,14 @@ use Rattle.terms.specs.Spelling.{zone_kind_text}
 use Rattle.terms.specs.declared.kinds.ZoneKind.{ZoneKind}
 use Rattle.clap.specs.Words.{Row, all_of, first_of}
 use Rattle.smpe_invocation.specs.Dates.{HasDateForm, IsCalendarDay, dotted}
+use Rattle.smpe_invocation.specs.declared.asked.CheckedSystem.{CheckedSystem}
+use Rattle.smpe_invocation.specs.declared.asked.CheckedSystem.TheVariants.{Empty, Copied}
 use Rattle.smpe_invocation.specs.declared.asked.CommandJob.{CommandJob}
 use Rattle.smpe_invocation.specs.declared.asked.DatabaseFile.{DatabaseFile}
 use Rattle.smpe_invocation.specs.declared.asked.Invocation.{Invocation}
 use Rattle.smpe_invocation.specs.declared.asked.Invocation.TheVariants as asked
+use Rattle.smpe_invocation.specs.declared.asked.ServiceSet.{ServiceSet}
+use Rattle.smpe_invocation.specs.declared.asked.WhyOptions.{WhyOptions}
 
 abbrev pub HasText : Text → List Row → Text → Type 0
 HasText id rows text = first_of id rows ≡ Some text
@@ -64,19 +68,40 @@ HasDatabase rows db = HasText (codes "db") rows (string_bytes db.name) × IsWait
 abbrev pub HasIds : List Row → List Text → Type 0
 HasIds rows ids = (all_of (codes "id") rows ≡ Some ids) × All IsId ids
 
+-- the values of an option that may be repeated or left out, in their order
+abbrev pub AreIds : Option (List Text) → List Text → Type 0
+AreIds None ids = ids ≡ []
+AreIds (Some texts) ids = (ids ≡ texts) × All IsId ids
+
+abbrev pub HasWhyOptions : List Row → WhyOptions → Type 0
+HasWhyOptions rows options = HasFlag (codes "together") rows options.together
+    × HasFlag (codes "group") rows options.group
+    × HasOptional (codes "bypass") rows (option_map string_bytes options.bypass)
+
 -- The commands, if the words have a file of them; then they have a date.
 abbrev pub HasCommands : List Row → Option CommandJob → Type 0
 HasCommands rows None = Lacks (codes "cntl") rows
 HasCommands rows (Some commands) =
     HasText (codes "cntl") rows (string_bytes commands.cntl) × HasDate rows commands.date
 
+abbrev pub HasServiceSet : List Row → ServiceSet → Type 0
+HasServiceSet rows set = HasText (codes "ptfin") rows (string_bytes set.ptfin)
+    × HasOptional (codes "hold") rows (option_map string_bytes set.hold) × HasCommands rows set.commands
+
+-- an empty system with an SREL, or a copy of a database at a zone, and not both
+abbrev pub HasSystem : List Row → CheckedSystem → Type 0
+HasSystem rows (Empty srel) = HasSrel rows srel × Lacks (codes "db") rows × Lacks (codes "wait") rows
+    × Lacks (codes "zone") rows × Lacks (codes "why") rows
+HasSystem rows (Copied copy) = HasDatabase rows copy.db × HasZoneName (codes "zone") rows copy.zone
+    × AreIds (all_of (codes "why") rows) copy.ids.items × Lacks (codes "srel") rows
+
 -- the subcommand that asks for it
 abbrev pub subcommand : Invocation → Text
 subcommand (asked.Zone db name kind srel related) = codes "zone"
 subcommand (asked.Run db date cntl ptfin hold careful) = codes "run"
 subcommand (asked.List db zone) = codes "list"
-subcommand (asked.Why db zone ids) = codes "why"
-subcommand (asked.Check srel ptfin hold commands) = codes "check"
+subcommand (asked.Why db zone ids options) = codes "why"
+subcommand (asked.Check system set) = codes "check"
 subcommand (asked.Migrate db) = codes "migrate"
 subcommand (asked.Verify db) = codes "verify"
 
@@ -89,11 +114,9 @@ HasOptions rows (asked.Run db date cntl ptfin hold careful) = HasDatabase rows d
     × HasOptional (codes "ptfin") rows (option_map string_bytes ptfin)
     × HasOptional (codes "hold") rows (option_map string_bytes hold) × HasFlag (codes "careful") rows careful
 HasOptions rows (asked.List db zone) = HasDatabase rows db × HasZoneName (codes "zone") rows zone
-HasOptions rows (asked.Why db zone ids) =
-    HasDatabase rows db × HasZoneName (codes "zone") rows zone × HasIds rows ids.items
-HasOptions rows (asked.Check srel ptfin hold commands) = HasSrel rows srel
-    × HasText (codes "ptfin") rows (string_bytes ptfin)
-    × HasOptional (codes "hold") rows (option_map string_bytes hold) × HasCommands rows commands
+HasOptions rows (asked.Why db zone ids options) = HasDatabase rows db × HasZoneName (codes "zone") rows zone
+    × HasIds rows ids.items × HasWhyOptions rows options
+HasOptions rows (asked.Check system set) = HasSystem rows system × HasServiceSet rows set
 HasOptions rows (asked.Migrate db) = HasDatabase rows db
 HasOptions rows (asked.Verify db) = HasDatabase rows db
 

@@ -16,6 +16,39 @@ pub struct CommandJob {
     pub date: YyDdd,
 }
 
+/// A service set, by the names of its files, and the commands to check it with, unless all of it is installed.
+#[derive(Drop)]
+pub struct ServiceSet {
+    pub ptfin: String,
+    pub hold: Option<String>,
+    pub commands: Option<CommandJob>,
+}
+
+/// A copy of a database, the zone into which a service set is tried, and the ids about which `why` is asked afterwards.
+#[derive(Drop)]
+pub struct SystemCopy {
+    pub db: DatabaseFile,
+    pub zone: ZoneName,
+    pub ids: Vec<Id>,
+}
+
+/// The system in which a service set is checked.
+#[derive(Drop)]
+pub enum CheckedSystem {
+    /// An empty one, with zones of this SREL.
+    Empty(Srel),
+    Copied(SystemCopy),
+}
+
+/// How `why` judges the ids: all as the candidates of one command, with those that GROUPEXTEND brings in, and with the
+/// members of this list of BYPASS.
+#[derive(Drop)]
+pub struct WhyOptions {
+    pub together: bool,
+    pub group: bool,
+    pub bypass: Option<String>,
+}
+
 /// What `smpe` is asked to do. The texts are the names of files.
 #[derive(Drop)]
 pub enum Invocation {
@@ -41,18 +74,17 @@ pub enum Invocation {
         db: DatabaseFile,
         zone: ZoneName,
     },
-    /// Tell the facts about ids in a zone.
+    /// Tell the facts about ids in a zone, and what an install would make of them.
     Why {
         db: DatabaseFile,
         zone: ZoneName,
         ids: Vec<Id>,
+        options: WhyOptions,
     },
-    /// Tell what a service set would do in an empty system, without a database.
+    /// Tell what a service set would do in a system, and change no database.
     Check {
-        srel: Srel,
-        ptfin: String,
-        hold: Option<String>,
-        commands: Option<CommandJob>,
+        system: CheckedSystem,
+        set: ServiceSet,
     },
     /// Migrate a database of an earlier schema to the program's own.
     Migrate {

@@ -4,7 +4,7 @@ ghost use Rattle.clap.specs.Words.{app_of, rule_of};
 ghost use Rattle.clap.specs.declared.builder.value_parser.ValueParser.{ValueParser};
 ghost use Rattle.smpe_invocation.specs.CommandLine.{IsCommandLine, IsKindParser, IsSubcommand, check_shape};
 ghost use Rattle.smpe_invocation.specs.CommandLine.{database_options, flag, kind_option, list_shape, migrate_shape};
-ghost use Rattle.smpe_invocation.specs.CommandLine.{needed, option, repeated, run_shape, verify_shape};
+ghost use Rattle.smpe_invocation.specs.CommandLine.{needed, option, repeated, run_shape, several, verify_shape};
 ghost use Rattle.smpe_invocation.specs.CommandLine.{why_shape, with_options, zone_shape};
 
 use clap::{Arg, ArgAction, Command};
@@ -112,25 +112,53 @@ fn why_command<'a>(alloc: Global) -> Result<Command<'a>, AllocError>
         alloc,
         "why",
         "Tells what is so of ids in a zone, and changes nothing",
-        "Example: smpe why --db smpe.db --zone TGT1 --id UA00001 --id UA00002",
+        "Example: smpe why --db smpe.db --zone TGT1 --id UA00001 --id UA00002 --together",
     )?
     .arg(required(alloc, "zone", "The target or distribution zone"))?
-    .arg(repeated(alloc, "id", "The id of a SYSMOD, once or more often"))
+    .arg(repeated(alloc, "id", "The id of a SYSMOD, once or more often"))?
+    .arg(flag(
+        alloc,
+        "together",
+        "Judges the ids as the candidates of one command, and not each by itself",
+    ))?
+    .arg(flag(
+        alloc,
+        "group",
+        "Judges them with the requisites that GROUPEXTEND brings in",
+    ))?
+    .arg(optional(
+        alloc,
+        "bypass",
+        "The members of BYPASS, as HOLDSYSTEM(ACTION),PRE",
+    ))
 }
 
+// An empty system has an SREL, and a database a zone; `checked` finds out which of them the words mean.
 fn check_command<'a>(alloc: Global) -> Result<Command<'a>, AllocError>
     ensures { IfOk result (IsSubcommand check_shape) }
 {
     command(
         alloc,
         "check",
-        "Tells what a service set would do in an empty system, without a database",
-        "Example: smpe check --srel Z038 --ptfin ptf.rec --hold hold.rec",
+        "Tells what a service set would do in an empty system, or in a copy of a database",
+        "Example: smpe check --db smpe.db --zone TGT1 --ptfin ptf.rec --hold hold.rec --why UA00001",
     )
-    .arg(required(
+    .arg(optional(
         alloc,
         "srel",
-        "The SREL of the zones DLIB and TGT, in memory",
+        "The SREL of the zones DLIB and TGT of an empty system",
+    ))?
+    .arg(optional(alloc, "db", "The database, which is only read"))?
+    .arg(wait(alloc))?
+    .arg(optional(
+        alloc,
+        "zone",
+        "The target or distribution zone of the database",
+    ))?
+    .arg(several(
+        alloc,
+        "why",
+        "An id to ask about afterwards, as why does, once or more often",
     ))?
     .arg(required(alloc, "ptfin", "The file of SYSMODs that are received"))?
     .arg(optional(alloc, "hold", "The file of holds that are received"))?
@@ -194,6 +222,13 @@ fn repeated<'a>(alloc: Global, id: &'a str, help: &'a str) -> Arg<'a>
     ensures global { result.global ≡ false }
 {
     required(alloc, id, help).action(ArgAction::Append)
+}
+
+fn several<'a>(alloc: Global, id: &'a str, help: &'a str) -> Arg<'a>
+    ensures rule { rule_of result ≡ several id.entry.now }
+    ensures global { result.global ≡ false }
+{
+    optional(alloc, id, help).action(ArgAction::Append)
 }
 
 fn flag<'a>(alloc: Global, id: &'a str, help: &'a str) -> Arg<'a>

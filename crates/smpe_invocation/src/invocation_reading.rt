@@ -2,21 +2,22 @@
 ghost use Rattle.std.specs.Prelude.{map, option_map, codes, IfOk, IfErr};
 ghost use Rattle.clap.specs.Words.{found_of, rows_of};
 ghost use Rattle.smpe_invocation.specs.Answers.{Excludes, IsMet, IsRead, IsRefused};
-ghost use Rattle.smpe_invocation.specs.Values.{HasValues};
+ghost use Rattle.smpe_invocation.specs.Values.{HasValues, HasWhyOptions};
 ghost use Rattle.smpe_invocation.specs.declared.asked.Invocation.{Invocation};
 
-use crate::asked::Invocation;
+use crate::asked::{Invocation, WhyOptions};
+use crate::checked::{set, system};
 use crate::command::command_line;
 use crate::fault::ArgFault;
 use crate::option_values::{
-    commands, database, date, flag, ids, kind, optional_text, related, srel, text, zone_name,
+    database, date, flag, ids, kind, optional_text, related, srel, text, zone_name,
 };
 use clap::ArgMatches;
-use std::alloc::Global;
+use std::alloc::{AllocError, Global};
 
 /// Reads the words, the first of which is the program's name. Returns `Memory` if memory runs out, `Clap` if `clap`
-/// refuses the words or has a text to show instead of them, as for `--help`, and `BadOperand` if a name, an id, an
-/// SREL, a date or a number of seconds has a bad form.
+/// refuses the words or has a text to show instead of them, as for `--help`, and `BadOperand` if a name, an id, an SREL,
+/// a date or a number of seconds has a bad form, or if `check` is asked about no system or about two.
 pub fn invocation<'a>(alloc: Global, words: &'a [&'a str]) -> Result<Invocation, ArgFault>
     ensures ok { IfOk result (IsRead (map (λ word. word.now) words.entry.now)) }
     ensures err { IfErr result (IsRefused (map (λ word. word.now) words.entry.now)) }
@@ -109,8 +110,25 @@ fn why(alloc: Global, found: &ArgMatches<'_>) -> Result<Invocation, ArgFault>
 {
     let zone = zone_name(found, "zone")?;
     let ids = ids(alloc, found)?;
+    let options = why_options(alloc, found)?;
     let db = database(alloc, found)?;
-    Ok(Invocation::Why { db, zone, ids })
+    Ok(Invocation::Why {
+        db,
+        zone,
+        ids,
+        options,
+    })
+}
+
+fn why_options(alloc: Global, found: &ArgMatches<'_>) -> Result<WhyOptions, AllocError>
+    ensures { IfOk result (HasWhyOptions (rows_of (found_of found.now))) }
+{
+    let bypass = optional_text(alloc, found, "bypass")?;
+    Ok(WhyOptions {
+        together: flag(found, "together"),
+        group: flag(found, "group"),
+        bypass,
+    })
 }
 
 fn check(alloc: Global, found: &ArgMatches<'_>) -> Result<Invocation, ArgFault>
@@ -118,16 +136,9 @@ fn check(alloc: Global, found: &ArgMatches<'_>) -> Result<Invocation, ArgFault>
     ensures err { IfErr result (λ e. Excludes e ((invocation : Invocation)
         × HasValues (codes "check", rows_of (found_of found.now)) invocation)) }
 {
-    let srel = srel(found)?;
-    let commands = commands(alloc, found)?;
-    let ptfin = text(alloc, found, "ptfin")?;
-    let hold = optional_text(alloc, found, "hold")?;
-    Ok(Invocation::Check {
-        srel,
-        ptfin,
-        hold,
-        commands,
-    })
+    let system = system(alloc, found)?;
+    let set = set(alloc, found)?;
+    Ok(Invocation::Check { system, set })
 }
 
 fn migrate(alloc: Global, found: &ArgMatches<'_>) -> Result<Invocation, ArgFault>

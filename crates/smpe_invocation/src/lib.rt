@@ -5,13 +5,16 @@
 #![tactic(auto)]
 
 mod asked;
+mod checked;
 mod command;
 mod date;
 mod fault;
 mod invocation_reading;
 mod option_values;
 
-pub use asked::{CommandJob, DatabaseFile, Invocation};
+pub use asked::{
+    CheckedSystem, CommandJob, DatabaseFile, Invocation, ServiceSet, SystemCopy, WhyOptions,
+};
 pub use date::read_date;
 pub use fault::ArgFault;
 pub use invocation_reading::invocation;

@@ -7,13 +7,12 @@ ghost use Rattle.terms.specs.Types.{Text};
 ghost use Rattle.terms.specs.declared.kinds.ZoneKind.{ZoneKind};
 ghost use Rattle.clap.specs.Words.{all_of, first_of, found_of, rows_of};
 ghost use Rattle.smpe_invocation.specs.Answers.{Excludes};
-ghost use Rattle.smpe_invocation.specs.Values.{AreSeconds, HasCommands, HasDatabase, HasDate, HasFlag, HasIds};
+ghost use Rattle.smpe_invocation.specs.Values.{AreIds, AreSeconds, HasDatabase, HasDate, HasFlag, HasIds};
 ghost use Rattle.smpe_invocation.specs.Values.{HasKind, HasOptional, HasRelated, HasSrel, HasText, HasZoneName};
 ghost use Rattle.smpe_invocation.specs.Values.{IsWait, Lacks};
-ghost use Rattle.smpe_invocation.specs.declared.asked.CommandJob.{CommandJob};
 ghost use Rattle.smpe_invocation.specs.declared.asked.DatabaseFile.{DatabaseFile};
 
-use crate::asked::{CommandJob, DatabaseFile};
+use crate::asked::DatabaseFile;
 use crate::date::read_date;
 use crate::fault::ArgFault;
 use clap::ArgMatches;
@@ -39,7 +38,7 @@ fn needed<'a>(found: &ArgMatches<'a>, id: &str) -> Result<&'a str, ArgFault>
     value(found, id).ok_or(ArgFault::BadOperand)
 }
 
-fn lacks(found: &ArgMatches<'_>, id: &str) -> bool
+pub(crate) fn lacks(found: &ArgMatches<'_>, id: &str) -> bool
     ensures { IsTrue result ↔ Lacks id.now (rows_of (found_of found.now)) }
 {
     value(found, id).is_none()
@@ -186,26 +185,25 @@ pub(crate) fn ids(alloc: Global, found: &ArgMatches<'_>) -> Result<Vec<Id>, ArgF
     }
 }
 
+/// The ids of an option that may be left out.
+pub(crate) fn optional_ids(
+    alloc: Global,
+    found: &ArgMatches<'_>,
+    id: &str,
+) -> Result<Vec<Id>, ArgFault>
+    ensures ok { IfOk result (λ ids. AreIds (all_of id.now (rows_of (found_of found.now))) ids.items) }
+    ensures err { IfErr result (λ e. Excludes e ((ids : List Text)
+        × AreIds (all_of id.now (rows_of (found_of found.now))) ids)) }
+{
+    match values(found, id) {
+        Some(texts) => read_ids(alloc, texts),
+        None => Ok(Vec::new(alloc)),
+    }
+}
+
 pub(crate) fn date(found: &ArgMatches<'_>) -> Result<YyDdd, ArgFault>
     ensures ok { IfOk result (λ date. HasDate (rows_of (found_of found.now)) date) }
     ensures err { IfErr result (λ e. Excludes e ((date : Text) × HasDate (rows_of (found_of found.now)) date)) }
 {
     read_date(needed(found, "date")?).ok_or(ArgFault::BadOperand)
-}
-
-// The commands, if the words have a file of them; only these need a date.
-pub(crate) fn commands(
-    alloc: Global,
-    found: &ArgMatches<'_>,
-) -> Result<Option<CommandJob>, ArgFault>
-    ensures ok { IfOk result (HasCommands (rows_of (found_of found.now))) }
-    ensures err { IfErr result (λ e. Excludes e ((commands : Option CommandJob)
-        × HasCommands (rows_of (found_of found.now)) commands)) }
-{
-    if lacks(found, "cntl") {
-        return Ok(None);
-    }
-    let date = date(found)?;
-    let cntl = text(alloc, found, "cntl")?;
-    Ok(Some(CommandJob { cntl, date }))
 }

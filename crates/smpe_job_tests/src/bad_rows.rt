@@ -4,11 +4,12 @@
 use crate::checked::CHECKED;
 use fields::Srel;
 use smpe::{JobError, ZoneError, define_zone};
-use smpe_play::{compare, in_memory, installed, lines_of, opened, run_step, zone_name};
+use smpe_play::{compare, in_memory, installed, opened, run_step, zone_name};
 use sqlite::{Alter, Connection};
 use std::alloc::Global;
 use std::test::Fail;
 use store::Store;
+use store_play::{all_lines, run, run_all};
 use store_schema::StoreError;
 use terms::ZoneKind;
 
@@ -53,37 +54,6 @@ const DEFINED_ROWS: &[&str] = &[
     "INSERT INTO zone (name, kind, srel, related) VALUES ('NEW1', 'distribution', 'Z038', NULL)",
 ];
 
-/// All rows of all tables.
-const TABLES: [&str; 13] = [
-    "SELECT k || '/' || v FROM meta ORDER BY k",
-    "SELECT id || '/' || kind || '/' || sources FROM sysmod ORDER BY id",
-    "SELECT id || '/' || name FROM source ORDER BY id, name",
-    "SELECT id || '/' || srel || '/' || ifnull(fmid, '-') || '/' || pre || '/' || req || '/' || sup || '/' || npre || \
-        '/' || del FROM ver ORDER BY id, srel",
-    "SELECT id || '/' || srel || '/' || n || '/' || fmid || '/' || req FROM ifreq ORDER BY id, srel, n",
-    "SELECT id || '/' || srel || '/' || n || '/' || ifnull(fmid, '-') || '/' || pre || '/' || req || '/' || sup FROM \
-        morever ORDER BY id, srel, n",
-    "SELECT id || '/' || srel || '/' || v || '/' || n || '/' || fmid || '/' || req FROM moreif ORDER BY id, srel, v, n",
-    "SELECT id || '/' || type || '/' || name || '/' || upd || '/' || ifnull(distlib, '-') || '/' || ifnull(syslib, \
-        '-') || '/' || hex(text) FROM elem ORDER BY id, type, name",
-    "SELECT id || '/' || kind || '/' || reason || '/' || fmid || '/' || ifnull(class, '-') || '/' || ifnull(date, \
-        '-') || '/' || ifnull(comment, '-') || '/' || internal FROM hold ORDER BY id, kind, reason",
-    "SELECT name || '/' || kind || '/' || srel || '/' || ifnull(related, '-') FROM zone ORDER BY name",
-    "SELECT zone || '/' || id || '/' || ifnull(date, '-') || '/' || supby || '/' || ifnull(delby, '-') || '/' || \
-        waived FROM entry ORDER BY zone, id",
-    "SELECT zone || '/' || type || '/' || name || '/' || fmid || '/' || rmid || '/' || umid || '/' || distlib || '/' \
-        || syslib || '/' || hex(text) FROM zelem ORDER BY zone, type, name",
-    "SELECT zone || '/' || id || '/' || n FROM chosen ORDER BY zone, id",
-];
-
-// Runs a statement that must change some row.
-fn run<S: Alter>(conn: &mut Connection<S>, sql: &str) -> Result<(), Fail> {
-    if conn.execute(sql, &[])? == 0 {
-        return Err(Fail::from(sql));
-    }
-    Ok(())
-}
-
 // A database in which the function is installed and then one row is damaged.
 fn spoilt<S: Alter + Drop>(
     alloc: Global,
@@ -91,7 +61,7 @@ fn spoilt<S: Alter + Drop>(
     bad: &str,
 ) -> Result<Connection<S>, Fail> {
     let mut conn = installed(alloc, conn)?.close();
-    run(&mut conn, bad)?;
+    run(&mut conn, bad, &[])?;
     Ok(conn)
 }
 
@@ -103,10 +73,8 @@ fn rows_written<S: Alter + Drop>(
     written: &[&str],
 ) -> Result<String, Fail> {
     let mut conn = spoilt(alloc, conn, bad)?;
-    for sql in written {
-        run(&mut conn, sql)?;
-    }
-    lines_of(alloc, &mut conn, &TABLES)
+    run_all(&mut conn, written)?;
+    all_lines(alloc, &mut conn)
 }
 
 // Runs the job, which must report this and then end by `Sf3`.
@@ -160,7 +128,7 @@ fn rows_behind<S: Alter + Drop>(
 ) -> Result<String, Fail> {
     let mut store = opened(alloc, spoilt(alloc, conn, bad)?, bad)?;
     act_on(alloc, &mut store, act)?;
-    lines_of(alloc, &mut store.close(), &TABLES)
+    all_lines(alloc, &mut store.close())
 }
 
 // After each of these edits it leaves the rows as these statements do.

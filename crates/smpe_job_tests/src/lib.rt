@@ -1,5 +1,5 @@
 //! First and refused jobs, RECEIVE, REJECT, LIST and REPORT, lists of jobs, disks that fail and come back, rows that
-//! stand for no state, zones that are not closed, and the program's words and lines. The crate contains only tests.
+//! stand for no state, and the program's words and lines. The crate contains only tests.
 #![tactic(auto)]
 
 #[cfg(test)]
@@ -20,8 +20,6 @@ mod lists;
 mod messages;
 #[cfg(test)]
 mod receives;
-#[cfg(test)]
-mod verified;
 #[cfg(test)]
 mod words;
 #[cfg(test)]

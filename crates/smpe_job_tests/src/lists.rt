@@ -1,13 +1,16 @@
-//! Lists of jobs in one call, and how definitions of zones end.
+//! Lists of jobs, in one call and each in a call of its own, and how definitions of zones end.
 
-use fields::{Srel, ZoneName};
-use smpe::{Answer, Job, ZoneFault};
+use fields::{Srel, YyDdd, ZoneName};
+use report::Out;
+use smpe::{Answer, Job, ZoneFault, list_commands, run_job, two_commands};
 use smpe_play::{
-    FIX, FUNCTION, RECEIVE, card_file, compare, job_over, new_files, opened, put_cards,
-    run_printing, zone_name,
+    FIX, FUNCTION, FUNCTION_RECEIVED, ListWanted, RECEIVE, card_file, compare, in_memory, job_over,
+    opened, play_jobs, put_cards, zone_name,
 };
+use sqlite::Alter;
 use std::alloc::Global;
 use std::test::Fail;
+use store::Store;
 use terms::ZoneKind;
 
 fn zone<'a>(name: ZoneName, kind: ZoneKind, srel: Srel, related: Option<ZoneName>) -> Job<'a> {
@@ -23,20 +26,9 @@ fn srel(text: &[u8]) -> Result<Srel, Fail> {
     Ok(Srel::read(text).ok_or("no SREL")?)
 }
 
-// A failure, unless both lists of answers are the same.
-fn compare_answers(alloc: Global, got: &[Answer], wanted: &[Answer]) -> Result<(), Fail> {
-    let got = format!(in alloc; "{got:?}")?;
-    let wanted = format!(in alloc; "{wanted:?}")?;
-    compare("answers", got.as_bytes(), wanted.as_str())
-}
-
-// Runs the jobs in one call over new files, and compares what they print and return.
-fn run(alloc: Global, jobs: &[Job<'_>], wanted: &str, answers: &[Answer]) -> Result<(), Fail> {
-    let mut store = opened(alloc, new_files(alloc)?, "jobs in one call")?;
-    let mut report = Vec::new(alloc);
-    let got = run_printing(alloc, &mut store, jobs, &mut report)?;
-    compare("jobs in one call", report.as_slice(), wanted)?;
-    compare_answers(alloc, got.as_slice(), answers)
+// Runs the jobs in each way, and compares what they print and return.
+fn run(alloc: Global, jobs: &[Job<'_>], report: &str, answers: &[Answer]) -> Result<(), Fail> {
+    play_jobs(alloc, jobs, ListWanted { report, answers })
 }
 
 // Two jobs after the definitions of three zones.
@@ -79,7 +71,7 @@ fn define_and_run<'a>(
 }
 
 #[test]
-fn five_jobs_in_one_call(rt: HostRuntime) -> Result<(), Fail> {
+fn five_jobs_go_one_after_the_other(rt: HostRuntime) -> Result<(), Fail> {
     let alloc = rt.alloc();
     let receive = card_file(alloc, RECEIVE)?;
     let mut ptfin = card_file(alloc, FUNCTION)?;
@@ -155,4 +147,35 @@ fn the_sixty_fifth_zone_is_refused(rt: HostRuntime) -> Result<(), Fail> {
     let mut answers = [Answer::Defined; 65];
     answers[64] = Answer::Refused(ZoneFault::TooMany);
     run(alloc, jobs.as_slice(), "", &answers)
+}
+
+// The return code of a job over the store, which must print this.
+fn run_alone<S: Alter>(alloc: Global, store: &mut Store<S>, wanted: &str) -> Result<u8, Fail> {
+    let cntl = card_file(alloc, RECEIVE)?;
+    let ptfin = card_file(alloc, FUNCTION)?;
+    let mut report = Vec::new(alloc);
+    let date = YyDdd::new(2024, 138);
+    let mut out = Out::new(&mut report);
+    let code = run_job(alloc, store, date, &cntl, &ptfin, b"", &mut out)?;
+    compare("a job alone", report.as_slice(), wanted)?;
+    Ok(code)
+}
+
+#[test]
+fn a_job_goes_alone(rt: HostRuntime) -> Result<(), Fail> {
+    let alloc = rt.alloc();
+    let mut store = opened(alloc, in_memory(alloc)?, "a job alone")?;
+    assert_eq!(rt; run_alone(alloc, &mut store, FUNCTION_RECEIVED.report)?, 0);
+    Ok(())
+}
+
+#[test]
+fn a_listing_is_a_job_of_two_commands(rt: HostRuntime) -> Result<(), Fail> {
+    let alloc = rt.alloc();
+    let listing = list_commands(alloc, zone_name(b"TGT1")?)?;
+    let wanted = card_file(alloc, "SET BDY(TGT1).\nLIST.")?;
+    assert_eq!(rt; listing.as_slice(), wanted.as_slice());
+    let receive = two_commands(alloc, b"SET BDY(GLOBAL).", b"RECEIVE SYSMODS.")?;
+    assert_eq!(rt; receive.as_slice(), card_file(alloc, RECEIVE)?.as_slice());
+    Ok(())
 }

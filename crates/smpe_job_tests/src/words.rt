@@ -2,6 +2,7 @@
 
 use fields::Id;
 use smpe::{ArgFault, DatabaseFile, Invocation, invocation};
+use smpe_invocation::{CheckedSystem, ServiceSet, WhyOptions};
 use smpe_play::compare;
 use std::alloc::Global;
 use std::test::Fail;
@@ -38,12 +39,31 @@ const ASKED: &[(&str, &str)] = &[
     ),
     ("list --db F --zone TGT1", "F:0 TGT1"),
     ("list --zone=GLOBAL --wait=9999 --db F", "F:9999 GLOBAL"),
-    ("why --db F --zone TGT1 --id UA00001", "F:0 TGT1 UA00001"),
     (
-        "why --id UA00002 --zone TGT1 --id=UA00001 --db F",
-        "F:0 TGT1 UA00002,UA00001",
+        "why --db F --zone TGT1 --id UA00001",
+        "F:0 TGT1 UA00001 - - -",
+    ),
+    (
+        "why --id UA00002 --zone TGT1 --id=UA00001 --db F --together",
+        "F:0 TGT1 UA00002,UA00001 together - -",
+    ),
+    (
+        "why --db F --zone TGT1 --bypass HOLDSYSTEM(ACTION),PRE --group --id UA00001",
+        "F:0 TGT1 UA00001 - group HOLDSYSTEM(ACTION),PRE",
     ),
     ("check --srel Z038 --ptfin P", "Z038 P - - -"),
+    (
+        "check --db F --zone TGT1 --ptfin P",
+        "F:0 TGT1 - P - - -",
+    ),
+    (
+        "check --why UA00001 --db F --wait 5 --zone TGT1 --ptfin P --why UA00002 --hold H",
+        "F:5 TGT1 UA00001,UA00002 P H - -",
+    ),
+    (
+        "check --db F --zone TGT1 --ptfin P --cntl C --date 2024-05-17",
+        "F:0 TGT1 - P - C 24.138",
+    ),
     (
         "check --ptfin P --hold H --srel Z038 --cntl C --date 2024-05-17",
         "Z038 P H C 24.138",
@@ -55,7 +75,9 @@ const ASKED: &[(&str, &str)] = &[
 /// Words that `clap` refuses, or to which it responds itself.
 const CLAP: &[&str] = &[
     "check --srel Z038",
-    "check --ptfin P",
+    "check --db F --db G --zone TGT1 --ptfin P",
+    "why --db F --zone TGT1 --id UA00001 --together yes",
+    "why --db F --zone TGT1 --id UA00001 --bypass",
     "",
     "--help",
     "--version",
@@ -85,6 +107,13 @@ const CLAP: &[&str] = &[
 /// Words with a bad operand.
 const BAD: &[&str] = &[
     "check --srel Z038 --ptfin P --cntl C",
+    "check --ptfin P",
+    "check --db F --ptfin P",
+    "check --srel Z038 --db F --zone TGT1 --ptfin P",
+    "check --srel Z038 --zone TGT1 --ptfin P",
+    "check --srel Z038 --wait 5 --ptfin P",
+    "check --srel Z038 --why UA00001 --ptfin P",
+    "check --db F --zone TGT1 --why UA0001 --ptfin P",
     "zone --db F --name 1DLB --kind distribution --srel Z038",
     "zone --db F --name DLB1 --kind distribution --srel Z38",
     "zone --db F --name TGT1 --kind target --srel Z038 --related dlb1",
@@ -152,32 +181,59 @@ fn shown(alloc: Global, invocation: &Invocation) -> Result<String, Fail> {
             let db = place(alloc, db)?;
             Ok(format!(in alloc; "{db} {zone}")?)
         }
-        Invocation::Why { db, zone, ids } => {
+        Invocation::Why {
+            db,
+            zone,
+            ids,
+            options,
+        } => {
             let zone = std::str::from_utf8(zone.as_bytes())?;
             let ids = listed(alloc, ids.as_slice())?;
+            let options = asked(alloc, options)?;
             let db = place(alloc, db)?;
-            Ok(format!(in alloc; "{db} {zone} {ids}")?)
+            Ok(format!(in alloc; "{db} {zone} {ids} {options}")?)
         }
-        Invocation::Check {
-            srel,
-            ptfin,
-            hold,
-            commands,
-        } => {
-            let srel = std::str::from_utf8(srel.as_bytes())?;
-            let hold = hold.as_ref().map_or("-", |text| text.as_str());
-            let (cntl, date) = match commands {
-                Some(commands) => (
-                    commands.cntl.as_str(),
-                    std::str::from_utf8(commands.date.as_bytes())?,
-                ),
-                None => ("-", "-"),
-            };
-            Ok(format!(in alloc; "{srel} {ptfin} {hold} {cntl} {date}")?)
+        Invocation::Check { system, set } => {
+            let system = checked(alloc, system)?;
+            let set = service(alloc, set)?;
+            Ok(format!(in alloc; "{system} {set}")?)
         }
         Invocation::Migrate { db } => place(alloc, db),
         Invocation::Verify { db } => place(alloc, db),
     }
+}
+
+fn asked(alloc: Global, options: &WhyOptions) -> Result<String, Fail> {
+    let together = if options.together { "together" } else { "-" };
+    let group = if options.group { "group" } else { "-" };
+    let bypass = options.bypass.as_ref().map_or("-", |text| text.as_str());
+    Ok(format!(in alloc; "{together} {group} {bypass}")?)
+}
+
+fn checked(alloc: Global, system: &CheckedSystem) -> Result<String, Fail> {
+    match system {
+        CheckedSystem::Empty(srel) => Ok(String::from_str(alloc, std::str::from_utf8(srel.as_bytes())?)?),
+        CheckedSystem::Copied(copy) => {
+            let zone = std::str::from_utf8(copy.zone.as_bytes())?;
+            let db = place(alloc, &copy.db)?;
+            let ids = listed(alloc, copy.ids.as_slice())?;
+            let ids = if ids.is_empty() { "-" } else { ids.as_str() };
+            Ok(format!(in alloc; "{db} {zone} {ids}")?)
+        }
+    }
+}
+
+fn service(alloc: Global, set: &ServiceSet) -> Result<String, Fail> {
+    let ptfin = set.ptfin.as_str();
+    let hold = set.hold.as_ref().map_or("-", |text| text.as_str());
+    let (cntl, date) = match &set.commands {
+        Some(commands) => (
+            commands.cntl.as_str(),
+            std::str::from_utf8(commands.date.as_bytes())?,
+        ),
+        None => ("-", "-"),
+    };
+    Ok(format!(in alloc; "{ptfin} {hold} {cntl} {date}")?)
 }
 
 fn place(alloc: Global, db: &DatabaseFile) -> Result<String, Fail> {

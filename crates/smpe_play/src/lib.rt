@@ -5,6 +5,7 @@
 mod cards;
 mod disks;
 mod jobs;
+mod lists;
 mod rows;
 mod steps;
 
@@ -15,6 +16,7 @@ pub use cards::{
 };
 pub use disks::{connected, in_memory, new_files, opened};
 pub use jobs::{card_file, compare, define_both, job_over, put_cards, run_printing, zone_name};
+pub use lists::{ListWanted, play_jobs};
 pub use rows::lines_of;
 pub use steps::{
     Plays, RowsLeft, StepPlace, installed, installed_files, play, play_cases, play_installed,

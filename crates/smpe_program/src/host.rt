@@ -6,11 +6,14 @@ ghost use Rattle.sqlite.specs.Opening.{is_open_error};
 ghost use Rattle.sqlite.specs.State.{HasCleanDisk};
 ghost use Rattle.smpe_program.specs.Wary.{IsWary};
 
+use crate::copy::{CopyFault, copied};
 use crate::place::{has_other_form, is_missing};
+use crate::related::related_zone;
 use clap::Error as WordsError;
 use smpe_command::{DatabaseFile, Host};
-use smpe_hints::ReadFile;
+use smpe_hints::{ReadFile, RelatedZone};
 use sqlite::{Connection, Error, ErrorCode, FileFrom, FileStore, Wary};
+use sqlite_disk::{Memory, Tally};
 use std::io::IsTerminal;
 use std::time::Duration;
 use std::{fs, io, thread};
@@ -27,13 +30,42 @@ pub(crate) enum Database {
     Missing(String),
     /// It was not opened, for this reason.
     Refused(String, Error),
-    /// It was opened. The first error is why its table `meta` was not read, the second why it was not closed properly.
+    /// It was opened, and this was met when it was closed.
     Opened {
         name: String,
         is_new: bool,
-        meta: Option<Error>,
-        closing: Option<Error>,
+        closing: Option<Closing>,
     },
+}
+
+/// What was met when a database was closed.
+#[derive(Clone, Copy)]
+pub(crate) struct Closing {
+    /// Why its table `meta` was not read.
+    pub(crate) meta: Option<Error>,
+    /// Why its log was not moved over.
+    pub(crate) log: Option<Error>,
+    /// What the failed calls of its files met, since they were opened.
+    pub(crate) met: Tally,
+}
+
+impl Closing {
+    // What was committed is moved over from the database's log. If that fails, it remains in the log.
+    fn of(mut open: Connection<FileStore<FileFrom<Wary>>>) -> Closing {
+        let meta = open.query_row("SELECT v FROM meta", &[]).err();
+        match open.close_files() {
+            Ok(files) => Closing {
+                meta,
+                log: None,
+                met: files.tally(),
+            },
+            Err((error, store)) => Closing {
+                meta,
+                log: Some(error),
+                met: store.close().tally(),
+            },
+        }
+    }
 }
 
 impl Database {
@@ -52,6 +84,9 @@ pub(crate) struct ProgramHost<'a> {
     rt: &'a HostRuntime,
     /// Whether to create a database if there is none.
     makes: bool,
+    /// The zone of which there may be something to say, and what the database knows of it.
+    related_name: Option<&'a str>,
+    pub(crate) related: RelatedZone,
     pub(crate) database: Database,
     /// The files that were read.
     pub(crate) files: Vec<ReadFile>,
@@ -60,10 +95,16 @@ pub(crate) struct ProgramHost<'a> {
 }
 
 impl ProgramHost<'_> {
-    pub(crate) fn new<'a>(rt: &'a HostRuntime, makes: bool) -> ProgramHost<'a> {
+    pub(crate) fn new<'a>(
+        rt: &'a HostRuntime,
+        makes: bool,
+        related_name: Option<&'a str>,
+    ) -> ProgramHost<'a> {
         ProgramHost {
             rt,
             makes,
+            related_name,
+            related: RelatedZone::Unknown,
             database: Database::None,
             files: Vec::new(rt.alloc()),
             unread: None,
@@ -83,6 +124,25 @@ impl ProgramHost<'_> {
 
     fn name(&self, name: &str) -> String {
         String::from_str(self.rt.alloc(), name).unwrap_or(String::new(self.rt.alloc()))
+    }
+
+    // What is said of a database that was not copied.
+    fn uncopied(&mut self, name: &str, fault: CopyFault) -> Error
+        ensures { IsTrue (is_open_error result) }
+    {
+        match fault {
+            CopyFault::Unread(error) => {
+                self.unread = format!(in self.rt.alloc(); "{name}: {error}").ok();
+            }
+            CopyFault::Unfit(why) => {
+                self.unread = format!(in self.rt.alloc(); "{name}: {why}").ok();
+            }
+            CopyFault::Refused(error) => {
+                self.database = Database::Refused(self.name(name), error);
+            }
+            CopyFault::Memory => return Error::SqliteFailure(ErrorCode::OutOfMemory),
+        }
+        Error::SqliteFailure(ErrorCode::CannotOpen)
     }
 
     // As long as another program has the database, it is tried again.
@@ -131,11 +191,15 @@ impl ProgramHost<'_> {
 impl Host for ProgramHost<'_> {
     type Disk = FileStore<FileFrom<Wary>>;
 
+    type Copied = FileStore<Memory>;
+
     ghost gives = { λ _ _ _ _. Unit {0} };
 
     ghost withholds = { λ _ _ _ _. Unit {0} };
 
     ghost opens = { λ _ _ conn _. IsNew conn × IsWary conn × (HasCleanDisk (file_state conn) → IsOpened conn) };
+
+    ghost copies = { λ _ _ conn _. IsNew conn × (HasCleanDisk (file_state conn) → IsOpened conn) };
 
     ghost refuses = { λ _ _ why _. IsTrue (is_open_error why) };
 
@@ -179,7 +243,6 @@ impl Host for ProgramHost<'_> {
                 self.database = Database::Opened {
                     name: self.name(name),
                     is_new,
-                    meta: None,
                     closing: None,
                 };
                 Ok(conn)
@@ -191,14 +254,34 @@ impl Host for ProgramHost<'_> {
         }
     }
 
-    // What was committed is moved over from the database's log. If that fails, it remains in the log.
+    // Nobody is kept from the database meanwhile, and a job that has it open is no hindrance.
+    fn copy(&mut self, db: &DatabaseFile) -> Result<Connection<Self::Copied>, sqlite::Error> {
+        let name = db.name.as_str();
+        if is_missing(self.rt, name) {
+            self.database = Database::Missing(self.name(name));
+            return Err(Error::SqliteFailure(ErrorCode::CannotOpen));
+        }
+        match copied(self.rt, name, db.wait) {
+            Ok(conn) => {
+                self.database = Database::Opened {
+                    name: self.name(name),
+                    is_new: false,
+                    closing: None,
+                };
+                Ok(conn)
+            }
+            Err(fault) => Err(self.uncopied(name, fault)),
+        }
+    }
+
     fn close(&mut self, conn: &mut Option<Connection<Self::Disk>>) {
         if let Some(mut open) = conn.take() {
-            let read = open.query_row("SELECT v FROM meta", &[]).err();
-            let closed = open.close().err();
-            if let Database::Opened { meta, closing, .. } = &mut self.database {
-                *meta = read;
-                *closing = closed;
+            if let Some(name) = self.related_name {
+                self.related = related_zone(&mut open, name);
+            }
+            let met = Closing::of(open);
+            if let Database::Opened { closing, .. } = &mut self.database {
+                *closing = Some(met);
             }
         }
     }

@@ -4,8 +4,10 @@
 #![tactic(auto)]
 
 mod command_line;
+mod copy;
 mod host;
 mod place;
+mod related;
 mod telling;
 mod watched;
 
@@ -13,7 +15,7 @@ use command_line::words;
 use host::ProgramHost;
 use report::Out;
 use smpe_command::command;
-use smpe_hints::ReportWatch;
+use smpe_hints::{ReportWatch, related_name};
 use std::alloc::AllocError;
 use std::process::ExitCode;
 use telling::tell;
@@ -21,7 +23,11 @@ use watched::{Progress, Watched};
 
 fn main(rt: HostRuntime) -> ExitCode {
     let words = words(&rt);
-    let mut host = ProgramHost::new(&rt, makes_database(&words));
+    let related = match &words {
+        Ok(words) => related_name(words.as_slice()),
+        Err(_) => None,
+    };
+    let mut host = ProgramHost::new(&rt, makes_database(&words), related);
     let mut out = Watched::new(
         Out::new(rt.stdout()),
         ReportWatch::new(rt.alloc()),

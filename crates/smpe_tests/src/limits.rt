@@ -2,10 +2,10 @@
 
 use crate::generated::run_job;
 use smpe_play::{
-    JOB, JobStep, Plays, RECEIVE, RECEIVING, RowsLeft, StepPlace, card_file, in_memory, new_files,
-    opened, play_rows, put_cards,
+    JOB, JobStep, Plays, RECEIVE, RECEIVING, RowsLeft, StepPlace, card_file, play_made, play_rows,
+    put_cards,
 };
-use sqlite::{Alter, Connection};
+use sqlite::Alter;
 use std::alloc::Global;
 use std::test::Fail;
 use store::Store;
@@ -26,20 +26,27 @@ fn long_list(alloc: Global) -> Result<Vec<u8>, Fail> {
     Ok(bytes)
 }
 
-// A list of 1,001 ids is refused over a new database.
-fn refuse_list<S: Alter + Drop>(alloc: Global, conn: Connection<S>) -> Result<(), Fail> {
-    let name = "a list of 1,001 ids";
-    let mut store = opened(alloc, conn, name)?;
-    let ptfin = long_list(alloc)?;
-    let wanted = "SET GLOBAL\nRC 00\nRECEIVE GLOBAL\nREFUSED Cm4 RECORD 2 Mc6\nRC 12\n";
-    let ptfin = ptfin.as_slice();
-    run_job(alloc, &mut store, name, RECEIVE, ptfin, b"", wanted)
+/// A list of 1,001 ids comes in.
+#[derive(Clone, Copy)]
+struct LongList;
+
+impl Plays for LongList {
+    fn play_at<S: Alter>(
+        &self,
+        alloc: Global,
+        store: &mut Store<S>,
+        _place: StepPlace,
+    ) -> Result<(), Fail> {
+        let ptfin = long_list(alloc)?;
+        let wanted = "SET GLOBAL\nRC 00\nRECEIVE GLOBAL\nREFUSED Cm4 RECORD 2 Mc6\nRC 12\n";
+        let (name, ptfin) = ("a list of 1,001 ids", ptfin.as_slice());
+        run_job(alloc, store, name, RECEIVE, ptfin, b"", wanted)
+    }
 }
 
 #[test]
 fn a_list_of_too_many_ids_is_refused(rt: HostRuntime) -> Result<(), Fail> {
-    refuse_list(rt.alloc(), in_memory(rt.alloc())?)?;
-    refuse_list(rt.alloc(), new_files(rt.alloc())?)
+    play_made(rt.alloc(), &[LongList], "a list of 1,001 ids is refused")
 }
 
 // Appends a data element and its record.

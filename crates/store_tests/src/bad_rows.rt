@@ -9,12 +9,12 @@ mod sysmod_rows;
 mod ver_rows;
 mod zone_rows;
 
-use crate::known::{FURTHER, known_with, run, zone_name};
 use sqlite::{Alter, Connection, MemStore};
 use sqlite_value::value::ValueRef;
 use std::alloc::Global;
 use std::test::Fail;
 use store::Store;
+use store_play::{FURTHER, known_with, run, zone_name};
 use store_schema::StoreError;
 
 /// What is loaded from a store.

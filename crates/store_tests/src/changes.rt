@@ -1,15 +1,15 @@
 //! Removals, sources that replace others, and what a commit leaves alone.
 
-use crate::known::{
-    commit, commit_edits, commit_zone, compare, doubled, known_with, lines, loaded, opened, run,
-    run_all, zone_name,
-};
-use crate::round_trip::{all_lines, edits_of};
+use crate::round_trip::edits_of;
 use fields::{Id, IdList, Name, Reason, Source, VerNumber, YyDdd};
 use sqlite::{Alter, Connection};
 use std::alloc::Global;
 use std::test::Fail;
 use store::{Change, GlobalEdit, Store};
+use store_play::{
+    all_lines, commit, commit_edits, commit_zone, compare, doubled, known_with, lines, loaded,
+    opened, run, run_all, zone_name,
+};
 use store_schema::StoreError;
 use sysmods_values::Sysmod;
 use terms::{ElemType, HoldKind, Kind};

@@ -1,12 +1,12 @@
 //! A delta that is committed, and applied beside the zone that it was made of.
 
-use crate::known::{CHOSEN, commit, compare, known_with, lines, loaded, opened, zone_name};
 use fields::{Id, IdList, Name, VerNumber, YyDdd};
 use sorted::TryClone;
 use sqlite::{Connection, MemStore};
 use std::alloc::Global;
 use std::test::Fail;
 use store::{Change, Store};
+use store_play::{CHOSEN, commit, compare, known_with, lines, loaded, opened, zone_name};
 use terms::ElemType;
 use zones_maps::{Applied, Element, Entry, Zone, ZoneDelta, ZoneEdits, are_same, is_same_entry};
 

@@ -9,8 +9,6 @@ mod changes;
 #[cfg(test)]
 mod deltas;
 #[cfg(test)]
-mod known;
-#[cfg(test)]
 mod migration;
 #[cfg(test)]
 mod round_trip;

@@ -2,16 +2,15 @@
 
 ghost use Rattle.std.specs.Prelude.{IsTrue};
 
-use crate::known::{
-    SOURCES, again, close, compare, fill_first, first_difference, in_memory, known_with, lines,
-    new_files, run_all,
-};
-use crate::round_trip::all_lines;
 use sqlite::{Alter, Connection, Files, Options};
 use sqlite_disk::{Crash, Disk, Fuse};
 use std::alloc::Global;
 use std::test::Fail;
 use store_migration::migrate;
+use store_play::{
+    SOURCES, again, all_lines, close, compare, fill_first, first_difference, in_memory, known_with,
+    lines, new_files, run_all,
+};
 use store_schema::StoreError;
 
 /// The tables of schema 1, as programs before release 1.0.0 created them.

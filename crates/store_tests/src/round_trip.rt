@@ -1,9 +1,5 @@
 //! What is committed is loaded again, in memory and over files.
 
-use crate::known::{
-    CHOSEN, FURTHER, again, commit, commit_edits, commit_zone, compare, doubled, in_memory,
-    known_with, lines, loaded, new_files, opened, put_lines,
-};
 use fields::{Id, Source, ZoneName};
 use sorted::TryClone;
 use sqlite::{Alter, Connection, FileStore, MemStore};
@@ -11,42 +7,14 @@ use sqlite_disk::Memory;
 use std::alloc::Global;
 use std::test::Fail;
 use store::{Change, GlobalEdit, Store};
+use store_play::{
+    CHOSEN, FURTHER, again, all_lines, commit, commit_edits, commit_zone, compare, doubled,
+    in_memory, known_with, lines, loaded, new_files, opened,
+};
 use sysmods::GlobalZone;
 use sysmods_values::{Hold, Sysmod};
 use terms::Kind;
 use zones_maps::{Zone, ZoneEdits};
-
-/// All rows of all tables.
-const TABLES: &[&str] = &[
-    "SELECT k||'/'||v FROM meta ORDER BY k",
-    "SELECT id||'/'||kind||'/'||sources FROM sysmod ORDER BY id",
-    "SELECT id||'/'||name FROM source ORDER BY id, name",
-    "SELECT id||'/'||srel||'/'||ifnull(fmid, '-')||'/'||pre||'/'||req||'/'||sup||'/'||npre||'/'||del FROM ver \
-        ORDER BY id, srel",
-    "SELECT id||'/'||srel||'/'||n||'/'||fmid||'/'||req FROM ifreq ORDER BY id, srel, n",
-    "SELECT id||'/'||srel||'/'||n||'/'||ifnull(fmid, '-')||'/'||pre||'/'||req||'/'||sup FROM morever ORDER BY id, \
-        srel, n",
-    "SELECT id||'/'||srel||'/'||v||'/'||n||'/'||fmid||'/'||req FROM moreif ORDER BY id, srel, v, n",
-    "SELECT id||'/'||type||'/'||name||'/'||upd||'/'||ifnull(distlib, '-')||'/'||ifnull(syslib, \
-        '-')||'/'||hex(text) FROM elem ORDER BY id, type, name",
-    "SELECT id||'/'||kind||'/'||reason||'/'||fmid||'/'||ifnull(class, '-')||'/'||ifnull(date, \
-        '-')||'/'||ifnull(comment, '-')||'/'||internal FROM hold ORDER BY id, kind, reason",
-    "SELECT name||'/'||kind||'/'||srel||'/'||ifnull(related, '-') FROM zone ORDER BY name",
-    "SELECT zone||'/'||id||'/'||ifnull(date, '-')||'/'||supby||'/'||ifnull(delby, '-')||'/'||waived FROM entry \
-        ORDER BY zone, id",
-    "SELECT zone||'/'||type||'/'||name||'/'||fmid||'/'||rmid||'/'||umid||'/'||distlib||'/'||syslib||'/'||hex(text) \
-        FROM zelem ORDER BY zone, type, name",
-    "SELECT zone||'/'||id||'/'||n FROM chosen ORDER BY zone, id",
-];
-
-/// All rows of all tables.
-pub(crate) fn all_lines<S: Alter>(alloc: Global, conn: &mut Connection<S>) -> Result<String, Fail> {
-    let mut all = String::new(alloc);
-    for sql in TABLES {
-        put_lines(conn, sql, &mut all)?;
-    }
-    Ok(all)
-}
 
 fn add_hold(alloc: Global, edits: &mut Vec<GlobalEdit>, hold: &Hold) -> Result<(), Fail> {
     edits.push(GlobalEdit::PutHold(hold.try_clone(alloc)?))?;

@@ -1,10 +1,10 @@
 //! Rows of element statements, and texts of elements.
 
 use crate::bad_rows::{NO_STATE, Part, check, check_with};
-use crate::known::records;
 use sqlite_value::value::ValueRef;
 use std::alloc::Global;
 use std::test::Fail;
+use store_play::records;
 
 /// Element statements.
 const ELEMS: &[&str] = &[

@@ -1,10 +1,10 @@
 //! Rows of SYSMODs and of their sources.
 
 use crate::bad_rows::{NO_STATE, Part, check};
-use crate::known::{doubled, known_with, opened, run};
 use sqlite::{Alter, Connection, MemStore};
 use std::alloc::Global;
 use std::test::Fail;
+use store_play::{doubled, known_with, opened, run};
 use store_schema::StoreError;
 
 /// SYSMODs.

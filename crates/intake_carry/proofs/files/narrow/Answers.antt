@@ -1,24 +1,17 @@
-use Rattle.std.proofs.Common.{subst, subst₂, sym, ◌∙◌}
-use Rattle.std.specs.Prelude.{All}
-use Rattle.std.specs.List.{flat_map}
-use Rattle.intake_read.specs.declared.items.WideFile.{WideFile}
-use Rattle.intake_carry.specs.Carried.{IsCarriedOf}
-use Rattle.intake_carry.specs.Holds.{AreHeld}
-use Rattle.intake_carry.specs.Gathered.{placed_items}
-use Rattle.intake_carry.proofs.GatheredMore.{carried_assigns, held_in_order}
+use Rattle.std.proofs.Common.{subst, sym, ◌∙◌}
+use Rattle.intake_carry.specs.Become.{Become}
+use Rattle.intake_carry.specs.Carried.{FileBecomes, AreInOrder}
 use Rattle.intake_carry.proofs.files.narrow.Goals as goal
 
-pub returns-clause-no_looser : goal.returns-clause-no_looser
-returns-clause-no_looser c =
-    let stated = flat_map (λ (f : WideFile). f.sysmods.items) c.args.files.now in
-    subst (λ d. All (IsCarriedOf d stated) c.new.result.items.items) c.sort.ensures
-    (subst (All (IsCarriedOf c.sort.new.self.decide stated)) (sym (c.new.ensures.items ∙ c.in_ok-items.ensures))
-    (carried_assigns c.sort.new.self.decide stated c.in-Ok.gathered.items.items c.in_ok-assigns.assigns.items
-    c.in-Ok.ensures.no_looser))
-
-pub returns-clause-held : goal.returns-clause-held
-returns-clause-held c =
-    subst₂ (AreHeld c.args.files.now) (sym (c.new.ensures.items ∙ c.in_ok-items.ensures)) (sym c.new.ensures.holds)
-    (held_in_order c.args.files.now c.in-Ok.gathered.items.items c.in_ok-assigns.assigns.items
-    (placed_items c.in-Ok.gathered.outside.items) c.in_ok-hold_items.hold_items.items c.in_ok-hold_items.ensures
-    c.in-Ok.ensures.held)
+pub returns : goal.returns
+returns c =
+    let gathered = c.in-Ok.gathered in
+    record {
+      sysmods = gathered.items.items;
+      assigns = c.in_ok-assigns.assigns.items;
+      outside = gathered.outside.items;
+      items_are = c.new.ensures.items ∙ c.in_ok-items.ensures;
+      become = subst (λ d. Become (FileBecomes d) c.args.files.now gathered.items.items gathered.outside.items)
+          c.sort.ensures c.in-Ok.ensures;
+      in_order = subst (AreInOrder gathered.outside.items) (sym c.new.ensures.holds) c.in_ok-hold_items.ensures;
+    }

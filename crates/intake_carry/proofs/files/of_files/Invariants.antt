@@ -1,7 +1,8 @@
 use Rattle.std.proofs.Common.{take}
-use Rattle.intake_carry.specs.Gathered.{AreFilesOf, placed_items}
+use Rattle.intake_carry.specs.Become.{Become}
+use Rattle.intake_carry.specs.Carried.{FileBecomes}
 use Rattle.intake_carry.proofs.files.of_files.Given as goal
 
 abbrev pub invariant-loop-file : goal.invariant-loop-file
-invariant-loop-file l = AreFilesOf l.options.decide (take l.file-index l.files) l.gathered.items.items
-    (placed_items l.gathered.outside.items)
+invariant-loop-file l = Become (FileBecomes l.options.decide) (take l.file-index l.files) l.gathered.items.items
+    l.gathered.outside.items

@@ -1,8 +1,8 @@
 use Rattle.std.proofs.Common.{take}
-use Rattle.intake_carry.specs.Gathered.{AreSysmodsOf, placed_items}
+use Rattle.intake_carry.specs.Become.{Become}
+use Rattle.intake_carry.specs.Carried.{SysmodBecomes}
 use Rattle.intake_carry.proofs.files.sysmods_of.Given as goal
 
 abbrev pub invariant-loop-stated : goal.invariant-loop-stated
-invariant-loop-stated l = AreSysmodsOf l.options.decide
-    (take l.stated-index l.file.sysmods.items) l.gathered.items.items
-    (placed_items l.gathered.outside.items)
+invariant-loop-stated l = Become (SysmodBecomes l.options.decide)
+    (take l.stated-index l.file.sysmods.items) l.gathered.items.items l.gathered.outside.items

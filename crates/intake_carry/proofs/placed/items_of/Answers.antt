@@ -1,9 +1,8 @@
-use Rattle.std.proofs.Common.{◌≡◌, ◌∷◌, [], ◌++◌, length, sym, ap, ◌∙◌, append_assoc, append-nil, arith}
+use Rattle.std.proofs.Common.{◌≡◌, ◌∷◌, [], ◌++◌, length, map, sym, ap, ◌∙◌, append_assoc, append-nil, arith}
 use Rattle.std.specs.Vec.Iter.{into_iter_items}
 use Rattle.std.proofs.lemmas.List.{map-append, nil_from_length}
 use Rattle.mcs.specs.declared.hold_item.HoldItem.{HoldItem}
 use Rattle.intake_carry.specs.declared.placed.PlacedItem.{PlacedItem}
-use Rattle.intake_carry.specs.Gathered.{placed_items}
 use Rattle.intake_carry.proofs.placed.items_of.Goals as goal
 
 item_of : PlacedItem → HoldItem
@@ -32,4 +31,4 @@ returns c =
     (sym at.invariant.2 ∙ c.in-None.ensures.steps.0) in
     let all = sym (append-nil at.yielded) ∙ rw empty at at.invariant.0
     ∙ c.into_iter-one-iterator.ensures.into_iter_gives.0 in
-    at.invariant.1 ∙ ap placed_items all
+    at.invariant.1 ∙ ap (map item_of) all

@@ -1,11 +1,10 @@
-use Rattle.std.proofs.Common.{◌≡◌, ◌++◌, length}
+use Rattle.std.proofs.Common.{◌≡◌, ◌++◌, length, map}
 use Rattle.std.specs.Vec.Iter.{into_iter_items, into_iter_len}
-use Rattle.intake_carry.specs.Gathered.{placed_items}
 use Rattle.intake_carry.proofs.placed.items_of.Given as goal
 
 -- the items so far
 abbrev pub invariant-loop-one : goal.invariant-loop-one
 invariant-loop-one l =
     (l.yielded ++ into_iter_items l.one-iterator ≡ into_iter_items l.initial.one-iterator)
-    × (l.items.items ≡ placed_items l.yielded)
+    × (l.items.items ≡ map (λ p. p.item) l.yielded)
     × (into_iter_len l.one-iterator ≡ length (into_iter_items l.one-iterator))

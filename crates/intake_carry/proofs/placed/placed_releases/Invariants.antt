@@ -1,11 +1,7 @@
-use Rattle.std.proofs.Common.{take}
-use Rattle.std.specs.Prelude.{All}
-use Rattle.intake_carry.specs.Holds.{IsReleased, IsStatedRelease}
-use Rattle.intake_carry.specs.Gathered.{placed_items}
+use Rattle.std.proofs.Common.{[], take}
+use Rattle.intake_carry.specs.Become.{Become}
+use Rattle.intake_carry.specs.Holds.{ReleaseBecomes}
 use Rattle.intake_carry.proofs.placed.placed_releases.Given as goal
 
 abbrev pub invariant-loop-release : goal.invariant-loop-release
-invariant-loop-release l = record {
-  released : All (IsReleased (placed_items l.placed.items)) (take l.release-index l.stated);
-  stated : All (IsStatedRelease l.stated) (placed_items l.placed.items);
-}
+invariant-loop-release l = Become ReleaseBecomes (take l.release-index l.stated) [] l.placed.items

@@ -1,10 +1,11 @@
-use Rattle.std.proofs.Common.{append-nil, subst, sym}
-use Rattle.std.specs.Prelude.{All}
-use Rattle.intake_carry.specs.Holds.{IsHeldBy}
-use Rattle.intake_carry.specs.Gathered.{placed_items}
+use Rattle.std.proofs.Common.{subst, sym, ap, Some}
+use Rattle.intake_carry.specs.Become.{Become}
+use Rattle.intake_carry.specs.Holds.{HoldBecomes}
+use Rattle.terms.specs.Types.{Sysmod}
 use Rattle.intake_carry.proofs.sysmods.carried_part.Goals as goal
 
 pub returns-clause-held : goal.returns-clause-held
 returns-clause-held c =
-    subst (λ h. All (IsHeldBy h (placed_items c.in_ok-outside.outside.items)) c.args.stated.now.holds.items)
-    (sym (append-nil c.put_holds.new.sysmod.holds)) c.in_ok-outside.ensures.held
+    subst (λ id. Become (HoldBecomes (Some id)) c.args.stated.now.holds.items c.put_holds.new.sysmod.holds
+    c.in_ok-outside.outside.items) (sym (ap (λ (s : Sysmod). s.id) c.in_ok-outside.ensures.same))
+    c.in_ok-outside.ensures.held

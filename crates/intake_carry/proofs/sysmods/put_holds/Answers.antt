@@ -1,48 +1,52 @@
-use Rattle.std.proofs.Common.{ap, sym, length, inl, arith, ◌∙◌}
+use Rattle.std.proofs.Common.{ap, sym, subst, refl, length, arith, ◌∙◌, [], Some, append-nil}
+use Rattle.std.specs.Prelude.{◌↔◌, IsTrue}
 use Rattle.std.proofs.lemmas.Option.{same_Some}
-use Rattle.terms.proofs.BesideLists.{all_through}
-use Rattle.terms.specs.Types.{Sysmod}
-use Rattle.intake_carry.specs.Holds.{IsHeldBy}
-use Rattle.intake_carry.specs.Gathered.{placed_items}
-use Rattle.intake_carry.proofs.Held.{next_held}
+use Rattle.terms.specs.Types.{Sysmod, Id}
+use Rattle.intake_carry.specs.Holds.{HoldBecomes, IsLeftOut, IsInternal}
+use Rattle.intake_carry.proofs.Becoming.{become_next, become_whole, hold_put, system_carried}
 use Rattle.intake_carry.proofs.sysmods.put_holds.Goals as goal
 
 pub put_hold-requires : goal.put_hold-requires
 put_hold-requires c = λ t.
-    let k = (rw c.in-Some.is at c.in_ok-carried.ensures.internal) t in (
-      k.0,
-      sym (same_Some _ _ k.1) ∙ c.id_in-own.ensures ∙ sym (ap (λ (s : Sysmod). s.id) c.loop-hold.invariant.same),
+    let is = rw c.in-Some.is at c.in_ok-carried.ensures.some in
+    let k = (rw c.in-Some.is at c.in_ok-carried.ensures.internal).0 t in (
+      system_carried c.in-Some.carried.kind c.hold-item.result.kind is.kind_is k.0,
+      is.id_is ∙ sym (same_Some _ _ k.1) ∙ c.id_in-own.ensures ∙ sym (ap (λ (s : Sysmod). s.id) c.loop-hold.invariant.same),
     )
 
 pub loop-hold-preserved-in_default : goal.loop-hold-preserved-in_default
 loop-hold-preserved-in_default c =
     let at = c.loop-hold in
-    let old = placed_items at.outside.items in
     record {
       same = at.invariant.same;
-      held = next_held at.sysmod.holds at.sysmod.holds old old c.args.stated.now.holds.items at.hold-index
-          c.hold-item.result (omega (arith, ap length c.deref-hold-items.ensures.value))
-          (rw c.deref-hold-items.ensures.value at c.hold-item.is) (λ u g. g)
-          (inl (rw c.in_default.is at c.in_ok-carried.ensures.none)) at.invariant.held;
-      outside = at.invariant.outside;
+      held = become_next (HoldBecomes (Some c.args.sysmod.now.id)) c.args.stated.now.holds.items at.sysmod.holds
+          at.sysmod.holds at.outside.items at.outside.items at.hold-index c.hold-item.result [] []
+          (omega (arith, ap length c.deref-hold-items.ensures.value))
+          (rw c.deref-hold-items.ensures.value at c.hold-item.is) (sym (append-nil at.sysmod.holds))
+          (sym (append-nil at.outside.items)) (IsLeftOut (rw c.in_default.is at c.in_ok-carried.ensures.none))
+          at.invariant.held;
     }
 
 pub loop-hold-preserved : goal.loop-hold-preserved
 loop-hold-preserved c =
-    let at = c.loop-hold in
-    let put = c.in_ok-put_hold.ensures in
+    let l = c.loop-hold in
+    let stated = c.hold-item.result in
+    let id = c.args.sysmod.now.id in
+    let internal = rw c.in-Some.is at c.in_ok-carried.ensures.internal in
+    let put = hold_put (Some id) stated c.in-Some.carried l.sysmod c.put_hold.new.sysmod l.outside.items
+    c.put_hold.new.outside.items (rw c.in-Some.is at c.in_ok-carried.ensures.some)
+    (subst (λ (x : Id). IsTrue c.in-Some.carried.internal ↔ IsInternal (Some x) stated) c.id_in-own.ensures internal)
+    c.in_ok-put_hold.ensures.inside c.in_ok-put_hold.ensures.outside in
     record {
-      same = put.same ∙ ap (λ (s : Sysmod). record s { holds = c.put_hold.new.sysmod.holds }) at.invariant.same;
-      held = next_held at.sysmod.holds c.put_hold.new.sysmod.holds (placed_items at.outside.items)
-          (placed_items c.put_hold.new.outside.items) c.args.stated.now.holds.items at.hold-index c.hold-item.result
+      same = put.5 ∙ ap (λ (s : Sysmod). record s { holds = c.put_hold.new.sysmod.holds }) l.invariant.same;
+      held = become_next (HoldBecomes (Some id)) c.args.stated.now.holds.items l.sysmod.holds
+          c.put_hold.new.sysmod.holds l.outside.items c.put_hold.new.outside.items l.hold-index stated put.0 put.1
           (omega (arith, ap length c.deref-hold-items.ensures.value))
-          (rw c.deref-hold-items.ensures.value at c.hold-item.is) (λ u g. put.kept u g)
-          (put.held c.hold-item.result (rw c.in-Some.is at c.in_ok-carried.ensures.some)) at.invariant.held;
-      outside = put.outside at.invariant.outside;
+          (rw c.deref-hold-items.ensures.value at c.hold-item.is) put.2 put.3 put.4 l.invariant.held;
     }
 
 pub returns-clause-held : goal.returns-clause-held
 returns-clause-held c =
-    all_through (IsHeldBy c.loop-hold.sysmod.holds (placed_items c.loop-hold.outside.items))
-    c.args.stated.now.holds.items c.loop-hold.hold-index (omega (arith, ap length c.deref-hold-items.ensures.value))
+    become_whole (HoldBecomes (Some c.args.sysmod.now.id)) c.args.stated.now.holds.items c.loop-hold.sysmod.holds
+    c.loop-hold.outside.items c.loop-hold.hold-index (omega (arith, ap length c.deref-hold-items.ensures.value))
     c.loop-hold.invariant.held

@@ -23,10 +23,10 @@ returns g c =
       opened = c.opened.new.host;
       opens = it;
       store = at;
-      ends = λ clean s is. looked g.H.Disk.Store begun at s (IsFoundIn c.args.name) (it.stands (kept s) is) it.conn
-          (it.crash.counts, it.crash.limit) clean c.find-found.result loads;
+      ends = λ clean s is. looked g.H.Disk.Store begun at s (IsFoundIn c.args.name) (it.over.stands (kept s) is) it.conn
+          (it.over.crash.counts, it.over.crash.limit) clean c.find-found.result loads;
       closed = λ clean s is closed. looked_closed g.H.Disk.Store begun at c.find-found.result alone (loads.clean clean)
-          clean s (it.stands (kept s) is) closed;
+          clean s (it.over.stands (kept s) is) closed;
       goes = (alone, loads.none);
       closes = subst (λ conn. g.H.Host.closes c.opened.new.host conn c.close-2.new.self) c.close.ensures.same
           c.close-2.ensures.closed;

@@ -5,10 +5,12 @@ pub returns-in-Ok-clause-ok : goal.returns-in-Ok-clause-ok
 returns-in-Ok-clause-ok g c = record {
   conn = c.in_ok-conn.conn;
   opens = c.in_ok-conn.ensures.ok;
-  stands = λ i found. record { now = c.in-Ok.ensures.tables i found; crash = c.in-Ok.ensures.leaves i found };
-  ours = c.in-Ok.ensures.ours;
-  same = c.in-Ok.ensures.same;
-  crash = c.in-Ok.ensures.crash;
+  over = record {
+    stands = λ i found. record { now = c.in-Ok.ensures.tables i found; crash = c.in-Ok.ensures.leaves i found };
+    ours = c.in-Ok.ensures.ours;
+    same = c.in-Ok.ensures.same;
+    crash = c.in-Ok.ensures.crash;
+  };
 }
 
 pub returns-in-Err-clause-err : goal.returns-in-Err-clause-err

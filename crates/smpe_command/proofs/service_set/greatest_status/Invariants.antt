@@ -1,6 +1,6 @@
 use Rattle.std.proofs.Common.{◌≡◌, map, take}
 use Rattle.smpe.specs.Ending.{answer_of}
-use Rattle.smpe_command.specs.Serving.{greatest}
+use Rattle.smpe_command.specs.ServiceSet.{greatest}
 use Rattle.smpe_command.proofs.service_set.greatest_status.Given as goal
 
 abbrev pub invariant-loop-answer : goal.invariant-loop-answer

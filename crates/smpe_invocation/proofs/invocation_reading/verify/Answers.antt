@@ -6,5 +6,6 @@ use Rattle.smpe_invocation.proofs.invocation_reading.verify.Goals as goal
 pub returns-in_err-db-clause-err : goal.returns-in_err-db-clause-err
 returns-in_err-db-clause-err c =
     let p = err_from_is_err_and c.from_residual.result c.from_residual.ensures.1 in
-    rw (p.1, p.2) (excludes_more c.in_err-db.field-0.0 _ _ (λ has.
-    let h = verify_in (rows_of (found_of c.args.found.now)) has in (h.0, h.1)) c.in_err-db.ensures.err)
+    rw (p.1, p.2) (excludes_more c.in_err-db.field-0.0 _ _
+    (λ has. let h = verify_in (rows_of (found_of c.args.found.now)) has in (h.0, h.1))
+    c.in_err-db.ensures.err)

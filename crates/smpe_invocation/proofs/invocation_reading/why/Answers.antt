@@ -7,16 +7,16 @@ pub returns-in_err-zone-clause-err : goal.returns-in_err-zone-clause-err
 returns-in_err-zone-clause-err c =
     let p = err_from_is_err_and c.from_residual.result c.from_residual.ensures.1 in
     rw (p.1, p.2) (excludes_more c.in_err-zone.field-0.0 _ _
-    (λ has. let h = why_in (rows_of (found_of c.args.found.now)) has in (h.1, h.3.1)) c.in_err-zone.ensures.err)
+    (λ has. let h = why_in (rows_of (found_of c.args.found.now)) has in (h.1, h.4.1)) c.in_err-zone.ensures.err)
 
 pub returns-in_err-ids-clause-err : goal.returns-in_err-ids-clause-err
 returns-in_err-ids-clause-err c =
     let p = err_from_is_err_and c.from_residual-in_err-ids.result c.from_residual-in_err-ids.ensures.1 in
     rw (p.1, p.2) (excludes_more c.in_err-ids.field-0.0 _ _
-    (λ has. let h = why_in (rows_of (found_of c.args.found.now)) has in (h.2.items, h.3.2)) c.in_err-ids.ensures.err)
+    (λ has. let h = why_in (rows_of (found_of c.args.found.now)) has in (h.2.items, h.4.2)) c.in_err-ids.ensures.err)
 
 pub returns-in_err-db-clause-err : goal.returns-in_err-db-clause-err
 returns-in_err-db-clause-err c =
     let p = err_from_is_err_and c.from_residual-in_err-db.result c.from_residual-in_err-db.ensures.1 in
     rw (p.1, p.2) (excludes_more c.in_err-db.field-0.0 _ _
-    (λ has. let h = why_in (rows_of (found_of c.args.found.now)) has in (h.0, h.3.0)) c.in_err-db.ensures.err)
+    (λ has. let h = why_in (rows_of (found_of c.args.found.now)) has in (h.0, h.4.0)) c.in_err-db.ensures.err)

@@ -1,0 +1,3 @@
+pub mod KnownWords
+pub mod Said
+pub mod Words

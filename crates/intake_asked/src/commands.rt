@@ -1,0 +1,200 @@
+//! Whether commands say what a shop's commands ask for.
+ghost use Rattle.std.specs.Prelude.{◌≡◌, ◌||◌, not, [], ◌∷◌, IsTrue, IfOk, All, codes, map};
+ghost use Rattle.fields.specs.Choices.{restore_list_of};
+ghost use Rattle.terms.specs.CommandForms.{command_word};
+ghost use Rattle.cntl.specs.Views.{command_of};
+ghost use Rattle.intake_asked.specs.Words.{has, stands_alone, listed, select_names, check_names};
+ghost use Rattle.intake_asked.specs.Said.{AreThese, one_of, is_no_decision, SaysInstall, SaysRestored, SaysReceive};
+ghost use Rattle.intake_asked.specs.Said.{SaysOperands, Says, AreSaid};
+
+use crate::bypasses::says_bypass;
+use crate::known::KnownSysmod;
+use crate::lists::{grouped, select_names, selected};
+use crate::names::{known_members, known_operands};
+use crate::operands::{are_called, has, listed, stands_alone};
+use crate::same::are_these;
+use crate::scan::WideCommand;
+use crate::selections::says_selection;
+use cntl::{Command, Install};
+use fields::spelling::word_text;
+use fields::{Id, ReceiveWhat, RestoreList, Source, ZoneName};
+use intake_read::WideOperand;
+use rec80::is_among;
+use std::alloc::{AllocError, Global};
+use terms::CommandWord;
+
+fn word_of(command: &Command) -> CommandWord
+    ensures { result ≡ command_word (command_of command.now) }
+{
+    match command {
+        Command::Set(_) => CommandWord::Set,
+        Command::Receive(_) => CommandWord::Receive,
+        Command::Reject(_) => CommandWord::Reject,
+        Command::Apply(_) => CommandWord::Apply,
+        Command::Accept(_) => CommandWord::Accept,
+        Command::Restore { .. } => CommandWord::Restore,
+        Command::List { .. } => CommandWord::List,
+        Command::Report => CommandWord::Report,
+    }
+}
+
+/// Whether the word is that of a command that changes no decision: return codes keep no command from running here, and
+/// there is no log.
+pub fn is_no_decision(word: &[u8]) -> bool
+    ensures { result ≡ is_no_decision word.now }
+{
+    is_among(&[b"RESETRC", b"LOG", b"DEBUG"], word)
+}
+
+fn says_check(operands: &[WideOperand], check: bool) -> bool
+    ensures { IsTrue result → check ≡ stands_alone check_names operands.now }
+{
+    check == stands_alone(&[b"CHECK", b"C"], operands)
+}
+
+fn says_install(
+    alloc: Global,
+    known: &Option<Vec<KnownSysmod>>,
+    wide: &WideCommand,
+    said: &Install,
+) -> Result<bool, AllocError>
+    ensures { IfOk result (λ says. IsTrue says → SaysInstall known.now wide.now said.now) }
+{
+    let operands = wide.operands.as_slice();
+    let selection = says_selection(alloc, known, operands, &said.selection)?;
+    let bypass = says_bypass(alloc, wide.bypassed.as_slice(), &said.bypass)?;
+    Ok(selection && bypass && says_check(operands, said.check))
+}
+
+fn says_receive(
+    alloc: Global,
+    operands: &[WideOperand],
+    said: &ReceiveWhat,
+) -> Result<bool, AllocError>
+    ensures { IfOk result (λ says. IsTrue says → SaysReceive operands.now said.now) }
+{
+    let sysmods = has(&[b"SYSMODS", b"SYSMOD"], operands);
+    let holddata = has(&[b"HOLDDATA"], operands);
+    let source = says_source(alloc, operands, &said.source)?;
+    Ok(said.sysmods == (sysmods || !holddata) && said.holddata == (holddata || !sysmods) && source)
+}
+
+fn says_source(
+    alloc: Global,
+    operands: &[WideOperand],
+    said: &Option<Source>,
+) -> Result<bool, AllocError>
+    ensures { IfOk result (λ says. IsTrue says
+        → AreThese (one_of said.now) (listed (codes "SOURCEID" ∷ []) operands.now)) }
+{
+    let wanted = listed(alloc, &[b"SOURCEID"], operands)?;
+    match said {
+        Some(source) => are_these(alloc, &[*source], &wanted),
+        None => Ok(wanted.is_empty()),
+    }
+}
+
+fn says_ids(alloc: Global, operands: &[WideOperand], said: &[Id]) -> Result<bool, AllocError>
+    ensures { IfOk result (λ says. IsTrue says → AreThese said.now (listed select_names operands.now)) }
+{
+    let wanted = listed(alloc, select_names(), operands)?;
+    are_these(alloc, said, &wanted)
+}
+
+fn says_zone(alloc: Global, operands: &[WideOperand], said: ZoneName) -> Result<bool, AllocError>
+    ensures { IfOk result (λ says. IsTrue says
+        → AreThese (said ∷ []) (listed (codes "BDY" ∷ codes "BOUNDARY" ∷ []) operands.now)) }
+{
+    let wanted = listed(alloc, &[b"BDY", b"BOUNDARY"], operands)?;
+    are_these(alloc, &[said], &wanted)
+}
+
+fn says_restored(
+    alloc: Global,
+    operands: &[WideOperand],
+    said: &RestoreList,
+) -> Result<bool, AllocError>
+    ensures { IfOk result (λ says. IsTrue says → SaysRestored operands.now (restore_list_of said.now)) }
+{
+    let selected = selected(alloc, operands)?;
+    let grouped = grouped(alloc, operands)?;
+    match said {
+        RestoreList::Select(ids) => {
+            Ok(are_these(alloc, ids.as_slice(), &selected)? && grouped.is_empty())
+        }
+        RestoreList::Group(ids) => {
+            Ok(are_these(alloc, ids.as_slice(), &grouped)? && selected.is_empty())
+        }
+    }
+}
+
+fn says_operands(
+    alloc: Global,
+    known: &Option<Vec<KnownSysmod>>,
+    wide: &WideCommand,
+    said: &Command,
+) -> Result<bool, AllocError>
+    ensures { IfOk result (λ says. IsTrue says → SaysOperands known.now wide.now (command_of said.now)) }
+{
+    let operands = wide.operands.as_slice();
+    match said {
+        Command::Set(zone) => says_zone(alloc, operands, *zone),
+        Command::Receive(what) => says_receive(alloc, operands, what),
+        Command::Reject(ids) => says_ids(alloc, operands, ids.as_slice()),
+        Command::Apply(install) => says_install(alloc, known, wide, install),
+        Command::Accept(install) => says_install(alloc, known, wide, install),
+        Command::Restore { list, check } => {
+            Ok(says_restored(alloc, operands, list)? && says_check(operands, *check))
+        }
+        Command::List { text } => Ok(*text == has(&[b"TEXT"], operands)),
+        Command::Report => Ok(has(&[b"ERRSYSMODS"], operands)),
+    }
+}
+
+/// Whether the command says just what this one of a shop asks for.
+pub fn says(
+    alloc: Global,
+    known: &Option<Vec<KnownSysmod>>,
+    wide: &WideCommand,
+    said: &Command,
+) -> Result<bool, AllocError>
+    ensures { IfOk result (λ says. IsTrue says → Says known.now wide.now (command_of said.now)) }
+{
+    let word = word_of(said);
+    if wide.head.name.as_slice() != word_text(word) {
+        return Ok(false);
+    }
+    if !are_called(known_operands(word), wide.operands.as_slice()) {
+        return Ok(false);
+    }
+    if !are_called(known_members(word), wide.bypassed.as_slice()) {
+        return Ok(false);
+    }
+    says_operands(alloc, known, wide, said)
+}
+
+/// Whether the commands say, one after the other, just what these of a shop ask for, but for those that change no
+/// decision.
+pub fn are_said(
+    alloc: Global,
+    known: &Option<Vec<KnownSysmod>>,
+    wide: &[WideCommand],
+    said: &[Command],
+) -> Result<bool, AllocError>
+    ensures { IfOk result (λ are. IsTrue are → AreSaid known.now wide.now (map command_of said.now)) }
+{
+    let mut left = said;
+    for command in wide {
+        if is_no_decision(command.head.name.as_slice()) {
+            continue;
+        }
+        let Some((first, rest)) = left.split_first() else {
+            return Ok(false);
+        };
+        if !says(alloc, known, command, first)? {
+            return Ok(false);
+        }
+        left = rest;
+    }
+    Ok(left.is_empty())
+}

@@ -1,0 +1,99 @@
+//! Lists of the same texts, in whatever order.
+ghost use Rattle.std.specs.Prelude.{◌≡◌, ◌↔◌, IsTrue, IfOk, All, map};
+ghost use Rattle.terms.specs.Lookups.{is_in};
+ghost use Rattle.intake_asked.specs.Said.{AreThese};
+
+use fields::{Class, Id, Reason, Source, ZoneName};
+use rec80::is_among;
+use std::alloc::{AllocError, Global};
+
+/// A value that is a text.
+pub(crate) trait Worded {
+    ghost use Rattle.std.specs.Prelude.{◌≡◌, ℕ, List};
+
+    ghost text: { Self → List ℕ };
+
+    /// Its text.
+    fn word(&self) -> &[u8]
+        ensures { result.now ≡ text self.now };
+}
+
+impl Worded for Id {
+    ghost text = { λ value. value };
+
+    fn word(&self) -> &[u8] {
+        self.as_bytes()
+    }
+}
+
+impl Worded for Source {
+    ghost text = { λ value. value };
+
+    fn word(&self) -> &[u8] {
+        self.as_bytes()
+    }
+}
+
+impl Worded for Reason {
+    ghost text = { λ value. value };
+
+    fn word(&self) -> &[u8] {
+        self.as_bytes()
+    }
+}
+
+impl Worded for Class {
+    ghost text = { λ value. value };
+
+    fn word(&self) -> &[u8] {
+        self.as_bytes()
+    }
+}
+
+impl Worded for ZoneName {
+    ghost text = { λ value. value };
+
+    fn word(&self) -> &[u8] {
+        self.as_bytes()
+    }
+}
+
+/// The texts of the values.
+pub(crate) fn words_of<T: Worded>(alloc: Global, values: &[T]) -> Result<Vec<&[u8]>, AllocError>
+    ensures { IfOk result (λ words. map (λ word. word.now) words.items ≡ map T.text values.now) }
+{
+    let mut words = Vec::with_capacity(alloc, values.len())?;
+    for value in values {
+        words.push(value.word())?;
+    }
+    Ok(words)
+}
+
+// Whether each of the one texts is among the others.
+fn are_among(ones: &[&[u8]], others: &[&[u8]]) -> bool
+    ensures { IsTrue result ↔ All (λ one. IsTrue (is_in (map (λ other. other.now) others.now) one.now)) ones.now }
+{
+    ones.iter().all(|one| is_among(others, one))
+}
+
+// Whether both have the same texts.
+fn are_just(ones: &[&[u8]], others: &[&[u8]]) -> bool
+    ensures { IsTrue result → AreThese (map (λ one. one.now) ones.now) (map (λ other. other.now) others.now) }
+{
+    if !are_among(ones, others) {
+        return false;
+    }
+    are_among(others, ones)
+}
+
+/// Whether the values are just the texts that are wanted.
+pub(crate) fn are_these<T: Worded>(
+    alloc: Global,
+    values: &[T],
+    wanted: &[&[u8]],
+) -> Result<bool, AllocError>
+    ensures { IfOk result (λ are. IsTrue are → AreThese (map T.text values.now) (map (λ word. word.now) wanted.now)) }
+{
+    let words = words_of(alloc, values)?;
+    Ok(are_just(words.as_slice(), wanted))
+}

@@ -1,0 +1,140 @@
+//! The files that are read, by their numbers.
+
+use crate::fault::IntakeFault;
+use intake_cards::{Card, CardOddity, CardPlace, Cards, Code, Layout, read_cards};
+use std::alloc::{AllocError, Global};
+
+/// A file that was read: its name, and how it is laid out.
+#[derive(Debug, Drop)]
+struct InputFile {
+    name: String,
+    form: Layout,
+}
+
+/// The files so far. A place names its file by the number that it has here.
+#[derive(Debug, Drop)]
+pub struct InputFiles {
+    all: Vec<InputFile>,
+}
+
+impl InputFiles {
+    /// No files yet.
+    pub fn new(alloc: Global) -> InputFiles {
+        InputFiles {
+            all: Vec::new(alloc),
+        }
+    }
+
+    fn add(&mut self, alloc: Global, name: &str, form: Layout) -> Result<(), AllocError> {
+        self.all.push(InputFile {
+            name: String::from_str(alloc, name)?,
+            form,
+        })?;
+        Ok(())
+    }
+
+    // The name of the file of this number.
+    pub(crate) fn name(&self, file: usize) -> &str {
+        match self.all.get(file) {
+            Some(source) => source.name.as_str(),
+            None => "",
+        }
+    }
+
+    // What a card of the file of this number is called.
+    pub(crate) fn unit(&self, file: usize) -> &'static str {
+        match self.all.get(file) {
+            Some(source) => unit(source.form),
+            None => unit(Layout::Records),
+        }
+    }
+
+    // The place in words, before what is told of it.
+    pub(crate) fn place_text(
+        &self,
+        alloc: Global,
+        place: CardPlace,
+    ) -> Result<Vec<u8>, AllocError> {
+        let name = self.name(place.file);
+        let unit = self.unit(place.file);
+        let card = place.card;
+        Ok(format!(in alloc; "{name} {unit} {card}: ")?.into_bytes())
+    }
+}
+
+fn unit(form: Layout) -> &'static str {
+    match form {
+        Layout::Text => "line",
+        Layout::Records => "record",
+    }
+}
+
+/// The cards of the file of this name, which is the next one, and what was assumed of it in the remarks.
+pub fn cards_of(
+    alloc: Global,
+    sources: &mut InputFiles,
+    name: &str,
+    bytes: &[u8],
+    form: Option<Layout>,
+    code: Option<Code>,
+    remarks: &mut Vec<u8>,
+) -> Result<Vec<Card>, IntakeFault> {
+    let file = sources.all.len();
+    let found = match read_cards(alloc, file, bytes, form, code) {
+        Ok(found) => found,
+        Err(error) => return Err(IntakeFault::of_cards(alloc, name, error)),
+    };
+    sources.add(alloc, name, found.form)?;
+    tell_assumed(alloc, name, &found, remarks)?;
+    Ok(found.cards)
+}
+
+// How the file was read, and what of its cards is no card's.
+fn tell_assumed(
+    alloc: Global,
+    name: &str,
+    found: &Cards,
+    remarks: &mut Vec<u8>,
+) -> Result<(), AllocError> {
+    let form = form_words(found.form);
+    let code = code_words(found.code);
+    let line = format!(in alloc; "{name}: read as {form} in {code}\n")?;
+    remarks.extend_from_slice(line.as_bytes())?;
+    let unit = unit(found.form);
+    for note in &found.notes {
+        let first = note.first.card;
+        let count = note.cards;
+        let words = oddity_words(note.oddity);
+        let line = format!(in alloc; "{name} {unit} {first}: {words}: in {count} cards\n")?;
+        remarks.extend_from_slice(line.as_bytes())?;
+    }
+    Ok(())
+}
+
+fn form_words(form: Layout) -> &'static str {
+    match form {
+        Layout::Text => "lines",
+        Layout::Records => "records of 80 bytes",
+    }
+}
+
+fn code_words(code: Code) -> &'static str {
+    match code {
+        Code::Ascii => "ASCII",
+        Code::Ibm1047 => "IBM-1047",
+        Code::Ibm037 => "IBM-037",
+    }
+}
+
+fn oddity_words(oddity: CardOddity) -> &'static str {
+    match oddity {
+        CardOddity::ByteOrderMark => "a byte order mark is passed over",
+        CardOddity::BlanksBehind80 => "blanks after column 80 are passed over",
+        CardOddity::LongLine => "more than 80 columns",
+        CardOddity::Padding =>
+            "NULs or the end of file of older systems at its end are passed over",
+        CardOddity::Delimiter => "a delimiter of JCL at its end is passed over",
+        CardOddity::Tab => "a tab counts as one column",
+        CardOddity::NotPrintable => "characters that are no ASCII",
+    }
+}

@@ -1,0 +1,120 @@
+//! The elements whose texts are in files of `--relfile`.
+
+use fields::{Id, Name};
+use intake_cards::CardPlace;
+use intake_read::{WideElement, WideFile};
+use std::alloc::{AllocError, Global};
+
+/// A RELFILE and the SYSMOD that has it, if it is one alone.
+#[derive(Drop)]
+struct RelfileUser<'a> {
+    number: &'a [u8],
+    id: Option<&'a [u8]>,
+}
+
+/// An element whose text is in a file of the folder.
+#[derive(Clone, Copy)]
+pub struct RelfileElement<'a> {
+    id: &'a [u8],
+    number: &'a [u8],
+    name: &'a [u8],
+    /// Where its statement begins.
+    pub place: CardPlace,
+    /// No other SYSMOD has a RELFILE of its number.
+    pub is_alone: bool,
+}
+
+impl RelfileElement<'_> {
+    /// The file of its SYSMOD.
+    pub fn own_path(&self, alloc: Global, folder: &str) -> Result<String, AllocError> {
+        let id = String::from_utf8_lossy(alloc, self.id)?;
+        let number = String::from_utf8_lossy(alloc, self.number)?;
+        let name = String::from_utf8_lossy(alloc, self.name)?;
+        format!(in alloc; "{folder}/{id}/F{number}/{name}")
+    }
+
+    /// The file without the name of a SYSMOD.
+    pub fn shared_path(&self, alloc: Global, folder: &str) -> Result<String, AllocError> {
+        let number = String::from_utf8_lossy(alloc, self.number)?;
+        let name = String::from_utf8_lossy(alloc, self.name)?;
+        format!(in alloc; "{folder}/F{number}/{name}")
+    }
+}
+
+/// The elements with RELFILE, where it has a number and the SYSMOD and the element have good names.
+pub fn relfile_elements<'a>(
+    alloc: Global,
+    files: &'a [WideFile],
+) -> Result<Vec<RelfileElement<'a>>, AllocError> {
+    let mut elements = Vec::new(alloc);
+    for file in files {
+        for sysmod in &file.sysmods {
+            for element in &sysmod.elements {
+                if let Some(one) = relfile_element(sysmod.id.as_slice(), element) {
+                    elements.push(one)?;
+                }
+            }
+        }
+    }
+    let users = users_of(alloc, elements.as_slice())?;
+    for element in elements.iter_mut() {
+        element.is_alone = is_only_user(users.as_slice(), element);
+    }
+    Ok(elements)
+}
+
+fn relfile_element<'a>(id: &'a [u8], element: &'a WideElement) -> Option<RelfileElement<'a>> {
+    let Some(relfile) = &element.relfile else {
+        return None;
+    };
+    let number = relfile.as_slice();
+    let name = element.name.as_slice();
+    if Id::read(id).is_none() || Name::read(name).is_none() || !is_number(number) {
+        return None;
+    }
+    Some(RelfileElement {
+        id,
+        number,
+        name,
+        place: element.place,
+        is_alone: false,
+    })
+}
+
+fn is_number(text: &[u8]) -> bool {
+    !text.is_empty() && text.len() <= 4 && text.iter().all(|b| b.is_ascii_digit())
+}
+
+// Who has each RELFILE.
+fn users_of<'a>(
+    alloc: Global,
+    elements: &[RelfileElement<'a>],
+) -> Result<Vec<RelfileUser<'a>>, AllocError> {
+    let mut users: Vec<RelfileUser<'a>> = Vec::new(alloc);
+    for element in elements {
+        if !is_known(&mut users, element) {
+            users.push(RelfileUser {
+                number: element.number,
+                id: Some(element.id),
+            })?;
+        }
+    }
+    Ok(users)
+}
+
+// Whether the RELFILE has a user already, who is not alone if it is another SYSMOD.
+fn is_known(users: &mut Vec<RelfileUser<'_>>, element: &RelfileElement<'_>) -> bool {
+    for user in users.iter_mut() {
+        if user.number == element.number {
+            if user.id != Some(element.id) {
+                user.id = None;
+            }
+            return true;
+        }
+    }
+    false
+}
+
+fn is_only_user(users: &[RelfileUser<'_>], element: &RelfileElement<'_>) -> bool {
+    users.iter().any(|user| user.number == element.number && user.id == Some(element.id))
+}

@@ -1,0 +1,37 @@
+use Rattle.std.proofs.Common.{◌≡◌, ◌∙◌, List, Ok, Err, map, ap, refl}
+use Rattle.std.proofs.lemmas.Result.{err_from_is_err_and}
+use Rattle.machine.specs.Machine as machine
+use Rattle.smpe.specs.Ending.{answer_of}
+use Rattle.smpe.specs.declared.jobs.Answer.{Answer}
+use Rattle.smpe_command.specs.ServiceSet.{greatest}
+use Rattle.smpe_command.proofs.OneJob.{tries_as, alike_ok, alike_err}
+use Rattle.smpe_command.proofs.checks.checked.Goals as goal
+
+pub returns-in_err-answers : goal.returns-in_err-answers
+returns-in_err-answers g c =
+    let error = c.in_err-answers.field-0.0 in
+    let p = err_from_is_err_and c.from_residual.result c.from_residual.ensures.1 in
+    rw c.in-Empty.is ((
+      Err error,
+      tries_as (λ v. map answer_of v.items) (λ all. all) g.O.Sink c.args.out.now c.tried.new.out c.tried.result
+          (Err error)
+          (alike_err (λ v. map answer_of v.items) (λ all. all) c.tried.result (Err error) error error
+          c.in_err-answers.was refl refl)
+          c.in-Empty.srel c.args.commands.now c.args.files.now.cntl.items _ c.tried.ensures,
+      p.1 ∙ ap Err p.2,
+    ), refl)
+
+pub returns-in-Empty : goal.returns-in-Empty
+returns-in-Empty g c =
+    let answers = c.in_ok-answers.answers in
+    let all : List machine.Answer = map answer_of answers.items in
+    rw c.in-Empty.is ((
+      Ok all,
+      tries_as (λ v. map answer_of v.items) (λ all. all) g.O.Sink c.args.out.now c.tried.new.out c.tried.result
+          (Ok all)
+          (alike_ok (λ v. map answer_of v.items) (λ all. all) c.tried.result (Ok all) answers all
+          c.in_ok-answers.was refl refl)
+          c.in-Empty.srel c.args.commands.now c.args.files.now.cntl.items _ c.tried.ensures,
+      ap (λ n. Ok n) (c.greatest_status.ensures
+          ∙ ap (λ (xs : List Answer). greatest (map answer_of xs)) c.as_slice.ensures.value),
+    ), refl)

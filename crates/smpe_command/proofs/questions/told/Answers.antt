@@ -1,0 +1,11 @@
+use Rattle.std.proofs.Common.{List, inr, subst}
+use Rattle.smpe_command.specs.Told.{TellsText}
+use Rattle.smpe_command.proofs.questions.told.Goals as goal
+
+pub returns : goal.returns
+returns g c = inr (
+  c.in_ok-told.told,
+  c.in_ok-told.ensures,
+  subst (λ (text : List _). TellsText g.O.Sink c.args.out.now c.put_told.new.out text c.in_ok-told.told.status
+      c.put_told.result) c.as_slice.ensures.value c.put_told.ensures,
+)

@@ -1,0 +1,49 @@
+//! A service set is checked, in an empty system or in a copy of a database.
+ghost use Rattle.smpe_command.specs.Serving.{ChecksIn, ServesCheck};
+
+use crate::copied::tried_in_copy;
+use crate::host::Host;
+use crate::job_files::{JobFiles, read_files};
+use crate::jobs::job_told;
+use crate::service_set::{greatest_status, tried};
+use report::Sink;
+use smpe::{CommandJob, Fault, JobError};
+use smpe_invocation::{CheckedSystem, ServiceSet};
+use std::alloc::Global;
+
+/// Checks the set. Its files are read before anything is made or copied.
+pub(crate) fn check<'a, H: Host, O: Sink>(
+    alloc: Global,
+    host: &mut H,
+    system: &CheckedSystem,
+    set: &'a ServiceSet,
+    out: &mut O,
+) -> Result<u8, Fault<'a>>
+    ensures { ServesCheck H.Host H.Copied.Store O.Sink host.old out.old system.now set.entry.now result host.new
+        out.new }
+{
+    let cntl = set.commands.as_ref().map(|commands| commands.cntl.as_str());
+    let ptfin = Some(set.ptfin.as_str());
+    let files = read_files(alloc, host, cntl, ptfin, set.hold.as_deref())?;
+    job_told(checked(alloc, host, system, &set.commands, &files, out))
+}
+
+fn checked<H: Host, O: Sink>(
+    alloc: Global,
+    host: &mut H,
+    system: &CheckedSystem,
+    commands: &Option<CommandJob>,
+    files: &JobFiles,
+    out: &mut O,
+) -> Result<u8, JobError>
+    ensures { ChecksIn H.Host H.Copied.Store O.Sink system.now host.old out.old commands.now files.now.cntl.items
+        (record { ptfin = files.now.ptfin.items; holds = files.now.hold.items }) result host.new out.new }
+{
+    match system {
+        CheckedSystem::Empty(srel) => {
+            let answers = tried(alloc, *srel, commands, files, out)?;
+            Ok(greatest_status(answers.as_slice()))
+        }
+        CheckedSystem::Copied(copy) => tried_in_copy(alloc, host, copy, commands, files, out),
+    }
+}

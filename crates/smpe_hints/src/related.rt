@@ -1,0 +1,69 @@
+//! Why the related zone of a zone is refused.
+use crate::operand::value_of;
+use std::alloc::{AllocError, Global};
+
+/// What a database knows of the zone that `--related` names.
+#[derive(Drop)]
+pub enum RelatedZone {
+    /// It could not be asked.
+    Unknown,
+    /// No zone has this name.
+    Missing,
+    Target,
+    /// A distribution zone that has no target zone yet.
+    Free,
+    /// A distribution zone, with its target zone.
+    Taken(String),
+}
+
+/// The name of the related zone, if these words ask for a zone that has one.
+pub fn related_name(words: &[Vec<u8>]) -> Option<&str> {
+    value_of(words, "--related")
+}
+
+/// Which of the reasons for a refusal it is.
+pub(crate) fn related_told(
+    alloc: Global,
+    words: &[Vec<u8>],
+    found: &RelatedZone,
+) -> Result<String, AllocError> {
+    let Some(name) = related_name(words) else {
+        return String::from_str(
+            alloc,
+            "--related is missing: a target zone names its distribution zone",
+        );
+    };
+    if value_of(words, "--kind") != Some("target") {
+        return format!(in alloc;
+            "--related {name} is for a target zone, and a distribution zone has none"
+        );
+    }
+    if name == "GLOBAL" {
+        return String::from_str(
+            alloc,
+            "--related GLOBAL is the global zone; a target zone needs a distribution zone",
+        );
+    }
+    unsuited_told(alloc, name, found)
+}
+
+// Why a zone of this name can't be the related zone of a target zone.
+fn unsuited_told(alloc: Global, name: &str, found: &RelatedZone) -> Result<String, AllocError> {
+    match found {
+        RelatedZone::Missing => format!(in alloc;
+            "--related {name} is not defined in this database; define the distribution zone first"
+        ),
+        RelatedZone::Target => format!(in alloc;
+            "--related {name} is a target zone; a target zone needs a distribution zone"
+        ),
+        RelatedZone::Taken(by) => {
+            let by = by.as_str();
+            format!(in alloc;
+                "--related {name} belongs to the target zone {by}; each target zone needs one of its own"
+            )
+        }
+        RelatedZone::Free | RelatedZone::Unknown => format!(in alloc;
+            "--related {name} is no distribution zone of this database, or has a target zone already"
+        ),
+    }
+}
