@@ -1,0 +1,6 @@
+use Rattle.std.proofs.Common.{subst}
+use Rattle.intake_elements.specs.Elements.{IsLacked}
+use Rattle.intake_elements.proofs.changes.change_of.Goals as goal
+
+pub lacked_change-requires : goal.lacked_change-requires
+lacked_change-requires c = subst IsLacked c.as_slice.ensures.value c.in-None.ensures.none
