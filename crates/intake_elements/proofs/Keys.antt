@@ -21,7 +21,7 @@ keys_whole now e k keys ms own are is type name (inr any) =
     let m = in_any (λ m. (type ≡ Mac) × (name ≡ module_name m)) (modules_of e) any in
     let o = map_in now ms m.0 (subst (λ l. Contains l m.0) (sym are) m.1) in
     let same : key_of Mac (module_name (now o.0)) ≡ key_of type name =
-        ap (λ t. key_of Mac (module_name t)) o.2 ∙ ap (key_of Mac) (sym m.2.1) ∙ ap (λ t. key_of t name) (sym m.2.0) in
+    ap (λ t. key_of Mac (module_name t)) o.2 ∙ ap (key_of Mac) (sym m.2.1) ∙ ap (λ t. key_of t name) (sym m.2.0) in
     subst (λ l. Contains l (key_of type name)) (sym is)
     (there k rest (key_of type name)
     (subst (Contains rest) same (in_map (λ m. key_of Mac (module_name (now m))) ms o.0 o.1)))

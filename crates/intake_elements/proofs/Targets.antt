@@ -1,7 +1,6 @@
 -- What statements change: elements of the profile, and stand-ins under hashed names.
-use Rattle.std.proofs.Common.{◌≡◌, ◌≢◌, Bool, true, false, IsTrue, not, ◌||◌, List, [], ◌∷◌, ◌++◌, inl, inr, refl, subst}
-use Rattle.std.proofs.Common.{sym, ap, ◌∙◌, codes, if◌then◌else◌, Option, Some, None, true≢false}
-use Rattle.std.specs.Prelude.{IfSome, All}
+use Rattle.std.proofs.Common.{◌≡◌, ◌≢◌, true, not, ◌||◌, ◌++◌, inl, inr, refl}
+use Rattle.std.proofs.Common.{sym, ap, ◌∙◌, codes, if◌then◌else◌}
 use Rattle.std.specs.List.{fold}
 use Rattle.std.specs.Str.{bytes_eq}
 use Rattle.std.proofs.lemmas.List.Sums.{fold-append}
@@ -11,11 +10,8 @@ use Rattle.terms.specs.declared.kinds.ElemType.TheVariants.{Mac, Src, Clist, Dat
 use Rattle.terms.specs.Types.{Text, Change}
 use Rattle.terms.specs.Changes.{is_replacement}
 use Rattle.terms.specs.Spelling.{type_text}
-use Rattle.intake_read.specs.declared.items.WideElement.{WideElement}
-use Rattle.intake_read.specs.declared.items.WideOperand.{WideOperand}
 use Rattle.intake_elements.specs.StandInNames.{hash_step, hash_of, stand_in_name, key_of}
-use Rattle.intake_elements.specs.Elements.{IsProfileType, IsLacked, IsTarget, stand_in, is_update, IsChangeOf, IsMadeOf}
-use Rattle.intake_elements.specs.Elements.{HasNoLevel}
+use Rattle.intake_elements.specs.Elements.{IsProfileType, IsLacked, IsTarget, stand_in, is_update, IsChangeOf}
 
 -- a hash that is made in parts
 pub hash_parts : (word name : Text)
@@ -32,7 +28,7 @@ lacked word no_macupd no_srcupd no_type type (inr (inr e)) = no_srcupd e.0
 
 -- ---- the type that a word names
 
-named : Text → ElemType
+abbrev named : Text → ElemType
 named word =
     if bytes_eq word (codes "MAC") || bytes_eq word (codes "MACUPD") then Mac else
     if bytes_eq word (codes "SRC") || bytes_eq word (codes "SRCUPD") then Src else
@@ -80,56 +76,3 @@ pub lacked_change : (word name : Text) (kind : Kind) (read : Text) (type : ElemT
     × (is_replacement change.action ≡ not (is_update kind word))
 lacked_change word name kind read type change none type_is same is =
     (inr (refl, none, is.0 ∙ type_is, is.1 ∙ same), is.2)
-
--- a change of the statement's kind
-pub of_kind : (type : ElemType) (name word : Text) (kind : Kind) (updated test : Bool) (found : Option Change)
-    → test ≡ is_update kind word → test ≡ updated → IfSome (IsChangeOf type name updated) found
-    → IfSome (IsChangeOf type name (is_update kind word)) found
-of_kind type name word kind updated test found is was made =
-    subst (λ b. IfSome (IsChangeOf type name b) found) (sym was ∙ is) made
-
--- what is found, with what is known besides
-pub with_levels : (found : Option Change) (P : Change → Type 0) (operands : List WideOperand) → IfSome found P
-    → All HasNoLevel operands → IfSome found (λ c. P c × All HasNoLevel operands)
-with_levels None P operands made free = tt
-with_levels (Some c) P operands made free = (made, free)
-
--- a statement of the profile
-made_known : (decide : Bool) (kind : Kind) (stated : WideElement) (known : ElemType) (read : Text) (change : Change)
-    → IsProfileType stated.word.items known → read ≡ stated.name.items
-    → IsChangeOf known read (is_update kind stated.word.items) change → All HasNoLevel stated.operands.items
-    → IsMadeOf decide kind stated change
-made_known decide kind stated known read change is same made free = record {
-  target_is = inl (subst (IsProfileType stated.word.items) (sym made.0) is, made.1 ∙ same);
-  action_is = made.2;
-  level_free = free;
-}
-
-pub found_known : (decide : Bool) (kind : Kind) (stated : WideElement) (known : ElemType) (read : Text)
-    (found : Option Change) → IsProfileType stated.word.items known → read ≡ stated.name.items
-    → IfSome found (λ c. IsChangeOf known read (is_update kind stated.word.items) c
-    × All HasNoLevel stated.operands.items) → IfSome found (IsMadeOf decide kind stated)
-found_known decide kind stated known read None is same made = tt
-found_known decide kind stated known read (Some c) is same made =
-    made_known decide kind stated known read c is same made.0 made.1
-
--- what stands for one whose text can't be carried
-pub found_short : (decide : Bool) (kind : Kind) (stated : WideElement) (known : ElemType) (read : Text)
-    (change : Change) → IsProfileType stated.word.items known → read ≡ stated.name.items
-    → IsChangeOf known read (is_update kind stated.word.items) change
-    → (IsTrue decide → All HasNoLevel stated.operands.items) → IsTrue decide → IsMadeOf decide kind stated change
-found_short decide kind stated known read change is same made free asked =
-    made_known decide kind stated known read change is same made (free asked)
-
--- a statement that the profile lacks
-pub found_lacked : (decide : Bool) (kind : Kind) (stated : WideElement) (found : Option Change)
-    → IfSome found (λ c. IsTarget true stated.word.items stated.name.items c.elem_type c.name
-    × (is_replacement c.action ≡ not (is_update kind stated.word.items)))
-    → (IsTrue decide → All HasNoLevel stated.operands.items) → IsTrue decide
-    → IfSome found (IsMadeOf decide kind stated)
-found_lacked decide kind stated None made free asked = tt
-found_lacked decide kind stated (Some c) made free asked = record {
-  target_is = subst (λ d. IsTarget d stated.word.items stated.name.items c.elem_type c.name) (sym asked) made.0;
-  action_is = made.1;
-  level_free = free asked;
-}

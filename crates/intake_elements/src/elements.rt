@@ -421,6 +421,8 @@ pub(crate) fn profile_change(
     if !tell_operands(alloc, options, remarks, subject, element)? {
         return Ok(None);
     }
-    let found = text_change(alloc, options, remarks, subject, kind, element, elem_type, name)?;
+    let found = text_change(
+        alloc, options, remarks, subject, kind, element, elem_type, name,
+    )?;
     Ok(found)
 }

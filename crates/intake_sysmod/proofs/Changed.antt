@@ -87,24 +87,21 @@ kept_after decide cs c may type name updated any =
     let m = in_any (IsDone decide type name updated) cs any in
     by m.0 m.1 m.2 (change_cmp m.0 c) refl
   where
-    P : Change → Type 0
-    P = IsDone decide type name updated
-
-    over : (x : Change) → Contains cs x → P x → IsFor c x → MayComeIn decide cs c → Any P (put cs c)
+    over : (x : Change) → Contains cs x → IsDone decide type name updated x → IsFor c x → MayComeIn decide cs c → IsChanged decide (put cs c) type name updated
     over x at is t (inl none) = absurd (none (any_in (IsFor c) cs x at t))
     over x at is t (inr e) =
         let k = its_key decide type name updated x is in
-        any_in P (put cs c) c (itself cs c) (inr (e.0, sym t.0 ∙ k.0, sym t.1 ∙ k.1, e.1))
+        any_in (IsDone decide type name updated) (put cs c) c (itself cs c) (inr (e.0, sym t.0 ∙ k.0, sym t.1 ∙ k.1, e.1))
 
-    by : (x : Change) → Contains cs x → P x → (o : Ordering) → change_cmp x c ≡ o → Any P (put cs c)
-    by x at is Less e = any_in P (put cs c) x
+    by : (x : Change) → Contains cs x → IsDone decide type name updated x → (o : Ordering) → change_cmp x c ≡ o → IsChanged decide (put cs c) type name updated
+    by x at is Less e = any_in (IsDone decide type name updated) (put cs c) x
         (in_front cs c x (in_filter (λ y. is_lt (change_cmp y c)) cs x at (ap is_lt e))) is
     by x at is Equal e = over x at is (tied x c e) may
-    by x at is Greater e = any_in P (put cs c) x
+    by x at is Greater e = any_in (IsDone decide type name updated) (put cs c) x
         (in_back cs c x (in_filter (λ y. is_lt (change_cmp c y)) cs x at
         (ap is_lt (change_cmp_total.antisymm c x ∙ ap ordering_reverse e)))) is
 
-abbrev is_for : ElemType → Text → Change → Bool
+abbrev pub is_for : ElemType → Text → Change → Bool
 is_for type name c = (type_number c.elem_type == type_number type) && bytes_eq c.name name
 
 -- a statement for the element is there
@@ -126,7 +123,7 @@ none_for_it cs c e any =
         ap (λ b. b && bytes_eq x.name c.name) (eq-eqb (type_number x.elem_type) (type_number c.elem_type)
         (ap type_number t.0)) ∙ ap (λ n. bytes_eq n c.name) t.1 ∙ same_itself c.name
 
-abbrev with_change : Sysmod → Change → Sysmod
+abbrev pub with_change : Sysmod → Change → Sysmod
 with_change old c = record old { changes = put old.changes c }
 
 joins_in : (decide : Bool) (c : Change) (old new : Sysmod) → new ≡ with_change old c → MayComeIn decide old.changes c
