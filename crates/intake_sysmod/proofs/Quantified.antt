@@ -1,5 +1,6 @@
 -- Some item of a list that grows or is put in another order.
-use Rattle.std.proofs.Common.{◌≡◌, ℕ, List, ◌++◌, Some, IsPermutation, Contains, slice_get, sym, ap, ◌∙◌}
+use Rattle.std.proofs.Common.{◌≡◌, ◌<◌, ℕ, List, ◌++◌, Some, IsPermutation, Contains, slice_get, sym, ap, ◌∙◌}
+use Rattle.std.proofs.Common.{length, get_or}
 use Rattle.std.specs.List.{All, Any}
 use Rattle.std.proofs.lemmas.List.Elements.{Contains-append_right, All-contains}
 use Rattle.std.proofs.lemmas.List.Sorted.{Contains-permutation, IsPermutation-sym}
@@ -27,3 +28,7 @@ stands_at xs x h =
     let p = at_place xs h.0 h.1 in
     let same : p.0 ≡ x = sym (get_or_from_slice_get xs h.0 p.0 x p.1) ∙ h.2 in
     p.1 ∙ ap (λ t. Some t) same
+
+-- an item that a loop is at
+pub contains_here : {X : Type 0} (xs : List X) (i : ℕ) (x : X) → i < length xs → x ≡ get_or xs i x → Contains xs x
+contains_here xs i x below at = (i, below, sym at)
