@@ -1,2 +1,5 @@
-mod Kept
+mod Comparing
+mod Doing
+mod OneByOne
 mod Served
+mod Within
