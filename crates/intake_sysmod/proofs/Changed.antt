@@ -80,7 +80,7 @@ there_after decide cs c updated e =
 its_key : (decide : Bool) (type : ElemType) (name : Text) (updated : Bool) (x : Change) → IsDone decide type name updated x
     → (x.elem_type ≡ type) × (x.name ≡ name)
 its_key decide type name updated x (inl is) = (is.0, is.1)
-its_key decide type name updated x (inr is) = (is.1, is.2)
+its_key decide type name updated x (inr is) = (is.1.0, is.1.1)
 
 kept_after : (decide : Bool) (cs : List Change) (c : Change) → MayComeIn decide cs c → Keeps decide cs (put cs c)
 kept_after decide cs c may type name updated any =
@@ -91,7 +91,7 @@ kept_after decide cs c may type name updated any =
     over x at is t (inl none) = absurd (none (any_in (IsFor c) cs x at t))
     over x at is t (inr e) =
         let k = its_key decide type name updated x is in
-        any_in (IsDone decide type name updated) (put cs c) c (itself cs c) (inr (e.0, sym t.0 ∙ k.0, sym t.1 ∙ k.1, e.1))
+        any_in (IsDone decide type name updated) (put cs c) c (itself cs c) (inr (e.0, (sym t.0 ∙ k.0, sym t.1 ∙ k.1, e.1)))
 
     by : (x : Change) → Contains cs x → IsDone decide type name updated x → (o : Ordering) → change_cmp x c ≡ o → IsChanged decide (put cs c) type name updated
     by x at is Less e = any_in (IsDone decide type name updated) (put cs c) x
@@ -165,7 +165,7 @@ joins_under decide c s asked there none = record {
     by : (x : Change) → IsFor c x → (updated : Bool) → false ≡ not updated → (b : Bool) → is_replacement x.action ≡ b
         → IsDone decide c.elem_type c.name updated x
     by x k false e b f = absurd (true≢false (sym e))
-    by x k true e true f = inr (asked, k.0, k.1, f)
+    by x k true e true f = inr (asked, (k.0, k.1, f))
     by x k true e false f = inl (k.0, k.1, f)
 
 -- ---- a SYSMOD that grows

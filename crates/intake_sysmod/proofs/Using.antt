@@ -118,7 +118,7 @@ knows_none users run e key id at =
     nothing : None ≡ Some (Only id) → ⊥
     nothing f = cc f
 
-id_in : ElementUser → Text
+abbrev id_in : ElementUser → Text
 id_in (Only id) = id
 id_in Several = []
 

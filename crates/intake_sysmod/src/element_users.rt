@@ -126,13 +126,22 @@ pub(crate) fn users_of(
     Ok(users)
 }
 
+// Whether it is the SYSMOD of the id alone.
+fn is_of(user: ElementUser, id: &[u8]) -> bool
+    ensures { IsTrue result → user ≡ IsOnly id.now }
+{
+    match user {
+        ElementUser::Only(owner) => owner.as_bytes() == id,
+        ElementUser::Several => false,
+    }
+}
+
 // Whether the SYSMOD of the id is the only one of the number.
 fn is_only(users: &BTreeMap<u64, ElementUser>, key: u64, id: &[u8]) -> bool
     ensures { IsTrue result → get nat_cmp users.now key ≡ Some (IsOnly id.now) }
 {
-    match users.get(&key).copied() {
-        Some(ElementUser::Only(owner)) => owner.as_bytes() == id,
-        Some(ElementUser::Several) => false,
+    match users.get(&key) {
+        Some(user) => is_of(*user, id),
         None => false,
     }
 }

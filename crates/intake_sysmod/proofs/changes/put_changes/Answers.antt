@@ -1,4 +1,4 @@
-use Rattle.std.proofs.Common.{ap, length, take, arith, subst, Contains, ◌∙◌}
+use Rattle.std.proofs.Common.{◌<◌, ap, length, take, arith, ◌∙◌}
 use Rattle.terms.proofs.BesideLists.{all_next, all_through}
 use Rattle.terms.specs.Types.{Sysmod}
 use Rattle.intake_sysmod.specs.NoLooser.{IsElementDone}
@@ -13,7 +13,7 @@ loop-element-preserved c =
     let stated = c.args.stated.now in
     let decide = c.args.options.now.decide in
     let all_items = stated.elements.items in
-    let below = omega (arith, ap length c.deref-element-items.ensures.value) in
+    let below : at.element-index < length all_items = omega (arith, ap length c.deref-element-items.ensures.value) in
     let is = rw c.deref-element-items.ensures.value at c.element-item.is in
     record {
       rest = c.in_ok-put.ensures.grows.rest ∙ ap (λ (s : Sysmod). record s { changes = new }) at.invariant.rest;

@@ -1,27 +1,25 @@
-use Rattle.std.proofs.Common.{arith, take, subst, false, map, IsTrue, Contains}
+use Rattle.std.proofs.Common.{rules, arith, take, subst, false, map, IsTrue, Contains}
 use Rattle.std.specs.Prelude.{All}
 use Rattle.std.proofs.lemmas.List.Elements.{All-map, All-weaker}
-use Rattle.terms.proofs.BesideLists.{all_next, all_through}
-use Rattle.terms.proofs.ListMembers.{in_map}
+use Rattle.terms.proofs.BesideLists.{all_through}
 use Rattle.terms.specs.declared.kinds.Kind.TheVariants.{Ptf}
 use Rattle.terms.specs.declared.kinds.ElemType.TheVariants.{Mac}
-use Rattle.intake_elements.specs.Elements.{module_name}
+use Rattle.intake_elements.specs.Elements.{modules_of, module_name}
 use Rattle.intake_sysmod.specs.Changed.{IsChanged}
 use Rattle.intake_sysmod.proofs.Changed.{grows_same, grows_then}
-use Rattle.intake_sysmod.proofs.Quantified.{contains_here}
+use Rattle.intake_sysmod.proofs.Quantified.{place_seen, more_seen}
 use Rattle.intake_sysmod.proofs.changes.put_modules.Goals as goal
 
-pub loop-module-established : goal.loop-module-established
-loop-module-established c = record {
+pub loop-module-init : goal.loop-module-init
+loop-module-init c = record {
   grows = λ kind. grows_same c.args.options.now.decide kind c.args.element.now c.args.sysmod.now;
   there = search rules;
 }
 
-pub put_module-requires-is_one : goal.put_module-requires-is_one
-put_module-requires-is_one c =
-    subst (λ l. Contains l c.module-item.result.now) c.requires.are
-    (in_map (λ m. m.now) c.args.modules.now c.module-item.result
-    (contains_here c.args.modules.now c.loop-module.module-index c.module-item.result (omega arith) c.module-item.is))
+pub put_module-requires-clause-is_one : goal.put_module-requires-clause-is_one
+put_module-requires-clause-is_one c =
+    place_seen (λ m. m.now) c.args.modules.now (modules_of c.args.element.now) c.loop-module.module-index _
+    c.requires.are c.loop-module-test.true
 
 pub loop-module-preserved : goal.loop-module-preserved
 loop-module-preserved c =
@@ -34,8 +32,8 @@ loop-module-preserved c =
           (c.in_ok-put.ensures.grows kind);
       there = λ t.
           let b = c.both-all.ensures t in
-          all_next (λ m. IsChanged decide new.changes Mac (module_name m.now) false) c.args.modules.now at.module-index
-          c.module-item.result (omega arith) c.module-item.is (c.in_ok-put.ensures.there b.1)
+          more_seen (λ m. m.now) (λ m. IsChanged decide new.changes Mac (module_name m) false) c.args.modules.now
+          at.module-index _ c.loop-module-test.true (c.in_ok-put.ensures.there b.1)
           (All-weaker (λ m. IsChanged decide at.sysmod.changes Mac (module_name m.now) false)
           (λ m. IsChanged decide new.changes Mac (module_name m.now) false)
           (λ m any. (c.in_ok-put.ensures.grows Ptf).kept Mac (module_name m.now) false any)

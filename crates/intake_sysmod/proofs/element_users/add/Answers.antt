@@ -1,4 +1,4 @@
-use Rattle.std.proofs.Common.{subst, ap, sym, ◌∙◌}
+use Rattle.std.proofs.Common.{rules, subst, ap, sym, ◌∙◌}
 use Rattle.std.specs.Prelude.{IfSome}
 use Rattle.intake_sysmod.specs.declared.element_users.ElementUser.TheVariants.{Only}
 use Rattle.intake_sysmod.specs.Users.{Covers}

@@ -10,7 +10,9 @@ loop-element-preserved c =
     let id = c.args.stated.now.id.items in
     let new = c.add_all.new.users in
     let known = element_known new id c.element-item.result c.in_ok-keys.keys.items c.in_ok-keys.ensures
-    (search rules) in
+    (subst (λ l. All (λ k. IsUser new k id) l) c.as_slice.ensures.value
+    (subst (λ t. All (λ k. IsUser new k t) c.as_slice.result.now) c.as_slice-id.ensures.value
+    c.in_ok-add_all.ensures.has)) in
     record {
       has = all_next (IsElementKnown new id) c.args.stated.now.elements.items c.loop-element.element-index
           c.element-item.result (omega (arith, ap length c.deref-element-items.ensures.value))

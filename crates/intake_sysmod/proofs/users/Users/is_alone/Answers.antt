@@ -1,4 +1,4 @@
-use Rattle.std.proofs.Common.{subst}
+use Rattle.std.proofs.Common.{rules, subst}
 use Rattle.intake_sysmod.specs.Users.{run_of, IsAlone}
 use Rattle.intake_sysmod.proofs.Using.{alone}
 use Rattle.intake_sysmod.proofs.users.Users.is_alone.Goals as goal
