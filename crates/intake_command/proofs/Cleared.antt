@@ -1,5 +1,5 @@
 -- The files of all runs were to go.
-use Rattle.std.proofs.Common.{◌≡◌, List, [], ◌∷◌, map, Result, Ok, Err, subst, refl, inl, inr}
+use Rattle.std.proofs.Common.{◌≡◌, [], ◌∷◌, Result, Ok, Err, subst, refl, inl, inr}
 use Rattle.std.specs.Result.{OnOk, IfErr}
 use Rattle.std.specs.declared.io.Error.{Error}
 use Rattle.terms.specs.Types.{Text}

@@ -1,4 +1,4 @@
-use Rattle.std.proofs.Common.{◌∙◌, ap, map, sym, List}
+use Rattle.std.proofs.Common.{◌∙◌, ap, map, List}
 use Rattle.std.specs.List.{flat_map}
 use Rattle.terms.specs.Types.{Text}
 use Rattle.intake_command.specs.Files.{outputs}

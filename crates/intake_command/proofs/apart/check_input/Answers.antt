@@ -1,4 +1,4 @@
-use Rattle.std.proofs.Common.{map, take, refl, arith}
+use Rattle.std.proofs.Common.{refl, arith}
 use Rattle.intake_command.specs.Serving.{is_apart}
 use Rattle.intake_command.proofs.Comparing.{compared_next, compared_whole, apart_quiet}
 use Rattle.intake_command.proofs.Doing.{idle, on_err, quiet}

@@ -1,4 +1,4 @@
-use Rattle.std.proofs.Common.{◌∙◌, ◌++◌, ◌∷◌, [], ap, subst, refl, false}
+use Rattle.std.proofs.Common.{◌∙◌, ◌++◌, ap, subst, refl, false}
 use Rattle.std.specs.Prelude.{codes}
 use Rattle.intake_command.specs.Acts.{Compares}
 use Rattle.intake_command.specs.Serving.{is_apart}

@@ -1,9 +1,4 @@
-use Rattle.std.proofs.Common.{◌⊎◌, ℕ, List, Option, Vec, inl, inr, subst, sym}
-use Rattle.std.specs.declared.alloc.Global.{Global}
-use Rattle.intake_asked.specs.declared.known.KnownSysmod.{KnownSysmod}
-use Rattle.intake_asked.specs.declared.scan.WideCommand.{WideCommand}
-use Rattle.intake_command.specs.Keeping.{KeepsFiles}
-use Rattle.intake_command.specs.Serving.{IsCommandEnd, folder_of}
+use Rattle.intake_command.specs.Serving.{folder_of}
 use Rattle.intake_command.proofs.Doing.{on_err}
 use Rattle.intake_command.proofs.Served.{served_commands}
 use Rattle.intake_command.proofs.Within.{within_did, quiet_within, list_within, within, nothing_within, files_within, end_outputs}

@@ -1,7 +1,5 @@
-use Rattle.std.proofs.Common.{map, subst}
-use Rattle.std.specs.String.{string_bytes}
+use Rattle.std.proofs.Common.{subst}
 use Rattle.intake_carry.specs.Carried.{FilesBecome}
-use Rattle.intake_command.specs.Keeping.{IsServiceFiles}
 use Rattle.intake_command.specs.Serving.{folder_of}
 use Rattle.intake_command.proofs.Doing.{on_err}
 use Rattle.intake_command.proofs.Served.{served_files}
