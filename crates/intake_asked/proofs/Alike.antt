@@ -1,8 +1,6 @@
 -- Lists of the same texts.
 use Rattle.std.proofs.Common.{◌≡◌, ◌∙◌, [], ℕ, List, Bor, map, ap, sym, IsTrue, Contains, subst₂}
-use Rattle.std.specs.Prelude.{◌↔◌}
 use Rattle.std.specs.List.{All}
-use Rattle.std.proofs.lemmas.Bool.{and_parts}
 use Rattle.std.proofs.lemmas.List.Elements.{All-contains, All-map}
 use Rattle.terms.proofs.Ids.{Contains_from_is_in}
 use Rattle.terms.specs.Types.{Text}

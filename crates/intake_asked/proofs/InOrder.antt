@@ -1,5 +1,5 @@
 -- Commands that are said one after the other.
-use Rattle.std.proofs.Common.{◌≡◌, ◌<◌, ◌+◌, ℕ, List, [], ◌∷◌, Option, Vec, IsTrue, drop, length, get_or, map, refl, sym}
+use Rattle.std.proofs.Common.{◌≡◌, ◌<◌, ◌+◌, ℕ, List, ◌∷◌, Option, Vec, IsTrue, drop, length, get_or, sym}
 use Rattle.std.proofs.Common.{subst, inl, inr, ap, ◌∙◌}
 use Rattle.std.specs.declared.alloc.Global.{Global}
 use Rattle.std.proofs.lemmas.List.{drop_more}
@@ -16,8 +16,8 @@ module _ (known : Option (Vec KnownSysmod Global)) (wide : List WideCommand) (i 
   pub passed_over : (commands : List Command) → i < length wide → w ≡ get_or wide i w
       → IsTrue (is_no_decision w.head.name.items) → AreSaid known (drop (i + 1) wide) commands
       → AreSaid known (drop i wide) commands
-  passed_over commands below is no rest =
-      subst (λ ws. AreSaid known ws commands) (at_here below is) (inl (no, rest))
+  passed_over commands below is none rest =
+      subst (λ ws. AreSaid known ws commands) (at_here below is) (inl (none, rest))
 
   -- One is said, and then those after it.
   pub one_said : (commands more : List Command) (c : Command) → i < length wide → w ≡ get_or wide i w

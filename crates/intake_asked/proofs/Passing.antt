@@ -69,5 +69,6 @@ all_at P f xs i d below all p =
     (All-push P (map f (take i xs)) (f (get_or xs i d)) all p)
 
 -- texts of a list that is not empty
-pub some_found : {X Y : Type 0} {f : X → Y} {xs : List X} {ys : List Y} → map f xs ≡ ys → (length xs ≡ 0 → ⊥) → ys ≢ []
-some_found {f = f} {xs = xs} e some none = some (sym (length-map f xs) ∙ ap length (e ∙ none))
+pub some_found : {X Y : Type 0} (f : X → Y) (xs : List X) (ys : List Y) → map f xs ≡ ys → (length xs ≡ 0 → ⊥)
+    → ys ≢ []
+some_found f xs ys e some none = some (sym (length-map xs f) ∙ ap length (e ∙ none))

@@ -2,6 +2,9 @@
 ghost use Rattle.std.specs.Prelude.{◌≡◌, ◌||◌, not, [], ◌∷◌, IsTrue, IfOk, All, codes, map};
 ghost use Rattle.fields.specs.Choices.{restore_list_of};
 ghost use Rattle.terms.specs.CommandForms.{command_word};
+ghost use Rattle.terms.specs.Lookups.{is_in};
+ghost use Rattle.terms.specs.Spelling.{word_text};
+ghost use Rattle.intake_asked.specs.KnownWords.{known_operands, known_members};
 ghost use Rattle.terms.specs.Types.{RestoreSelect, RestoreGroup};
 ghost use Rattle.cntl.specs.Views.{command_of};
 ghost use Rattle.intake_asked.specs.Words.{has, stands_alone, listed, select_names, check_names};
@@ -236,6 +239,26 @@ fn says_operands(
     }
 }
 
+fn has_word(wide: &WideCommand, word: CommandWord) -> bool
+    ensures { IsTrue result → wide.now.head.name.items ≡ word_text word }
+{
+    wide.head.name.as_slice() == word_text(word)
+}
+
+// Whether it has no operands but those that such a command may have.
+fn has_known_operands(wide: &WideCommand, word: CommandWord) -> bool
+    ensures { IsTrue result → All (λ o. IsTrue (is_in (known_operands word) o.name.items)) wide.now.operands.items }
+{
+    are_called(known_operands(word), wide.operands.as_slice())
+}
+
+// The same of the members of its BYPASS.
+fn has_known_members(wide: &WideCommand, word: CommandWord) -> bool
+    ensures { IsTrue result → All (λ o. IsTrue (is_in (known_members word) o.name.items)) wide.now.bypassed.items }
+{
+    are_called(known_members(word), wide.bypassed.as_slice())
+}
+
 /// Whether the command says just what this one of a shop asks for.
 pub fn says(
     alloc: Global,
@@ -246,17 +269,23 @@ pub fn says(
     ensures { IfOk result (λ says. IsTrue says → Says known.now wide.now (command_of said.now)) }
 {
     let word = word_of(said);
-    if wide.head.name.as_slice() != word_text(word) {
+    if !has_word(wide, word) {
         return Ok(false);
     }
-    if !are_called(known_operands(word), wide.operands.as_slice()) {
+    if !has_known_operands(wide, word) {
         return Ok(false);
     }
-    if !are_called(known_members(word), wide.bypassed.as_slice()) {
+    if !has_known_members(wide, word) {
         return Ok(false);
     }
     let says = says_operands(alloc, known, wide, said)?;
     Ok(says)
+}
+
+fn decides_nothing(wide: &WideCommand) -> bool
+    ensures { result ≡ is_no_decision wide.now.head.name.items }
+{
+    is_no_decision(wide.head.name.as_slice())
 }
 
 /// Whether the commands say, one after the other, just what these of a shop ask for, but for those that change no
@@ -271,13 +300,14 @@ pub fn are_said(
 {
     let mut left = said;
     for command in wide {
-        if is_no_decision(command.head.name.as_slice()) {
+        if decides_nothing(command) {
             continue;
         }
         let Some((first, rest)) = left.split_first() else {
             return Ok(false);
         };
-        if !says(alloc, known, command, first)? {
+        let says = says(alloc, known, command, first)?;
+        if !says {
             return Ok(false);
         }
         left = rest;

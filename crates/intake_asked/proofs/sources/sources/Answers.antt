@@ -1,5 +1,4 @@
-use Rattle.std.proofs.Common.{◌≡◌, ◌≢◌, ◌∙◌, ℕ, List, [], ap, map, length, arith}
-use Rattle.std.proofs.lemmas.List.{take_all}
+use Rattle.std.proofs.Common.{◌≢◌, ℕ, List, [], ap, length, arith}
 use Rattle.intake_asked.specs.Words.{sources_of}
 use Rattle.intake_asked.proofs.Passing.{found_at, all_at, more_found, some_found}
 use Rattle.intake_asked.proofs.sources.sources.Goals as goal
@@ -16,5 +15,5 @@ loop-member-preserved c =
           c.in_ok-append.ensures.items l.invariant.found c.in_ok-more.ensures
           (found_at (sources_of known) (λ p. p.now) c.args.members.now l.member-index _ (omega arith));
       some = all_at (λ (m : List ℕ). sources_of known m ≢ []) (λ p. p.now) c.args.members.now l.member-index _ (omega arith)
-          l.invariant.some (some_found c.in_ok-more.ensures (λ zero. absurd (let none = zero in grind arith)));
+          l.invariant.some (some_found (λ p. p.now) c.in_ok-more.more.items _ c.in_ok-more.ensures (λ zero. absurd (let none = zero in grind arith)));
     }
