@@ -1,3 +1,4 @@
+mod Cleared
 mod Comparing
 mod Doing
 mod OneByOne

@@ -1,5 +1,5 @@
 -- What a run has done in all.
-use Rattle.std.proofs.Common.{◌≡◌, ℕ, List, [], ◌∷◌, ◌++◌, Option, Vec, map, option_map, refl, ap, inr}
+use Rattle.std.proofs.Common.{◌≡◌, ℕ, List, [], ◌∷◌, ◌++◌, Option, Vec, map, option_map, refl, ap, subst, inr}
 use Rattle.std.specs.List.{All}
 use Rattle.std.specs.String.{string_bytes}
 use Rattle.std.specs.declared.alloc.Global.{Global}
@@ -14,12 +14,12 @@ use Rattle.intake_asked.specs.declared.known.KnownSysmod.{KnownSysmod}
 use Rattle.intake_asked.specs.declared.scan.WideCommand.{WideCommand}
 use Rattle.intake_words.specs.declared.options.IntakeOptions.{IntakeOptions}
 use Rattle.intake_command.specs.Acts.{HostAct, Gives, Puts, Prints, Speaks, IsQuiet}
-use Rattle.intake_command.specs.Done.{HasDone}
+use Rattle.intake_command.specs.Done.{LeadTo, HasDone}
 use Rattle.intake_command.specs.Keeping.{IsServiceFiles, KeepsFiles}
 use Rattle.intake_command.specs.Serving.{AreRead, ServesFiles, ServesCommands, IsKnownList, IsCommandEnd, folder_of, inputs}
 use Rattle.intake_command.specs.Serving.{IsWithin, IsCleared, EndsApart, Ends, EndsServed, comparisons}
 use Rattle.intake_command.specs.declared.surroundings.IntakeHost.{Ghosts}
-use Rattle.intake_command.proofs.Doing.{joined}
+use Rattle.intake_command.proofs.Doing.{joined, one}
 
 module _ {H : Type 0} (host : Ghosts H) (asked : IntakeOptions) where
   pub served_files : {a b c d e : H} (files : List WideFile) (items : List Item) (outside : List HoldItem)
@@ -29,7 +29,8 @@ module _ {H : Type 0} (host : Ghosts H) (asked : IntakeOptions) where
       → host.does d (Prints summary) e → HasDone host (ServesFiles asked) a e
   served_files {a} {b} {c} {d} {e} files items outside summary r m become k p = record {
     acts = r.acts ++ m.acts ++ Puts (folder_of asked) k.0 ∷ Prints summary ∷ [];
-    lead = joined host a r.acts _ b e r.lead (joined host b m.acts _ c e m.lead (d, k.2, (e, p, refl)));
+    lead = joined host a (r.acts ++ m.acts) (Puts (folder_of asked) k.0 ∷ Prints summary ∷ []) c e
+        (joined host a r.acts m.acts b c r.lead m.lead) (d, k.2, (e, p, refl));
     are = record {
       files = files;
       reading = r.acts;
@@ -53,7 +54,12 @@ module _ {H : Type 0} (host : Ghosts H) (asked : IntakeOptions) where
       → HasDone host (ServesCommands asked name status) a e
   served_commands {a} {b} {c} {d} {e} name bytes commands known status summary r m k p = record {
     acts = Gives name bytes ∷ m.acts ++ Puts (folder_of asked) k.0 ∷ Prints summary ∷ [];
-    lead = (b, r, joined host b m.acts _ c e m.lead (d, k.2, (e, p, refl)));
+    lead = (
+      b,
+      r,
+      joined host b m.acts (Puts (folder_of asked) k.0 ∷ Prints summary ∷ []) c e m.lead
+          (d, k.2, (e, p, refl)),
+    );
     are = record {
       bytes = bytes;
       commands = commands;
@@ -71,19 +77,26 @@ module _ {H : Type 0} (host : Ghosts H) (asked : IntakeOptions) where
   pub failed : {a b c d : H} (status : ℕ) → status ≡ 16 → HasDone host (All (IsWithin (folder_of asked))) a b
       → HasDone host (λ acts. (act : HostAct) × (acts ≡ act ∷ []) × IsCleared (folder_of asked) act) b c
       → host.does c Speaks d → HasDone host (EndsApart asked status) a d
-  failed {a} {b} {c} {d} status is t l s = record {
-    acts = t.acts ++ l.acts ++ Speaks ∷ [];
-    lead = joined host a t.acts _ b d t.lead (joined host b l.acts _ c d l.lead (d, s, refl));
-    are = inr (is, record {
-      tried = t.acts;
-      cleared = l.are.0;
-      told = Speaks ∷ [];
-      within = t.are;
-      is_cleared = l.are.2;
-      quiet = (tt, tt);
-      acts_are = ap (λ acts. t.acts ++ acts ++ Speaks ∷ []) l.are.1;
-    });
-  }
+  failed {a} {b} {c} {d} status is t l s =
+      let act = l.are.0 in
+      let step : LeadTo host b (act ∷ []) c = subst (λ acts. LeadTo host b acts c) l.are.1 l.lead in
+      record {
+        acts = t.acts ++ act ∷ Speaks ∷ [];
+        lead = joined host a t.acts (act ∷ Speaks ∷ []) b d t.lead
+            (step.0, step.1, (d, subst (λ h. host.does h Speaks d) step.2 s, refl));
+        are = inr (
+          is,
+          record {
+            tried = t.acts;
+            cleared = act;
+            told = Speaks ∷ [];
+            within = t.are;
+            is_cleared = l.are.2;
+            quiet = one IsQuiet Speaks tt;
+            acts_are = refl;
+          },
+        );
+      }
 
   pub ended_apart : {a b c : H} (status : ℕ)
       → HasDone host (λ acts. acts ≡ comparisons (folder_of asked) (inputs asked)) a b

@@ -1,5 +1,6 @@
-use Rattle.std.proofs.Common.{◌∙◌, ap, map, inr, subst, sym}
-use Rattle.intake_command.specs.Files.{named, AreOutputs}
+use Rattle.std.proofs.Common.{◌∙◌, ap, map, inr}
+use Rattle.intake_command.specs.Files.{named}
+use Rattle.intake_command.proofs.Within.{two_outputs}
 use Rattle.intake_command.proofs.keep.keep_commands.Goals as goal
 
 pub returns-in-Ok-clause-ok : goal.returns-in-Ok-clause-ok
@@ -14,10 +15,5 @@ returns-in-Ok-clause-ok g c = λ commands is. (
   c.in-Ok.ensures.ok,
 )
 
-pub returns-in-Err-clause-err : goal.returns-in-Err-clause-err
-returns-in-Err-clause-err g c = inr (
-  map named c.deref.result.now,
-  _,
-  subst AreOutputs (sym (ap (λ files. map named files) c.deref.ensures.value ∙ c.in_ok-files.ensures)) (tt, tt, tt),
-  c.in-Err.ensures.err,
-)
+pub returns-clause-err : goal.returns-clause-err
+returns-clause-err g c = inr (map named c.deref.result.now, c.in-Err.field-0, two_outputs _ _ _ (ap (λ files. map named files) c.deref.ensures.value ∙ c.in_ok-files.ensures), c.in-Err.ensures.err)

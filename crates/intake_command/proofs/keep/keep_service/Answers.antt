@@ -1,5 +1,8 @@
-use Rattle.std.proofs.Common.{◌∙◌, ap, map, option_map, inr, subst, sym}
-use Rattle.intake_command.specs.Files.{named, AreOutputs}
+use Rattle.std.proofs.Common.{◌∙◌, ap, map, option_map, inr}
+use Rattle.mcs.specs.Files as ptfin
+use Rattle.mcs.specs.HoldItems as hold
+use Rattle.intake_command.specs.Files.{named}
+use Rattle.intake_command.proofs.Within.{service_outputs}
 use Rattle.intake_command.proofs.keep.keep_service.Goals as goal
 
 pub returns-in-Ok-clause-ok : goal.returns-in-Ok-clause-ok
@@ -17,11 +20,18 @@ returns-in-Ok-clause-ok g c = (
   c.in-Ok.ensures.ok,
 )
 
-pub returns-in-Err-clause-err : goal.returns-in-Err-clause-err
-returns-in-Err-clause-err g c = inr (
+pub returns-clause-err : goal.returns-clause-err
+returns-clause-err g c = inr (
   map named c.deref.result.now,
-  _,
-  subst AreOutputs (sym (ap (λ files. map named files) c.deref.ensures.value ∙ c.in_ok-files.ensures))
-      (tt, tt, tt, tt, tt),
+  c.in-Err.field-0,
+  service_outputs (ptfin.items c.args.meant.now) (hold.items c.args.held.now) _ (
+    c.in_ok-ptfin.ptfin.items,
+    c.in_ok-hold.hold.items,
+    c.args.remarks.items,
+    option_map (λ bytes. bytes.items) c.args.stand_ins,
+    c.in_ok-ptfin.ensures,
+    c.in_ok-hold.ensures,
+    ap (λ files. map named files) c.deref.ensures.value ∙ c.in_ok-files.ensures,
+  ),
   c.in-Err.ensures.err,
 )

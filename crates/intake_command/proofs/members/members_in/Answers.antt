@@ -1,8 +1,8 @@
-use Rattle.intake_command.proofs.Doing.{idle, quiet}
+use Rattle.intake_command.proofs.Doing.{quiet, quiet_idle}
 use Rattle.intake_command.proofs.members.members_in.Goals as goal
 
 pub loop-element-init : goal.loop-element-init
-loop-element-init g c = idle g.H.IntakeHost _ tt
+loop-element-init g c = quiet_idle g.H.IntakeHost _
 
 pub loop-element-preserved : goal.loop-element-preserved
 loop-element-preserved g c = quiet g.H.IntakeHost c.loop-element.invariant c.in_ok-file.ensures

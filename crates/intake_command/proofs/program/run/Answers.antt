@@ -1,6 +1,6 @@
-use Rattle.std.proofs.Common.{inr, subst, sym}
+use Rattle.std.proofs.Common.{inr}
 use Rattle.intake_command.specs.Serving.{EndsQuietly}
-use Rattle.intake_command.proofs.Doing.{did, quiet, weaker}
+use Rattle.intake_command.proofs.Doing.{quiet, quiet_did, weaker}
 use Rattle.intake_command.proofs.Served.{ended_apart}
 use Rattle.intake_command.proofs.program.run.Goals as goal
 
@@ -11,5 +11,4 @@ returns-in-Ok g c =
 pub returns-in-Err : goal.returns-in-Err
 returns-in-Err g c =
     weaker g.H.IntakeHost (quiet g.H.IntakeHost c.in-Err.ensures.err
-    (did g.H.IntakeHost _ _ _ c.told.ensures.says (tt, tt)))
-    (λ acts all. EndsQuietly (inr c.told.ensures.status) all)
+    (quiet_did g.H.IntakeHost _ _ _ c.told.ensures.says tt)) (λ acts all. EndsQuietly (inr c.told.ensures.status) all)

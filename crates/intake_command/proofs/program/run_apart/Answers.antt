@@ -1,6 +1,4 @@
-use Rattle.std.proofs.Common.{inl, subst}
-use Rattle.intake_command.specs.Done.{HasDone}
-use Rattle.intake_command.specs.Serving.{IsCleared}
+use Rattle.std.proofs.Common.{inl}
 use Rattle.intake_command.proofs.Doing.{weaker}
 use Rattle.intake_command.proofs.Served.{failed}
 use Rattle.intake_command.proofs.program.run_apart.Goals as goal

@@ -1,12 +1,12 @@
 use Rattle.std.proofs.Common.{ap, length, refl, arith}
 use Rattle.std.specs.String.{string_bytes}
-use Rattle.intake_command.proofs.Doing.{idle, did, quiet, weaker}
+use Rattle.intake_command.proofs.Doing.{idle, on_err, quiet, quiet_did, weaker}
 use Rattle.intake_command.proofs.OneByOne.{read_next, read_whole}
 use Rattle.intake_command.proofs.Within.{read_quiet}
 use Rattle.intake_command.proofs.service.wide_files.Goals as goal
 
 pub loop-name-init : goal.loop-name-init
-loop-name-init g c = idle g.H.IntakeHost _ (refl, refl)
+loop-name-init g c = idle g.H.IntakeHost _ (c.new-files.ensures.items, refl)
 
 pub loop-name-preserved : goal.loop-name-preserved
 loop-name-preserved g c =
@@ -17,12 +17,13 @@ loop-name-preserved g c =
 
 pub returns-in_err-file-clause-err : goal.returns-in_err-file-clause-err
 returns-in_err-file-clause-err g c =
-    quiet g.H.IntakeHost (weaker g.H.IntakeHost c.loop-name.invariant (read_quiet _ _)) c.in_err-file.ensures.err
+    on_err _ (quiet g.H.IntakeHost (weaker g.H.IntakeHost c.loop-name.invariant (read_quiet _ _))
+    c.in_err-file.ensures.err)
 
 pub returns-in_err-push-clause-err : goal.returns-in_err-push-clause-err
 returns-in_err-push-clause-err g c =
-    quiet g.H.IntakeHost (weaker g.H.IntakeHost c.loop-name.invariant (read_quiet _ _))
-    (did g.H.IntakeHost _ _ _ c.in_ok-file.ensures.ok.1 (tt, tt))
+    on_err _ (quiet g.H.IntakeHost (weaker g.H.IntakeHost c.loop-name.invariant (read_quiet _ _))
+    (quiet_did g.H.IntakeHost _ _ _ c.in_ok-file.ensures.ok.1 tt))
 
 pub returns-then-not-has_statement-clause-err : goal.returns-then-not-has_statement-clause-err
 returns-then-not-has_statement-clause-err g c = weaker g.H.IntakeHost c.loop-name.invariant (read_quiet _ _)
