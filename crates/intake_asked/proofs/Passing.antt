@@ -1,9 +1,9 @@
 -- Lists that grow as a loop goes over another one.
-use Rattle.std.proofs.Common.{◌≡◌, ◌<◌, ◌+◌, ℕ, Bool, true, false, List, [], ◌++◌, ◌∷◌, length, take, get_or, map, filter}
-use Rattle.std.proofs.Common.{cond, sym, ap, ◌∙◌, append-nil}
-use Rattle.std.specs.List.{flat_map}
-use Rattle.std.proofs.lemmas.List.{take_more, map-append}
-use Rattle.std.proofs.lemmas.List.Elements.{filter-append}
+use Rattle.std.proofs.Common.{◌≡◌, ◌≢◌, ◌<◌, ◌+◌, ℕ, Bool, true, false, List, [], ◌++◌, ◌∷◌, length, take, get_or, map, filter}
+use Rattle.std.proofs.Common.{cond, sym, ap, subst, ◌∙◌, append-nil}
+use Rattle.std.specs.List.{All, flat_map}
+use Rattle.std.proofs.lemmas.List.{length-map, take_more, map-append}
+use Rattle.std.proofs.lemmas.List.Elements.{All-push, filter-append}
 use Rattle.std.proofs.lemmas.List.Concat.{flat_map-append}
 
 pub map_next : {X Y : Type 0} (f : X → Y) (xs : List X) (i : ℕ) (x : X) → i < length xs → x ≡ get_or xs i x
@@ -52,3 +52,23 @@ skips_next p xs i x below at e =
     ap (filter p) (take_more xs i x below ∙ ap (λ u. take i xs ++ u ∷ []) (sym at))
     ∙ filter-append p (take i xs) (x ∷ []) ∙ ap (λ b. filter p (take i xs) ++ cond b (x ∷ []) []) e
     ∙ append-nil (filter p (take i xs))
+
+-- what is found for each of a list of texts, with one text more, where it is read off the list
+pub found_at : {X Y Z : Type 0} (found : Y → List Z) (f : X → Y) (xs : List X) (i : ℕ) (d : X) → i < length xs
+    → flat_map found (map f (take (i + 1) xs)) ≡ flat_map found (map f (take i xs)) ++ found (f (get_or xs i d))
+found_at found f xs i d below =
+    ap (λ l. flat_map found (map f l)) (take_more xs i d below)
+    ∙ ap (flat_map found) (map-append f (take i xs) (get_or xs i d ∷ []))
+    ∙ flat_map-append found (map f (take i xs)) (f (get_or xs i d) ∷ [])
+    ∙ ap (λ l. flat_map found (map f (take i xs)) ++ l) (append-nil (found (f (get_or xs i d))))
+
+pub all_at : {X Y : Type 0} (P : Y → Type 0) (f : X → Y) (xs : List X) (i : ℕ) (d : X) → i < length xs
+    → All P (map f (take i xs)) → P (f (get_or xs i d)) → All P (map f (take (i + 1) xs))
+all_at P f xs i d below all p =
+    subst (All P) (sym (ap (map f) (take_more xs i d below) ∙ map-append f (take i xs) (get_or xs i d ∷ [])))
+    (All-push P (map f (take i xs)) (f (get_or xs i d)) all p)
+
+-- texts of a list that is not empty
+pub some_found : {X Y : Type 0} (f : X → Y) (xs : List X) (ys : List Y) → map f xs ≡ ys → (length xs ≡ 0 → ⊥)
+    → ys ≢ []
+some_found f xs ys e some none = some (sym (length-map xs f) ∙ ap length (e ∙ none))

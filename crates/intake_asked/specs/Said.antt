@@ -23,6 +23,13 @@ abbrev pub known_in : Option (Vec KnownSysmod Global) → List KnownSysmod
 known_in None = []
 known_in (Some known) = known.items
 
+-- the lists of ids of APPLY and ACCEPT
+pub record SaysLists (known : List KnownSysmod) (operands : List WideOperand) (s : Selection) : Type 0 where
+  pub select : AreThese s.select (selected operands)
+  pub group : AreThese s.group (grouped operands)
+  pub exclude : AreThese s.exclude (excluded known operands)
+  pub forfmid : AreThese s.forfmid (listed (codes "FORFMID" ∷ []) operands)
+
 -- what APPLY and ACCEPT choose
 pub record SaysSelection (known : Option (Vec KnownSysmod Global)) (operands : List WideOperand) (s : Selection) :
     Type 0 where
@@ -30,11 +37,8 @@ pub record SaysSelection (known : Option (Vec KnownSysmod Global)) (operands : L
   pub ptfs : s.ptfs ≡ has (codes "PTFS" ∷ codes "PTF" ∷ []) operands
   pub apars : s.apars ≡ has (codes "APARS" ∷ codes "APAR" ∷ []) operands
   pub usermods : s.usermods ≡ has (codes "USERMODS" ∷ codes "USERMOD" ∷ []) operands
-  pub select : AreThese s.select (selected operands)
-  pub exclude : AreThese s.exclude (excluded (known_in known) operands)
+  pub lists : SaysLists (known_in known) operands s
   pub sourceid : AreThese s.sourceid (sources (known_in known) operands)
-  pub forfmid : AreThese s.forfmid (listed (codes "FORFMID" ∷ []) operands)
-  pub group : AreThese s.group (grouped operands)
   pub groupextend : s.groupextend ≡ has groupextend_names operands
   -- Whom GROUPEXTEND keeps out is known, and each member of SOURCEID names some source id.
   pub known_given : (known ≡ None) → listed groupextend_names operands ≡ []

@@ -1,5 +1,5 @@
 -- The operands of a shop's commands: those that have one of some names, and the members of their lists.
-use Rattle.std.specs.Prelude.{◌≡◌, ◌==◌, ◌||◌, ◌&&◌, ◌<◌, ◌-◌, ℕ, Bool, true, false, not, List, [], ◌∷◌, ◌++◌, Option, Some, None}
+use Rattle.std.specs.Prelude.{◌==◌, ◌||◌, ◌&&◌, ◌-◌, ℕ, Bool, false, not, List, [], ◌∷◌, ◌++◌, Option, Some, None}
 use Rattle.std.specs.Prelude.{if◌then◌else◌, filter, map, is_none, length, nat_lt, nat_eq, take, drop, Vec, codes}
 use Rattle.std.specs.List.{list_any, flat_map, slice_split, starts_with}
 use Rattle.std.specs.Str.{bytes_eq}

@@ -1,12 +1,13 @@
 //! What APPLY and ACCEPT disregard.
 ghost use Rattle.std.specs.Prelude.{◌≡◌, [], ◌∷◌, IsTrue, IfOk, codes, map};
 ghost use Rattle.fields.specs.Choices.{reasons_in};
+ghost use Rattle.terms.specs.Types.{TheseReasons};
 ghost use Rattle.intake_asked.specs.Words.{has, listed};
 ghost use Rattle.intake_asked.specs.Said.{AreThese, SaysReasons, SaysBypass};
 
 use crate::operands::{has, listed, stands_alone};
 use crate::same::are_these;
-use fields::{Bypass, Class, Reasons};
+use fields::{Bypass, Class, Reason, Reasons};
 use intake_read::WideOperand;
 use std::alloc::{AllocError, Global};
 
@@ -25,6 +26,27 @@ fn are_flags(bypassed: &[WideOperand], said: &Bypass) -> bool
         && said.applycheck == has(&[b"APPLYCHECK"], bypassed)
 }
 
+// Whether these are the reasons that members of these names list.
+fn are_listed(
+    alloc: Global,
+    names: &[&[u8]],
+    bypassed: &[WideOperand],
+    said: &[Reason],
+) -> Result<bool, AllocError>
+    ensures { IfOk result (λ are. IsTrue are
+        → SaysReasons (map (λ name. name.now) names.now) bypassed.now (TheseReasons said.now)) }
+{
+    if !has(names, bypassed) {
+        return Ok(false);
+    }
+    if stands_alone(names, bypassed) {
+        return Ok(false);
+    }
+    let wanted = listed(alloc, names, bypassed)?;
+    let are = are_these(alloc, said, &wanted)?;
+    Ok(are)
+}
+
 // Whether the reasons are those of the members of these names.
 fn are_reasons(
     alloc: Global,
@@ -39,9 +61,8 @@ fn are_reasons(
         Reasons::None => Ok(!has(names, bypassed)),
         Reasons::Any => Ok(stands_alone(names, bypassed)),
         Reasons::These(reasons) => {
-            let wanted = listed(alloc, names, bypassed)?;
-            let same = are_these(alloc, reasons.as_slice(), &wanted)?;
-            Ok(has(names, bypassed) && !stands_alone(names, bypassed) && same)
+            let are = are_listed(alloc, names, bypassed, reasons.as_slice())?;
+            Ok(are)
         }
     }
 }
@@ -52,7 +73,8 @@ fn are_classes(alloc: Global, bypassed: &[WideOperand], said: &[Class]) -> Resul
         → AreThese said.now (listed (codes "HOLDCLASS" ∷ []) bypassed.now)) }
 {
     let wanted = listed(alloc, &[b"HOLDCLASS"], bypassed)?;
-    are_these(alloc, said, &wanted)
+    let are = are_these(alloc, said, &wanted)?;
+    Ok(are)
 }
 
 /// Whether just that is disregarded which the members of BYPASS ask for.
@@ -69,13 +91,25 @@ pub(crate) fn says_bypass(
         bypassed,
         &said.holderror,
     )?;
+    if !errors {
+        return Ok(false);
+    }
     let systems = are_reasons(
         alloc,
         &[b"HOLDSYSTEM", b"HOLDSYS"],
         bypassed,
         &said.holdsystem,
     )?;
+    if !systems {
+        return Ok(false);
+    }
     let users = are_reasons(alloc, &[b"HOLDUSER"], bypassed, &said.holduser)?;
+    if !users {
+        return Ok(false);
+    }
     let classes = are_classes(alloc, bypassed, said.holdclass.as_slice())?;
-    Ok(are_flags(bypassed, said) && errors && systems && users && classes)
+    if !classes {
+        return Ok(false);
+    }
+    Ok(are_flags(bypassed, said))
 }

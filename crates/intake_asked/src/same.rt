@@ -1,5 +1,5 @@
 //! Lists of the same texts, in whatever order.
-ghost use Rattle.std.specs.Prelude.{◌≡◌, ◌↔◌, IsTrue, IfOk, All, map};
+ghost use Rattle.std.specs.Prelude.{◌≡◌, ◌↔◌, ◌∷◌, [], IsTrue, IfOk, All, map};
 ghost use Rattle.terms.specs.Lookups.{is_in};
 ghost use Rattle.intake_asked.specs.Said.{AreThese};
 
@@ -96,4 +96,24 @@ pub(crate) fn are_these<T: Worded>(
 {
     let words = words_of(alloc, values)?;
     Ok(are_just(words.as_slice(), wanted))
+}
+
+/// Whether the value alone is wanted.
+pub(crate) fn is_this<T: Worded>(
+    alloc: Global,
+    value: &T,
+    wanted: &[&[u8]],
+) -> Result<bool, AllocError>
+    ensures { IfOk result (λ is. IsTrue is → AreThese (T.text value.now ∷ []) (map (λ word. word.now) wanted.now)) }
+{
+    let mut words = Vec::new(alloc);
+    words.push(value.word())?;
+    Ok(are_just(words.as_slice(), wanted))
+}
+
+/// Whether there is no text.
+pub(crate) fn are_none(texts: &[&[u8]]) -> bool
+    ensures { IsTrue result → map (λ text. text.now) texts.now ≡ [] }
+{
+    texts.is_empty()
 }

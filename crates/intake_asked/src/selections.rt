@@ -2,7 +2,7 @@
 ghost use Rattle.std.specs.Prelude.{◌≡◌, ◌≢◌, [], ◌∷◌, IsTrue, IfOk, All, None, codes, map};
 ghost use Rattle.intake_asked.specs.Words.{has, listed, selected, grouped, excluded, sources, sources_of};
 ghost use Rattle.intake_asked.specs.Words.{groupextend_names};
-ghost use Rattle.intake_asked.specs.Said.{known_in, AreThese, SaysSelection};
+ghost use Rattle.intake_asked.specs.Said.{known_in, AreThese, SaysLists, SaysSelection};
 
 use crate::known::KnownSysmod;
 use crate::lists::{excluded, grouped, groupextend_names, selected};
@@ -40,39 +40,45 @@ fn are_types(operands: &[WideOperand], said: &Selection) -> bool
         && said.groupextend == has(groupextend_names(), operands)
 }
 
-// Whether the ids are just these.
-fn are_ids(alloc: Global, ids: &[Id], wanted: &[&[u8]]) -> Result<bool, AllocError>
-    ensures { IfOk result (λ are. IsTrue are → AreThese ids.now (map (λ word. word.now) wanted.now)) }
+// Whether the ids are those of SELECT.
+fn are_selected(alloc: Global, operands: &[WideOperand], said: &[Id]) -> Result<bool, AllocError>
+    ensures { IfOk result (λ are. IsTrue are → AreThese said.now (selected operands.now)) }
 {
-    are_these(alloc, ids, wanted)
+    let wanted = selected(alloc, operands)?;
+    let are = are_these(alloc, said, &wanted)?;
+    Ok(are)
 }
 
-// Whether the ids that are named are those that are asked for.
-fn are_named(
+// Whether the ids are those of GROUP.
+fn are_grouped(alloc: Global, operands: &[WideOperand], said: &[Id]) -> Result<bool, AllocError>
+    ensures { IfOk result (λ are. IsTrue are → AreThese said.now (grouped operands.now)) }
+{
+    let wanted = grouped(alloc, operands)?;
+    let are = are_these(alloc, said, &wanted)?;
+    Ok(are)
+}
+
+// Whether the ids are those that are excluded.
+fn are_excluded(
     alloc: Global,
     known: &[KnownSysmod],
     operands: &[WideOperand],
-    said: &Selection,
+    said: &[Id],
 ) -> Result<bool, AllocError>
-    ensures select { IfOk result (λ are. IsTrue are → AreThese said.now.select (selected operands.now)) }
-    ensures group { IfOk result (λ are. IsTrue are → AreThese said.now.group (grouped operands.now)) }
-    ensures exclude { IfOk result (λ are. IsTrue are → AreThese said.now.exclude (excluded known.now operands.now)) }
-    ensures forfmid { IfOk result (λ are. IsTrue are
-        → AreThese said.now.forfmid (listed (codes "FORFMID" ∷ []) operands.now)) }
+    ensures { IfOk result (λ are. IsTrue are → AreThese said.now (excluded known.now operands.now)) }
 {
-    let select = are_ids(alloc, said.select.as_slice(), &selected(alloc, operands)?)?;
-    let group = are_ids(alloc, said.group.as_slice(), &grouped(alloc, operands)?)?;
-    let exclude = are_ids(
-        alloc,
-        said.exclude.as_slice(),
-        &excluded(alloc, known, operands)?,
-    )?;
-    let forfmid = are_ids(
-        alloc,
-        said.forfmid.as_slice(),
-        &listed(alloc, &[b"FORFMID"], operands)?,
-    )?;
-    Ok(select && group && exclude && forfmid)
+    let wanted = excluded(alloc, known, operands)?;
+    let are = are_these(alloc, said, &wanted)?;
+    Ok(are)
+}
+
+// Whether the ids are those of FORFMID.
+fn are_of_fmids(alloc: Global, operands: &[WideOperand], said: &[Id]) -> Result<bool, AllocError>
+    ensures { IfOk result (λ are. IsTrue are → AreThese said.now (listed (codes "FORFMID" ∷ []) operands.now)) }
+{
+    let wanted = listed(alloc, &[b"FORFMID"], operands)?;
+    let are = are_these(alloc, said, &wanted)?;
+    Ok(are)
 }
 
 // Whether the source ids are those that SOURCEID names.
@@ -87,10 +93,11 @@ fn are_sources(
         (listed (codes "SOURCEID" ∷ []) operands.now)) }
 {
     let members = listed(alloc, &[b"SOURCEID"], operands)?;
-    match sources(alloc, known, &members)? {
-        Some(wanted) => are_these(alloc, said, &wanted),
-        None => Ok(false),
-    }
+    let Some(wanted) = sources(alloc, known, &members)? else {
+        return Ok(false);
+    };
+    let are = are_these(alloc, said, &wanted)?;
+    Ok(are)
 }
 
 // Whether it is known whom GROUPEXTEND keeps out, or it keeps out nobody.
@@ -107,6 +114,31 @@ fn is_known_enough(
     Ok(listed(alloc, groupextend_names(), operands)?.is_empty())
 }
 
+// Whether the lists of ids are those that are asked for.
+fn are_named(
+    alloc: Global,
+    known: &[KnownSysmod],
+    operands: &[WideOperand],
+    said: &Selection,
+) -> Result<bool, AllocError>
+    ensures { IfOk result (λ are. IsTrue are → SaysLists known.now operands.now said.now) }
+{
+    let select = are_selected(alloc, operands, said.select.as_slice())?;
+    if !select {
+        return Ok(false);
+    }
+    let group = are_grouped(alloc, operands, said.group.as_slice())?;
+    if !group {
+        return Ok(false);
+    }
+    let exclude = are_excluded(alloc, known, operands, said.exclude.as_slice())?;
+    if !exclude {
+        return Ok(false);
+    }
+    let forfmid = are_of_fmids(alloc, operands, said.forfmid.as_slice())?;
+    Ok(forfmid)
+}
+
 /// Whether just that is chosen which the operands ask for.
 pub(crate) fn says_selection(
     alloc: Global,
@@ -118,7 +150,16 @@ pub(crate) fn says_selection(
 {
     let list = known_in(known);
     let named = are_named(alloc, list, operands, said)?;
+    if !named {
+        return Ok(false);
+    }
     let sources = are_sources(alloc, list, operands, said.sourceid.as_slice())?;
+    if !sources {
+        return Ok(false);
+    }
     let enough = is_known_enough(alloc, known, operands)?;
-    Ok(are_types(operands, said) && named && sources && enough)
+    if !enough {
+        return Ok(false);
+    }
+    Ok(are_types(operands, said))
 }

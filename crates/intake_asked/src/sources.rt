@@ -82,7 +82,7 @@ pub(crate) fn sources<'a>(
     let mut all = Vec::new(alloc);
     for member in members {
         let mut more = sources_of(alloc, known, *member)?;
-        if more.is_empty() {
+        if more.as_slice().is_empty() {
             return Ok(None);
         }
         all.append(&mut more)?;

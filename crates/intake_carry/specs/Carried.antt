@@ -8,6 +8,7 @@ use Rattle.mcs.specs.declared.hold_item.HoldItem.{HoldItem}
 use Rattle.intake_read.specs.declared.items.WideSysmod.{WideSysmod}
 use Rattle.intake_read.specs.declared.items.WideFile.{WideFile}
 use Rattle.intake_sysmod.specs.NoLooser.{IsNoLooser}
+use Rattle.intake_sysmod.specs.Users.{run_of}
 use Rattle.intake_carry.specs.declared.placed.PlacedItem.{PlacedItem}
 use Rattle.intake_carry.specs.Become.{Become}
 use Rattle.intake_carry.specs.Holds.{place_cmp, HoldBecomes, ReleaseBecomes}
@@ -22,22 +23,23 @@ abbrev pub holds_in : Option terms.Sysmod → List terms.Hold
 holds_in None = []
 holds_in (Some s) = s.holds
 
--- A SYSMOD is left out, or it becomes one that is no looser, with its internal holds. Its other holds are outside.
-pub record SysmodBecomes (decide : Bool) (stated : WideSysmod) (items : List Item) (outside : List PlacedItem) :
-    Type 0 where
+-- A SYSMOD is left out, or it becomes one that is no looser, with its internal holds. Its other holds are outside. The
+-- run is all SYSMODs of the files.
+pub record SysmodBecomes (decide : Bool) (run : List WideSysmod) (stated : WideSysmod) (items : List Item)
+    (outside : List PlacedItem) : Type 0 where
   pub sysmod : Option terms.Sysmod
   pub items_are : items ≡ item_in sysmod
-  pub no_looser : IfSome sysmod (IsNoLooser decide stated)
+  pub no_looser : IfSome sysmod (IsNoLooser decide run stated)
   pub held : Become (HoldBecomes (option_map (λ s. s.id) sysmod)) stated.holds.items (holds_in sysmod) outside
 
 -- what a file becomes: its SYSMODs, and outside of them the holds of these, other holds, and releases
-pub record FileBecomes (decide : Bool) (stated : WideFile) (items : List Item) (outside : List PlacedItem) :
-    Type 0 where
+pub record FileBecomes (decide : Bool) (run : List WideSysmod) (stated : WideFile) (items : List Item)
+    (outside : List PlacedItem) : Type 0 where
   pub of_sysmods : List PlacedItem
   pub holds : List PlacedItem
   pub releases : List PlacedItem
   pub outside_are : outside ≡ of_sysmods ++ holds ++ releases
-  pub sysmods_become : Become (SysmodBecomes decide) stated.sysmods.items items of_sysmods
+  pub sysmods_become : Become (SysmodBecomes decide run) stated.sysmods.items items of_sysmods
   pub holds_become : Become (HoldBecomes None) stated.holds.items [] holds
   pub releases_become : Become ReleaseBecomes stated.releases.items [] releases
 
@@ -56,5 +58,5 @@ pub record FilesBecome (decide : Bool) (files : List WideFile) (items : List Ite
   pub assigns : List terms.Assign
   pub outside : List PlacedItem
   pub items_are : items ≡ sysmods ++ map Assign assigns
-  pub become : Become (FileBecomes decide) files sysmods outside
+  pub become : Become (FileBecomes decide (run_of files)) files sysmods outside
   pub in_order : AreInOrder outside hold_items

@@ -14,7 +14,7 @@ use crate::refusals::tell_refusals;
 use crate::sysmods::{CarriedPart, part_of};
 use intake_cards::Remarks;
 use intake_read::WideFile;
-use intake_sysmod::{Options, tell_others};
+use intake_sysmod::{Options, Users, tell_others};
 use mcs::Item;
 use std::alloc::{AllocError, Global};
 
@@ -44,11 +44,12 @@ fn with_part(gathered: CarriedItems, part: CarriedPart) -> Result<CarriedItems, 
 fn sysmods_of(
     alloc: Global,
     options: &Options,
+    users: &Users<'_>,
     copies: &OtherCopies,
     remarks: &mut Remarks,
     file: &WideFile,
 ) -> Result<CarriedItems, HoldError>
-    ensures { IfOk result (λ all. Become (SysmodBecomes options.now.decide) file.now.sysmods.items all.items.items
+    ensures { IfOk result (λ all. Become (SysmodBecomes options.now.decide users.now) file.now.sysmods.items all.items.items
         all.outside.items) }
 {
     let mut gathered = CarriedItems {
@@ -56,7 +57,7 @@ fn sysmods_of(
         outside: Vec::new(alloc),
     };
     for stated in file.sysmods.iter() {
-        let part = part_of(alloc, options, copies, remarks, stated)?;
+        let part = part_of(alloc, options, users, copies, remarks, stated)?;
         gathered = with_part(gathered, part)?;
     }
     Ok(gathered)
@@ -92,15 +93,16 @@ fn with_outside(gathered: CarriedItems, more: Vec<PlacedItem>) -> Result<Carried
 fn of_file(
     alloc: Global,
     options: &Options,
+    users: &Users<'_>,
     copies: &OtherCopies,
     remarks: &mut Remarks,
     file: &WideFile,
 ) -> Result<CarriedItems, HoldError>
-    ensures { IfOk result (λ all. FileBecomes options.now.decide file.now all.items.items all.outside.items) }
+    ensures { IfOk result (λ all. FileBecomes options.now.decide users.now file.now all.items.items all.outside.items) }
 {
     tell_notes(alloc, remarks, file.notes.as_slice())?;
     tell_swallowed(alloc, remarks, file.swallowed.as_slice())?;
-    let gathered = sysmods_of(alloc, options, copies, remarks, file)?;
+    let gathered = sysmods_of(alloc, options, users, copies, remarks, file)?;
     let _ = tell_others(alloc, options, remarks, file.others.as_slice())?;
     let holds = placed_holds(alloc, remarks, file.holds.as_slice())?;
     let gathered = with_outside(gathered, holds)?;
@@ -113,11 +115,12 @@ fn of_file(
 fn of_files(
     alloc: Global,
     options: &Options,
+    users: &Users<'_>,
     copies: &OtherCopies,
     remarks: &mut Remarks,
     files: &[WideFile],
 ) -> Result<CarriedItems, HoldError>
-    ensures { IfOk result (λ all. Become (FileBecomes options.now.decide) files.now all.items.items
+    ensures { IfOk result (λ all. Become (FileBecomes options.now.decide users.now) files.now all.items.items
         all.outside.items) }
 {
     let mut gathered = CarriedItems {
@@ -125,7 +128,7 @@ fn of_files(
         outside: Vec::new(alloc),
     };
     for file in files {
-        let more = of_file(alloc, options, copies, remarks, file)?;
+        let more = of_file(alloc, options, users, copies, remarks, file)?;
         gathered = joined(gathered, more)?;
     }
     Ok(gathered)
@@ -155,12 +158,13 @@ pub fn narrow(alloc: Global, files: &[WideFile], options: Options) -> Result<Nar
 {
     let mut options = options;
     options.sort();
+    let users = Users::of_files(alloc, &options, files)?;
     let copies = OtherCopies::of_files(alloc, files)?;
     let mut remarks = Remarks::new(alloc);
     if are_refused(alloc, &mut remarks, files)? {
         return Err(NarrowError::Refused(remarks.list));
     }
-    let gathered = match of_files(alloc, &options, &copies, &mut remarks, files) {
+    let gathered = match of_files(alloc, &options, &users, &copies, &mut remarks, files) {
         Ok(gathered) => gathered,
         Err(HoldError::Memory) => return Err(NarrowError::Memory),
         Err(HoldError::BadHold) => return Err(NarrowError::Refused(remarks.list)),

@@ -15,7 +15,7 @@ use fields::Id;
 use fields::spelling::kind_text;
 use intake_cards::{CardPlace, RemarkReason, Remarks, Subject};
 use intake_read::{WideHold, WideHoldKind, WideSysmod};
-use intake_sysmod::{Options, carried_sysmod};
+use intake_sysmod::{Options, Users, carried_sysmod};
 use std::alloc::{AllocError, Global};
 use sysmods_values::{Hold, Sysmod};
 
@@ -183,32 +183,34 @@ fn tell_copy(alloc: Global, remarks: &mut Remarks, stated: &WideSysmod) -> Resul
 fn carried_copy(
     alloc: Global,
     options: &Options,
+    users: &Users<'_>,
     copies: &OtherCopies,
     remarks: &mut Remarks,
     stated: &WideSysmod,
 ) -> Result<Option<Sysmod>, AllocError>
     ensures { IfOk result (λ found. IfSome found (λ sysmod.
-        IsNoLooser options.now.decide stated.now sysmod × (sysmod.holds ≡ []))) }
+        IsNoLooser options.now.decide users.now stated.now sysmod × (sysmod.holds ≡ []))) }
 {
     if copies.has(stated) {
         tell_copy(alloc, remarks, stated)?;
         return Ok(None);
     }
-    carried_sysmod(alloc, options, remarks, stated)
+    carried_sysmod(alloc, options, users, remarks, stated)
 }
 
 /// What becomes of a SYSMOD and its holds. Why it is left out, and what differs, is told.
 pub(crate) fn part_of(
     alloc: Global,
     options: &Options,
+    users: &Users<'_>,
     copies: &OtherCopies,
     remarks: &mut Remarks,
     stated: &WideSysmod,
 ) -> Result<CarriedPart, HoldError>
-    ensures { IfOk result (λ part. SysmodBecomes options.now.decide stated.now (item_in part.sysmod)
+    ensures { IfOk result (λ part. SysmodBecomes options.now.decide users.now stated.now (item_in part.sysmod)
         part.outside.items) }
 {
-    let Some(sysmod) = carried_copy(alloc, options, copies, remarks, stated)? else {
+    let Some(sysmod) = carried_copy(alloc, options, users, copies, remarks, stated)? else {
         let holds = stated.holds.as_slice();
         tell_all_outside(alloc, remarks, holds)?;
         let outside = placed_holds(alloc, remarks, holds)?;

@@ -1,10 +1,19 @@
 -- Acts one after the other.
-use Rattle.std.proofs.Common.{◌≡◌, List, [], ◌∷◌, ◌++◌, subst, refl}
+use Rattle.std.proofs.Common.{List, [], ◌∷◌, ◌++◌, Result, Ok, Err, subst, refl}
 use Rattle.std.specs.List.{All}
-use Rattle.std.proofs.lemmas.List.Elements.{All-append}
+use Rattle.std.specs.Result.{OnErr}
+use Rattle.std.proofs.lemmas.List.Elements.{All-append, All-cons, All-nil}
 use Rattle.intake_command.specs.Acts.{HostAct, IsQuiet}
 use Rattle.intake_command.specs.Done.{LeadTo, HasDone}
 use Rattle.intake_command.specs.declared.surroundings.IntakeHost.{Ghosts}
+
+-- what is so at an error
+pub on_err : {T E P : Type 0} (r : Result T E) → P → OnErr r P
+on_err (Ok value) p = tt
+on_err (Err error) p = p
+
+pub one : (P : HostAct → Type 0) (act : HostAct) → P act → All P (act ∷ [])
+one P act is = All-cons P act [] is (All-nil P)
 
 module _ {H : Type 0} (host : Ghosts H) where
   pub joined : (before : H) (acts more : List HostAct) (between after : H) → LeadTo host before acts between
@@ -39,3 +48,10 @@ module _ {H : Type 0} (host : Ghosts H) where
   pub quiet : {before between after : H} → HasDone host (All IsQuiet) before between
       → HasDone host (All IsQuiet) between after → HasDone host (All IsQuiet) before after
   quiet p q = both p q (λ xs ys a b. All-append IsQuiet xs ys a b)
+
+  pub quiet_idle : (at : H) → HasDone host (All IsQuiet) at at
+  quiet_idle at = idle at (All-nil IsQuiet)
+
+  pub quiet_did : (before : H) (act : HostAct) (after : H) → host.does before act after → IsQuiet act
+      → HasDone host (All IsQuiet) before after
+  quiet_did before act after does is = did before act after does (one IsQuiet act is)

@@ -1,2 +1,6 @@
-mod Kept
+mod Cleared
+mod Comparing
+mod Doing
+mod OneByOne
 mod Served
+mod Within

@@ -1,5 +1,5 @@
 -- What a run asks of its surroundings, and what they answer, one act after the other.
-use Rattle.std.specs.Prelude.{◌≡◌, ℕ, Bool, List, [], ◌∷◌, Option}
+use Rattle.std.specs.Prelude.{ℕ, Bool, List, Option}
 use Rattle.std.specs.declared.io.Error.{Error}
 use Rattle.terms.specs.Types.{Text}
 

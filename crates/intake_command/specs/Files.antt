@@ -1,6 +1,5 @@
 -- The files of the folder.
 use Rattle.std.specs.Prelude.{ℕ, List, [], ◌∷◌, ◌++◌, Option, None, option_map, map, codes, IsTrue, All}
-use Rattle.std.specs.List.{flat_map}
 use Rattle.terms.specs.Types.{Text}
 use Rattle.terms.specs.Lookups.{is_in}
 use Rattle.intake_command.specs.declared.files.Named.{Named}
@@ -14,12 +13,12 @@ named file = (file.name.now, option_map (λ bytes. bytes.items) file.bytes)
 abbrev pub outputs : List Text
 outputs = codes "ptfin" ∷ codes "hold" ∷ codes "stand-ins" ∷ codes "remarks" ∷ codes "cntl" ∷ codes "cntl.remarks" ∷ []
 
--- Each has a path, and another one until all are there.
-abbrev pub paths_of : Text → Text → List Text
-paths_of folder name = (folder ++ codes "/" ++ name) ∷ (folder ++ codes "/" ++ name ++ codes ".new") ∷ []
+abbrev pub path_of : Text → Text → Text
+path_of folder name = folder ++ codes "/" ++ name
 
-abbrev pub output_paths : Text → List Text
-output_paths folder = flat_map (paths_of folder) outputs
+-- what it is called until all are there
+abbrev pub new_path_of : Text → Text → Text
+new_path_of folder name = path_of folder name ++ codes ".new"
 
 -- none of the files that a run may write
 abbrev pub no_outputs : FolderFiles

@@ -7,7 +7,7 @@ use Rattle.terms.specs.Ptfin.{IsPtfin}
 use Rattle.terms.specs.HoldFile.{IsHoldFile}
 use Rattle.terms.specs.Commands.{IsCommandFile}
 use Rattle.intake_command.specs.declared.surroundings.IntakeHost.{Ghosts}
-use Rattle.intake_command.specs.Acts.{HostAct, Puts, Loses, FolderFiles}
+use Rattle.intake_command.specs.Acts.{Puts, Loses, FolderFiles}
 use Rattle.intake_command.specs.Files.{AreOutputs}
 
 -- A PTFIN that is read as these items, a hold file that is read as these, and remarks; what stand-ins are for is there

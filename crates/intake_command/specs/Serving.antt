@@ -19,7 +19,7 @@ use Rattle.intake_asked.specs.declared.scan.WideCommand.{WideCommand}
 use Rattle.intake_asked.specs.Said.{AreSaid}
 use Rattle.intake_words.specs.declared.options.IntakeOptions.{IntakeOptions}
 use Rattle.intake_command.specs.Acts.{HostAct, Gives, Compares, Puts, Loses, Prints, FolderFiles, IsQuiet}
-use Rattle.intake_command.specs.Files.{output_paths, no_outputs, AreOutputs}
+use Rattle.intake_command.specs.Files.{path_of, new_path_of, outputs, no_outputs, AreOutputs}
 use Rattle.intake_command.specs.Keeping.{IsServiceFiles, IsCommandFiles, IsRemarksFile}
 
 abbrev pub folder_of : IntakeOptions → Text
@@ -30,9 +30,17 @@ abbrev pub inputs : IntakeOptions → List Text
 inputs asked = map string_bytes asked.files.items ++ option_to_list (option_map string_bytes asked.cntl)
     ++ option_to_list (option_map string_bytes asked.known)
 
--- Each of these names was compared with each path that would be written, and is of another file.
+-- The input was compared with both paths of an output, and is of another file.
+abbrev pub is_apart : Text → Text → Text → List HostAct
+is_apart folder input output =
+    Compares (path_of folder output) input false ∷ Compares (new_path_of folder output) input false ∷ []
+
+abbrev pub are_apart : Text → List Text → Text → List HostAct
+are_apart folder outputs input = flat_map (is_apart folder input) outputs
+
+-- Each of these names was compared with each file that may be written.
 abbrev pub comparisons : Text → List Text → List HostAct
-comparisons folder names = flat_map (λ input. map (λ path. Compares path input false) (output_paths folder)) names
+comparisons folder names = flat_map (are_apart folder outputs) names
 
 -- a file, and what states what it has
 abbrev pub IsRead : Text → List WideFile → List HostAct → Type 0

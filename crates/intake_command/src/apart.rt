@@ -4,8 +4,8 @@ ghost use Rattle.std.specs.List.{flat_map};
 ghost use Rattle.std.specs.String.{string_bytes};
 ghost use Rattle.intake_command.specs.Acts.{Compares, IsQuiet};
 ghost use Rattle.intake_command.specs.Done.{HasDone};
-ghost use Rattle.intake_command.specs.Files.{outputs, paths_of, output_paths};
-ghost use Rattle.intake_command.specs.Serving.{comparisons, folder_of, inputs};
+ghost use Rattle.intake_command.specs.Files.{path_of};
+ghost use Rattle.intake_command.specs.Serving.{are_apart, comparisons, folder_of, inputs, is_apart};
 
 use crate::files::outputs;
 use crate::surroundings::IntakeHost;
@@ -23,7 +23,8 @@ pub(crate) fn check_apart<H: IntakeHost>(
     ensures err { OnErr result (HasDone H.IntakeHost (All IsQuiet) host.old host.new) }
 {
     let inputs = inputs(alloc, asked)?;
-    check_inputs(alloc, host, asked.out.as_str(), &inputs)
+    check_inputs(alloc, host, asked.out.as_str(), outputs(), &inputs)?;
+    Ok(())
 }
 
 // The names of the files that are read, but for those of `--relfile`.
@@ -63,14 +64,16 @@ fn check_inputs<H: IntakeHost>(
     alloc: Global,
     host: &mut H,
     folder: &str,
+    outputs: &[&str],
     names: &[&str],
 ) -> Result<(), IntakeFault>
-    ensures ok { OnOk result (HasDone H.IntakeHost
-        (λ acts. acts ≡ comparisons folder.now (map (λ name. name.now) names.now)) host.old host.new) }
+    ensures ok { OnOk result (HasDone H.IntakeHost (λ acts. acts
+        ≡ flat_map (are_apart folder.now (map (λ name. name.now) outputs.now)) (map (λ name. name.now) names.now))
+        host.old host.new) }
     ensures err { OnErr result (HasDone H.IntakeHost (All IsQuiet) host.old host.new) }
 {
     for input in names {
-        check_input(alloc, host, folder, *input)?;
+        check_input(alloc, host, folder, outputs, *input)?;
     }
     Ok(())
 }
@@ -79,14 +82,15 @@ fn check_input<H: IntakeHost>(
     alloc: Global,
     host: &mut H,
     folder: &str,
+    outputs: &[&str],
     input: &str,
 ) -> Result<(), IntakeFault>
     ensures ok { OnOk result (HasDone H.IntakeHost
-        (λ acts. acts ≡ map (λ path. Compares path input.now false) (output_paths folder.now)) host.old host.new) }
+        (λ acts. acts ≡ are_apart folder.now (map (λ name. name.now) outputs.now) input.now) host.old host.new) }
     ensures err { OnErr result (HasDone H.IntakeHost (All IsQuiet) host.old host.new) }
 {
-    for output in outputs() {
-        check_output(alloc, host, folder, input, *output)?;
+    for output in outputs {
+        check_output(alloc, host, folder, *output, input)?;
     }
     Ok(())
 }
@@ -96,21 +100,22 @@ fn check_output<H: IntakeHost>(
     alloc: Global,
     host: &mut H,
     folder: &str,
-    input: &str,
     output: &str,
+    input: &str,
 ) -> Result<(), IntakeFault>
-    ensures ok { OnOk result (HasDone H.IntakeHost
-        (λ acts. acts ≡ map (λ path. Compares path input.now false) (paths_of folder.now output.now)) host.old host.new) }
+    ensures ok { OnOk result (HasDone H.IntakeHost (λ acts. acts ≡ is_apart folder.now input.now output.now)
+        host.old host.new) }
     ensures err { OnErr result (HasDone H.IntakeHost (All IsQuiet) host.old host.new) }
 {
     let path = path(alloc, folder, output)?;
     let new = renamed(alloc, &path)?;
-    check_path(alloc, host, input, path.as_str())?;
-    check_path(alloc, host, input, new.as_str())
+    check_path(alloc, host, path.as_str(), input)?;
+    check_path(alloc, host, new.as_str(), input)?;
+    Ok(())
 }
 
 fn path(alloc: Global, folder: &str, output: &str) -> Result<String, AllocError>
-    ensures { IfOk result (λ path. string_bytes path ≡ folder.now ++ codes "/" ++ output.now) }
+    ensures { IfOk result (λ path. string_bytes path ≡ path_of folder.now output.now) }
 {
     let mut path = String::from_str(alloc, folder)?;
     path.push_str("/")?;
@@ -129,13 +134,17 @@ fn renamed(alloc: Global, path: &String) -> Result<String, AllocError>
 fn check_path<H: IntakeHost>(
     alloc: Global,
     host: &mut H,
-    input: &str,
     path: &str,
+    input: &str,
 ) -> Result<(), IntakeFault>
     ensures ok { OnOk result (H.does host.old (Compares path.now input.now false) host.new) }
     ensures err { OnErr result (HasDone H.IntakeHost (All IsQuiet) host.old host.new) }
 {
-    if host.is_same(path, input) {
+    let is_same = match host.is_same(path, input) {
+        Ok(is_same) => is_same,
+        Err(error) => return Err(IntakeFault::unread(alloc, path, error.kind())),
+    };
+    if is_same {
         return Err(IntakeFault::of_output(alloc, input, path));
     }
     Ok(())

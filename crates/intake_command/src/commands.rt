@@ -1,9 +1,12 @@
 //! A command file.
-ghost use Rattle.std.specs.Prelude.{◌≡◌, ◌×◌, List, IfOk, IfSome, OnOk, OnErr, All, option_map};
+ghost use Rattle.std.specs.Prelude.{List, IfOk, IfSome, OnErr, All, Option, Vec, option_map};
+ghost use Rattle.std.specs.declared.alloc.Global.{Global};
 ghost use Rattle.std.specs.String.{string_bytes};
 ghost use Rattle.terms.specs.Types as terms;
 ghost use Rattle.terms.specs.Commands.{IsCommandFile};
 ghost use Rattle.intake_asked.specs.Said.{AreSaid};
+ghost use Rattle.intake_asked.specs.declared.known.KnownSysmod.{KnownSysmod};
+ghost use Rattle.intake_asked.specs.declared.scan.WideCommand.{WideCommand};
 ghost use Rattle.intake_command.specs.Acts.{Gives, IsQuiet};
 ghost use Rattle.intake_command.specs.Done.{HasDone};
 ghost use Rattle.intake_command.specs.Keeping.{KeepsFiles, KeepsNothing};
@@ -13,7 +16,7 @@ use crate::keep::{keep_commands, keep_remarks};
 use crate::printing::print;
 use crate::reading::read;
 use crate::surroundings::IntakeHost;
-use intake_asked::{KnownList, KnownSysmod, WideCommand, read_known, wide_commands};
+use intake_asked::{KnownList, KnownSysmod, read_known, wide_commands};
 use intake_cntl::command_file;
 use intake_words::{InputFiles, IntakeFault, IntakeOptions, cards_of, command_summary, tell};
 use std::alloc::Global;
@@ -24,7 +27,6 @@ const REFUSED_STATUS: u8 = 12;
 /// What comes of a command file: its records, where all of it is carried, and what is said of it.
 #[derive(Drop)]
 struct MadeCommands {
-    wide: Vec<WideCommand>,
     bytes: Option<Vec<u8>>,
     remarks: Vec<u8>,
     summary: Vec<u8>,
@@ -45,7 +47,8 @@ pub(crate) fn serve_commands<H: IntakeHost>(
     let known = known_sysmods(alloc, host, &asked.known)?;
     let made = made_of(alloc, asked, name, bytes, &known)?;
     let summary = made.summary.clone()?;
-    let status = keep_made(alloc, host, asked.out.as_str(), made, &known)?;
+    let folder = asked.out.as_str();
+    let status = keep_made(alloc, host, folder, made.bytes, made.remarks)?;
     print(host, &summary)?;
     Ok(status)
 }
@@ -60,14 +63,12 @@ fn known_sysmods<H: IntakeHost>(
         host.old host.new) }
     ensures err { OnErr result (HasDone H.IntakeHost (All IsQuiet) host.old host.new) }
 {
-    match name {
-        Some(name) => {
-            let bytes = read(alloc, host, name.as_str())?;
-            let list = listed(alloc, name.as_str(), &bytes)?;
-            Ok(Some(list))
-        }
-        None => Ok(None),
-    }
+    let Some(name) = name else {
+        return Ok(None);
+    };
+    let bytes = read(alloc, host, name.as_str())?;
+    let list = listed(alloc, name.as_str(), &bytes)?;
+    Ok(Some(list))
 }
 
 fn listed(alloc: Global, name: &str, bytes: &[u8]) -> Result<Vec<KnownSysmod>, IntakeFault> {
@@ -85,8 +86,8 @@ fn made_of(
     bytes: Vec<u8>,
     known: &Option<Vec<KnownSysmod>>,
 ) -> Result<MadeCommands, IntakeFault>
-    ensures { IfOk result (λ made. IfSome made.bytes (λ bytes. (said : List terms.Command)
-        × IsCommandFile bytes.items said × AreSaid known.now made.wide.items said)) }
+    ensures { IfOk result (λ made. (commands : List WideCommand) × IfSome made.bytes (λ bytes.
+        (said : List terms.Command) × IsCommandFile bytes.items said × AreSaid known.now commands said)) }
 {
     let mut sources = InputFiles::new(alloc);
     let mut remarks = Vec::new(alloc);
@@ -108,7 +109,6 @@ fn made_of(
     let is_written = file.bytes.is_some();
     let summary = command_summary(alloc, file.carried, file.others, is_written, &file.remarks)?;
     Ok(MadeCommands {
-        wide: wide.commands,
         bytes: file.bytes,
         remarks,
         summary,
@@ -120,22 +120,21 @@ fn keep_made<H: IntakeHost>(
     alloc: Global,
     host: &mut H,
     folder: &str,
-    made: MadeCommands,
-    known: &Option<Vec<KnownSysmod>>,
+    bytes: Option<Vec<u8>>,
+    remarks: Vec<u8>,
 ) -> Result<u8, IntakeFault>
-    requires { IfSome made.bytes (λ bytes. (said : List terms.Command) × IsCommandFile bytes.items said
-        × AreSaid known.now made.wide.items said) }
-    ensures ok { IfOk result (λ status. KeepsFiles H.IntakeHost host.old folder.now
-        (IsCommandEnd known.now made.wide.items status) host.new) }
+    ensures ok { (known : Option (Vec KnownSysmod Global)) (commands : List WideCommand)
+        → IfSome bytes (λ bytes. (said : List terms.Command) × IsCommandFile bytes.items said × AreSaid known commands said)
+        → IfOk result (λ status. KeepsFiles H.IntakeHost host.old folder.now (IsCommandEnd known commands status) host.new) }
     ensures err { OnErr result (KeepsNothing H.IntakeHost host.old folder.now host.new) }
 {
-    match made.bytes {
+    match bytes {
         Some(cntl) => {
-            keep_commands(alloc, host, folder, cntl, made.remarks)?;
+            keep_commands(alloc, host, folder, cntl, remarks)?;
             Ok(0)
         }
         None => {
-            keep_remarks(alloc, host, folder, made.remarks)?;
+            keep_remarks(alloc, host, folder, remarks)?;
             Ok(REFUSED_STATUS)
         }
     }

@@ -31,13 +31,11 @@ pub(crate) fn members<H: IntakeHost>(
 ) -> Result<Vec<RelfileMember>, IntakeFault>
     ensures { HasDone H.IntakeHost (All IsQuiet) host.old host.new }
 {
-    match &asked.relfile {
-        Some(folder) => {
-            let elements = relfile_elements(alloc, files)?;
-            members_in(alloc, host, sources, folder.as_str(), &elements, remarks)
-        }
-        None => Ok(Vec::new(alloc)),
-    }
+    let Some(folder) = &asked.relfile else {
+        return Ok(Vec::new(alloc));
+    };
+    let elements = relfile_elements(alloc, files)?;
+    members_in(alloc, host, sources, folder.as_str(), &elements, remarks)
 }
 
 fn members_in<H: IntakeHost>(
@@ -69,11 +67,11 @@ fn member_file<H: IntakeHost>(
 {
     let own = element.own_path(alloc, folder)?;
     let shared = element.shared_path(alloc, folder)?;
-    match file_at(alloc, host, own)? {
-        Some(file) => Ok(Some(file)),
-        None if element.is_alone => file_at(alloc, host, shared),
-        None => Ok(None),
+    let file = file_at(alloc, host, own)?;
+    if file.is_some() || !element.is_alone {
+        return Ok(file);
     }
+    file_at(alloc, host, shared)
 }
 
 fn file_at<H: IntakeHost>(
@@ -83,9 +81,14 @@ fn file_at<H: IntakeHost>(
 ) -> Result<Option<MemberFile>, IntakeFault>
     ensures { HasDone H.IntakeHost (All IsQuiet) host.old host.new }
 {
-    match read_if_there(alloc, host, path.as_str())? {
-        Some(bytes) => Ok(Some(MemberFile { path, bytes })),
-        None => Ok(None),
+    let bytes = read_if_there(alloc, host, path.as_str())?;
+    Ok(with_path(path, bytes))
+}
+
+fn with_path(path: String, bytes: Option<Vec<u8>>) -> Option<MemberFile> {
+    match bytes {
+        Some(bytes) => Some(MemberFile { path, bytes }),
+        None => None,
     }
 }
 

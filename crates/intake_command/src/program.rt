@@ -1,7 +1,7 @@
 //! The program but for its input and output.
-ghost use Rattle.std.specs.Prelude.{◌≡◌, IfOk, OnErr, All, option_map};
+ghost use Rattle.std.specs.Prelude.{◌≡◌, ◌∷◌, [], IfOk, OnErr, All, option_map};
 ghost use Rattle.std.specs.String.{string_bytes};
-ghost use Rattle.intake_command.specs.Acts.{Speaks};
+ghost use Rattle.intake_command.specs.Acts.{HostAct, Speaks};
 ghost use Rattle.intake_command.specs.Done.{HasDone};
 ghost use Rattle.intake_command.specs.Serving.{Ends, EndsApart, Serves, IsCleared, IsWithin, folder_of};
 

@@ -33,9 +33,13 @@ pub(crate) fn read_if_there<H: IntakeHost>(
 {
     match host.read(name) {
         Ok(bytes) => Ok(Some(bytes)),
-        Err(error) => match error.kind() {
-            ErrorKind::NotFound => Ok(None),
-            kind => Err(IntakeFault::unread(alloc, name, kind)),
-        },
+        Err(error) => absent(alloc, name, error.kind()),
+    }
+}
+
+fn absent(alloc: Global, name: &str, kind: ErrorKind) -> Result<Option<Vec<u8>>, IntakeFault> {
+    match kind {
+        ErrorKind::NotFound => Ok(None),
+        _ => Err(IntakeFault::unread(alloc, name, kind)),
     }
 }

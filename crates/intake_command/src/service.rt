@@ -1,5 +1,5 @@
 //! Files of SYSMODs and of holds.
-ghost use Rattle.std.specs.Prelude.{◌≡◌, ◌⊎◌, IfOk, OnOk, OnErr, All, map};
+ghost use Rattle.std.specs.Prelude.{◌≡◌, ◌⊎◌, ℕ, List, IfOk, OnOk, OnErr, All, map};
 ghost use Rattle.std.specs.String.{string_bytes};
 ghost use Rattle.mcs.specs.Files as ptfin;
 ghost use Rattle.mcs.specs.HoldItems as hold;
@@ -100,7 +100,8 @@ fn wide_file<H: IntakeHost>(
     ensures err { OnErr result (HasDone H.IntakeHost (All IsQuiet) host.old host.new) }
 {
     let bytes = read(alloc, host, name)?;
-    statements_of(alloc, sources, asked, name, bytes, remarks)
+    let file = statements_of(alloc, sources, asked, name, bytes, remarks)?;
+    Ok(file)
 }
 
 // What a file of these bytes states.
@@ -206,13 +207,15 @@ fn keep_made<H: IntakeHost>(
         (IsServiceFiles (ptfin.items made.items.items) (hold.items made.hold_items.items)) host.new) }
     ensures err { OnErr result (KeepsNothing H.IntakeHost host.old (folder_of asked.now) host.new) }
 {
+    let stand_ins = made.stand_ins;
+    let remarks = made.remarks;
     keep_service(
         alloc,
         host,
         asked.out.as_str(),
         &made.items,
         &made.hold_items,
-        made.stand_ins,
-        made.remarks,
+        stand_ins,
+        remarks,
     )
 }

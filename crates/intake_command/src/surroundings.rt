@@ -23,9 +23,10 @@ pub trait IntakeHost {
         ensures ok { OnOk result (does self.old (Puts folder.now (map named files.now)) self.new) }
         ensures err { IfErr result (λ error. does self.old (Loses folder.now (map named files.now) error) self.new) };
 
-    /// Whether both names are of one file that is there.
-    fn is_same(&mut self, one: &str, other: &str) -> bool
-        ensures { does self.old (Compares one.now other.now result) self.new };
+    /// Whether both names are of one file that is there. The error tells why that can't be found out.
+    fn is_same(&mut self, one: &str, other: &str) -> io::Result<bool>
+        ensures ok { IfOk result (λ same. does self.old (Compares one.now other.now same) self.new) }
+        ensures err { IfErr result (λ error. does self.old (Withholds one.now error) self.new) };
 
     /// Writes on standard output. The error tells why that can't be done.
     fn print(&mut self, text: &[u8]) -> io::Result<()>

@@ -1,6 +1,6 @@
 pub mod Changed
 pub mod Quantified
 pub mod SameIds
-pub mod Targets
+pub mod Using
 pub mod VersMore
 pub mod Whole

@@ -1,3 +1,3 @@
-pub mod Elements
+pub mod Changed
 pub mod NoLooser
-pub mod StandInNames
+pub mod Users

@@ -1,6 +1,6 @@
 -- What a SYSMOD that is carried keeps of what the file states of it. The operands are those of ++VER and ++IF in
 -- IBM z/OS SMP/E Reference, "SMP/E modification control statements".
-use Rattle.std.specs.Prelude.{◌≡◌, Bool, List, Some, All}
+use Rattle.std.specs.Prelude.{◌≡◌, ◌⊎◌, Bool, List, Some, All}
 use Rattle.std.specs.List.{Any}
 use Rattle.terms.specs.Types.{Text, IfReq, Ver, Sysmod}
 use Rattle.terms.specs.Beside.{Beside}
@@ -10,7 +10,10 @@ use Rattle.intake_read.specs.declared.items.WideSysmod.{WideSysmod}
 use Rattle.intake_sysmod.specs.declared.ver_operands.Lists.{Lists}
 use Rattle.intake_sysmod.specs.declared.ver_operands.VerOperands.{VerOperands}
 use Rattle.intake_read.specs.Stated.{text_in, AreSame}
-use Rattle.intake_sysmod.specs.Elements.{IsElementChanged}
+use Rattle.intake_read.specs.declared.items.WideElement.{WideElement}
+use Rattle.terms.specs.Types.{Change}
+use Rattle.intake_sysmod.specs.Changed.{IsElementChanged, IsSaid}
+use Rattle.intake_sysmod.specs.Users.{IsPassedOver}
 
 -- the ++IF of the file: its function and its requisites
 pub record IsIf (stated : WideIf) (carried : IfReq) : Type 0 where
@@ -55,10 +58,17 @@ pub record AreVers (stated : List WideVer) (carried : List Ver) : Type 0 where
   pub carried_all : All (IsCarriedIn carried) stated
   pub said_all : All (λ w. Any (λ v. IsSaidBy v w) stated) carried
 
+-- The element is changed, or passed over.
+abbrev pub IsElementDone : Bool → List WideSysmod → WideSysmod → List Change → WideElement → Type 0
+IsElementDone decide run stated changes element =
+    IsElementChanged decide stated.kind changes element ⊎ IsPassedOver decide run stated element
+
 -- It has the id and the kind, for each SREL the FMID and each PRE, REQ, ++IF REQ, NPRE and DELETE that is stated, no
--- SUP that is not, and changes each element that the file's SYSMOD changes.
-pub record IsNoLooser (decide : Bool) (stated : WideSysmod) (carried : Sysmod) : Type 0 where
+-- SUP that is not. It changes each element that the file's SYSMOD changes, but for those that are passed over, and no
+-- other element.
+pub record IsNoLooser (decide : Bool) (run : List WideSysmod) (stated : WideSysmod) (carried : Sysmod) : Type 0 where
   pub id_is : carried.id ≡ stated.id.items
   pub kind_is : carried.kind ≡ stated.kind
   pub vers_are : AreVers stated.vers.items carried.vers
-  pub changed : All (IsElementChanged decide carried.changes) stated.elements.items
+  pub changed : All (IsElementDone decide run stated carried.changes) stated.elements.items
+  pub said : All (IsSaid decide stated.kind stated.elements.items) carried.changes

@@ -4,17 +4,16 @@ ghost use Rattle.intake_sysmod.specs.NoLooser.{IsNoLooser};
 
 use crate::changes::put_changes;
 use crate::ids::id_of;
-use crate::options::Options;
 use crate::others::tell_others;
+use crate::passing::{MOST_ELEMENTS, tell_passed_over};
+use crate::users::Users;
 use crate::vers::vers_of;
 use fields::spelling::kind_text;
 use intake_cards::{Deed, RemarkReason, Remarks, Subject};
+use intake_elements::Options;
 use intake_read::{WideSysmod, tell_no_decision, tell_odd};
 use std::alloc::{AllocError, Global};
 use sysmods_values::{Sysmod, Ver};
-
-/// The most elements that a SYSMOD may have.
-const MOST_ELEMENTS: usize = 999;
 
 fn subject_of(stated: &WideSysmod) -> Subject<'_> {
     Subject {
@@ -41,7 +40,7 @@ fn tell_rest(
         Deed::LeftOut,
     )?;
     let others = tell_others(alloc, options, remarks, stated.others.as_slice())?;
-    if stated.elements.len() > MOST_ELEMENTS {
+    if stated.elements.len() > MOST_ELEMENTS && !options.decide {
         remarks.leave_out(alloc, &subject, b"", RemarkReason::TooMany, b"")?;
         return Ok(false);
     }
@@ -66,11 +65,12 @@ fn with_vers(sysmod: Sysmod, vers: Vec<Ver>) -> Sysmod
 fn sysmod_of(
     alloc: Global,
     options: &Options,
+    users: &Users<'_>,
     remarks: &mut Remarks,
     stated: &WideSysmod,
 ) -> Result<Option<Sysmod>, AllocError>
     ensures { IfOk result (λ found. IfSome found (λ sysmod.
-        IsNoLooser options.now.decide stated.now sysmod × (sysmod.holds ≡ []))) }
+        IsNoLooser options.now.decide users.now stated.now sysmod × (sysmod.holds ≡ []))) }
 {
     let subject = subject_of(stated);
     let good = tell_rest(alloc, options, remarks, stated)?;
@@ -79,13 +79,14 @@ fn sysmod_of(
         return Ok(None);
     };
     let mut sysmod = Sysmod::new(alloc, stated.kind, id);
-    let all = put_changes(alloc, options, remarks, stated, &mut sysmod)?;
+    let all = put_changes(alloc, options, users, remarks, stated, &mut sysmod)?;
     let Some(vers) = vers else {
         return Ok(None);
     };
     if !all || !good {
         return Ok(None);
     }
+    tell_passed_over(alloc, options, users, remarks, &subject, stated)?;
     if sysmod.changes.len() > MOST_ELEMENTS {
         remarks.leave_out(alloc, &subject, b"", RemarkReason::TooMany, b"")?;
         return Ok(None);
@@ -117,14 +118,15 @@ fn tell_left_out(
 pub fn carried_sysmod(
     alloc: Global,
     options: &Options,
+    users: &Users<'_>,
     remarks: &mut Remarks,
     stated: &WideSysmod,
 ) -> Result<Option<Sysmod>, AllocError>
     ensures { IfOk result (λ found. IfSome found (λ sysmod.
-        IsNoLooser options.now.decide stated.now sysmod × (sysmod.holds ≡ []))) }
+        IsNoLooser options.now.decide users.now stated.now sysmod × (sysmod.holds ≡ []))) }
 {
     let mut told = Remarks::new(alloc);
-    let Some(sysmod) = sysmod_of(alloc, options, &mut told, stated)? else {
+    let Some(sysmod) = sysmod_of(alloc, options, users, &mut told, stated)? else {
         remarks.append_causes(alloc, told)?;
         tell_left_out(alloc, remarks, stated)?;
         return Ok(None);

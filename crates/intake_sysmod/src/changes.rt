@@ -1,196 +1,32 @@
 //! What a SYSMOD changes.
-ghost use Rattle.std.specs.Prelude.{◌≡◌, IfOk, IfSome, OnOk, IsTrue, All, false};
-ghost use Rattle.terms.specs.declared.kinds.ElemType.{ElemType as AnyType};
-ghost use Rattle.terms.specs.Types.{Text};
-ghost use Rattle.intake_sysmod.specs.Elements.{
-  IsProfileType,
-  IsLacked,
-  IsTarget,
-  Changes,
-  IsElementChanged,
-  HasNoLevel,
-};
+ghost use Rattle.std.specs.Prelude.{◌≡◌, map, Contains, IfOk, OnOk, IsTrue, All, true, false};
+ghost use Rattle.terms.specs.declared.kinds.Kind.{Kind as AnyKind};
+ghost use Rattle.terms.specs.declared.kinds.ElemType.TheVariants.{Mac};
+ghost use Rattle.terms.specs.Changes.{is_replacement};
+ghost use Rattle.intake_elements.specs.Elements.{modules_of, module_name};
+ghost use Rattle.intake_sysmod.specs.Changed.{IsChanged, IsElementChanged, IsSaid, Grows, Joins};
+ghost use Rattle.intake_sysmod.specs.NoLooser.{IsElementDone};
 
-use crate::elements::profile_change;
-use crate::levels::level_operand;
-use crate::modules::{has_own_module, modules_of};
-use crate::options::Options;
-use crate::stand_ins::{module_change, short_change, stand_in_change, tell_stand_in};
-use crate::words::profile_type;
-use fields::Name;
-use intake_cards::{Deed, RemarkReason, Remarks, Subject};
-use intake_read::{WideElement, WideSysmod, tell_no_decision, tell_odd};
+use crate::passing::is_passed_over;
+use crate::users::Users;
+use intake_cards::{RemarkReason, Remarks, Subject};
+use intake_elements::{Options, change_of, module_change, modules_of, subject_of};
+use intake_read::{WideElement, WideSysmod};
 use std::alloc::{AllocError, Global};
 use sysmods_values::{Action, ElemChange, Sysmod};
-use terms::{ElemType, Kind};
-
-// The statement of an element.
-fn subject_of(element: &WideElement) -> Subject<'_> {
-    Subject {
-        place: element.place,
-        word: element.word.as_slice(),
-        id: element.name.as_slice(),
-    }
-}
-
-// Tells of an operand that names modules and can't be read. The answer is whether there is none.
-fn has_good_modules(
-    alloc: Global,
-    remarks: &mut Remarks,
-    subject: &Subject<'_>,
-    element: &WideElement,
-) -> Result<bool, AllocError> {
-    let mut good = true;
-    for one in element.odd.iter() {
-        let name = one.operand.name.as_slice();
-        if name == b"DISTMOD".as_slice() || name == b"ASSEM".as_slice() {
-            let reason = RemarkReason::from(one.reason);
-            remarks.leave_out(alloc, subject, name, reason, one.operand.text())?;
-            good = false;
-        }
-    }
-    Ok(good)
-}
-
-// Tells of an operand that decides whether the SYSMOD goes on, which a stand-in can't have, and of one that names
-// modules and can't be read. The answer is whether there is none.
-fn may_stand_in(
-    alloc: Global,
-    remarks: &mut Remarks,
-    subject: &Subject<'_>,
-    element: &WideElement,
-) -> Result<bool, AllocError>
-    ensures { IfOk result (λ good. IsTrue good → All HasNoLevel element.now.operands.items) }
-{
-    if let Some(operand) = level_operand(element.operands.as_slice()) {
-        let name = operand.name.as_slice();
-        remarks.leave_out(alloc, subject, name, RemarkReason::Level, operand.text())?;
-        return Ok(false);
-    }
-    has_good_modules(alloc, remarks, subject, element)
-}
-
-// Tells of all operands of an element that is carried as a stand-in that they are dropped.
-fn tell_operands(
-    alloc: Global,
-    remarks: &mut Remarks,
-    subject: &Subject<'_>,
-    element: &WideElement,
-) -> Result<(), AllocError> {
-    tell_odd(
-        alloc,
-        remarks,
-        subject,
-        element.odd.as_slice(),
-        Deed::Dropped,
-    )?;
-    tell_no_decision(alloc, remarks, subject, element.operands.as_slice())?;
-    tell_no_decision(alloc, remarks, subject, element.libraries.as_slice())?;
-    if let Some(relfile) = &element.relfile {
-        let text = relfile.as_slice();
-        remarks.tell_dropped(alloc, subject, b"RELFILE", RemarkReason::NoDecision, text)?;
-    }
-    Ok(())
-}
-
-// What a statement of a word that the profile lacks changes, or nothing where it can't be carried, which is told.
-fn lacked_change(
-    alloc: Global,
-    options: &Options,
-    remarks: &mut Remarks,
-    kind: Kind,
-    element: &WideElement,
-) -> Result<Option<ElemChange>, AllocError>
-    requires { IsLacked element.now.word.items }
-    ensures { IfOk result (λ found. IfSome found (λ c. IsTarget options.now.decide element.now.word.items
-        element.now.name.items c.elem_type c.name)) }
-{
-    let subject = subject_of(element);
-    if !options.decide {
-        remarks.leave_out(alloc, &subject, b"", RemarkReason::OutsideProfile, b"")?;
-        return Ok(None);
-    }
-    tell_operands(alloc, remarks, &subject, element)?;
-    stand_in_change(alloc, remarks, &subject, kind, element)
-}
-
-// What a statement of the profile changes, or nothing where it can't be carried, which is told. Where stand-ins are
-// asked for, it has a text of one record in place of one that can't be carried.
-#[tactic(auto, using(crate::proofs::Targets::known_target))]
-fn known_change(
-    alloc: Global,
-    options: &Options,
-    remarks: &mut Remarks,
-    kind: Kind,
-    element: &WideElement,
-    elem_type: ElemType,
-) -> Result<Option<ElemChange>, AllocError>
-    requires { IsProfileType element.now.word.items elem_type }
-    ensures { IfOk result (λ found. IfSome found (λ c. IsTarget options.now.decide element.now.word.items
-        element.now.name.items c.elem_type c.name)) }
-{
-    let subject = subject_of(element);
-    let Some(name) = Name::read(element.name.as_slice()) else {
-        remarks.leave_out(alloc, &subject, b"", RemarkReason::BadName, b"")?;
-        return Ok(None);
-    };
-    let mut told = Remarks::new(alloc);
-    let found = profile_change(
-        alloc, options, &mut told, &subject, kind, element, elem_type, name,
-    )?;
-    if found.is_some() || !options.decide {
-        remarks.append(told)?;
-        return Ok(found);
-    }
-    told.drop_in_place_of_leaving_out();
-    remarks.append(told)?;
-    let Some(change) = short_change(alloc, kind, element, elem_type, name)? else {
-        remarks.leave_out(alloc, &subject, b"", RemarkReason::BadText, b"")?;
-        return Ok(None);
-    };
-    tell_stand_in(alloc, remarks, &subject, elem_type, name)?;
-    Ok(Some(change))
-}
-
-// What an element statement itself changes, or nothing where it can't be carried, which is told.
-fn change_of(
-    alloc: Global,
-    options: &Options,
-    remarks: &mut Remarks,
-    kind: Kind,
-    element: &WideElement,
-) -> Result<Option<ElemChange>, AllocError>
-    ensures { IfOk result (λ found. IfSome found (λ c. IsTarget options.now.decide element.now.word.items
-        element.now.name.items c.elem_type c.name)) }
-{
-    match profile_type(element.word.as_slice()) {
-        Some(elem_type) => known_change(alloc, options, remarks, kind, element, elem_type),
-        None => lacked_change(alloc, options, remarks, kind, element),
-    }
-}
 
 // Whether the statement replaces an element.
-fn replaces(change: &ElemChange) -> bool {
+fn replaces(change: &ElemChange) -> bool
+    ensures { result ≡ is_replacement change.now.action }
+{
     match &change.action {
         Action::Replaces { .. } => true,
         Action::Updates { .. } => false,
     }
 }
 
-// Puts the statement among those of the SYSMOD, in the place of one for its element.
-fn put_change(sysmod: &mut Sysmod, change: ElemChange) -> Result<(), AllocError>
-    ensures rest { OnOk result (sysmod.new ≡ record sysmod.old { changes = sysmod.new.changes }) }
-    ensures kept { OnOk result ((type : AnyType) (name : Text) → Changes sysmod.old.changes type name
-        → Changes sysmod.new.changes type name) }
-    ensures there { OnOk result (Changes sysmod.new.changes change.elem_type change.name) }
-{
-    sysmod.insert_change(change)?;
-    Ok(())
-}
-
 // Puts the statement among those of the SYSMOD, and answers whether it could. Where another one is for its element,
 // this is told: without stand-ins a SYSMOD has no two; with them one stays, a replacement rather than an update.
-#[tactic(auto, using(crate::proofs::Changed::there_already))]
 fn join(
     alloc: Global,
     options: &Options,
@@ -199,13 +35,10 @@ fn join(
     sysmod: &mut Sysmod,
     change: ElemChange,
 ) -> Result<bool, AllocError>
-    ensures rest { OnOk result (sysmod.new ≡ record sysmod.old { changes = sysmod.new.changes }) }
-    ensures kept { OnOk result ((type : AnyType) (name : Text) → Changes sysmod.old.changes type name
-        → Changes sysmod.new.changes type name) }
-    ensures there { IfOk result (λ joined. IsTrue joined → Changes sysmod.new.changes change.elem_type change.name) }
+    ensures { IfOk result (Joins options.now.decide change sysmod.old sysmod.new) }
 {
     if !sysmod.has_change(change.elem_type, change.name) {
-        put_change(sysmod, change)?;
+        sysmod.insert_change(change)?;
         return Ok(true);
     }
     if !options.decide {
@@ -213,9 +46,10 @@ fn join(
         return Ok(false);
     }
     remarks.tell_carried(alloc, subject, b"", RemarkReason::FallTogether, b"")?;
-    if replaces(&change) {
-        put_change(sysmod, change)?;
+    if !replaces(&change) {
+        return Ok(true);
     }
+    sysmod.insert_change(change)?;
     Ok(true)
 }
 
@@ -226,57 +60,43 @@ fn put_module(
     remarks: &mut Remarks,
     element: &WideElement,
     sysmod: &mut Sysmod,
-    module: &[u8],
+    assembled: &[u8],
 ) -> Result<bool, AllocError>
-    ensures rest { OnOk result (sysmod.new ≡ record sysmod.old { changes = sysmod.new.changes }) }
-    ensures kept { OnOk result ((type : AnyType) (name : Text) → Changes sysmod.old.changes type name
-        → Changes sysmod.new.changes type name) }
+    requires asked { IsTrue options.now.decide }
+    requires is_one { Contains (modules_of element.now) assembled.now }
+    ensures grows { OnOk result ((kind : AnyKind) → Grows options.now.decide kind element.now sysmod.old sysmod.new) }
+    ensures there { IfOk result (λ put. IsTrue put
+        → IsChanged options.now.decide sysmod.new.changes Mac (module_name assembled.now) false) }
 {
     let subject = subject_of(element);
-    let Some(change) = module_change(alloc, remarks, &subject, element, module)? else {
+    let Some(change) = module_change(alloc, remarks, &subject, element, assembled)? else {
         return Ok(false);
     };
     let joined = join(alloc, options, remarks, &subject, sysmod, change)?;
     Ok(joined)
 }
 
-// The same for modules that a macro names.
-fn put_named_modules(
-    alloc: Global,
-    options: &Options,
-    remarks: &mut Remarks,
-    element: &WideElement,
-    sysmod: &mut Sysmod,
-) -> Result<bool, AllocError>
-    ensures rest { OnOk result (sysmod.new ≡ record sysmod.old { changes = sysmod.new.changes }) }
-    ensures kept { OnOk result ((type : AnyType) (name : Text) → Changes sysmod.old.changes type name
-        → Changes sysmod.new.changes type name) }
-{
-    let mut all = true;
-    for module in modules_of(element) {
-        let put = put_module(alloc, options, remarks, element, sysmod, module.as_slice())?;
-        all = both(all, put);
-    }
-    Ok(all)
-}
-
-// Puts replacements of the modules that are assembled of the element into the SYSMOD, and answers whether it could.
+// Puts replacements of the stand-ins of these modules into the SYSMOD, and answers whether it could.
 fn put_modules(
     alloc: Global,
     options: &Options,
     remarks: &mut Remarks,
     element: &WideElement,
     sysmod: &mut Sysmod,
+    modules: &[&[u8]],
 ) -> Result<bool, AllocError>
-    ensures rest { OnOk result (sysmod.new ≡ record sysmod.old { changes = sysmod.new.changes }) }
-    ensures kept { OnOk result ((type : AnyType) (name : Text) → Changes sysmod.old.changes type name
-        → Changes sysmod.new.changes type name) }
+    requires asked { IsTrue options.now.decide }
+    requires are { map (λ m. m.now) modules.now ≡ modules_of element.now }
+    ensures grows { OnOk result ((kind : AnyKind) → Grows options.now.decide kind element.now sysmod.old sysmod.new) }
+    ensures there { IfOk result (λ put. IsTrue put
+        → All (λ m. IsChanged options.now.decide sysmod.new.changes Mac (module_name m) false) (modules_of element.now)) }
 {
-    if has_own_module(element) {
-        let module = element.name.as_slice();
-        return put_module(alloc, options, remarks, element, sysmod, module);
+    let mut all = true;
+    for module in modules {
+        let put = put_module(alloc, options, remarks, element, sysmod, module)?;
+        all = both(all, put);
     }
-    put_named_modules(alloc, options, remarks, element, sysmod)
+    Ok(all)
 }
 
 fn both(one: bool, other: bool) -> bool
@@ -290,26 +110,23 @@ fn put_decided(
     alloc: Global,
     options: &Options,
     remarks: &mut Remarks,
-    kind: Kind,
+    stated: &WideSysmod,
     element: &WideElement,
     sysmod: &mut Sysmod,
 ) -> Result<bool, AllocError>
-    ensures rest { OnOk result (sysmod.new ≡ record sysmod.old { changes = sysmod.new.changes }) }
-    ensures kept { OnOk result ((type : AnyType) (name : Text) → Changes sysmod.old.changes type name
-        → Changes sysmod.new.changes type name) }
+    requires { IsTrue options.now.decide }
+    ensures grows { OnOk result (Grows options.now.decide stated.now.kind element.now sysmod.old sysmod.new) }
     ensures changed { IfOk result (λ put. IsTrue put
-        → IsElementChanged options.now.decide sysmod.new.changes element.now) }
+        → IsElementChanged options.now.decide stated.now.kind sysmod.new.changes element.now) }
 {
-    let subject = subject_of(element);
-    if !may_stand_in(alloc, remarks, &subject, element)? {
-        return Ok(false);
-    }
-    let Some(change) = change_of(alloc, options, remarks, kind, element)? else {
+    let Some(change) = change_of(alloc, options, remarks, stated.kind, element)? else {
         return Ok(false);
     };
+    let modules = modules_of(alloc, element)?;
+    let subject = subject_of(element);
     let joined = join(alloc, options, remarks, &subject, sysmod, change)?;
-    let assembled = put_modules(alloc, options, remarks, element, sysmod)?;
-    Ok(both(joined, assembled))
+    let put = put_modules(alloc, options, remarks, element, sysmod, modules.as_slice())?;
+    Ok(both(joined, put))
 }
 
 // Puts what the statement changes into the SYSMOD, and answers whether it could.
@@ -317,21 +134,19 @@ fn put_stated(
     alloc: Global,
     options: &Options,
     remarks: &mut Remarks,
-    kind: Kind,
+    stated: &WideSysmod,
     element: &WideElement,
     sysmod: &mut Sysmod,
 ) -> Result<bool, AllocError>
     requires { options.now.decide ≡ false }
-    ensures rest { OnOk result (sysmod.new ≡ record sysmod.old { changes = sysmod.new.changes }) }
-    ensures kept { OnOk result ((type : AnyType) (name : Text) → Changes sysmod.old.changes type name
-        → Changes sysmod.new.changes type name) }
+    ensures grows { OnOk result (Grows options.now.decide stated.now.kind element.now sysmod.old sysmod.new) }
     ensures changed { IfOk result (λ put. IsTrue put
-        → IsElementChanged options.now.decide sysmod.new.changes element.now) }
+        → IsElementChanged options.now.decide stated.now.kind sysmod.new.changes element.now) }
 {
-    let subject = subject_of(element);
-    let Some(change) = change_of(alloc, options, remarks, kind, element)? else {
+    let Some(change) = change_of(alloc, options, remarks, stated.kind, element)? else {
         return Ok(false);
     };
+    let subject = subject_of(element);
     let joined = join(alloc, options, remarks, &subject, sysmod, change)?;
     Ok(joined)
 }
@@ -342,39 +157,62 @@ fn put_element(
     alloc: Global,
     options: &Options,
     remarks: &mut Remarks,
-    kind: Kind,
+    stated: &WideSysmod,
     element: &WideElement,
     sysmod: &mut Sysmod,
 ) -> Result<bool, AllocError>
-    ensures rest { OnOk result (sysmod.new ≡ record sysmod.old { changes = sysmod.new.changes }) }
-    ensures kept { OnOk result ((type : AnyType) (name : Text) → Changes sysmod.old.changes type name
-        → Changes sysmod.new.changes type name) }
+    ensures grows { OnOk result (Grows options.now.decide stated.now.kind element.now sysmod.old sysmod.new) }
     ensures changed { IfOk result (λ put. IsTrue put
-        → IsElementChanged options.now.decide sysmod.new.changes element.now) }
+        → IsElementChanged options.now.decide stated.now.kind sysmod.new.changes element.now) }
 {
     if options.decide {
-        put_decided(alloc, options, remarks, kind, element, sysmod)
+        put_decided(alloc, options, remarks, stated, element, sysmod)
     } else {
-        put_stated(alloc, options, remarks, kind, element, sysmod)
+        put_stated(alloc, options, remarks, stated, element, sysmod)
     }
 }
 
-/// Puts what all elements change into the SYSMOD, and answers whether it could. Why it could not is told, and so is
-/// what differs. If memory runs out, the SYSMOD has some of the changes.
+// The same, or passes the element over.
+fn put_or_pass(
+    alloc: Global,
+    options: &Options,
+    users: &Users<'_>,
+    remarks: &mut Remarks,
+    stated: &WideSysmod,
+    element: &WideElement,
+    sysmod: &mut Sysmod,
+) -> Result<bool, AllocError>
+    ensures grows { OnOk result (Grows options.now.decide stated.now.kind element.now sysmod.old sysmod.new) }
+    ensures done { IfOk result (λ put. IsTrue put
+        → IsElementDone options.now.decide users.now stated.now sysmod.new.changes element.now) }
+{
+    if is_passed_over(alloc, options, users, stated, element)? {
+        return Ok(true);
+    }
+    let put = put_element(alloc, options, remarks, stated, element, sysmod)?;
+    Ok(put)
+}
+
+/// Puts what all elements change into the SYSMOD, but for those that are passed over, and answers whether it could. Why
+/// it could not is told, and so is what differs. If memory runs out, the SYSMOD has some of the changes.
 pub(crate) fn put_changes(
     alloc: Global,
     options: &Options,
+    users: &Users<'_>,
     remarks: &mut Remarks,
     stated: &WideSysmod,
     sysmod: &mut Sysmod,
 ) -> Result<bool, AllocError>
     ensures rest { OnOk result (sysmod.new ≡ record sysmod.old { changes = sysmod.new.changes }) }
-    ensures changed { IfOk result (λ all. IsTrue all
-        → All (IsElementChanged options.now.decide sysmod.new.changes) stated.now.elements.items) }
+    ensures done { IfOk result (λ all. IsTrue all
+        → All (IsElementDone options.now.decide users.now stated.now sysmod.new.changes) stated.now.elements.items) }
+    ensures said { OnOk result (All (IsSaid options.now.decide stated.now.kind stated.now.elements.items)
+        sysmod.old.changes → All (IsSaid options.now.decide stated.now.kind stated.now.elements.items)
+        sysmod.new.changes) }
 {
     let mut all = true;
     for element in stated.elements.iter() {
-        let put = put_element(alloc, options, remarks, stated.kind, element, sysmod)?;
+        let put = put_or_pass(alloc, options, users, remarks, stated, element, sysmod)?;
         all = both(all, put);
     }
     Ok(all)

@@ -1,26 +1,21 @@
 //! The SYSMODs of a shop's files, except their holds: `++VER`s with their `++IF`s, and the elements that they bring or
-//! update, with their texts. Each element is carried, or has a stand-in if that is asked for, or a remark.
-//! A SYSMOD is carried whole or not at all, so that it is never looser than what the file states: `carried_sysmod`
-//! promises it. Every call that allocates fails with `AllocError` if memory runs out.
+//! update. Each element is carried, or has a stand-in if that is asked for, or a remark. A SYSMOD is carried whole or
+//! not at all, so that it is never looser than what the file states: `carried_sysmod` promises it. Every call that
+//! allocates fails with `AllocError` if memory runs out.
 #![tactic(auto)]
 
 mod carried;
 mod changes;
-mod elements;
+mod element_users;
 mod ids;
 mod ifs;
-mod levels;
-mod modules;
-mod options;
 mod others;
-mod stand_in_names;
-mod stand_ins;
-mod texts;
-mod updates;
+mod passing;
+mod users;
 mod ver_operands;
 mod vers;
-mod words;
 
 pub use carried::carried_sysmod;
-pub use options::{Options, RelfileMember, Syslib};
+pub use intake_elements::{Options, RelfileMember, Syslib};
 pub use others::tell_others;
+pub use users::Users;

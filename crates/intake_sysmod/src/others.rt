@@ -1,7 +1,7 @@
 //! Statements that are carried nowhere.
 
-use crate::options::Options;
 use intake_cards::{RemarkReason, Remarks, Subject};
+use intake_elements::Options;
 use intake_read::{OtherReason, WideOther};
 use std::alloc::{AllocError, Global};
 

@@ -69,6 +69,7 @@ const CASES: &str = "\
 --out d --cntl group --known ptf => 16 smpe-intake: ptf line 2: a line has an id, a type and source ids
 --out . hold => 16 smpe-intake: ./hold would replace the input hold: give another folder with --out
 --out . --cntl cntl => 16 smpe-intake: ./cntl would replace the input cntl: give another folder with --out
+--out lost ptf => 16 smpe-intake: cannot read lost/ptfin
 --out d gzip => 16 smpe-intake: gzip: it is compressed by gzip: unpack it first
 --out d jcl => 16 smpe-intake: jcl line 1: JCL stands there: give the cards after its DD * without it
 --out d holds => 16 smpe-intake: holds line 1: ++HOLD(UA00001): refused: its period is missing
@@ -129,8 +130,11 @@ impl IntakeHost for Memory {
         Ok(())
     }
 
-    fn is_same(&mut self, one: &str, other: &str) -> bool {
-        one.strip_prefix("./").unwrap_or(one) == other
+    fn is_same(&mut self, one: &str, other: &str) -> io::Result<bool> {
+        if one.starts_with("lost/") {
+            return Err(Error::from(ErrorKind::InvalidData));
+        }
+        Ok(one.strip_prefix("./").unwrap_or(one) == other)
     }
 
     fn print(&mut self, text: &[u8]) -> io::Result<()> {

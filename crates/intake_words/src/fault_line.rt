@@ -2,6 +2,7 @@
 
 use crate::fault::IntakeFault;
 use crate::options::WordsFault;
+use intake_cards::CardError;
 use std::alloc::{AllocError, Global};
 
 /// What each line begins with.
@@ -15,17 +16,32 @@ impl IntakeFault {
         }
         let mut line = Vec::from_slice(alloc, PROGRAM)?;
         match self {
-            IntakeFault::Words(fault) => line.extend_from_slice(words_text(fault))?,
-            IntakeFault::KnownLine(name, number) => put_known(alloc, &mut line, name, *number)?,
-            IntakeFault::NoCards(name, error) => {
-                let text = format!(in alloc; "{error}")?;
-                put_parts(&mut line, &[name.as_slice(), b": ", text.as_bytes()])?;
-            }
             IntakeFault::Statements(texts) => put_texts(&mut line, texts)?,
-            other => put_parts(&mut line, &parts_of(other, folder))?,
+            other => put_text(alloc, &mut line, other, folder)?,
         }
         line.push(b'\n')?;
         Ok(line)
+    }
+}
+
+// What is said of a fault, but for statements.
+fn put_text(
+    alloc: Global,
+    line: &mut Vec<u8>,
+    fault: &IntakeFault,
+    folder: &str,
+) -> Result<(), AllocError> {
+    match fault {
+        IntakeFault::Memory | IntakeFault::Statements(_) => put(line, b"out of memory", b"", b""),
+        IntakeFault::Words(fault) => put(line, words_text(fault), b"", b""),
+        IntakeFault::CannotRead(name) => put(line, b"cannot read ", name, b""),
+        IntakeFault::OutputIsInput(input, output) => put_output(line, input, output),
+        IntakeFault::KnownLine(name, number) => put_known(alloc, line, name, *number),
+        IntakeFault::CannotWrite => put(line, b"cannot write into ", folder.as_bytes(), b""),
+        IntakeFault::CannotPrint => put(line, b"write", b"", b""),
+        IntakeFault::NoCards(name, error) => put_cards(alloc, line, name, *error),
+        IntakeFault::NoStatement => put(line, b"no statement found", b"", b""),
+        IntakeFault::NotReadBack(name) => put_unread(line, name.as_bytes()),
     }
 }
 
@@ -38,38 +54,15 @@ fn words_text(fault: &WordsFault) -> &'static [u8] {
     }
 }
 
-// What is said of a fault without words or numbers of its own, in parts.
-fn parts_of<'a>(fault: &'a IntakeFault, folder: &'a str) -> [&'a [u8]; 4] {
-    match fault {
-        IntakeFault::CannotRead(name) => [b"cannot read ", name.as_slice(), b"", b""],
-        IntakeFault::OutputIsInput(input, output) => [
-            output.as_slice(),
-            b" would replace the input ",
-            input.as_slice(),
-            b": give another folder with --out",
-        ],
-        IntakeFault::CannotWrite => [b"cannot write into ", folder.as_bytes(), b"", b""],
-        IntakeFault::CannotPrint => [b"write", b"", b"", b""],
-        IntakeFault::NoStatement => [b"no statement found", b"", b"", b""],
-        IntakeFault::NotReadBack(name) => [
-            b"what was made for ",
-            name.as_bytes(),
-            b" is not read as it was meant; nothing is written",
-            b"",
-        ],
-        IntakeFault::Memory
-        | IntakeFault::Words(_)
-        | IntakeFault::KnownLine(..)
-        | IntakeFault::NoCards(..)
-        | IntakeFault::Statements(_) => [b"out of memory", b"", b"", b""],
-    }
+fn put(line: &mut Vec<u8>, one: &[u8], two: &[u8], three: &[u8]) -> Result<(), AllocError> {
+    line.extend_from_slice(one)?;
+    line.extend_from_slice(two)?;
+    line.extend_from_slice(three)
 }
 
-fn put_parts(line: &mut Vec<u8>, parts: &[&[u8]]) -> Result<(), AllocError> {
-    for part in parts {
-        line.extend_from_slice(*part)?;
-    }
-    Ok(())
+fn put_output(line: &mut Vec<u8>, input: &[u8], output: &[u8]) -> Result<(), AllocError> {
+    put(line, output, b" would replace the input ", input)?;
+    line.extend_from_slice(b": give another folder with --out")
 }
 
 fn put_known(
@@ -79,7 +72,26 @@ fn put_known(
     number: usize,
 ) -> Result<(), AllocError> {
     let rest = format!(in alloc; " line {number}: a line has an id, a type and source ids")?;
-    put_parts(line, &[name, rest.as_bytes()])
+    put(line, name, rest.as_bytes(), b"")
+}
+
+fn put_cards(
+    alloc: Global,
+    line: &mut Vec<u8>,
+    name: &[u8],
+    error: CardError,
+) -> Result<(), AllocError> {
+    let text = format!(in alloc; "{error}")?;
+    put(line, name, b": ", text.as_bytes())
+}
+
+fn put_unread(line: &mut Vec<u8>, name: &[u8]) -> Result<(), AllocError> {
+    put(
+        line,
+        b"what was made for ",
+        name,
+        b" is not read as it was meant; nothing is written",
+    )
 }
 
 // Each text on a line of its own.

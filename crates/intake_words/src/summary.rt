@@ -236,11 +236,16 @@ fn warnings(alloc: Global, narrowed: &Narrowed, lines: &mut Vec<u8>) -> Result<(
     warning(alloc, "FORBIDS", narrowed.forbidding, words, lines)
 }
 
+// How many SYSMODs have stand-ins. If elements are passed over, what CHECK answers holds for these files together.
 fn check_line(alloc: Global, narrowed: &Narrowed, lines: &mut Vec<u8>) -> Result<(), AllocError> {
     let stand_ins = narrowed.stand_ins;
-    let line = format!(in alloc;
-        "CHECK   {stand_ins:>7} have stand-ins: these files are for CHECK\n"
-    )?;
+    let passed_over = number_of(narrowed.remarks.as_slice(), RemarkReason::PassedOver);
+    let which = if passed_over > 0 {
+        "these files are for CHECK, all of them together"
+    } else {
+        "these files are for CHECK"
+    };
+    let line = format!(in alloc; "CHECK   {stand_ins:>7} have stand-ins: {which}\n")?;
     lines.extend_from_slice(line.as_bytes())
 }
 

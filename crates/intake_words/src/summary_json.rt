@@ -112,6 +112,8 @@ pub(crate) fn json_summary(alloc: Global, narrowed: &Narrowed) -> Result<Vec<u8>
     put_number(alloc, &mut json, "in_comments", swallowed)?;
     put_number(alloc, &mut json, "forbids", narrowed.forbidding)?;
     put_number(alloc, &mut json, "stand_ins", narrowed.stand_ins)?;
+    let passed_over = number_of(remarks, RemarkReason::PassedOver);
+    put_number(alloc, &mut json, "passed_over", passed_over)?;
     put_tally(alloc, &mut json, "sysmods", narrowed.sysmods)?;
     put_tally(alloc, &mut json, "holds", narrowed.holds)?;
     put_tally(alloc, &mut json, "releases", narrowed.releases)?;

@@ -1,7 +1,7 @@
 //! The files, input and output of the system that the program runs on.
 
 use intake_command::{IntakeHost, Named};
-use std::io::Write;
+use std::io::{ErrorKind, Write};
 use std::{fs, io};
 
 /// The system, by what the program was started with.
@@ -29,13 +29,19 @@ impl IntakeHost for FileSystem<'_> {
         kept
     }
 
-    fn is_same(&mut self, one: &str, other: &str) -> bool {
-        let one = fs::canonicalize(self.rt, one);
-        let other = fs::canonicalize(self.rt, other);
-        match (one, other) {
-            (Ok(one), Ok(other)) => one == other,
-            _ => false,
-        }
+    // Names that lead nowhere, or where nobody may go, are of no file that can be read or written.
+    fn is_same(&mut self, one: &str, other: &str) -> io::Result<bool> {
+        let one = match fs::canonicalize(self.rt, one) {
+            Ok(path) => path,
+            Err(error) if leads_nowhere(error.kind()) => return Ok(false),
+            Err(error) => return Err(error),
+        };
+        let other = match fs::canonicalize(self.rt, other) {
+            Ok(path) => path,
+            Err(error) if leads_nowhere(error.kind()) => return Ok(false),
+            Err(error) => return Err(error),
+        };
+        Ok(one == other)
     }
 
     fn print(&mut self, text: &[u8]) -> io::Result<()> {
@@ -49,6 +55,13 @@ impl IntakeHost for FileSystem<'_> {
     fn show(&mut self, error: &clap::Error) -> io::Result<()> {
         error.print(self.rt)
     }
+}
+
+fn leads_nowhere(kind: ErrorKind) -> bool {
+    matches!(
+        kind,
+        ErrorKind::NotFound | ErrorKind::NotADirectory | ErrorKind::PermissionDenied
+    )
 }
 
 impl FileSystem<'_> {

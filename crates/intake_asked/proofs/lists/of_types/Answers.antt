@@ -1,6 +1,5 @@
-use Rattle.std.proofs.Common.{◌≡◌, ◌∙◌, ◌∷◌, [], ◌++◌, Bool, sym, ap, map, filter, take, subst, arith}
+use Rattle.std.proofs.Common.{◌∙◌, ◌∷◌, [], Bool, sym, ap, map, filter, take, arith}
 use Rattle.std.proofs.lemmas.List.{take_all, map-append}
-use Rattle.terms.specs.declared.kinds.Kind.{Kind}
 use Rattle.intake_asked.specs.declared.known.KnownSysmod.{KnownSysmod}
 use Rattle.intake_asked.specs.Words.{is_kept_out}
 use Rattle.intake_asked.proofs.Passing.{keeps_next, skips_next, more_found}

@@ -1,4 +1,4 @@
-use Rattle.std.proofs.Common.{IfOk, map, subst, subst₂, sym}
+use Rattle.std.proofs.Common.{map, subst}
 use Rattle.intake_asked.specs.Said.{AreThese}
 use Rattle.intake_asked.proofs.same.are_these.Goals as goal
 

@@ -15,7 +15,7 @@ returns c =
       releases = releases;
       outside_are = c.in_ok-gathered-3.ensures.outside
           ∙ ap (λ o. o ++ releases) c.in_ok-gathered-2.ensures.outside;
-      sysmods_become = subst (λ i. Become (SysmodBecomes c.args.options.now.decide) c.args.file.now.sysmods.items i
+      sysmods_become = subst (λ i. Become (SysmodBecomes c.args.options.now.decide c.args.users.now) c.args.file.now.sysmods.items i
           g.outside.items) (sym (c.in_ok-gathered-3.ensures.items ∙ c.in_ok-gathered-2.ensures.items))
           c.in_ok-gathered.ensures;
       holds_become = subst (λ l. Become (HoldBecomes None) l [] holds) c.as_slice-4.ensures.value c.in_ok-holds.ensures;

@@ -6,7 +6,7 @@ use Rattle.intake_carry.proofs.files.sysmods_of.Goals as goal
 pub loop-stated-preserved : goal.loop-stated-preserved
 loop-stated-preserved c =
     let part = c.in_ok-part.part in
-    become_next (SysmodBecomes c.args.options.now.decide) c.args.file.now.sysmods.items
+    become_next (SysmodBecomes c.args.options.now.decide c.args.users.now) c.args.file.now.sysmods.items
     c.loop-stated.gathered.items.items c.in_ok-gathered.gathered.items.items c.loop-stated.gathered.outside.items
     c.in_ok-gathered.gathered.outside.items c.loop-stated.stated-index c.stated-item.result (item_in part.sysmod)
     part.outside.items (omega (arith, ap length c.deref-stated-items.ensures.value))
@@ -15,6 +15,6 @@ loop-stated-preserved c =
 
 pub returns : goal.returns
 returns c =
-    become_whole (SysmodBecomes c.args.options.now.decide) c.args.file.now.sysmods.items
+    become_whole (SysmodBecomes c.args.options.now.decide c.args.users.now) c.args.file.now.sysmods.items
     c.loop-stated.gathered.items.items c.loop-stated.gathered.outside.items c.loop-stated.stated-index
     (omega (arith, ap length c.deref-stated-items.ensures.value)) c.loop-stated.invariant

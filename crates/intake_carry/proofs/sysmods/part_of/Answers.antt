@@ -17,7 +17,7 @@ pub returns : goal.returns
 returns c = record {
   sysmod = c.in_ok-part.part.sysmod;
   items_are = refl;
-  no_looser = with_its_holds c.args.options.now.decide c.args.stated.now c.in-Some.sysmod c.in_ok-part.part.sysmod
-      (rw c.in-Some.is at c.in_ok-sysmod.ensures).0 c.in_ok-part.ensures.same;
+  no_looser = with_its_holds c.args.options.now.decide c.args.users.now c.args.stated.now c.in-Some.sysmod
+      c.in_ok-part.part.sysmod (rw c.in-Some.is at c.in_ok-sysmod.ensures).0 c.in_ok-part.ensures.same;
   held = c.in_ok-part.ensures.held;
 }

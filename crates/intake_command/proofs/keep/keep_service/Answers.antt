@@ -1,16 +1,37 @@
-use Rattle.std.proofs.Common.{◌∙◌, ap, map, option_map}
+use Rattle.std.proofs.Common.{◌∙◌, ap, map, option_map, inr}
+use Rattle.mcs.specs.Files as ptfin
+use Rattle.mcs.specs.HoldItems as hold
 use Rattle.intake_command.specs.Files.{named}
-use Rattle.intake_command.proofs.Kept.{kept}
+use Rattle.intake_command.proofs.Within.{service_outputs}
 use Rattle.intake_command.proofs.keep.keep_service.Goals as goal
 
 pub returns-in-Ok-clause-ok : goal.returns-in-Ok-clause-ok
 returns-in-Ok-clause-ok g c = (
-  c.in_ok-ptfin.ptfin.items,
-  c.in_ok-hold.hold.items,
-  c.args.remarks.items,
-  option_map (λ bytes. bytes.items) c.args.stand_ins,
-  c.in_ok-ptfin.ensures,
-  c.in_ok-hold.ensures,
-  kept g.H.IntakeHost _ _ _ _ _ (ap (λ files. map named files) c.deref.ensures.value ∙ c.in_ok-files.ensures)
-      c.in-Ok.ensures.ok,
+  map named c.deref.result.now,
+  (
+    c.in_ok-ptfin.ptfin.items,
+    c.in_ok-hold.hold.items,
+    c.args.remarks.items,
+    option_map (λ bytes. bytes.items) c.args.stand_ins,
+    c.in_ok-ptfin.ensures,
+    c.in_ok-hold.ensures,
+    ap (λ files. map named files) c.deref.ensures.value ∙ c.in_ok-files.ensures,
+  ),
+  c.in-Ok.ensures.ok,
+)
+
+pub returns-clause-err : goal.returns-clause-err
+returns-clause-err g c = inr (
+  map named c.deref.result.now,
+  c.in-Err.field-0,
+  service_outputs (ptfin.items c.args.meant.now) (hold.items c.args.held.now) _ (
+    c.in_ok-ptfin.ptfin.items,
+    c.in_ok-hold.hold.items,
+    c.args.remarks.items,
+    option_map (λ bytes. bytes.items) c.args.stand_ins,
+    c.in_ok-ptfin.ensures,
+    c.in_ok-hold.ensures,
+    ap (λ files. map named files) c.deref.ensures.value ∙ c.in_ok-files.ensures,
+  ),
+  c.in-Err.ensures.err,
 )

@@ -1,6 +1,51 @@
-use Rattle.intake_command.proofs.Served.{served}
+use Rattle.std.proofs.Common.{subst}
+use Rattle.intake_carry.specs.Carried.{FilesBecome}
+use Rattle.intake_command.specs.Serving.{folder_of}
+use Rattle.intake_command.proofs.Doing.{on_err}
+use Rattle.intake_command.proofs.Served.{served_files}
+use Rattle.intake_command.proofs.Within.{within_did, quiet_within, reading_within, within, nothing_within, files_within, service_outputs}
 use Rattle.intake_command.proofs.service.serve_files.Goals as goal
 
-pub returns : goal.returns
-returns g c = served g.H.IntakeHost _ _ _ c.deref-2.result.now _ _ _ _ _ _ c.as_str-folder.ensures.value
-    c.deref-4.ensures.value c.deref-5.ensures.value c.in-Ok.ensures c.in_ok-keep_service.ensures.ok
+pub returns-in_err-files-clause-err : goal.returns-in_err-files-clause-err
+returns-in_err-files-clause-err g c = on_err _ (quiet_within g.H.IntakeHost (folder_of c.args.asked.now) c.in_err-files.ensures.err)
+
+pub returns-in_err-members-clause-err : goal.returns-in_err-members-clause-err
+returns-in_err-members-clause-err g c =
+    let f = folder_of c.args.asked.now in
+    on_err _ (within g.H.IntakeHost f (reading_within g.H.IntakeHost f _ _ c.in_ok-files.ensures.ok)
+    (quiet_within g.H.IntakeHost f c.in_err-members.ensures))
+
+pub returns-in_err-made-clause-err : goal.returns-in_err-made-clause-err
+returns-in_err-made-clause-err g c =
+    let f = folder_of c.args.asked.now in
+    on_err _ (within g.H.IntakeHost f (reading_within g.H.IntakeHost f _ _ c.in_ok-files.ensures.ok)
+    (quiet_within g.H.IntakeHost f c.in_ok-members.ensures))
+
+pub returns-in_err-summary-clause-err : goal.returns-in_err-summary-clause-err
+returns-in_err-summary-clause-err g c =
+    let f = folder_of c.args.asked.now in
+    on_err _ (within g.H.IntakeHost f (reading_within g.H.IntakeHost f _ _ c.in_ok-files.ensures.ok)
+    (quiet_within g.H.IntakeHost f c.in_ok-members.ensures))
+
+pub returns-in_err-keep_made-clause-err : goal.returns-in_err-keep_made-clause-err
+returns-in_err-keep_made-clause-err g c =
+    let f = folder_of c.args.asked.now in
+    on_err _ (within g.H.IntakeHost f (reading_within g.H.IntakeHost f _ _ c.in_ok-files.ensures.ok)
+    (within g.H.IntakeHost f (quiet_within g.H.IntakeHost f c.in_ok-members.ensures)
+    (nothing_within g.H.IntakeHost f c.in_err-keep_made.ensures.err)))
+
+pub returns-in_err-print-clause-err : goal.returns-in_err-print-clause-err
+returns-in_err-print-clause-err g c =
+    let f = folder_of c.args.asked.now in
+    on_err _ (within g.H.IntakeHost f (reading_within g.H.IntakeHost f _ _ c.in_ok-files.ensures.ok)
+    (within g.H.IntakeHost f (quiet_within g.H.IntakeHost f c.in_ok-members.ensures)
+    (within g.H.IntakeHost f (files_within g.H.IntakeHost f _ (service_outputs _ _) c.in_ok-keep_made.ensures.ok)
+    (within_did g.H.IntakeHost f _ _ _ c.in_err-print.ensures.err tt))))
+
+pub returns-clause-ok : goal.returns-clause-ok
+returns-clause-ok g c =
+    let made = c.in_ok-made.made in
+    served_files g.H.IntakeHost c.args.asked.now c.in_ok-files.files.items made.items.items made.hold_items.items _
+    c.in_ok-files.ensures.ok c.in_ok-members.ensures
+    (subst (λ l. FilesBecome c.args.asked.now.decide l made.items.items made.hold_items.items)
+    c.deref-2.ensures.value c.in_ok-made.ensures) c.in_ok-keep_made.ensures.ok c.in_ok-print.ensures.ok

@@ -4,7 +4,9 @@ use Rattle.intake_sysmod.proofs.carried.sysmod_of.Goals as goal
 
 pub returns : goal.returns
 returns c =
-    whole c.args.options.now.decide c.args.stated.now c.in-Some.id c.new-sysmod.result c.put_changes.new.sysmod
-    c.with_vers.result c.in-Some-vers.vers.items c.new-sysmod.ensures c.in_ok-all.ensures.rest c.with_vers.ensures
+    whole c.args.options.now.decide c.args.users.now c.args.stated.now c.in-Some.id c.new-sysmod.result
+    c.put_changes.new.sysmod c.with_vers.result c.in-Some-vers.vers.items c.new-sysmod.ensures
+    c.in_ok-all.ensures.rest c.with_vers.ensures
     ((rw c.in-Some.is at c.in_ok-id.ensures) ∙ c.as_slice.ensures.value)
-    (rw c.in-Some-vers.is at c.in_ok-vers.ensures) (c.in_ok-all.ensures.changed c.if-not-all.false)
+    (rw c.in-Some-vers.is at c.in_ok-vers.ensures) (c.in_ok-all.ensures.done c.if-not-all.false)
+    c.in_ok-all.ensures.said

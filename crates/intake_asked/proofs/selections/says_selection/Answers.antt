@@ -1,0 +1,30 @@
+use Rattle.std.proofs.Common.{◌≢◌, ◌∷◌, [], subst}
+use Rattle.std.specs.Prelude.{codes}
+use Rattle.std.specs.List.{All}
+use Rattle.terms.specs.Types.{Selection}
+use Rattle.intake_asked.specs.Said.{AreThese, SaysLists, known_in}
+use Rattle.intake_asked.specs.Words.{listed, sources, sources_of}
+use Rattle.intake_asked.proofs.selections.says_selection.Goals as goal
+
+pub returns : goal.returns
+returns c = λ t.
+    let types = c.are_types.ensures in
+    let seen = c.said.view_is in
+    let ops = c.args.operands.now in
+    let list = c.known_in-list.ensures in
+    let given = known_in c.args.known.now in
+    record {
+      functions = types.functions t;
+      ptfs = types.ptfs t;
+      apars = types.apars t;
+      usermods = types.usermods t;
+      lists = subst (λ k. SaysLists k ops c.args.said.now) list (c.in_ok-named.ensures c.if-not-named.false);
+      sourceid = subst (λ (s : Selection). AreThese s.sourceid (sources given ops)) seen
+          (subst (λ l. AreThese l (sources given ops)) c.as_slice.ensures.items
+          (subst (λ k. AreThese c.as_slice.result.now (sources k ops)) list
+          (c.in_ok-sources.ensures.same c.if-not-sources.false)));
+      groupextend = types.groupextend t;
+      known_given = c.in_ok-enough.ensures c.if-not-enough.false;
+      sources_known = subst (λ k. All (λ m. sources_of k m ≢ []) (listed (codes "SOURCEID" ∷ []) ops)) list
+          (c.in_ok-sources.ensures.known c.if-not-sources.false);
+    }

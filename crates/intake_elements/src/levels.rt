@@ -1,0 +1,34 @@
+//! Operands of elements that decide whether a SYSMOD goes on.
+ghost use Rattle.std.specs.Prelude.{◌≡◌, IfNone, IsFalse, All};
+ghost use Rattle.intake_elements.specs.Elements.{is_level, HasNoLevel};
+
+use intake_read::{WideElement, WideOperand};
+
+/// Whether the operand of this name decides whether a SYSMOD goes on.
+pub(crate) fn is_level(name: &[u8]) -> bool
+    ensures { result ≡ is_level name.now }
+{
+    name == b"RMID".as_slice() || name == b"UMID".as_slice() || name == b"DELETE".as_slice()
+}
+
+/// The first operand that decides whether a SYSMOD goes on.
+pub(crate) fn level_operand(operands: &[WideOperand]) -> Option<&WideOperand>
+    ensures { IfNone result (All HasNoLevel operands.now) }
+{
+    for operand in operands {
+        if is_level(operand.name.as_slice()) {
+            return Some(operand);
+        }
+    }
+    None
+}
+
+/// Whether an operand of the element decides whether the SYSMOD goes on.
+pub fn has_level(element: &WideElement) -> bool
+    ensures { IsFalse result → All HasNoLevel element.now.operands.items }
+{
+    match level_operand(element.operands.as_slice()) {
+        Some(_) => true,
+        None => false,
+    }
+}

@@ -1,0 +1,20 @@
+//! What the element statements of a shop's files change, each by itself: an element of the profile, with its text, or
+//! what stands for one that the profile lacks. Every call that allocates fails with `AllocError` if memory runs out.
+#![tactic(auto)]
+
+mod changes;
+mod elements;
+mod levels;
+mod modules;
+mod options;
+mod stand_in_names;
+mod stand_ins;
+mod texts;
+mod updates;
+mod words;
+
+pub use changes::{change_of, subject_of};
+pub use levels::has_level;
+pub use modules::{has_odd_modules, keys_of, modules_of};
+pub use options::{Options, RelfileMember, Syslib};
+pub use stand_ins::module_change;

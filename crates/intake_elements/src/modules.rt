@@ -1,0 +1,123 @@
+//! The modules that are assembled of sources and macros.
+ghost use Rattle.std.specs.Prelude.{◌≡◌, ◌++◌, map, IfOk, OnOk};
+ghost use Rattle.terms.specs.declared.kinds.ElemType.TheVariants.{Mac};
+ghost use Rattle.intake_elements.specs.StandInNames.{key_of};
+ghost use Rattle.intake_elements.specs.Elements.{has_own_module, own_modules, modules_of, module_name, AreKeysOf};
+
+use crate::options::Options;
+use crate::stand_in_names::{element_key, module_key};
+use crate::words::is_source;
+use intake_cards::{RemarkReason, Remarks, Subject};
+use intake_read::WideElement;
+use std::alloc::{AllocError, Global};
+
+// Whether it is a source whose module has its name.
+fn has_own_module(element: &WideElement) -> bool
+    ensures { result ≡ has_own_module element.now }
+{
+    element.distmod.is_some() && is_source(element.word.as_slice())
+}
+
+// The module of the name of a source that has one.
+fn own_module<'a>(alloc: Global, element: &'a WideElement) -> Result<Vec<&'a [u8]>, AllocError>
+    ensures { IfOk result (λ modules. map (λ m. m.now) modules.items ≡ own_modules element.now) }
+{
+    let mut modules = Vec::new(alloc);
+    if !has_own_module(element) {
+        return Ok(modules);
+    }
+    modules.push(element.name.as_slice())?;
+    Ok(modules)
+}
+
+/// The modules that are assembled of the element: of a source with DISTMOD the one of its name, and those that ASSEM
+/// names.
+pub fn modules_of<'a>(alloc: Global, element: &'a WideElement) -> Result<Vec<&'a [u8]>, AllocError>
+    ensures { IfOk result (λ modules. map (λ m. m.now) modules.items ≡ modules_of element.now) }
+{
+    let mut modules = own_module(alloc, element)?;
+    for module in element.assem.iter() {
+        modules.push(module.as_slice())?;
+    }
+    Ok(modules)
+}
+
+// Adds the numbers of the modules' stand-ins.
+fn push_keys(keys: &mut Vec<u64>, modules: &[&[u8]]) -> Result<(), AllocError>
+    ensures { OnOk result (keys.new.items
+        ≡ keys.old.items ++ map (λ m. key_of Mac (module_name m.now)) modules.now) }
+{
+    for module in modules {
+        keys.push(module_key(module))?;
+    }
+    Ok(())
+}
+
+/// Numbers for the elements that the statement changes where stand-ins are asked for, the modules that are assembled
+/// among them. All statements that change an element have its number.
+pub fn keys_of(alloc: Global, element: &WideElement) -> Result<Vec<u64>, AllocError>
+    ensures { IfOk result (λ keys. AreKeysOf element.now keys.items) }
+{
+    let modules = modules_of(alloc, element)?;
+    let mut keys = Vec::new(alloc);
+    keys.push(element_key(element))?;
+    push_keys(&mut keys, modules.as_slice())?;
+    Ok(keys)
+}
+
+// Whether modules are assembled of it.
+fn has_modules(element: &WideElement) -> bool {
+    has_own_module(element) || !element.assem.is_empty()
+}
+
+/// Whether the operand of this name names modules, or their library.
+pub(crate) fn is_module_word(name: &[u8]) -> bool {
+    name == b"DISTMOD".as_slice() || name == b"ASSEM".as_slice()
+}
+
+/// Whether an operand that names modules, or their library, can't be read.
+pub fn has_odd_modules(element: &WideElement) -> bool {
+    element
+        .odd
+        .iter()
+        .any(|one| is_module_word(one.operand.name.as_slice()))
+}
+
+/// Tells that what is assembled of the element is not carried. Where stand-ins are asked for, those of its modules are,
+/// but DISTMOD alone names none.
+pub(crate) fn tell_modules(
+    alloc: Global,
+    options: &Options,
+    remarks: &mut Remarks,
+    subject: &Subject<'_>,
+    element: &WideElement,
+) -> Result<(), AllocError> {
+    if options.decide && has_modules(element) {
+        return Ok(());
+    }
+    let reason = if options.decide {
+        RemarkReason::LoadModules
+    } else {
+        RemarkReason::NoDecision
+    };
+    if let Some(distmod) = &element.distmod {
+        remarks.tell_dropped(alloc, subject, b"DISTMOD", reason, distmod.as_slice())?;
+    }
+    if !element.assem.is_empty() {
+        let text = listed(alloc, element.assem.as_slice())?;
+        remarks.tell_dropped(alloc, subject, b"ASSEM", reason, text.as_slice())?;
+    }
+    Ok(())
+}
+
+// The members with commas between.
+fn listed(alloc: Global, members: &[Vec<u8>]) -> Result<Vec<u8>, AllocError> {
+    let mut text = Vec::new(alloc);
+    for member in members {
+        if !text.is_empty() {
+            text.push(b',')?;
+        }
+        text.extend_from_slice(member.as_slice())?;
+    }
+    Ok(text)
+}

@@ -1,0 +1,121 @@
+//! The names of stand-ins: the same in every run for the same element.
+ghost use Rattle.std.specs.Prelude.{◌≡◌, ◌<◌, ◌++◌, IfSome, codes, true};
+ghost use Rattle.std.specs.List.{fold};
+ghost use Rattle.terms.specs.declared.kinds.ElemType.{ElemType as AnyType};
+ghost use Rattle.terms.specs.declared.kinds.ElemType.TheVariants.{Mac};
+ghost use Rattle.terms.specs.Types.{Text};
+ghost use Rattle.intake_elements.specs.StandInNames.{hash_step, hash_of, character, name_of, stand_in_name, owner_word};
+ghost use Rattle.intake_elements.specs.StandInNames.{key_of};
+ghost use Rattle.intake_elements.specs.Elements.{IsTarget, module_name};
+
+use crate::words::{profile_type, stand_in};
+use fields::Name;
+use fields::spelling::type_text;
+use intake_read::WideElement;
+use terms::ElemType;
+
+/// The characters of names, of which the first 29 may stand in front.
+const CHARACTERS: &[u8; 39] = b"ABCDEFGHIJKLMNOPQRSTUVWXYZ$#@0123456789";
+
+/// How many names of eight characters there are.
+const NAMES: u64 = 3979699193691;
+
+// The hash with these bytes behind those before.
+fn hashed(start: u64, text: &[u8]) -> u64
+    requires { start < 3979699193691 }
+    ensures below { result < 3979699193691 }
+    ensures folded { result ≡ fold hash_step start text.now }
+{
+    let mut hash = start;
+    for byte in text {
+        hash = (hash * 1000003 + *byte as u64) % NAMES;
+    }
+    hash
+}
+
+// The character that a digit of the number to the base 39 stands for.
+fn character(number: u64, power: u64) -> u8
+    requires { 0 < power }
+    ensures { result ≡ character number power }
+{
+    CHARACTERS[(number / power % 39) as usize]
+}
+
+/// The statement's word that brings the element which one of this word changes.
+pub(crate) fn owner_word(word: &[u8]) -> &[u8]
+    ensures { result.now ≡ owner_word word.now }
+{
+    if word == b"ZAP".as_slice() {
+        b"MOD"
+    } else if word == b"JARUPD".as_slice() {
+        b"JAR"
+    } else {
+        word
+    }
+}
+
+// The hash of a word and a name.
+#[tactic(auto, using(crate::proofs::Targets::hash_parts))]
+fn hash_of(word: &[u8], name: &[u8]) -> u64
+    ensures { result ≡ hash_of (word.now ++ codes "(" ++ name.now) }
+{
+    hashed(hashed(hashed(0, word), b"("), name)
+}
+
+// The name that a hash is.
+fn name_of(hash: u64) -> [u8; 8]
+    ensures { result ≡ name_of hash }
+{
+    [
+        character(hash, 137231006679),
+        character(hash, 3518743761),
+        character(hash, 90224199),
+        character(hash, 2313441),
+        character(hash, 59319),
+        character(hash, 1521),
+        character(hash, 39),
+        character(hash, 1),
+    ]
+}
+
+// The name of what stands for the element of this name in a statement of this word.
+fn stand_in_text(word: &[u8], name: &[u8]) -> [u8; 8]
+    ensures { result ≡ stand_in_name word.now name.now }
+{
+    name_of(hash_of(owner_word(word), name))
+}
+
+/// The name of what stands for the element of this name in a statement of this word.
+pub(crate) fn stand_in_name(word: &[u8], name: &[u8]) -> Option<Name>
+    ensures { IfSome result (λ found. found ≡ stand_in_name word.now name.now) }
+{
+    Name::read(stand_in_text(word, name).as_slice())
+}
+
+// A number for the element of this type and name.
+fn key_of(elem_type: ElemType, name: &[u8]) -> u64
+    ensures { result ≡ key_of elem_type name.now }
+{
+    hash_of(type_text(elem_type), name)
+}
+
+/// A number for the element that the statement changes where stand-ins are asked for. All statements that change the
+/// element have it.
+pub(crate) fn element_key(element: &WideElement) -> u64
+    ensures { (type : AnyType) (name : Text)
+        → IsTarget true element.now.word.items element.now.name.items type name → result ≡ key_of type name }
+{
+    let word = element.word.as_slice();
+    let name = element.name.as_slice();
+    match profile_type(word) {
+        Some(elem_type) => key_of(elem_type, name),
+        None => key_of(stand_in(word), stand_in_text(word, name).as_slice()),
+    }
+}
+
+/// The same number for the stand-in of a module.
+pub(crate) fn module_key(assembled: &[u8]) -> u64
+    ensures { result ≡ key_of Mac (module_name assembled.now) }
+{
+    key_of(ElemType::Mac, stand_in_text(b"MOD", assembled).as_slice())
+}

@@ -1,0 +1,164 @@
+//! The texts of elements.
+ghost use Rattle.std.specs.Prelude.{◌<◌, IfOk, IfSome, length};
+ghost use Rattle.terms.specs.Texts.{IsNumbered, IsReplacement};
+
+use intake_read::Card;
+use std::alloc::{AllocError, Global};
+use terms::ElemType;
+use text80::{Line, Numbered};
+
+/// The most records that a text may have.
+pub(crate) const MOST_RECORDS: usize = 99999;
+
+/// The column behind the text of a card.
+const FRONT: usize = 72;
+
+/// How far one number of a text is from the next.
+const STEP: u32 = 100;
+
+/// Whether each byte is one that a record may have.
+pub(crate) fn are_printable(cards: &[Card]) -> bool {
+    cards
+        .iter()
+        .all(|card| card.text.iter().all(|b| (0x20..=0x7e).contains(b)))
+}
+
+/// Whether a card would begin a statement.
+pub(crate) fn begins_statement(cards: &[Card]) -> bool {
+    cards.iter().any(|card| card.text.starts_with(b"++"))
+}
+
+/// The cards as records.
+pub(crate) fn lines_of(alloc: Global, cards: &[Card]) -> Result<Vec<Line>, AllocError> {
+    let mut lines = Vec::with_capacity(alloc, cards.len())?;
+    for card in cards {
+        lines.push(Line::new(card.text))?;
+    }
+    Ok(lines)
+}
+
+// Whether columns 73 to 80 are blank.
+fn has_no_number(card: &Card) -> bool {
+    let (_, number) = card.text.split_at(FRONT);
+    number.iter().all(|b| *b == b' ')
+}
+
+// Whether all columns are blank.
+fn is_empty_card(card: &Card) -> bool {
+    card.text.iter().all(|b| *b == b' ')
+}
+
+/// The cards without the blank ones at their end.
+pub(crate) fn without_blank_cards(cards: &[Card]) -> &[Card] {
+    let mut solid = 0;
+    for (place, card) in cards.iter().enumerate() {
+        if !is_empty_card(card) {
+            solid = place + 1;
+        }
+    }
+    match cards.split_at_checked(solid) {
+        Some((front, _)) => front,
+        None => cards,
+    }
+}
+
+/// The cards without the blank ones at the end of a text that has numbers.
+pub(crate) fn without_blank_end(elem_type: ElemType, cards: &[Card]) -> &[Card] {
+    if !matches!(elem_type, ElemType::Mac | ElemType::Src) || cards.iter().all(has_no_number) {
+        return cards;
+    }
+    without_blank_cards(cards)
+}
+
+/// The first card of a text with numbers that has none of eight digits, or none that is higher than the one before.
+pub(crate) fn first_misnumbered(cards: &[Card]) -> Option<&Card> {
+    let mut before = [b' '; 8];
+    for card in cards {
+        let mut number = [b' '; 8];
+        number.copy_from_slice(&card.text[FRONT..]);
+        if !number.iter().all(|b| b.is_ascii_digit()) || number <= before {
+            return Some(card);
+        }
+        before = number;
+    }
+    None
+}
+
+// The record with this number in columns 73 to 80.
+fn with_number(line: &Line, number: u32) -> Line {
+    let mut bytes = [b' '; 80];
+    bytes.copy_from_slice(line.bytes());
+    let mut rest = number;
+    for place in 0..8 {
+        bytes[79 - place] = b'0' + (rest % 10) as u8;
+        rest /= 10;
+    }
+    Line::new(bytes)
+}
+
+// The records with the numbers 00000100, 00000200 and so on.
+fn renumbered(alloc: Global, lines: &[Line]) -> Result<Vec<Line>, AllocError> {
+    let mut numbered = Vec::with_capacity(alloc, lines.len())?;
+    let mut number = 0u32;
+    for line in lines {
+        number = number.saturating_add(STEP);
+        numbered.push(with_number(line, number))?;
+    }
+    Ok(numbered)
+}
+
+// The records as a numbered text, or nothing where they are none.
+fn numbered_text(lines: Vec<Line>) -> Option<Vec<Line>>
+    ensures { IfSome result (λ text. IsNumbered text.items × (0 < length text.items)) }
+{
+    if lines.is_empty() {
+        return None;
+    }
+    match Numbered::read(lines) {
+        Ok(numbered) => Some(numbered.into_lines()),
+        Err(_) => None,
+    }
+}
+
+/// Whether the cards have no numbers, and get some as the text of an element of the type.
+pub(crate) fn needs_numbers(elem_type: ElemType, cards: &[Card]) -> bool {
+    match elem_type {
+        ElemType::Mac | ElemType::Src => cards.iter().all(has_no_number),
+        ElemType::Clist | ElemType::Data | ElemType::Exec | ElemType::Parm | ElemType::Proc =>
+            false,
+    }
+}
+
+// The cards as records with numbers.
+fn numbered_lines(
+    alloc: Global,
+    elem_type: ElemType,
+    cards: &[Card],
+) -> Result<Vec<Line>, AllocError> {
+    let lines = lines_of(alloc, cards)?;
+    if needs_numbers(elem_type, cards) {
+        renumbered(alloc, lines.as_slice())
+    } else {
+        Ok(lines)
+    }
+}
+
+/// The cards as the text of a replacement, or nothing where they are none.
+pub(crate) fn text_of(
+    alloc: Global,
+    elem_type: ElemType,
+    cards: &[Card],
+) -> Result<Option<Vec<Line>>, AllocError>
+    ensures { IfOk result (λ found. IfSome found (λ lines. IsReplacement elem_type lines.items)) }
+{
+    let lines = numbered_lines(alloc, elem_type, cards)?;
+    if lines.is_empty() {
+        return Ok(None);
+    }
+    match elem_type {
+        ElemType::Mac | ElemType::Src => Ok(numbered_text(lines)),
+        ElemType::Clist | ElemType::Data | ElemType::Exec | ElemType::Parm | ElemType::Proc => {
+            Ok(Some(lines))
+        }
+    }
+}

@@ -1,6 +1,0 @@
-use Rattle.std.proofs.Common.{subst}
-use Rattle.intake_sysmod.specs.Elements.{IsLacked}
-use Rattle.intake_sysmod.proofs.changes.change_of.Goals as goal
-
-pub lacked_change-requires : goal.lacked_change-requires
-lacked_change-requires c = subst IsLacked c.as_slice.ensures.value c.in-None.ensures.none

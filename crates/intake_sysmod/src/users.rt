@@ -1,0 +1,63 @@
+//! Which SYSMODs of the files change an element.
+ghost use Rattle.std.specs.Prelude.{◌≡◌, IfOk, IsTrue, All};
+ghost use Rattle.intake_elements.specs.Elements.{HasNoLevel};
+ghost use Rattle.intake_sysmod.specs.Users.{run_of, IsAlone};
+
+use crate::element_users::{ElementUser, are_only, users_of};
+use intake_elements::{Options, has_level, has_odd_modules, keys_of};
+use intake_read::{WideElement, WideFile, WideSysmod};
+use std::alloc::{AllocError, Global};
+use std::collections::BTreeMap;
+use std::marker::Model;
+
+/// Which SYSMODs of the files change an element. A contract sees it as the SYSMODs of the files.
+#[derive(Drop)]
+pub struct Users<'a> {
+    files: &'a [WideFile],
+    by_key: BTreeMap<u64, ElementUser>,
+}
+
+impl<'a> Model for Users<'a> {
+    ghost use Rattle.std.specs.Prelude.{List};
+    ghost use Rattle.intake_read.specs.declared.items.WideSysmod.{WideSysmod as AnySysmod};
+
+    ghost Value = { List AnySysmod };
+
+    ghost use Rattle.intake_sysmod.specs.Users.{run_of, KnowsRun};
+
+    ghost view = { λ a. run_of a.files.now };
+
+    ghost invariant = { λ a. KnowsRun a.by_key (run_of a.files.now) };
+}
+
+impl<'a> Users<'a> {
+    /// Those of the files. What the options do not ask for is not looked for.
+    pub fn of_files(
+        alloc: Global,
+        options: &Options,
+        files: &'a [WideFile],
+    ) -> Result<Users<'a>, AllocError>
+        ensures { IfOk result (λ users. users ≡ run_of files.now) }
+    {
+        let by_key = users_of(alloc, options, files)?;
+        Ok(Users { files, by_key })
+    }
+
+    /// Whether it is known that no other SYSMOD changes what the statement of this one changes, and no operand of the
+    /// statement decides more.
+    pub(crate) fn is_alone(
+        &self,
+        alloc: Global,
+        stated: &WideSysmod,
+        element: &WideElement,
+    ) -> Result<bool, AllocError>
+        ensures { IfOk result (λ alone. IsTrue alone → All HasNoLevel element.now.operands.items
+            × IsAlone self.now stated.now.id.items element.now) }
+    {
+        if has_level(element) || has_odd_modules(element) {
+            return Ok(false);
+        }
+        let keys = keys_of(alloc, element)?;
+        Ok(are_only(&self.by_key, keys.as_slice(), stated.id.as_slice()))
+    }
+}
