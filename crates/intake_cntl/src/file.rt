@@ -42,16 +42,15 @@ pub fn command_file(
     tell_cards(alloc, &mut told, cards, &wide.cut)?;
     tell_comments(alloc, &mut told, &wide.comments)?;
     let made = records_of(alloc, &mut told, wide.commands.as_slice(), known)?;
-    let bytes = if told.refusals > 0 {
-        None
-    } else {
-        read_back(alloc, made.bytes, wide.commands.as_slice(), known)?
-    };
+    let carried = made.carried;
+    let others = made.others;
+    let refusals = told.refusals;
+    let bytes = read_back(alloc, refusals, made.bytes, wide.commands.as_slice(), known)?;
     Ok(CommandFile {
         bytes,
         remarks: told.remarks,
-        carried: made.carried,
-        others: made.others,
+        carried,
+        others,
     })
 }
 
@@ -247,9 +246,10 @@ fn reason_of(command: &Carried, code: CommandCode) -> RemarkReason {
     }
 }
 
-// The records, if they are read as commands that say just what these ask for.
+// The records, if nothing is refused and they are read as commands that say just what these ask for.
 fn read_back(
     alloc: Global,
+    refusals: usize,
     bytes: Vec<u8>,
     wide: &[WideCommand],
     known: &Option<Vec<KnownSysmod>>,
@@ -257,6 +257,9 @@ fn read_back(
     ensures { IfOk result (λ read. IfSome read (λ bytes. (commands : List terms.Command)
         × IsCommandFile bytes.items commands × AreSaid known.now wide.now commands)) }
 {
+    if refusals > 0 {
+        return Ok(None);
+    }
     let said = match read_cntl(alloc, &bytes) {
         Ok(said) => said,
         Err(CntlError::Memory) => return Err(AllocError),
