@@ -52,10 +52,7 @@ const ASKED: &[(&str, &str)] = &[
         "F:0 TGT1 UA00001 - group HOLDSYSTEM(ACTION),PRE",
     ),
     ("check --srel Z038 --ptfin P", "Z038 P - - -"),
-    (
-        "check --db F --zone TGT1 --ptfin P",
-        "F:0 TGT1 - P - - -",
-    ),
+    ("check --db F --zone TGT1 --ptfin P", "F:0 TGT1 - P - - -"),
     (
         "check --why UA00001 --db F --wait 5 --zone TGT1 --ptfin P --why UA00002 --hold H",
         "F:5 TGT1 UA00001,UA00002 P H - -",
@@ -212,7 +209,10 @@ fn asked(alloc: Global, options: &WhyOptions) -> Result<String, Fail> {
 
 fn checked(alloc: Global, system: &CheckedSystem) -> Result<String, Fail> {
     match system {
-        CheckedSystem::Empty(srel) => Ok(String::from_str(alloc, std::str::from_utf8(srel.as_bytes())?)?),
+        CheckedSystem::Empty(srel) => Ok(String::from_str(
+            alloc,
+            std::str::from_utf8(srel.as_bytes())?,
+        )?),
         CheckedSystem::Copied(copy) => {
             let zone = std::str::from_utf8(copy.zone.as_bytes())?;
             let db = place(alloc, &copy.db)?;
