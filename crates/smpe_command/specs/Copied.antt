@@ -26,7 +26,7 @@ use Rattle.smpe.specs.Going.{JobsGo}
 use Rattle.smpe.specs.ListJob.{two_records}
 use Rattle.smpe_why.specs.Telling.{Inquiry, IsFoundIn}
 use Rattle.smpe_why.specs.declared.found.LoadedZones.{LoadedZones}
-use Rattle.smpe_command.specs.declared.host.Host.{Ghosts as HostGhosts}
+use Rattle.smpe_command.specs.declared.copier.Copier.{Ghosts as CopierGhosts}
 use Rattle.smpe_command.specs.Database.{IsStoreOver}
 use Rattle.smpe_command.specs.ServiceSet.{FailsToMake, IsTriedOn, greatest, receive_records, tried_with}
 use Rattle.smpe_command.specs.Told.{TellsFound}
@@ -84,15 +84,15 @@ module _ {S O : Type 0} (g : Ghosts S) (sink : SinkGhosts O) (zone : Text) where
   TriesOver ids jobs conn out r out' = FailsToMake g conn out r out'
       ⊎ ((begun : Held S) × IsStoreOver g conn begun × TriedOver ids jobs conn begun out r out')
 
-module _ {H D M O : Type 0} (host : HostGhosts H D M) (g : Ghosts M) (sink : SinkGhosts O) (h : H) (copy : SystemCopy)
+module _ {H M O : Type 0} (copier : CopierGhosts H M) (g : Ghosts M) (sink : SinkGhosts O) (h : H) (copy : SystemCopy)
     (out : O) where
   -- The database was copied, and the jobs were tried over the copy; or it was not copied. Nothing else is asked of the
   -- surroundings.
   abbrev pub TriesCopied : List machine.Job → Result ℕ JobError → H → O → Type 0
   TriesCopied jobs r after out' =
-      ((error : Error) × host.refuses h (string_bytes copy.db.name) error after × (r ≡ Err (job_error (told error)))
+      ((error : Error) × copier.uncopied h (string_bytes copy.db.name) error after × (r ≡ Err (job_error (told error)))
       × (out' ≡ out))
-      ⊎ ((conn : Held M) × host.copies h (string_bytes copy.db.name) conn after
+      ⊎ ((conn : Held M) × copier.copies h (string_bytes copy.db.name) conn after
       × TriesOver g sink copy.zone copy.ids.items jobs conn out r out')
 
   -- A service set is tried with the commands that were given, on their date, or with those that apply all of it to the

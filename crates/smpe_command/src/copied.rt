@@ -10,7 +10,7 @@ ghost use Rattle.smpe_command.specs.ServiceSet.{receive_records};
 ghost use Rattle.sqlite.specs.Held.{Held};
 ghost use Rattle.sqlite.specs.declared.error.Error.{Error};
 
-use crate::host::Host;
+use crate::copier::Copier;
 use crate::job_files::JobFiles;
 use crate::questions::told;
 use crate::service_set::greatest_status;
@@ -25,7 +25,7 @@ use store::{Store, StoreError};
 
 /// Tries the set in the copy with its commands, or with those that apply all of it to the zone, and then asks about the
 /// ids.
-pub(crate) fn tried_in_copy<H: Host, O: Sink>(
+pub(crate) fn tried_in_copy<H: Copier, O: Sink>(
     alloc: Global,
     host: &mut H,
     copy: &SystemCopy,
@@ -33,7 +33,7 @@ pub(crate) fn tried_in_copy<H: Host, O: Sink>(
     files: &JobFiles,
     out: &mut O,
 ) -> Result<u8, JobError>
-    ensures { TriesCopy H.Host H.Copied.Store O.Sink host.old copy.now out.old commands.now files.now.cntl.items (record {
+    ensures { TriesCopy H.Copier H.Copied.Store O.Sink host.old copy.now out.old commands.now files.now.cntl.items (record {
       ptfin = files.now.ptfin.items;
       holds = files.now.hold.items;
     }) result host.new out.new }
@@ -79,7 +79,7 @@ fn apply_commands(alloc: Global, zone: ZoneName) -> Result<Vec<u8>, AllocError>
 }
 
 // Copies the database, receives the set there and runs the commands.
-fn tried_with<'a, H: Host, O: Sink>(
+fn tried_with<'a, H: Copier, O: Sink>(
     alloc: Global,
     host: &mut H,
     copy: &SystemCopy,
@@ -90,7 +90,7 @@ fn tried_with<'a, H: Host, O: Sink>(
     out: &mut O,
 ) -> Result<u8, JobError>
     requires { receive.now ≡ receive_records }
-    ensures { TriesCopied H.Host H.Copied.Store O.Sink host.old copy.now out.old (copy_jobs date cntl.now
+    ensures { TriesCopied H.Copier H.Copied.Store O.Sink host.old copy.now out.old (copy_jobs date cntl.now
         (record { ptfin = files.now.ptfin.items; holds = files.now.hold.items })) result host.new out.new }
 {
     let ptfin = files.ptfin.as_slice();
@@ -113,9 +113,9 @@ fn tried_with<'a, H: Host, O: Sink>(
     tried_over(alloc, conn, &jobs, copy.zone, copy.ids.as_slice(), out)
 }
 
-fn copied<H: Host>(host: &mut H, db: &DatabaseFile) -> Result<Connection<H::Copied>, StoreError>
+fn copied<H: Copier>(host: &mut H, db: &DatabaseFile) -> Result<Connection<H::Copied>, StoreError>
     ensures ok { IfOk result (λ conn. H.copies host.old (string_bytes db.now.name) conn host.new) }
-    ensures err { IfErr result (λ why. (error : Error) × H.refuses host.old (string_bytes db.now.name) error host.new
+    ensures err { IfErr result (λ why. (error : Error) × H.uncopied host.old (string_bytes db.now.name) error host.new
         × (why ≡ told error)) }
     ensures mode { IfOk result (λ conn. conn.in_transaction ≡ false) }
 {

@@ -16,9 +16,6 @@ pub trait Host {
     /// The place where a database is kept.
     type Disk: Alter + Drop;
 
-    /// The place where a copy of one is kept, in memory.
-    type Copied: Alter + Drop;
-
     /// The file of this name was read, and has these bytes.
     ghost gives: { Self → List ℕ → List ℕ → Self → Type 0 };
 
@@ -28,10 +25,7 @@ pub trait Host {
     /// The database of this name was opened, or created, and this is the connection to it.
     ghost opens: { Self → List ℕ → Held Self.Disk → Self → Type 0 };
 
-    /// The database of this name was only read, and this is the connection to a copy of it, as it stood.
-    ghost copies: { Self → List ℕ → Held Self.Copied → Self → Type 0 };
-
-    /// The database of this name was not opened or not copied, for this error.
+    /// The database of this name was not opened, for this error.
     ghost refuses: { Self → List ℕ → Error → Self → Type 0 };
 
     /// The connection was closed.
@@ -52,13 +46,6 @@ pub trait Host {
     /// error says why it cannot be used.
     fn open(&mut self, db: &DatabaseFile) -> Result<Connection<Self::Disk>, sqlite::Error>
         ensures ok { IfOk result (λ conn. opens self.old (string_bytes db.now.name) conn self.new) }
-        ensures err { IfErr result (λ error. refuses self.old (string_bytes db.now.name) error self.new) }
-        ensures mode { IfOk result (λ conn. conn.in_transaction ≡ false) };
-
-    /// Copies the database into memory, and changes nothing. If another program is changing it, it may wait until that is
-    /// done, as long as the words say. The error says why it cannot be copied.
-    fn copy(&mut self, db: &DatabaseFile) -> Result<Connection<Self::Copied>, sqlite::Error>
-        ensures ok { IfOk result (λ conn. copies self.old (string_bytes db.now.name) conn self.new) }
         ensures err { IfErr result (λ error. refuses self.old (string_bytes db.now.name) error self.new) }
         ensures mode { IfOk result (λ conn. conn.in_transaction ≡ false) };
 

@@ -10,6 +10,7 @@ mod asked_words;
 mod careful;
 mod checks;
 mod copied;
+mod copier;
 mod database;
 mod host;
 mod job_files;
@@ -18,6 +19,7 @@ mod program;
 mod questions;
 mod service_set;
 
+pub use copier::Copier;
 pub use host::Host;
 pub use program::command;
 pub use smpe::DatabaseFile;

@@ -10,7 +10,7 @@ use crate::copy::{CopyFault, copied};
 use crate::place::{has_other_form, is_missing};
 use crate::related::related_zone;
 use clap::Error as WordsError;
-use smpe_command::{DatabaseFile, Host};
+use smpe_command::{Copier, DatabaseFile, Host};
 use smpe_hints::{ReadFile, RelatedZone};
 use sqlite::{Connection, Error, ErrorCode, FileFrom, FileStore, Wary};
 use sqlite_disk::{Memory, Tally};
@@ -127,7 +127,7 @@ impl ProgramHost<'_> {
     }
 
     // What is said of a database that was not copied.
-    fn uncopied(&mut self, name: &str, fault: CopyFault) -> Error
+    fn not_copied(&mut self, name: &str, fault: CopyFault) -> Error
         ensures { IsTrue (is_open_error result) }
     {
         match fault {
@@ -191,15 +191,11 @@ impl ProgramHost<'_> {
 impl Host for ProgramHost<'_> {
     type Disk = FileStore<FileFrom<Wary>>;
 
-    type Copied = FileStore<Memory>;
-
     ghost gives = { λ _ _ _ _. Unit {0} };
 
     ghost withholds = { λ _ _ _ _. Unit {0} };
 
     ghost opens = { λ _ _ conn _. IsNew conn × IsWary conn × (HasCleanDisk (file_state conn) → IsOpened conn) };
-
-    ghost copies = { λ _ _ conn _. IsNew conn × (HasCleanDisk (file_state conn) → IsOpened conn) };
 
     ghost refuses = { λ _ _ why _. IsTrue (is_open_error why) };
 
@@ -254,26 +250,6 @@ impl Host for ProgramHost<'_> {
         }
     }
 
-    // Nobody is kept from the database meanwhile, and a job that has it open is no hindrance.
-    fn copy(&mut self, db: &DatabaseFile) -> Result<Connection<Self::Copied>, sqlite::Error> {
-        let name = db.name.as_str();
-        if is_missing(self.rt, name) {
-            self.database = Database::Missing(self.name(name));
-            return Err(Error::SqliteFailure(ErrorCode::CannotOpen));
-        }
-        match copied(self.rt, name, db.wait) {
-            Ok(conn) => {
-                self.database = Database::Opened {
-                    name: self.name(name),
-                    is_new: false,
-                    closing: None,
-                };
-                Ok(conn)
-            }
-            Err(fault) => Err(self.uncopied(name, fault)),
-        }
-    }
-
     fn close(&mut self, conn: &mut Option<Connection<Self::Disk>>) {
         if let Some(mut open) = conn.take() {
             if let Some(name) = self.related_name {
@@ -292,5 +268,34 @@ impl Host for ProgramHost<'_> {
 
     fn print(&mut self, error: &WordsError) {
         let _ = self.rt.print(error);
+    }
+}
+
+// The database's file and its log are opened for reading alone, and nobody is kept from them meanwhile. A job that has
+// them open is no hindrance.
+impl Copier for ProgramHost<'_> {
+    type Copied = FileStore<Memory>;
+
+    ghost copies = { λ _ _ conn _. IsNew conn × (HasCleanDisk (file_state conn) → IsOpened conn) };
+
+    ghost uncopied = { λ _ _ why _. IsTrue (is_open_error why) };
+
+    fn copy(&mut self, db: &DatabaseFile) -> Result<Connection<Self::Copied>, sqlite::Error> {
+        let name = db.name.as_str();
+        if is_missing(self.rt, name) {
+            self.database = Database::Missing(self.name(name));
+            return Err(Error::SqliteFailure(ErrorCode::CannotOpen));
+        }
+        match copied(self.rt, name, db.wait) {
+            Ok(conn) => {
+                self.database = Database::Opened {
+                    name: self.name(name),
+                    is_new: false,
+                    closing: None,
+                };
+                Ok(conn)
+            }
+            Err(fault) => Err(self.not_copied(name, fault)),
+        }
     }
 }

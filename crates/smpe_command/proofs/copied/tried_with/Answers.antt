@@ -9,7 +9,7 @@ returns g c =
     let jobs : List _ → List _ → List _ → List machine.Job = λ receive ptfin hold.
     RunFiles c.args.date receive (record { ptfin = ptfin; holds = hold })
     ∷ RunFiles c.args.date c.args.cntl.now (record { ptfin = ptfin; holds = hold }) ∷ [] in
-    let Ran : List machine.Job → Type 0 = λ all. TriesCopied g.H.Host g.H.Copied.Store g.O.Sink c.args.host.now
+    let Ran : List machine.Job → Type 0 = λ all. TriesCopied g.H.Copier g.H.Copied.Store g.O.Sink c.args.host.now
     c.args.copy.now c.args.out.now all c.tried_over.result c.copied.new.host c.tried_over.new.out in
     let ptfin = c.as_slice-ptfin in
     let hold = c.as_slice-hold in
