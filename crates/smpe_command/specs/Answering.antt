@@ -4,6 +4,7 @@ use Rattle.clap.specs.Words.{kind_of}
 use Rattle.clap.specs.declared.error.kind.ErrorKind.{ErrorKind}
 use Rattle.clap.specs.declared.error.kind.ErrorKind.TheVariants.{DisplayHelp, DisplayVersion}
 use Rattle.sqlite.specs.Store.{Ghosts}
+use Rattle.sqlite_disk.specs.declared.Disk as disk
 use Rattle.report.specs.declared.sink.Sink.{Ghosts as SinkGhosts}
 use Rattle.report.specs.Sent.{Sent}
 use Rattle.smpe_invocation.specs.declared.asked.Invocation.{Invocation}
@@ -12,7 +13,6 @@ use Rattle.smpe_invocation.specs.declared.fault.ArgFault.TheVariants.{Clap}
 use Rattle.smpe.specs.declared.messages.Fault.{Fault}
 use Rattle.smpe.specs.declared.messages.Fault.TheVariants.{Arg}
 use Rattle.smpe.specs.Messages.{fault_status, fault_text}
-use Rattle.smpe_command.specs.declared.copier.Copier.{Ghosts as CopierGhosts}
 use Rattle.smpe_command.specs.declared.host.Host.{Ghosts as HostGhosts}
 use Rattle.smpe_command.specs.Asking.{IsAsked, IsUnasked}
 use Rattle.smpe_command.specs.Serving.{Serves}
@@ -54,13 +54,13 @@ module _ {H D E : Type 0} (host : HostGhosts H D) (stderr : SinkGhosts E) where
   Ends h err (Ok code) status after err' = (status ≡ code) × (after ≡ h) × (err' ≡ err)
   Ends h err (Err fault) status after err' = Tells h err fault status after err'
 
-module _ {H D M O E : Type 0} (host : HostGhosts H D) (g : Ghosts D) (copier : CopierGhosts H M) (copied : Ghosts M)
+module _ {H D M O E : Type 0} (host : HostGhosts H D) (g : Ghosts D) (memory : disk.Ghosts M)
     (stdout : SinkGhosts O) (stderr : SinkGhosts E) where
   -- What the words ask for is done, and reported if it failed. Or they ask for a text or have a fault, and nothing is
   -- done.
   abbrev pub Answers : List (List ℕ) → H → O → E → ℕ → H → O → E → Type 0
   Answers words h out err status after out' err' =
       ((asked : Invocation) × IsAsked words asked × (m : H) × (r : Result ℕ Fault)
-      × Serves host g copier copied stdout h asked out r m out' × Ends host stderr m err r status after err')
+      × Serves host g memory stdout h asked out r m out' × Ends host stderr m err r status after err')
       ⊎ ((fault : ArgFault) × IsUnasked words fault × TellsWords host stderr h err fault status after err'
       × (out' ≡ out))

@@ -2,6 +2,7 @@
 use Rattle.std.specs.Prelude.{◌≡◌, ◌⊎◌, ℕ, Bool, List, [], ◌∷◌, Option, Some, None, option_map, Result, Ok, Err}
 use Rattle.std.specs.String.{string_bytes}
 use Rattle.sqlite.specs.Store.{Ghosts}
+use Rattle.sqlite_disk.specs.declared.Disk as disk
 use Rattle.terms.specs.CommandForms.{no_bypass}
 use Rattle.terms.specs.Types.{Text, Bypass}
 use Rattle.machine.specs.State.{ZoneDefinition}
@@ -30,7 +31,6 @@ use Rattle.smpe_why.specs.BypassText.{IsBypassOf}
 use Rattle.smpe_why.specs.Telling.{Inquiry}
 use Rattle.smpe_why.specs.declared.found.LoadedZones.{LoadedZones}
 use Rattle.smpe_verify.specs.declared.verification.Verification.{Verification}
-use Rattle.smpe_command.specs.declared.copier.Copier.{Ghosts as CopierGhosts}
 use Rattle.smpe_command.specs.declared.host.Host.{Ghosts as HostGhosts}
 use Rattle.smpe_command.specs.Careful.{LooksIf}
 use Rattle.smpe_command.specs.Copied.{TriesCopy}
@@ -114,7 +114,7 @@ ServesRun host g sink h db out careful date names r after out' =
     ⊎ ((m : _) × (cntl ptfin hold : List ℕ) × ReadsAll host h names (Ok (cntl ∷ ptfin ∷ hold ∷ [])) m
     × RunsIf host g sink m db out careful date cntl (record { ptfin = ptfin; holds = hold }) r after out')
 
-module _ {H D M O : Type 0} (host : HostGhosts H D) (copier : CopierGhosts H M) (copied : Ghosts M)
+module _ {H D M O : Type 0} (host : HostGhosts H D) (memory : disk.Ghosts M)
     (sink : SinkGhosts O) where
   -- A service set is checked in an empty system, for which nothing is asked of the surroundings, or in a copy of a
   -- database.
@@ -122,7 +122,7 @@ module _ {H D M O : Type 0} (host : HostGhosts H D) (copier : CopierGhosts H M) 
   ChecksIn (Empty srel) h out commands cntl files r after out' =
       ChecksSet sink out srel commands cntl files r out' × (after ≡ h)
   ChecksIn (Copied copy) h out commands cntl files r after out' =
-      TriesCopy copier copied sink h copy out commands cntl files r after out'
+      TriesCopy host memory sink h copy out commands cntl files r after out'
 
   -- The set's files are read, or the first that cannot be read is reported, and nothing else is done.
   abbrev pub ServesCheck : H → O → CheckedSystem → ServiceSet → Result ℕ Fault → H → O → Type 0
@@ -135,7 +135,7 @@ module _ {H D M O : Type 0} (host : HostGhosts H D) (copier : CopierGhosts H M) 
       × ChecksIn system m out set.commands cntl (record { ptfin = sysmods; holds = holds }) status after out'
       × (r ≡ job_told status))
 
-module _ {H D M O : Type 0} (host : HostGhosts H D) (g : Ghosts D) (copier : CopierGhosts H M) (copied : Ghosts M)
+module _ {H D M O : Type 0} (host : HostGhosts H D) (g : Ghosts D) (memory : disk.Ghosts M)
     (sink : SinkGhosts O) where
   abbrev pub Serves : H → Invocation → O → Result ℕ Fault → H → O → Type 0
   Serves h (Zone db name kind srel related) out r after out' = (told : Result ℕ JobError)
@@ -147,7 +147,7 @@ module _ {H D M O : Type 0} (host : HostGhosts H D) (g : Ghosts D) (copier : Cop
   Serves h (ListOf db zone) out r after out' = ServesList host g sink h (string_bytes db.name) out zone r after out'
   Serves h (Why db zone ids options) out r after out' =
       ServesWhy host g sink h (string_bytes db.name) out zone ids.items options r after out'
-  Serves h (Check system set) out r after out' = ServesCheck host copier copied sink h out system set r after out'
+  Serves h (Check system set) out r after out' = ServesCheck host memory sink h out system set r after out'
   Serves h (Migrate db) out r after out' = (told : Result ℕ JobError)
       × ServesMigrate host g sink h (string_bytes db.name) out told after out' × (r ≡ job_told told)
   Serves h (Verify db) out r after out' = (told : Result ℕ JobError)

@@ -2,7 +2,6 @@
 ghost use Rattle.smpe_command.specs.Serving.{ChecksIn, ServesCheck};
 
 use crate::copied::tried_in_copy;
-use crate::copier::Copier;
 use crate::host::Host;
 use crate::job_files::{JobFiles, read_files};
 use crate::jobs::job_told;
@@ -10,17 +9,18 @@ use crate::service_set::{greatest_status, tried};
 use report::Sink;
 use smpe::{CommandJob, Fault, JobError};
 use smpe_invocation::{CheckedSystem, ServiceSet};
+use sqlite_disk::{Disk, Memory};
 use std::alloc::Global;
 
 /// Checks the set. Its files are read before anything is made or copied.
-pub(crate) fn check<'a, H: Host + Copier, O: Sink>(
+pub(crate) fn check<'a, H: Host, O: Sink>(
     alloc: Global,
     host: &mut H,
     system: &CheckedSystem,
     set: &'a ServiceSet,
     out: &mut O,
 ) -> Result<u8, Fault<'a>>
-    ensures { ServesCheck H.Host H.Copier H.Copied.Store O.Sink host.old out.old system.now set.entry.now result host.new
+    ensures { ServesCheck H.Host ⟦<Memory as Disk>⟧ O.Sink host.old out.old system.now set.entry.now result host.new
         out.new }
 {
     let cntl = set.commands.as_ref().map(|commands| commands.cntl.as_str());
@@ -29,7 +29,7 @@ pub(crate) fn check<'a, H: Host + Copier, O: Sink>(
     job_told(checked(alloc, host, system, &set.commands, &files, out))
 }
 
-fn checked<H: Host + Copier, O: Sink>(
+fn checked<H: Host, O: Sink>(
     alloc: Global,
     host: &mut H,
     system: &CheckedSystem,
@@ -37,7 +37,7 @@ fn checked<H: Host + Copier, O: Sink>(
     files: &JobFiles,
     out: &mut O,
 ) -> Result<u8, JobError>
-    ensures { ChecksIn H.Host H.Copier H.Copied.Store O.Sink system.now host.old out.old commands.now files.now.cntl.items
+    ensures { ChecksIn H.Host ⟦<Memory as Disk>⟧ O.Sink system.now host.old out.old commands.now files.now.cntl.items
         (record { ptfin = files.now.ptfin.items; holds = files.now.hold.items }) result host.new out.new }
 {
     match system {

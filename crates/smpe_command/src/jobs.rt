@@ -11,7 +11,6 @@ ghost use Rattle.smpe_command.specs.Serving.{job_told, status_told};
 
 use crate::careful::looked;
 use crate::checks::check;
-use crate::copier::Copier;
 use crate::database::{job_over, migrate_over, verified_over};
 use crate::host::Host;
 use crate::job_files::{JobFiles, read_files};
@@ -22,17 +21,18 @@ use smpe::{
     DatabaseFile, Fault, Invocation, Job, JobError, list_commands, migrated_line, status_of,
     zone_line,
 };
+use sqlite_disk::{Disk, Memory};
 use std::alloc::Global;
 use terms::ZoneKind;
 
 /// Does what the words ask for, and returns the status.
-pub(crate) fn served<'a, H: Host + Copier, O: Sink>(
+pub(crate) fn served<'a, H: Host, O: Sink>(
     alloc: Global,
     host: &mut H,
     asked: &'a Invocation,
     out: &mut O,
 ) -> Result<u8, Fault<'a>>
-    ensures { Serves H.Host H.Disk.Store H.Copier H.Copied.Store O.Sink host.old asked.entry.now out.old result host.new
+    ensures { Serves H.Host H.Disk.Store ⟦<Memory as Disk>⟧ O.Sink host.old asked.entry.now out.old result host.new
         out.new }
 {
     match asked {

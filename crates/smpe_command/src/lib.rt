@@ -10,16 +10,15 @@ mod asked_words;
 mod careful;
 mod checks;
 mod copied;
-mod copier;
 mod database;
 mod host;
 mod job_files;
 mod jobs;
+mod memory_files;
 mod program;
 mod questions;
 mod service_set;
 
-pub use copier::Copier;
-pub use host::Host;
+pub use host::{DatabaseBytes, Host};
 pub use program::command;
 pub use smpe::DatabaseFile;
