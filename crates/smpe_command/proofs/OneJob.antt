@@ -78,7 +78,7 @@ module _ {V W : Type 0} (f : V → List machine.Answer) (k : W → List machine.
         let first : e ≡ d = subst (λ (r : Result V JobError). IfErr r (λ x. x ≡ d)) is refl in
         ap (λ x. Err x) (sym same ∙ sym first)
 
-    pub over_as : {H M : Type 0} (host : HostGhosts H S M) (h after : H) (db : Text) (r : Result V JobError)
+    pub over_as : {H : Type 0} (host : HostGhosts H S) (h after : H) (db : Text) (r : Result V JobError)
         (q : Result W JobError) → Alike r q → JobsOver host g sink h db jobs out f r after out'
         → JobsOver host g sink h db jobs out k q after out'
     over_as host h after db r q same (inl (why, fails, is, out_is)) =

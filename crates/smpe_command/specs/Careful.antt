@@ -31,7 +31,7 @@ abbrev pub IsFirstUndefined : List Text → List Text → Text → Type 0
 IsFirstUndefined names zones zone = (before after : List Text) × (zones ≡ before ++ zone ∷ after)
     × All (IsDefined names) before × ¬ IsDefined names zone
 
-module _ {H D M : Type 0} (host : HostGhosts H D M) (g : Ghosts D) (h : H) (db : Text) (cntl : List ℕ) where
+module _ {H D : Type 0} (host : HostGhosts H D) (g : Ghosts D) (h : H) (db : Text) (cntl : List ℕ) where
   -- These commands are the file's, and the names of all zones were loaded.
   abbrev pub LooksAt : List Command → List Text → H → Type 0
   LooksAt commands names after = IsCommandFile cntl commands × (commands ≢ [])

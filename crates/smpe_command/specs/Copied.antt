@@ -1,9 +1,14 @@
 -- What a service set would do in a copy of a database.
-use Rattle.std.specs.Prelude.{◌≡◌, ◌⊎◌, ℕ, false, max, List, [], ◌∷◌, ◌++◌, Option, Result, Ok, Err, codes}
+use Rattle.std.specs.Prelude.{◌≡◌, ◌⊎◌, ℕ, false, max, List, [], ◌∷◌, ◌++◌, Option, Result, Ok, Err, IsTrue, codes}
 use Rattle.std.specs.String.{string_bytes}
 use Rattle.sqlite.specs.declared.error.Error.{Error}
 use Rattle.sqlite.specs.Store.{Ghosts}
-use Rattle.sqlite.specs.Held.{Held, state}
+use Rattle.sqlite.specs.Files.{file_state, over_files, IsOpened}
+use Rattle.sqlite.specs.Opening.{is_open_error}
+use Rattle.sqlite.specs.Start.{FindsIn}
+use Rattle.sqlite_disk.specs.declared.Disk as disk
+use Rattle.sqlite_store.specs.declared.store.FileStore.{FileStore}
+use Rattle.sqlite.specs.Held.{Held, state, IsNew}
 use Rattle.sqlite.specs.State.{HasCleanDisk}
 use Rattle.terms.specs.CommandForms.{no_bypass}
 use Rattle.terms.specs.Types.{Text}
@@ -84,16 +89,29 @@ module _ {S O : Type 0} (g : Ghosts S) (sink : SinkGhosts O) (zone : Text) where
   TriesOver ids jobs conn out r out' = FailsToMake g conn out r out'
       ⊎ ((begun : Held S) × IsStoreOver g conn begun × TriedOver ids jobs conn begun out r out')
 
-module _ {H D M O : Type 0} (host : HostGhosts H D M) (g : Ghosts M) (sink : SinkGhosts O) (h : H) (copy : SystemCopy)
-    (out : O) where
-  -- The database was copied, and the jobs were tried over the copy; or it was not copied. Nothing else is asked of the
-  -- surroundings.
+-- The connection shows what files with these bytes hold: a database's file, and its log. They lie in memory.
+pub record IsCopy {M : Type 0} {m : disk.Ghosts M} (db log : List ℕ) (conn : Held (FileStore M m)) : Type 0 where
+  pub fresh : IsNew conn
+  pub opened : HasCleanDisk (file_state conn) → IsOpened conn
+  pub found : HasCleanDisk (file_state conn) → FindsIn (record { log = log; db = db }) (file_state conn)
+
+-- The jobs were tried over such a copy, or the copy was not opened, and nothing was printed.
+abbrev pub TriesBytes : {M O : Type 0} → disk.Ghosts M → SinkGhosts O → Text → List Text → List ℕ → List ℕ
+    → List machine.Job → O → Result ℕ JobError → O → Type 0
+TriesBytes {M} memory sink zone ids db log jobs out r out' =
+    ((error : Error) × IsTrue (is_open_error error) × (r ≡ Err (job_error (told error))) × (out' ≡ out))
+    ⊎ ((conn : Held (FileStore M memory)) × IsCopy db log conn × TriesOver over_files sink zone ids jobs conn out r out')
+
+module _ {H D M O : Type 0} (host : HostGhosts H D) (memory : disk.Ghosts M) (sink : SinkGhosts O) (h : H)
+    (copy : SystemCopy) (out : O) where
+  -- The files of the database were read, and the jobs were tried over a copy; or they were not read. Nothing else is
+  -- asked of the surroundings.
   abbrev pub TriesCopied : List machine.Job → Result ℕ JobError → H → O → Type 0
   TriesCopied jobs r after out' =
       ((error : Error) × host.refuses h (string_bytes copy.db.name) error after × (r ≡ Err (job_error (told error)))
       × (out' ≡ out))
-      ⊎ ((conn : Held M) × host.copies h (string_bytes copy.db.name) conn after
-      × TriesOver g sink copy.zone copy.ids.items jobs conn out r out')
+      ⊎ ((db log : List ℕ) × host.holds h (string_bytes copy.db.name) db log after
+      × TriesBytes memory sink copy.zone copy.ids.items db log jobs out r out')
 
   -- A service set is tried with the commands that were given, on their date, or with those that apply all of it to the
   -- zone, on any date. Or memory ran out for the commands, and the database was not looked at.

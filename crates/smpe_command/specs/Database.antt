@@ -42,7 +42,7 @@ pub record IsStoreOver {S : Type 0} (g : Ghosts S) (conn store : Held S) : Type 
   pub same : HasCleanDisk (state g store) → ¬ IsBlank (state g conn).now → IsUnchanged (state g conn) (state g store)
   pub crash : Survives (state g conn) (state g store) (IsSetUp (state g conn).now)
 
-module _ {H D M : Type 0} (host : HostGhosts H D M) (g : Ghosts D) where
+module _ {H D : Type 0} (host : HostGhosts H D) (g : Ghosts D) where
   -- The database could not be made the store's, for this reason, and was closed. It was left in this way: what was last
   -- committed is as before, and a crash leaves that, or the tables that were created in a database that had none.
   pub record Unready (opened : H) (conn : Held D) (why : StoreError) (after : H) : Type 0 where

@@ -15,7 +15,7 @@ TellsRead name error (Job Memory) = error_kind error ≡ OutOfMemory
 TellsRead name error (CannotRead told) = (error_kind error ≢ OutOfMemory) × (told.now ≡ name)
 TellsRead name error _ = ⊥
 
-module _ {H D M : Type 0} (host : Ghosts H D M) where
+module _ {H D : Type 0} (host : Ghosts H D) where
   -- The file of this name has these bytes, or is not read. An option that is left out counts as an empty file.
   abbrev pub Reads : H → Option Text → Result (List ℕ) Fault → H → Type 0
   Reads h None (Ok bytes) after = (bytes ≡ []) × (after ≡ h)

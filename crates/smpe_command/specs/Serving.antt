@@ -2,6 +2,7 @@
 use Rattle.std.specs.Prelude.{◌≡◌, ◌⊎◌, ℕ, Bool, List, [], ◌∷◌, Option, Some, None, option_map, Result, Ok, Err}
 use Rattle.std.specs.String.{string_bytes}
 use Rattle.sqlite.specs.Store.{Ghosts}
+use Rattle.sqlite_disk.specs.declared.Disk as disk
 use Rattle.terms.specs.CommandForms.{no_bypass}
 use Rattle.terms.specs.Types.{Text, Bypass}
 use Rattle.machine.specs.State.{ZoneDefinition}
@@ -61,66 +62,67 @@ abbrev pub job_told : Result ℕ JobError → Result ℕ Fault
 job_told (Ok status) = Ok status
 job_told (Err error) = Err (Job error)
 
-module _ {H D M O : Type 0} (host : HostGhosts H D M) (g : Ghosts D) (sink : SinkGhosts O) (h : H) (db : Text)
-    (out : O) where
-  -- A zone is defined by a job of its own, which prints nothing, and its line is printed.
-  abbrev pub ServesZone : ZoneDefinition → Result ℕ JobError → H → O → Type 0
-  ServesZone d r after out' = (answer : Result Answer JobError) × (m : O)
-      × JobOver host g sink h db (NewZone d) out answer after m × TellsZone sink m out' d.name answer r
+module _ {H D O : Type 0} (host : HostGhosts H D) (g : Ghosts D) (sink : SinkGhosts O) (h : H) (db : Text) (out : O)
+  where
+    -- A zone is defined by a job of its own, which prints nothing, and its line is printed.
+    abbrev pub ServesZone : ZoneDefinition → Result ℕ JobError → H → O → Type 0
+    ServesZone d r after out' = (answer : Result Answer JobError) × (m : O)
+        × JobOver host g sink h db (NewZone d) out answer after m × TellsZone sink m out' d.name answer r
 
-  -- A careful job runs, or is refused and nothing runs. Another one runs.
-  abbrev pub RunsIf : Bool → Text → List ℕ → Files → Result ℕ Fault → H → O → Type 0
-  RunsIf careful date cntl files r after out' =
-      ((fault : Fault) × LooksIf host g h db cntl careful (Err fault) after × (r ≡ Err fault) × (out' ≡ out))
-      ⊎ ((m : H) × LooksIf host g h db cntl careful (Ok tt) m × (answer : Result Answer JobError)
-      × JobOver host g sink m db (RunFiles date cntl files) out answer after out' × (r ≡ status_told answer))
+    -- A careful job runs, or is refused and nothing runs. Another one runs.
+    abbrev pub RunsIf : Bool → Text → List ℕ → Files → Result ℕ Fault → H → O → Type 0
+    RunsIf careful date cntl files r after out' =
+        ((fault : Fault) × LooksIf host g h db cntl careful (Err fault) after × (r ≡ Err fault) × (out' ≡ out))
+        ⊎ ((m : H) × LooksIf host g h db cntl careful (Ok tt) m × (answer : Result Answer JobError)
+        × JobOver host g sink m db (RunFiles date cntl files) out answer after out' × (r ≡ status_told answer))
 
-  -- A listing is the job of its two commands, on any date, or memory ran out for these.
-  abbrev pub ServesList : Text → Result ℕ Fault → H → O → Type 0
-  ServesList zone r after out' = ((r ≡ Err (Job Memory)) × (after ≡ h) × (out' ≡ out))
-      ⊎ ((date : Text) × (answer : Result Answer JobError) × JobOver host g sink h db
-      (RunFiles date (list_records zone) (record { ptfin = []; holds = [] })) out answer after out'
-      × (r ≡ status_told answer))
+    -- A listing is the job of its two commands, on any date, or memory ran out for these.
+    abbrev pub ServesList : Text → Result ℕ Fault → H → O → Type 0
+    ServesList zone r after out' = ((r ≡ Err (Job Memory)) × (after ≡ h) × (out' ≡ out))
+        ⊎ ((date : Text) × (answer : Result Answer JobError) × JobOver host g sink h db
+        (RunFiles date (list_records zone) (record { ptfin = []; holds = [] })) out answer after out'
+        × (r ≡ status_told answer))
 
-  -- The zone is looked for, and what is asked of it is told.
-  abbrev pub AsksZone : Text → Inquiry → Result ℕ JobError → H → O → Type 0
-  AsksZone zone q r after out' = (found : Result LoadedZones StoreError) × FoundOver host g h db zone found after
-      × TellsFound sink out out' q found r
+    -- The zone is looked for, and what is asked of it is told.
+    abbrev pub AsksZone : Text → Inquiry → Result ℕ JobError → H → O → Type 0
+    AsksZone zone q r after out' = (found : Result LoadedZones StoreError) × FoundOver host g h db zone found after
+        × TellsFound sink out out' q found r
 
-  -- The ids are asked about, with the BYPASS of the words. If ACCEPT does not take its list, that is a bad operand;
-  -- or memory ran out for it. Then the database is not looked at.
-  abbrev pub ServesWhy : Text → List Text → WhyOptions → Result ℕ Fault → H → O → Type 0
-  ServesWhy zone ids options r after out' =
-      ((r ≡ Err (Job Memory)) × (after ≡ h) × (out' ≡ out))
-      ⊎ ((IsGiven options None × (r ≡ Err (Arg BadOperand)) × (after ≡ h) × (out' ≡ out))
-      ⊎ ((bypass : Bypass) × IsGiven options (Some bypass) × (told : Result ℕ JobError)
-      × AsksZone zone (inquiry ids options bypass) told after out' × (r ≡ job_told told)))
+    -- The ids are asked about, with the BYPASS of the words. If ACCEPT does not take its list, that is a bad operand;
+    -- or memory ran out for it. Then the database is not looked at.
+    abbrev pub ServesWhy : Text → List Text → WhyOptions → Result ℕ Fault → H → O → Type 0
+    ServesWhy zone ids options r after out' =
+        ((r ≡ Err (Job Memory)) × (after ≡ h) × (out' ≡ out))
+        ⊎ ((IsGiven options None × (r ≡ Err (Arg BadOperand)) × (after ≡ h) × (out' ≡ out))
+        ⊎ ((bypass : Bypass) × IsGiven options (Some bypass) × (told : Result ℕ JobError)
+        × AsksZone zone (inquiry ids options bypass) told after out' × (r ≡ job_told told)))
 
-  -- All zones are looked at, and it is told whether they are closed.
-  abbrev pub ServesVerify : Result ℕ JobError → H → O → Type 0
-  ServesVerify r after out' = (found : Result Verification StoreError) × VerifiedOver host g h db found after
-      × TellsVerified sink out out' found r
+    -- All zones are looked at, and it is told whether they are closed.
+    abbrev pub ServesVerify : Result ℕ JobError → H → O → Type 0
+    ServesVerify r after out' = (found : Result Verification StoreError) × VerifiedOver host g h db found after
+        × TellsVerified sink out out' found r
 
-  abbrev pub ServesMigrate : Result ℕ JobError → H → O → Type 0
-  ServesMigrate r after out' = (done : Result (Unit {0}) StoreError) × MigratesOver host g h db done after
-      × TellsMigrated sink out out' done r
+    abbrev pub ServesMigrate : Result ℕ JobError → H → O → Type 0
+    ServesMigrate r after out' = (done : Result (Unit {0}) StoreError) × MigratesOver host g h db done after
+        × TellsMigrated sink out out' done r
 
 -- The files of a job are read in this order, or the first that cannot be read is reported, and nothing else is done.
-abbrev pub ServesRun : {H D M O : Type 0} → HostGhosts H D M → Ghosts D → SinkGhosts O → H → Text → O → Bool → Text
+abbrev pub ServesRun : {H D O : Type 0} → HostGhosts H D → Ghosts D → SinkGhosts O → H → Text → O → Bool → Text
     → List (Option Text) → Result ℕ Fault → H → O → Type 0
 ServesRun host g sink h db out careful date names r after out' =
     ((fault : Fault) × ReadsAll host h names (Err fault) after × (r ≡ Err fault) × (out' ≡ out))
     ⊎ ((m : _) × (cntl ptfin hold : List ℕ) × ReadsAll host h names (Ok (cntl ∷ ptfin ∷ hold ∷ [])) m
     × RunsIf host g sink m db out careful date cntl (record { ptfin = ptfin; holds = hold }) r after out')
 
-module _ {H D M O : Type 0} (host : HostGhosts H D M) (copied : Ghosts M) (sink : SinkGhosts O) where
+module _ {H D M O : Type 0} (host : HostGhosts H D) (memory : disk.Ghosts M)
+    (sink : SinkGhosts O) where
   -- A service set is checked in an empty system, for which nothing is asked of the surroundings, or in a copy of a
   -- database.
   abbrev pub ChecksIn : CheckedSystem → H → O → Option CommandJob → List ℕ → Files → Result ℕ JobError → H → O → Type 0
   ChecksIn (Empty srel) h out commands cntl files r after out' =
       ChecksSet sink out srel commands cntl files r out' × (after ≡ h)
   ChecksIn (Copied copy) h out commands cntl files r after out' =
-      TriesCopy host copied sink h copy out commands cntl files r after out'
+      TriesCopy host memory sink h copy out commands cntl files r after out'
 
   -- The set's files are read, or the first that cannot be read is reported, and nothing else is done.
   abbrev pub ServesCheck : H → O → CheckedSystem → ServiceSet → Result ℕ Fault → H → O → Type 0
@@ -133,7 +135,8 @@ module _ {H D M O : Type 0} (host : HostGhosts H D M) (copied : Ghosts M) (sink 
       × ChecksIn system m out set.commands cntl (record { ptfin = sysmods; holds = holds }) status after out'
       × (r ≡ job_told status))
 
-module _ {H D M O : Type 0} (host : HostGhosts H D M) (g : Ghosts D) (copied : Ghosts M) (sink : SinkGhosts O) where
+module _ {H D M O : Type 0} (host : HostGhosts H D) (g : Ghosts D) (memory : disk.Ghosts M)
+    (sink : SinkGhosts O) where
   abbrev pub Serves : H → Invocation → O → Result ℕ Fault → H → O → Type 0
   Serves h (Zone db name kind srel related) out r after out' = (told : Result ℕ JobError)
       × ServesZone host g sink h (string_bytes db.name) out (definition name kind srel related) told after out'
@@ -144,7 +147,7 @@ module _ {H D M O : Type 0} (host : HostGhosts H D M) (g : Ghosts D) (copied : G
   Serves h (ListOf db zone) out r after out' = ServesList host g sink h (string_bytes db.name) out zone r after out'
   Serves h (Why db zone ids options) out r after out' =
       ServesWhy host g sink h (string_bytes db.name) out zone ids.items options r after out'
-  Serves h (Check system set) out r after out' = ServesCheck host copied sink h out system set r after out'
+  Serves h (Check system set) out r after out' = ServesCheck host memory sink h out system set r after out'
   Serves h (Migrate db) out r after out' = (told : Result ℕ JobError)
       × ServesMigrate host g sink h (string_bytes db.name) out told after out' × (r ≡ job_told told)
   Serves h (Verify db) out r after out' = (told : Result ℕ JobError)

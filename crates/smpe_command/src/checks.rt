@@ -9,6 +9,7 @@ use crate::service_set::{greatest_status, tried};
 use report::Sink;
 use smpe::{CommandJob, Fault, JobError};
 use smpe_invocation::{CheckedSystem, ServiceSet};
+use sqlite_disk::{Disk, Memory};
 use std::alloc::Global;
 
 /// Checks the set. Its files are read before anything is made or copied.
@@ -19,7 +20,7 @@ pub(crate) fn check<'a, H: Host, O: Sink>(
     set: &'a ServiceSet,
     out: &mut O,
 ) -> Result<u8, Fault<'a>>
-    ensures { ServesCheck H.Host H.Copied.Store O.Sink host.old out.old system.now set.entry.now result host.new
+    ensures { ServesCheck H.Host ⟦<Memory as Disk>⟧ O.Sink host.old out.old system.now set.entry.now result host.new
         out.new }
 {
     let cntl = set.commands.as_ref().map(|commands| commands.cntl.as_str());
@@ -36,7 +37,7 @@ fn checked<H: Host, O: Sink>(
     files: &JobFiles,
     out: &mut O,
 ) -> Result<u8, JobError>
-    ensures { ChecksIn H.Host H.Copied.Store O.Sink system.now host.old out.old commands.now files.now.cntl.items
+    ensures { ChecksIn H.Host ⟦<Memory as Disk>⟧ O.Sink system.now host.old out.old commands.now files.now.cntl.items
         (record { ptfin = files.now.ptfin.items; holds = files.now.hold.items }) result host.new out.new }
 {
     match system {

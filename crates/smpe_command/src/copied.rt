@@ -3,15 +3,16 @@ ghost use Rattle.std.specs.Prelude.{◌≡◌, map, false, IfOk, IfErr};
 ghost use Rattle.std.specs.String.{string_bytes};
 ghost use Rattle.store_schema.specs.Known.{told};
 ghost use Rattle.smpe.specs.Ending.{job_of};
-ghost use Rattle.smpe_command.specs.Copied.{AsksIfAny, AsksStore, TriedOver, TriesCopied, TriesCopy, TriesOver};
-ghost use Rattle.smpe_command.specs.Copied.{apply_to, copy_jobs};
+ghost use Rattle.smpe_command.specs.Copied.{AsksIfAny, AsksStore, TriedOver, TriesBytes, TriesCopied, TriesCopy};
+ghost use Rattle.smpe_command.specs.Copied.{TriesOver, apply_to, copy_jobs};
 ghost use Rattle.smpe_command.specs.Database.{IsStoreOver};
 ghost use Rattle.smpe_command.specs.ServiceSet.{receive_records};
 ghost use Rattle.sqlite.specs.Held.{Held};
 ghost use Rattle.sqlite.specs.declared.error.Error.{Error};
 
-use crate::host::Host;
+use crate::host::{DatabaseBytes, Host};
 use crate::job_files::JobFiles;
+use crate::memory_files::connected;
 use crate::questions::told;
 use crate::service_set::greatest_status;
 use fields::{Bypass, Id, YyDdd, ZoneName};
@@ -20,6 +21,7 @@ use smpe::{CommandJob, DatabaseFile, Job, JobError, run_jobs, two_commands};
 use smpe_invocation::SystemCopy;
 use smpe_why::{Question, find};
 use sqlite::{Alter, Connection};
+use sqlite_disk::{Disk, Memory};
 use std::alloc::{AllocError, Global};
 use store::{Store, StoreError};
 
@@ -33,7 +35,7 @@ pub(crate) fn tried_in_copy<H: Host, O: Sink>(
     files: &JobFiles,
     out: &mut O,
 ) -> Result<u8, JobError>
-    ensures { TriesCopy H.Host H.Copied.Store O.Sink host.old copy.now out.old commands.now files.now.cntl.items (record {
+    ensures { TriesCopy H.Host ⟦<Memory as Disk>⟧ O.Sink host.old copy.now out.old commands.now files.now.cntl.items (record {
       ptfin = files.now.ptfin.items;
       holds = files.now.hold.items;
     }) result host.new out.new }
@@ -90,7 +92,7 @@ fn tried_with<'a, H: Host, O: Sink>(
     out: &mut O,
 ) -> Result<u8, JobError>
     requires { receive.now ≡ receive_records }
-    ensures { TriesCopied H.Host H.Copied.Store O.Sink host.old copy.now out.old (copy_jobs date cntl.now
+    ensures { TriesCopied H.Host ⟦<Memory as Disk>⟧ O.Sink host.old copy.now out.old (copy_jobs date cntl.now
         (record { ptfin = files.now.ptfin.items; holds = files.now.hold.items })) result host.new out.new }
 {
     let ptfin = files.ptfin.as_slice();
@@ -109,17 +111,33 @@ fn tried_with<'a, H: Host, O: Sink>(
             hold,
         },
     ];
-    let conn = copied(host, &copy.db)?;
-    tried_over(alloc, conn, &jobs, copy.zone, copy.ids.as_slice(), out)
+    let bytes = database_bytes(host, &copy.db)?;
+    tried_over_bytes(alloc, &bytes, &jobs, copy.zone, copy.ids.as_slice(), out)
 }
 
-fn copied<H: Host>(host: &mut H, db: &DatabaseFile) -> Result<Connection<H::Copied>, StoreError>
-    ensures ok { IfOk result (λ conn. H.copies host.old (string_bytes db.now.name) conn host.new) }
+fn database_bytes<H: Host>(host: &mut H, db: &DatabaseFile) -> Result<DatabaseBytes, StoreError>
+    ensures ok { IfOk result (λ bytes. H.holds host.old (string_bytes db.now.name) bytes.db.items bytes.log.items
+        host.new) }
     ensures err { IfErr result (λ why. (error : Error) × H.refuses host.old (string_bytes db.now.name) error host.new
         × (why ≡ told error)) }
-    ensures mode { IfOk result (λ conn. conn.in_transaction ≡ false) }
 {
-    Ok(host.copy(db)?)
+    Ok(host.read_database(db)?)
+}
+
+// Tries the jobs over files in memory that have these bytes.
+fn tried_over_bytes<O: Sink>(
+    alloc: Global,
+    bytes: &DatabaseBytes,
+    jobs: &[Job<'_>],
+    zone: ZoneName,
+    ids: &[Id],
+    out: &mut O,
+) -> Result<u8, JobError>
+    ensures { TriesBytes ⟦<Memory as Disk>⟧ O.Sink zone ids.now bytes.now.db.items bytes.now.log.items
+        (map job_of jobs.now) out.old result out.new }
+{
+    let conn = connected(alloc, bytes.db.as_slice(), bytes.log.as_slice())?;
+    tried_over(alloc, conn, jobs, zone, ids, out)
 }
 
 // Runs the jobs over a connection that is dropped afterwards, and asks about the ids.

@@ -10,14 +10,18 @@ use smpe::DatabaseFile;
 use sqlite::{Alter, Connection};
 use std::io;
 
+/// The bytes of a database's file and of its log.
+#[derive(Drop)]
+pub struct DatabaseBytes {
+    pub db: Vec<u8>,
+    pub log: Vec<u8>,
+}
+
 /// The surroundings of the program. Each ghost member relates them before a call, what was asked and answered, and them
 /// after it.
 pub trait Host {
     /// The place where a database is kept.
     type Disk: Alter + Drop;
-
-    /// The place where a copy of one is kept, in memory.
-    type Copied: Alter + Drop;
 
     /// The file of this name was read, and has these bytes.
     ghost gives: { Self → List ℕ → List ℕ → Self → Type 0 };
@@ -28,10 +32,10 @@ pub trait Host {
     /// The database of this name was opened, or created, and this is the connection to it.
     ghost opens: { Self → List ℕ → Held Self.Disk → Self → Type 0 };
 
-    /// The database of this name was only read, and this is the connection to a copy of it, as it stood.
-    ghost copies: { Self → List ℕ → Held Self.Copied → Self → Type 0 };
+    /// The files of the database of this name were only read: its file and its log have these bytes.
+    ghost holds: { Self → List ℕ → List ℕ → List ℕ → Self → Type 0 };
 
-    /// The database of this name was not opened or not copied, for this error.
+    /// The database of this name was not opened or not read, for this error.
     ghost refuses: { Self → List ℕ → Error → Self → Type 0 };
 
     /// The connection was closed.
@@ -55,12 +59,12 @@ pub trait Host {
         ensures err { IfErr result (λ error. refuses self.old (string_bytes db.now.name) error self.new) }
         ensures mode { IfOk result (λ conn. conn.in_transaction ≡ false) };
 
-    /// Copies the database into memory, and changes nothing. If another program is changing it, it may wait until that is
-    /// done, as long as the words say. The error says why it cannot be copied.
-    fn copy(&mut self, db: &DatabaseFile) -> Result<Connection<Self::Copied>, sqlite::Error>
-        ensures ok { IfOk result (λ conn. copies self.old (string_bytes db.now.name) conn self.new) }
-        ensures err { IfErr result (λ error. refuses self.old (string_bytes db.now.name) error self.new) }
-        ensures mode { IfOk result (λ conn. conn.in_transaction ≡ false) };
+    /// Reads the files of a database, and changes nothing. If another program is changing them, it may wait until that is
+    /// done, as long as the words say. The error says why they cannot be read.
+    fn read_database(&mut self, db: &DatabaseFile) -> Result<DatabaseBytes, sqlite::Error>
+        ensures ok { IfOk result (λ files. holds self.old (string_bytes db.now.name) files.db.items files.log.items
+            self.new) }
+        ensures err { IfErr result (λ error. refuses self.old (string_bytes db.now.name) error self.new) };
 
     /// Closes the connection and takes it out of the option.
     fn close(&mut self, conn: &mut Option<Connection<Self::Disk>>)

@@ -21,6 +21,7 @@ use smpe::{
     DatabaseFile, Fault, Invocation, Job, JobError, list_commands, migrated_line, status_of,
     zone_line,
 };
+use sqlite_disk::{Disk, Memory};
 use std::alloc::Global;
 use terms::ZoneKind;
 
@@ -31,7 +32,7 @@ pub(crate) fn served<'a, H: Host, O: Sink>(
     asked: &'a Invocation,
     out: &mut O,
 ) -> Result<u8, Fault<'a>>
-    ensures { Serves H.Host H.Disk.Store H.Copied.Store O.Sink host.old asked.entry.now out.old result host.new
+    ensures { Serves H.Host H.Disk.Store ⟦<Memory as Disk>⟧ O.Sink host.old asked.entry.now out.old result host.new
         out.new }
 {
     match asked {

@@ -14,10 +14,11 @@ mod database;
 mod host;
 mod job_files;
 mod jobs;
+mod memory_files;
 mod program;
 mod questions;
 mod service_set;
 
-pub use host::Host;
+pub use host::{DatabaseBytes, Host};
 pub use program::command;
 pub use smpe::DatabaseFile;

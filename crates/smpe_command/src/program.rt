@@ -1,6 +1,6 @@
 //! The program except for its input and output.
 ghost use Rattle.std.specs.Prelude.{◌≡◌, map, IfOk, IfErr};
-ghost use Rattle.smpe_invocation.specs.declared.fault.ArgFault.TheVariants.{Memory};
+ghost use Rattle.smpe_invocation.specs.declared.fault.ArgFault.TheVariants.{Memory as NoMemory};
 ghost use Rattle.smpe.specs.declared.messages.Fault.TheVariants.{Arg};
 ghost use Rattle.smpe_command.specs.Answering.{Answers, Tells, TellsWords};
 
@@ -10,6 +10,7 @@ use crate::jobs::served;
 use clap::error::ErrorKind;
 use report::Sink;
 use smpe::{ArgFault, FAULT_STATUS, Fault, fault_line};
+use sqlite_disk::{Disk, Memory};
 use std::alloc::{AllocError, Global};
 
 /// Does what the words ask for, the first of which is the program's name, and returns the status. If memory runs out
@@ -21,9 +22,9 @@ pub fn command<H: Host, O: Sink, E: Sink>(
     out: &mut O,
     err: &mut E,
 ) -> u8
-    ensures words { IfOk words.now (λ all. Answers H.Host H.Disk.Store H.Copied.Store O.Sink E.Sink
+    ensures words { IfOk words.now (λ all. Answers H.Host H.Disk.Store ⟦<Memory as Disk>⟧ O.Sink E.Sink
         (map (λ word. word.items) all.items) host.old out.old err.old result host.new out.new err.new) }
-    ensures none { IfErr words.now (λ error. Tells H.Host E.Sink host.old err.old (Arg Memory) result host.new err.new
+    ensures none { IfErr words.now (λ error. Tells H.Host E.Sink host.old err.old (Arg NoMemory) result host.new err.new
         × (out.new ≡ out.old)) }
 {
     let words = match words {

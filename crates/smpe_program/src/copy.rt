@@ -1,16 +1,7 @@
-//! A copy of a database in memory. The database's file and its log are opened for reading alone.
-ghost use Rattle.std.specs.Prelude.{◌≡◌, IsTrue, IfOk, IfErr};
-ghost use Rattle.sqlite.specs.Files.{file_state, IsOpened};
-ghost use Rattle.sqlite.specs.Held.{IsNew};
-ghost use Rattle.sqlite.specs.Opening.{is_open_error};
-ghost use Rattle.sqlite.specs.Start.{FindsIn};
-ghost use Rattle.sqlite.specs.State.{HasCleanDisk};
-ghost use Rattle.sqlite_disk.specs.Memory.{memory_bytes, memory_is_usable};
-
+//! The files of a database are read for a copy. They are opened for reading alone.
 use crate::place::has_other_form;
-use sqlite::{Connection, Error, ErrorCode, FileStore, Files, Options};
-use sqlite_disk::{Disk, Memory};
-use std::alloc::{AllocError, Global};
+use smpe_command::DatabaseBytes;
+use std::alloc::AllocError;
 use std::io::ErrorKind;
 use std::os::unix::fs::MetadataExt;
 use std::time::Duration;
@@ -29,8 +20,8 @@ pub(crate) enum CopyFault {
     Unread(io::Error),
     /// It is not as a database is, or not for long enough.
     Unfit(&'static str),
-    /// The library refuses its bytes.
-    Refused(Error),
+    /// It has other bytes than a database begins with.
+    OtherForm,
     Memory,
 }
 
@@ -50,13 +41,6 @@ impl From<AllocError> for CopyFault {
     }
 }
 
-/// The bytes of a database's file and of its log.
-#[derive(Drop)]
-struct DatabaseBytes {
-    db: Vec<u8>,
-    log: Vec<u8>,
-}
-
 /// What tells that a file was changed or exchanged.
 #[derive(Clone, Copy, PartialEq)]
 struct Stamp {
@@ -67,23 +51,16 @@ struct Stamp {
     nanoseconds: i64,
 }
 
-/// A connection to a copy of the database. If it is being changed, it is read again, as many more seconds as given.
-pub(crate) fn copied(
+/// The bytes of the database's files. If they are being changed, they are read again, as many more seconds as given.
+pub(crate) fn read_copy(
     rt: &HostRuntime,
     name: &str,
     seconds: u32,
-) -> Result<Connection<FileStore<Memory>>, CopyFault>
-    ensures { IfOk result (λ conn. IsNew conn × (HasCleanDisk (file_state conn) → IsOpened conn)) }
-{
+) -> Result<DatabaseBytes, CopyFault> {
     if has_other_form(rt, name) {
-        return Err(CopyFault::Refused(Error::SqliteFailure(ErrorCode::NotADatabase)));
+        return Err(CopyFault::OtherForm);
     }
-    let bytes = read_in_time(rt, name, seconds)?;
-    match connected(rt.alloc(), bytes.db.as_slice(), bytes.log.as_slice()) {
-        Ok(conn) => Ok(conn),
-        Err(Error::SqliteFailure(ErrorCode::OutOfMemory)) => Err(CopyFault::Memory),
-        Err(error) => Err(CopyFault::Refused(error)),
-    }
+    read_in_time(rt, name, seconds)
 }
 
 // The files lie where a link leads.
@@ -152,36 +129,5 @@ fn has_bytes(rt: &HostRuntime, name: &str) -> io::Result<bool> {
         Ok(found) => Ok(found.len() > 0),
         Err(error) if error.kind() == ErrorKind::NotFound => Ok(false),
         Err(error) => Err(error),
-    }
-}
-
-// A connection to the database that files with these bytes hold. The files lie in memory, and so does what is written.
-fn connected(alloc: Global, db: &[u8], log: &[u8]) -> Result<Connection<FileStore<Memory>>, Error>
-    ensures fresh { IfOk result IsNew }
-    ensures opened { IfOk result (λ conn. HasCleanDisk (file_state conn) → IsOpened conn) }
-    ensures found { IfOk result (λ conn. HasCleanDisk (file_state conn)
-        → FindsIn (record { log = log.now; db = db.now }) (file_state conn)) }
-    ensures err { IfErr result (λ why. IsTrue (is_open_error why)) }
-{
-    let files = Files {
-        log: filled(alloc, log)?,
-        db: filled(alloc, db)?,
-    };
-    match Connection::open_files(alloc, files, Options::new(1)) {
-        Ok(conn) => Ok(conn),
-        Err((error, _)) => Err(error),
-    }
-}
-
-// A file in memory that has these bytes.
-fn filled(alloc: Global, bytes: &[u8]) -> Result<Memory, Error>
-    ensures bytes { IfOk result (λ file. memory_bytes file ≡ bytes.now) }
-    ensures usable { IfOk result (λ file. IsTrue (memory_is_usable file)) }
-    ensures err { IfErr result (λ why. IsTrue (is_open_error why)) }
-{
-    let mut file = Memory::new(alloc);
-    match file.write_at(0, bytes) {
-        Ok(()) => Ok(file),
-        Err(_) => Err(Error::SqliteFailure(ErrorCode::OutOfMemory)),
     }
 }

@@ -6,14 +6,14 @@ ghost use Rattle.sqlite.specs.Opening.{is_open_error};
 ghost use Rattle.sqlite.specs.State.{HasCleanDisk};
 ghost use Rattle.smpe_program.specs.Wary.{IsWary};
 
-use crate::copy::{CopyFault, copied};
+use crate::copy::{CopyFault, read_copy};
 use crate::place::{has_other_form, is_missing};
 use crate::related::related_zone;
 use clap::Error as WordsError;
-use smpe_command::{DatabaseFile, Host};
+use smpe_command::{DatabaseBytes, DatabaseFile, Host};
 use smpe_hints::{ReadFile, RelatedZone};
 use sqlite::{Connection, Error, ErrorCode, FileFrom, FileStore, Wary};
-use sqlite_disk::{Memory, Tally};
+use sqlite_disk::Tally;
 use std::io::IsTerminal;
 use std::time::Duration;
 use std::{fs, io, thread};
@@ -126,8 +126,8 @@ impl ProgramHost<'_> {
         String::from_str(self.rt.alloc(), name).unwrap_or(String::new(self.rt.alloc()))
     }
 
-    // What is said of a database that was not copied.
-    fn uncopied(&mut self, name: &str, fault: CopyFault) -> Error
+    // What is said of a database that was not read.
+    fn not_read(&mut self, name: &str, fault: CopyFault) -> Error
         ensures { IsTrue (is_open_error result) }
     {
         match fault {
@@ -137,7 +137,8 @@ impl ProgramHost<'_> {
             CopyFault::Unfit(why) => {
                 self.unread = format!(in self.rt.alloc(); "{name}: {why}").ok();
             }
-            CopyFault::Refused(error) => {
+            CopyFault::OtherForm => {
+                let error = Error::SqliteFailure(ErrorCode::NotADatabase);
                 self.database = Database::Refused(self.name(name), error);
             }
             CopyFault::Memory => return Error::SqliteFailure(ErrorCode::OutOfMemory),
@@ -191,15 +192,13 @@ impl ProgramHost<'_> {
 impl Host for ProgramHost<'_> {
     type Disk = FileStore<FileFrom<Wary>>;
 
-    type Copied = FileStore<Memory>;
-
     ghost gives = { λ _ _ _ _. Unit {0} };
 
     ghost withholds = { λ _ _ _ _. Unit {0} };
 
     ghost opens = { λ _ _ conn _. IsNew conn × IsWary conn × (HasCleanDisk (file_state conn) → IsOpened conn) };
 
-    ghost copies = { λ _ _ conn _. IsNew conn × (HasCleanDisk (file_state conn) → IsOpened conn) };
+    ghost holds = { λ _ _ _ _ _. Unit {0} };
 
     ghost refuses = { λ _ _ why _. IsTrue (is_open_error why) };
 
@@ -254,23 +253,24 @@ impl Host for ProgramHost<'_> {
         }
     }
 
-    // Nobody is kept from the database meanwhile, and a job that has it open is no hindrance.
-    fn copy(&mut self, db: &DatabaseFile) -> Result<Connection<Self::Copied>, sqlite::Error> {
+    // The database's file and its log are opened for reading alone, and nobody is kept from them meanwhile. A job that
+    // has them open is no hindrance.
+    fn read_database(&mut self, db: &DatabaseFile) -> Result<DatabaseBytes, sqlite::Error> {
         let name = db.name.as_str();
         if is_missing(self.rt, name) {
             self.database = Database::Missing(self.name(name));
             return Err(Error::SqliteFailure(ErrorCode::CannotOpen));
         }
-        match copied(self.rt, name, db.wait) {
-            Ok(conn) => {
+        match read_copy(self.rt, name, db.wait) {
+            Ok(bytes) => {
                 self.database = Database::Opened {
                     name: self.name(name),
                     is_new: false,
                     closing: None,
                 };
-                Ok(conn)
+                Ok(bytes)
             }
-            Err(fault) => Err(self.uncopied(name, fault)),
+            Err(fault) => Err(self.not_read(name, fault)),
         }
     }
 

@@ -1,4 +1,5 @@
 use Rattle.std.proofs.Common.{◌∙◌, List, inr, refl, subst}
+use Rattle.sqlite_disk.specs.contracts.memory.MemoryDisk.TheImpl.{ghosts as memory_disk}
 use Rattle.smpe_command.specs.Copied.{TriesCopied, copy_jobs}
 use Rattle.smpe_command.proofs.copied.tried_in_copy.Goals as goal
 
@@ -6,7 +7,7 @@ pub returns-in-Some : goal.returns-in-Some
 returns-in-Some g c = rw c.in-Some.is (inr (
   c.in-Some.commands.date,
   refl,
-  subst (λ (cntl : List _). TriesCopied g.H.Host g.H.Copied.Store g.O.Sink c.args.host.now c.args.copy.now
+  subst (λ (cntl : List _). TriesCopied g.H.Host memory_disk g.O.Sink c.args.host.now c.args.copy.now
       c.args.out.now (copy_jobs c.in-Some.commands.date cntl
       (record { ptfin = c.args.files.now.ptfin.items; holds = c.args.files.now.hold.items })) c.tried_with.result
       c.tried_with.new.host c.tried_with.new.out) c.as_slice-cntl.ensures.value c.tried_with.ensures,
@@ -16,7 +17,7 @@ pub returns : goal.returns
 returns g c = rw c.in-None.is (inr (
   c.new-date.result,
   tt,
-  subst (λ (cntl : List _). TriesCopied g.H.Host g.H.Copied.Store g.O.Sink c.args.host.now c.args.copy.now
+  subst (λ (cntl : List _). TriesCopied g.H.Host memory_disk g.O.Sink c.args.host.now c.args.copy.now
       c.args.out.now (copy_jobs c.new-date.result cntl
       (record { ptfin = c.args.files.now.ptfin.items; holds = c.args.files.now.hold.items }))
       c.tried_with-in-None.result c.tried_with-in-None.new.host c.tried_with-in-None.new.out)

@@ -1,7 +1,8 @@
 use Rattle.std.proofs.Common.{◌∷◌, [], List, inr, subst}
 use Rattle.machine.specs.Machine as machine
 use Rattle.machine.specs.Machine.{RunFiles}
-use Rattle.smpe_command.specs.Copied.{TriesCopied, TriesOver}
+use Rattle.sqlite_disk.specs.contracts.memory.MemoryDisk.TheImpl.{ghosts as memory_disk}
+use Rattle.smpe_command.specs.Copied.{TriesBytes, TriesCopied}
 use Rattle.smpe_command.proofs.copied.tried_with.Goals as goal
 
 pub returns : goal.returns
@@ -9,16 +10,18 @@ returns g c =
     let jobs : List _ → List _ → List _ → List machine.Job = λ receive ptfin hold.
     RunFiles c.args.date receive (record { ptfin = ptfin; holds = hold })
     ∷ RunFiles c.args.date c.args.cntl.now (record { ptfin = ptfin; holds = hold }) ∷ [] in
-    let Ran : List machine.Job → Type 0 = λ all. TriesCopied g.H.Host g.H.Copied.Store g.O.Sink c.args.host.now
-    c.args.copy.now c.args.out.now all c.tried_over.result c.copied.new.host c.tried_over.new.out in
+    let Ran : List machine.Job → Type 0 = λ all. TriesCopied g.H.Host memory_disk g.O.Sink c.args.host.now c.args.copy.now
+    c.args.out.now all c.tried_over_bytes.result c.database_bytes.new.host c.tried_over_bytes.new.out in
     let ptfin = c.as_slice-ptfin in
     let hold = c.as_slice-hold in
+    let bytes = c.in_ok-bytes.bytes in
     let ran : Ran (jobs c.args.receive.now ptfin.result.now hold.result.now) = inr (
-      c.in_ok-conn.conn,
-      c.in_ok-conn.ensures.ok,
-      subst (λ ids. TriesOver g.H.Copied.Store g.O.Sink c.args.copy.now.zone ids
-          (jobs c.args.receive.now ptfin.result.now hold.result.now) c.in_ok-conn.conn c.args.out.now c.tried_over.result
-          c.tried_over.new.out) c.as_slice.ensures.value c.tried_over.ensures,
+      bytes.db.items,
+      bytes.log.items,
+      c.in_ok-bytes.ensures.ok,
+      subst (λ ids. TriesBytes memory_disk g.O.Sink c.args.copy.now.zone ids bytes.db.items bytes.log.items
+          (jobs c.args.receive.now ptfin.result.now hold.result.now) c.args.out.now c.tried_over_bytes.result
+          c.tried_over_bytes.new.out) c.as_slice.ensures.value c.tried_over_bytes.ensures,
     ) in
     subst (λ t. Ran (jobs t c.args.files.now.ptfin.items c.args.files.now.hold.items)) c.requires
     (subst (λ t. Ran (jobs c.args.receive.now c.args.files.now.ptfin.items t)) hold.ensures.value

@@ -1,0 +1,51 @@
+//! A database over files in memory.
+ghost use Rattle.std.specs.Prelude.{◌≡◌, false, IsTrue, IfOk, IfErr};
+ghost use Rattle.sqlite.specs.Opening.{is_open_error};
+ghost use Rattle.sqlite.specs.declared.error.Error.{Error};
+ghost use Rattle.sqlite_disk.specs.Memory.{memory_bytes, memory_is_usable};
+ghost use Rattle.store_schema.specs.Known.{told};
+ghost use Rattle.smpe_command.specs.Copied.{IsCopy};
+
+use sqlite::{Connection, Error, ErrorCode, FileStore, Files, Options};
+use sqlite_disk::{Disk, Memory};
+use std::alloc::Global;
+use store::StoreError;
+
+/// A connection to the database that files with these bytes hold. The files lie in memory, and so does what is written.
+pub(crate) fn connected(
+    alloc: Global,
+    db: &[u8],
+    log: &[u8],
+) -> Result<Connection<FileStore<Memory>>, StoreError>
+    ensures ok { IfOk result (IsCopy db.now log.now) }
+    ensures mode { IfOk result (λ conn. conn.in_transaction ≡ false) }
+    ensures err { IfErr result (λ why. (error : Error) × IsTrue (is_open_error error) × (why ≡ told error)) }
+{
+    Ok(opened(alloc, filled(alloc, db)?, filled(alloc, log)?)?)
+}
+
+// Opens these two files.
+fn opened(alloc: Global, db: Memory, log: Memory) -> Result<Connection<FileStore<Memory>>, Error>
+    requires db { IsTrue (memory_is_usable db) }
+    requires log { IsTrue (memory_is_usable log) }
+    ensures ok { IfOk result (IsCopy (memory_bytes db) (memory_bytes log)) }
+    ensures err { IfErr result (λ why. IsTrue (is_open_error why)) }
+{
+    match Connection::open_files(alloc, Files { log, db }, Options::new(1)) {
+        Ok(conn) => Ok(conn),
+        Err((error, _)) => Err(error),
+    }
+}
+
+// A file in memory that has these bytes.
+fn filled(alloc: Global, bytes: &[u8]) -> Result<Memory, Error>
+    ensures bytes { IfOk result (λ file. memory_bytes file ≡ bytes.now) }
+    ensures usable { IfOk result (λ file. IsTrue (memory_is_usable file)) }
+    ensures err { IfErr result (λ why. IsTrue (is_open_error why)) }
+{
+    let mut file = Memory::new(alloc);
+    match file.write_at(0, bytes) {
+        Ok(()) => Ok(file),
+        Err(_) => Err(Error::SqliteFailure(ErrorCode::OutOfMemory)),
+    }
+}
