@@ -14,6 +14,7 @@ use zones::Zone;
 
 /// A global zone by its cards, with a bar between two, what is applied in a zone, what is asked about ids there, and
 /// what must be told.
+#[derive(Clone, Copy)]
 struct Wanted {
     applies: &'static str,
     cards: &'static str,
