@@ -195,7 +195,7 @@ REMARK        1 left out: a statement of it can't be carried
 /// The same for a program.
 const JSON: &str =
     "{\"left_out\":[{\"statement\":\"++PTF\",\"id\":\"UA00002\",\"cause\":\"++MOD(M2): no statement \
-of the profile\"}],\"holds_outside\":0,\"in_comments\":0,\"forbids\":1,\"stand_ins\":0,\
+of the profile\"}],\"holds_outside\":0,\"in_comments\":0,\"forbids\":1,\"stand_ins\":0,\"passed_over\":0,\
 \"sysmods\":{\"carried\":1,\"left_out\":1},\"holds\":{\"carried\":0,\"left_out\":0},\
 \"releases\":{\"carried\":0,\"left_out\":0},\"assigns\":{\"carried\":0,\"left_out\":0},\
 \"remarks\":[{\"count\":1,\"deed\":\"left out\",\"reason\":\"no statement of the profile\"},\
