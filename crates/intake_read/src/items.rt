@@ -92,7 +92,7 @@ pub enum WideHoldKind {
     Fixcat,
 }
 
-/// `++HOLD`.
+/// `++HOLD`. Of one of FIXCAT, which holds nothing, only the id is kept, the kind and what is odd.
 #[derive(Drop)]
 pub struct WideHold {
     pub place: CardPlace,
