@@ -1,7 +1,5 @@
 //! What DELETE takes out of a zone, and which SYSMOD has deleted an id.
 ghost use Rattle.std.specs.Prelude.{◌≡◌, IfOk};
-ghost use Rattle.terms.specs.Choice.{del_of};
-ghost use Rattle.sysmods.specs.Choices.{choice};
 ghost use Rattle.change.specs.Deleting.{AreDeletions, is_cut, left};
 ghost use Rattle.change.specs.Deleting.{first_deleter, delby_left};
 ghost use Rattle.change.specs.Entries.{old_entry};
@@ -51,7 +49,7 @@ impl<'a, 'b> Deleting<'a, 'b> {
                 .kept
                 .iter()
                 .copied()
-                .find(|k| vers.meets(id, del_of(vers, *k)));
+                .find(|k| vers.meets(id, vers.del(*k)));
         }
         // Few ids are ever named.
         if !self.dels.contains(&id) {
@@ -60,7 +58,7 @@ impl<'a, 'b> Deleting<'a, 'b> {
         self.kept
             .iter()
             .copied()
-            .find(|k| del_of(vers, *k).contains(&id))
+            .find(|k| vers.del(*k).contains(&id))
     }
 }
 
@@ -89,15 +87,5 @@ pub(crate) fn left_entry(alloc: Global, deleting: &Deleting, id: Id) -> Result<E
             delby: None,
             waived: IdList::new(alloc),
         }),
-    }
-}
-
-// What the SYSMOD names in DELETE.
-fn del_of<'a>(vers: &VerChoice<'a>, id: Id) -> &'a [Id]
-    ensures { result.now ≡ del_of (choice vers.now) id }
-{
-    match vers.ver(id) {
-        Some(ver) => ver.del.as_slice(),
-        None => &[],
     }
 }

@@ -65,10 +65,7 @@ fn all_superseded(
 fn see_named(vers: &VerChoice<'_>, id: Id, seen: &mut IndexSet<Id>) -> Result<(), AllocError>
     ensures { OnOk result (AddsAll seen.old.keys (sup_of (choice vers.now) id) seen.new.keys) }
 {
-    let Some(ver) = vers.ver(id) else {
-        return Ok(());
-    };
-    for other in ver.sup.as_slice() {
+    for other in vers.sup(id) {
         seen.insert(*other)?;
     }
     Ok(())

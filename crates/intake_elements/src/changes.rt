@@ -2,12 +2,12 @@
 ghost use Rattle.std.specs.Prelude.{IfOk, IfSome, IsTrue, All};
 ghost use Rattle.intake_elements.specs.Elements.{IsProfileType, IsLacked, IsMadeOf, HasNoLevel};
 
+use crate::element_words::profile_type;
 use crate::elements::profile_change;
 use crate::levels::level_operand;
 use crate::modules::{is_module_word, tell_modules};
 use crate::options::Options;
 use crate::stand_ins::{short_change, stand_in_change, tell_stand_in};
-use crate::words::profile_type;
 use fields::Name;
 use intake_cards::{Deed, RemarkReason, Remarks, Subject};
 use intake_read::{WideElement, tell_no_decision, tell_odd};

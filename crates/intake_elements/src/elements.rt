@@ -4,6 +4,7 @@ ghost use Rattle.terms.specs.declared.kinds.ElemType.TheVariants.{Mac, Src};
 ghost use Rattle.terms.specs.Texts.{IsReplacement, IsUpdate};
 ghost use Rattle.intake_elements.specs.Elements.{is_level, HasNoLevel, is_update, IsChangeOf};
 
+use crate::element_words::{is_update, is_update_word, profile_type};
 use crate::levels::is_level;
 use crate::modules::tell_modules;
 use crate::options::Options;
@@ -12,7 +13,6 @@ use crate::texts::{
     without_blank_cards, without_blank_end,
 };
 use crate::updates::update_lines;
-use crate::words::{is_update, is_update_word, profile_type};
 use fields::Name;
 use intake_cards::{Deed, RemarkReason, Remarks, Subject};
 use intake_read::{Card, WideElement, WideOperand, tell_odd};

@@ -3,6 +3,7 @@
 #![tactic(auto)]
 
 mod changes;
+mod element_words;
 mod elements;
 mod levels;
 mod modules;
@@ -11,7 +12,6 @@ mod stand_in_names;
 mod stand_ins;
 mod texts;
 mod updates;
-mod words;
 
 pub use changes::{change_of, subject_of};
 pub use levels::has_level;

@@ -4,9 +4,9 @@ ghost use Rattle.terms.specs.declared.kinds.ElemType.TheVariants.{Mac};
 ghost use Rattle.intake_elements.specs.StandInNames.{key_of};
 ghost use Rattle.intake_elements.specs.Elements.{has_own_module, own_modules, modules_of, module_name, AreKeysOf};
 
+use crate::element_words::is_source;
 use crate::options::Options;
 use crate::stand_in_names::{element_key, module_key};
-use crate::words::is_source;
 use intake_cards::{RemarkReason, Remarks, Subject};
 use intake_read::WideElement;
 use std::alloc::{AllocError, Global};

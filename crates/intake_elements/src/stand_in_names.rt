@@ -8,7 +8,7 @@ ghost use Rattle.intake_elements.specs.StandInNames.{hash_step, hash_of, charact
 ghost use Rattle.intake_elements.specs.StandInNames.{key_of};
 ghost use Rattle.intake_elements.specs.Elements.{IsTarget, module_name};
 
-use crate::words::{profile_type, stand_in};
+use crate::element_words::{profile_type, stand_in};
 use fields::Name;
 use fields::spelling::type_text;
 use intake_read::WideElement;

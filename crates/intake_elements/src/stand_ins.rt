@@ -4,11 +4,11 @@ ghost use Rattle.terms.specs.declared.kinds.ElemType.TheVariants.{Mac};
 ghost use Rattle.terms.specs.Changes.{is_replacement};
 ghost use Rattle.intake_elements.specs.Elements.{IsLacked, IsTarget, IsChangeOf, is_update, module_name};
 
+use crate::element_words::{is_update, stand_in};
 use crate::elements::update_change;
 use crate::stand_in_names::{owner_word, stand_in_name};
 use crate::texts::text_of;
 use crate::updates::change_record;
-use crate::words::{is_update, stand_in};
 use fields::Name;
 use fields::spelling::type_text;
 use intake_cards::{RemarkReason, Remarks, StandIn, Subject};

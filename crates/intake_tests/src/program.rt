@@ -36,14 +36,14 @@ const FILES: &[(&str, &[u8])] = &[
     ),
     (
         "relfile",
-        b"++PTF(UA00003).\n++VER(Z038) FMID(HAA1100).\n++DATA(D3) DISTLIB(A) SYSLIB(B) RELFILE(1).\n",
+        b"++PTF(UA00003).\n++VER(Z038) FMID(HAA1100).\n++DATA(DECK) DISTLIB(A) SYSLIB(B) RELFILE(1).\n",
     ),
     (
         "other",
-        b"++PTF(UA00004).\n++VER(Z038) FMID(HAA1100).\n++DATA(D3) DISTLIB(A) SYSLIB(B) RELFILE(1).\n",
+        b"++PTF(UA00004).\n++VER(Z038) FMID(HAA1100).\n++DATA(DECK) DISTLIB(A) SYSLIB(B) RELFILE(1).\n",
     ),
-    ("r/F1/D3", b"A TEXT\n"),
-    ("r/UA00004/F1/D3", b"ANOTHER TEXT\n"),
+    ("r/F1/DECK", b"A TEXT\n"),
+    ("r/UA00004/F1/DECK", b"ANOTHER TEXT\n"),
     ("gzip", b"\x1F\x8B\x08"),
     ("jcl", b"//STEP EXEC PGM=GIMSMP\n++PTF(UA00001).\n"),
     (

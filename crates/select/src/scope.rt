@@ -35,10 +35,7 @@ impl<'a> Selecting<'a> {
     pub(crate) fn vers(&self, id: Id) -> &'a [Ver]
         ensures { result.now ≡ received_vers self.now id }
     {
-        match self.global.get(id) {
-            Some(sysmod) => sysmod.vers.as_slice(),
-            None => &[],
-        }
+        self.global.vers_of(id)
     }
 
     /// Whether the `++VER` is for the zone's SREL.

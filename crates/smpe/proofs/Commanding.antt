@@ -21,10 +21,10 @@ use Rattle.store.specs.Causes.{IsLater}
 use Rattle.smpe_zones.specs.Kept.{Keeps}
 use Rattle.smpe_session.specs.declared.session.Session.{Session}
 use Rattle.smpe_session.specs.Sessions.{IsSessionOf}
-use Rattle.smpe.specs.declared.error.JobError.{JobError}
-use Rattle.smpe.specs.Ending.{EndsEarly}
+use Rattle.smpe_jobs.specs.declared.error.JobError.{JobError}
+use Rattle.smpe_jobs.specs.Ending.{EndsEarly}
 use Rattle.smpe.specs.Commands.{EndsCommands}
-use Rattle.smpe.proofs.Early.{early_after, early_more}
+use Rattle.smpe_jobs.proofs.Early.{early_after, early_more}
 
 pub codes_append : (xs ys : List Outcome) → job_code (xs ++ ys) ≡ max (job_code xs) (job_code ys)
 codes_append [] ys = omega arith

@@ -26,13 +26,13 @@ use Rattle.store.proofs.Going.{alone_loads, goes_err, goes_ok}
 use Rattle.smpe_zones.specs.Own.{IsOwn, IsOwnOf}
 use Rattle.smpe_session.specs.declared.session.Performed.{Performed}
 use Rattle.smpe_session.specs.Writing.{IsOutcomeOf, IsRan, AnswersRun}
-use Rattle.smpe.specs.declared.error.JobError.{JobError}
-use Rattle.smpe.specs.declared.error.JobError.TheVariants.{Memory, Store, Write}
-use Rattle.smpe.specs.Commands.{job_error}
+use Rattle.smpe_jobs.specs.declared.error.JobError.{JobError}
+use Rattle.smpe_jobs.specs.declared.error.JobError.TheVariants.{Memory, Store, Write}
+use Rattle.smpe_jobs.specs.Errors.{job_error}
 use Rattle.smpe.specs.Going.{Asks, AreFirstAsked, Passes, Passed, FailsBy, LastCall, GoesEarly, Goes, Tells}
 use Rattle.smpe.specs.Going.{JobPassed, JobsPassed, JobsStopped, JobGoes, JobsGo}
-use Rattle.smpe.proofs.Courses.{ran_none, ran_quiet, ran_one, ran_more, course_first, course_after, course_more}
-use Rattle.smpe.proofs.Courses.{next_more, unreported}
+use Rattle.smpe_jobs.proofs.Courses.{ran_none, ran_quiet, ran_one, ran_more, course_first, course_after, course_more}
+use Rattle.smpe_jobs.proofs.Courses.{next_more, unreported}
 use Rattle.smpe.proofs.Commanding.{codes_append}
 
 -- no act of these jobs

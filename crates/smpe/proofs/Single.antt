@@ -28,12 +28,13 @@ use Rattle.smpe_zones.specs.declared.error.ZoneFault.{ZoneFault}
 use Rattle.smpe_zones.specs.declared.error.ZoneError.{ZoneError}
 use Rattle.smpe_zones.specs.declared.error.ZoneError.TheVariants as zone_error
 use Rattle.smpe_zones.specs.Definitions.{HasDefined, fault_of, is_refused}
-use Rattle.smpe.specs.declared.error.JobError.{JobError}
-use Rattle.smpe.specs.declared.error.JobError.TheVariants.{Memory, Write}
-use Rattle.smpe.specs.Ending.{LastStep, EndsEarly, EndsAmong, EndsJob}
-use Rattle.smpe.specs.Commands.{EndsCommands, job_error}
-use Rattle.smpe.proofs.Courses.{ran_quiet, course_after}
-use Rattle.smpe.proofs.Early.{failed_first, broke_first, early_after}
+use Rattle.smpe_jobs.specs.declared.error.JobError.{JobError}
+use Rattle.smpe_jobs.specs.declared.error.JobError.TheVariants.{Memory, Write}
+use Rattle.smpe_jobs.specs.Ending.{LastStep, EndsEarly, EndsAmong, EndsJob}
+use Rattle.smpe.specs.Commands.{EndsCommands}
+use Rattle.smpe_jobs.specs.Errors.{job_error}
+use Rattle.smpe_jobs.proofs.Courses.{ran_quiet, course_after}
+use Rattle.smpe_jobs.proofs.Early.{failed_first, broke_first, early_after}
 
 -- an error that is a refusal
 pub refused_so : (U : Type 0) {e : ZoneError} {why : ZoneFault} → e ≡ zone_error.Refused why

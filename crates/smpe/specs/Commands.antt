@@ -10,21 +10,11 @@ use Rattle.machine.specs.Outcome.{Outcome, job_code}
 use Rattle.machine.specs.Report.{text}
 use Rattle.machine.specs.Machine.{Files, Perform, Steps}
 use Rattle.machine.specs.Runs.{Runs}
-use Rattle.store_schema.specs.declared.error.StoreError.{StoreError}
-use Rattle.store_schema.specs.declared.error.StoreError.TheVariants as store
 use Rattle.smpe_zones.specs.Kept.{Keeps}
 use Rattle.smpe_session.specs.declared.session.Session.{Session}
 use Rattle.smpe_session.specs.Sessions.{IsSessionOf}
-use Rattle.smpe.specs.declared.error.JobError.{JobError}
-use Rattle.smpe.specs.declared.error.JobError.TheVariants.{Memory, Store}
-use Rattle.smpe.specs.Ending.{EndsEarly}
-
--- the error of a job, from one of its store
-abbrev pub job_error : StoreError → JobError
-job_error store.Memory = Memory
-job_error store.Fault = Store store.Fault
-job_error store.OtherSchema = Store store.OtherSchema
-job_error store.NoState = Store store.NoState
+use Rattle.smpe_jobs.specs.declared.error.JobError.{JobError}
+use Rattle.smpe_jobs.specs.Ending.{EndsEarly}
 
 -- The commands ran from s, with this as their greatest code, and the session is the job's at the state to which they
 -- led.

@@ -16,9 +16,9 @@ use Rattle.store.specs.Whole.{ShowsGlobal}
 use Rattle.store.specs.declared.change.Change.TheVariants as change
 use Rattle.smpe_zones.specs.Own.{IsOwn}
 use Rattle.smpe_session.specs.Writing.{IsOutcomeOf, IsRan}
-use Rattle.smpe.specs.Course.{AllRan, Course, Unreported, AtNext}
-use Rattle.smpe.specs.declared.error.JobError.{JobError}
-use Rattle.smpe.specs.declared.error.JobError.TheVariants.{Memory, Store, Write}
+use Rattle.smpe_jobs.specs.Course.{AllRan, Course, Unreported, AtNext}
+use Rattle.smpe_jobs.specs.declared.error.JobError.{JobError}
+use Rattle.smpe_jobs.specs.declared.error.JobError.TheVariants.{Memory, Store, Write}
 
 -- The acts of a job over a store: its beginning and its commands, if it has any. If its command file has a fault, it
 -- does not even begin.

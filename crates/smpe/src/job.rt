@@ -8,14 +8,15 @@ ghost use Rattle.cntl.specs.Views.{command_of};
 ghost use Rattle.smpe_session.specs.Sessions.{IsSessionOf};
 ghost use Rattle.smpe_zones.specs.Kept.{Keeps};
 ghost use Rattle.smpe_zones.specs.Ends.{Follows};
-ghost use Rattle.smpe.specs.Ending.{EndsJob, KeepsClosed, TellsOfSink};
+ghost use Rattle.smpe_jobs.specs.Ending.{EndsJob, KeepsClosed, TellsOfSink};
 ghost use Rattle.smpe.specs.Commands.{EndsCommands};
 ghost use Rattle.smpe.specs.Going.{Goes, JobGoes};
 
-use crate::error::JobError;
+use crate::command::perform;
 use cntl::{CntlError, Command, read_cntl};
 use fields::{Attest, YyDdd};
 use report::{Outcome, Sink, write_report};
+use smpe_jobs::JobError;
 use smpe_session::{Files, Performed, Session};
 use sqlite::Alter;
 use std::alloc::Global;
@@ -41,7 +42,7 @@ fn run_command<S: Alter, W: Sink>(
         (W.taken w.old) (W.taken w.new) result }
     ensures fault { TellsOfSink (W.has_failed w.old) (W.has_failed w.new) result }
 {
-    let performed = session.perform(alloc, store, date, files, command)?;
+    let performed = perform(session, alloc, store, date, files, command)?;
     match performed {
         Performed::Told(outcome) => Ok(write_report(&outcome, w)?),
         Performed::Lists { text } => Ok(write_report(&session.list(text), w)?),

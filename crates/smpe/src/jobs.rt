@@ -8,43 +8,17 @@ ghost use Rattle.smpe_zones.specs.Definitions.{definition};
 ghost use Rattle.smpe_zones.specs.Kept.{Keeps};
 ghost use Rattle.smpe.specs.Going.{JobGoes, JobsGo};
 ghost use Rattle.smpe_zones.specs.Ends.{Follows};
-ghost use Rattle.smpe.specs.Ending.{EndsJob, EndsJobs, KeepsClosed, TellsOfSink, is_write, job_of, answer_of};
+ghost use Rattle.smpe_jobs.specs.Ending.{EndsJob, EndsJobs, KeepsClosed, TellsOfSink, is_write, job_of, answer_of};
 
-use crate::error::JobError;
 use crate::job::run_job;
-use crate::zone_definition::define_zone;
-use fields::{Srel, YyDdd, ZoneName};
+use fields::{Srel, ZoneName};
 use report::Sink;
-use smpe_zones::{ZoneError, ZoneFault};
+use smpe_jobs::{Answer, Job, JobError, define_zone};
+use smpe_zones::ZoneError;
 use sqlite::Alter;
 use std::alloc::Global;
 use store::Store;
 use terms::ZoneKind;
-
-/// A command file over a PTFIN and a hold file on a date, or a zone to define.
-#[derive(Clone, Copy)]
-pub enum Job<'a> {
-    Run {
-        date: YyDdd,
-        cntl: &'a [u8],
-        ptfin: &'a [u8],
-        hold: &'a [u8],
-    },
-    Zone {
-        name: ZoneName,
-        kind: ZoneKind,
-        srel: Srel,
-        related: Option<ZoneName>,
-    },
-}
-
-/// The return code of a job, or how the definition of a zone ended.
-#[derive(Clone, Copy, Debug)]
-pub enum Answer {
-    Code(u8),
-    Defined,
-    Refused(ZoneFault),
-}
 
 // Defines a zone, and returns how that ended.
 fn define<S: Alter>(

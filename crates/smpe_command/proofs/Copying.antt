@@ -8,10 +8,10 @@ use Rattle.machine.specs.State.{State}
 use Rattle.machine.specs.Machine as machine
 use Rattle.report.specs.declared.sink.Sink.{Ghosts as SinkGhosts}
 use Rattle.smpe_zones.specs.Kept.{kept, Keeps}
-use Rattle.smpe.specs.declared.error.JobError.{JobError}
-use Rattle.smpe.specs.Ending.{EndsJobs, TellsOfSink}
+use Rattle.smpe_jobs.specs.declared.error.JobError.{JobError}
+use Rattle.smpe_jobs.specs.Ending.{EndsJobs, TellsOfSink}
 use Rattle.smpe.specs.Going.{JobsGo}
-use Rattle.smpe.proofs.Early.{jobs_since}
+use Rattle.smpe_jobs.proofs.Early.{jobs_since}
 use Rattle.smpe_command.specs.Copied.{AsksAfter, AsksIfAny, AsksStore, TriedOver}
 use Rattle.smpe_command.specs.Database.{IsStoreOver}
 use Rattle.smpe_command.proofs.OneJob.{Alike, ends_as, goes_as, write_as}

@@ -3,9 +3,9 @@ use Rattle.std.proofs.Common.{◌≡◌, ◌∙◌, ◌<◌, ◌+◌, ◌++◌, 
 use Rattle.std.proofs.lemmas.List.{take_more, map-append}
 use Rattle.std.specs.Prelude.{max}
 use Rattle.machine.specs.Machine as machine
-use Rattle.smpe.specs.declared.jobs.Answer.{Answer}
-use Rattle.smpe.specs.Ending.{answer_of}
-use Rattle.smpe.specs.Messages.{answer_status}
+use Rattle.smpe_jobs.specs.declared.jobs.Answer.{Answer}
+use Rattle.smpe_jobs.specs.Ending.{answer_of}
+use Rattle.smpe_jobs.specs.Messages.{answer_status}
 use Rattle.smpe_command.specs.ServiceSet.{greatest}
 
 pub greatest_more : (xs : List machine.Answer) (a : machine.Answer)

@@ -14,8 +14,8 @@ use Rattle.store.specs.Loads.{Loads}
 use Rattle.smpe_zones.specs.Ends.{HasLoaded}
 use Rattle.smpe_zones.specs.Kept.{kept, Keeps}
 use Rattle.smpe_zones.proofs.Keeping.{loaded, ended_since}
-use Rattle.smpe.specs.Ending.{StaysClosed}
-use Rattle.smpe.proofs.Closing.{keeps_closed}
+use Rattle.smpe_jobs.specs.Ending.{StaysClosed}
+use Rattle.smpe_jobs.proofs.Closing.{keeps_closed}
 
 module _ {S X : Type 0} (g : Ghosts S) (old new : Held S) where
   -- what was found, and the cause of a fault since the opening

@@ -9,13 +9,13 @@ use Rattle.machine.specs.State.{State}
 use Rattle.machine.specs.Machine as machine
 use Rattle.machine.specs.Machine.{Files, RunsJobs}
 use Rattle.report.specs.declared.sink.Sink.{Ghosts as SinkGhosts}
-use Rattle.smpe.specs.declared.error.JobError.{JobError}
-use Rattle.smpe.specs.declared.error.JobError.TheVariants.{Memory}
+use Rattle.smpe_jobs.specs.declared.error.JobError.{JobError}
+use Rattle.smpe_jobs.specs.declared.error.JobError.TheVariants.{Memory}
 use Rattle.smpe_invocation.specs.declared.asked.CommandJob.{CommandJob}
 use Rattle.sqlite.specs.Steps.{over_memory}
-use Rattle.smpe.specs.Commands.{job_error}
-use Rattle.smpe.specs.Ending.{EndsJobs, is_write}
-use Rattle.smpe.specs.FromEmpty.{empty_system}
+use Rattle.smpe_jobs.specs.Errors.{job_error}
+use Rattle.smpe_jobs.specs.Ending.{EndsJobs, is_write}
+use Rattle.smpe_jobs.specs.FromEmpty.{empty_system}
 use Rattle.smpe.specs.Going.{JobsGo, JobsPassed}
 use Rattle.smpe_command.specs.declared.host.Host.{Ghosts as HostGhosts}
 use Rattle.smpe_command.specs.Database.{JobsOver}

@@ -10,9 +10,9 @@ use Rattle.report.specs.Sent.{Sent}
 use Rattle.smpe_invocation.specs.declared.asked.Invocation.{Invocation}
 use Rattle.smpe_invocation.specs.declared.fault.ArgFault.{ArgFault}
 use Rattle.smpe_invocation.specs.declared.fault.ArgFault.TheVariants.{Clap}
-use Rattle.smpe.specs.declared.messages.Fault.{Fault}
-use Rattle.smpe.specs.declared.messages.Fault.TheVariants.{Arg}
-use Rattle.smpe.specs.Messages.{fault_status, fault_text}
+use Rattle.smpe_jobs.specs.declared.messages.Fault.{Fault}
+use Rattle.smpe_jobs.specs.declared.messages.Fault.TheVariants.{Arg}
+use Rattle.smpe_jobs.specs.Messages.{fault_status, fault_text}
 use Rattle.smpe_command.specs.declared.host.Host.{Ghosts as HostGhosts}
 use Rattle.smpe_command.specs.Asking.{IsAsked, IsUnasked}
 use Rattle.smpe_command.specs.Serving.{Serves}

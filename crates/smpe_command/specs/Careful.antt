@@ -5,10 +5,10 @@ use Rattle.sqlite.specs.Store.{Ghosts}
 use Rattle.terms.specs.Types.{Text, Command, Set}
 use Rattle.terms.specs.Commands.{CntlFault, IsCommandFile, IsCommandFileFault}
 use Rattle.machine.specs.State.{global_name}
-use Rattle.smpe.specs.Commands.{job_error}
-use Rattle.smpe.specs.declared.error.JobError.TheVariants.{Memory}
-use Rattle.smpe.specs.declared.messages.Fault.{Fault}
-use Rattle.smpe.specs.declared.messages.Fault.TheVariants.{Job, NoCommand, NoZone}
+use Rattle.smpe_jobs.specs.Errors.{job_error}
+use Rattle.smpe_jobs.specs.declared.error.JobError.TheVariants.{Memory}
+use Rattle.smpe_jobs.specs.declared.messages.Fault.{Fault}
+use Rattle.smpe_jobs.specs.declared.messages.Fault.TheVariants.{Job, NoCommand, NoZone}
 use Rattle.store_schema.specs.declared.error.StoreError.{StoreError}
 use Rattle.smpe_command.specs.declared.host.Host.{Ghosts as HostGhosts}
 use Rattle.smpe_command.specs.Database.{NamesOver}

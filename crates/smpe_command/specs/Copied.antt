@@ -23,12 +23,12 @@ use Rattle.store.specs.View.{IsFound}
 use Rattle.smpe_zones.specs.Kept.{kept}
 use Rattle.smpe_invocation.specs.declared.asked.CommandJob.{CommandJob}
 use Rattle.smpe_invocation.specs.declared.asked.SystemCopy.{SystemCopy}
-use Rattle.smpe.specs.declared.error.JobError.{JobError}
-use Rattle.smpe.specs.declared.error.JobError.TheVariants.{Memory}
-use Rattle.smpe.specs.Commands.{job_error}
-use Rattle.smpe.specs.Ending.{EndsJobs, is_write}
+use Rattle.smpe_jobs.specs.declared.error.JobError.{JobError}
+use Rattle.smpe_jobs.specs.declared.error.JobError.TheVariants.{Memory}
+use Rattle.smpe_jobs.specs.Errors.{job_error}
+use Rattle.smpe_jobs.specs.Ending.{EndsJobs, is_write}
 use Rattle.smpe.specs.Going.{JobsGo}
-use Rattle.smpe.specs.ListJob.{two_records}
+use Rattle.smpe_jobs.specs.ListJob.{two_records}
 use Rattle.smpe_why.specs.Telling.{Inquiry, IsFoundIn}
 use Rattle.smpe_why.specs.declared.found.LoadedZones.{LoadedZones}
 use Rattle.smpe_command.specs.declared.host.Host.{Ghosts as HostGhosts}

@@ -27,10 +27,10 @@ use Rattle.smpe_verify.specs.Verified.{verification}
 use Rattle.smpe_verify.specs.declared.verification.Verification.{Verification}
 use Rattle.smpe_why.specs.Telling.{IsFoundIn}
 use Rattle.smpe_why.specs.declared.found.LoadedZones.{LoadedZones}
-use Rattle.smpe.specs.declared.error.JobError.{JobError}
-use Rattle.smpe.specs.declared.jobs.Answer.{Answer}
-use Rattle.smpe.specs.Commands.{job_error}
-use Rattle.smpe.specs.Ending.{EndsJobs, StaysClosed, answer_of, is_write}
+use Rattle.smpe_jobs.specs.declared.error.JobError.{JobError}
+use Rattle.smpe_jobs.specs.declared.jobs.Answer.{Answer}
+use Rattle.smpe_jobs.specs.Errors.{job_error}
+use Rattle.smpe_jobs.specs.Ending.{EndsJobs, StaysClosed, answer_of, is_write}
 use Rattle.smpe.specs.Going.{JobsGo}
 use Rattle.smpe_command.specs.declared.host.Host.{Ghosts as HostGhosts}
 

@@ -4,9 +4,9 @@ use Rattle.std.specs.IoError.{error_kind}
 use Rattle.std.specs.declared.io.Error.{Error}
 use Rattle.std.specs.declared.io.ErrorKind.TheVariants.{OutOfMemory}
 use Rattle.terms.specs.Types.{Text}
-use Rattle.smpe.specs.declared.error.JobError.TheVariants.{Memory}
-use Rattle.smpe.specs.declared.messages.Fault.{Fault}
-use Rattle.smpe.specs.declared.messages.Fault.TheVariants.{Job, CannotRead}
+use Rattle.smpe_jobs.specs.declared.error.JobError.TheVariants.{Memory}
+use Rattle.smpe_jobs.specs.declared.messages.Fault.{Fault}
+use Rattle.smpe_jobs.specs.declared.messages.Fault.TheVariants.{Job, CannotRead}
 use Rattle.smpe_command.specs.declared.host.Host.{Ghosts}
 
 -- how the error of a read is reported

@@ -17,13 +17,13 @@ use Rattle.store.specs.View.{IsFound}
 use Rattle.smpe_invocation.specs.declared.asked.CommandJob.{CommandJob}
 use Rattle.smpe_zones.specs.Definitions.{definition}
 use Rattle.smpe_zones.specs.Kept.{kept}
-use Rattle.smpe.specs.declared.error.JobError.{JobError}
-use Rattle.smpe.specs.declared.error.JobError.TheVariants.{Memory}
-use Rattle.smpe.specs.Commands.{job_error}
-use Rattle.smpe.specs.Ending.{EndsJobs}
-use Rattle.smpe.specs.FromEmpty.{empty_system}
-use Rattle.smpe.specs.ListJob.{two_records}
-use Rattle.smpe.specs.Messages.{answer_status}
+use Rattle.smpe_jobs.specs.declared.error.JobError.{JobError}
+use Rattle.smpe_jobs.specs.declared.error.JobError.TheVariants.{Memory}
+use Rattle.smpe_jobs.specs.Errors.{job_error}
+use Rattle.smpe_jobs.specs.Ending.{EndsJobs}
+use Rattle.smpe_jobs.specs.FromEmpty.{empty_system}
+use Rattle.smpe_jobs.specs.ListJob.{two_records}
+use Rattle.smpe_jobs.specs.Messages.{answer_status}
 
 -- all of the set is received
 abbrev pub receive_records : List ℕ

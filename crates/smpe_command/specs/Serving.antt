@@ -18,14 +18,14 @@ use Rattle.smpe_invocation.specs.declared.asked.Invocation.TheVariants.{Migrate,
 use Rattle.smpe_invocation.specs.declared.asked.ServiceSet.{ServiceSet}
 use Rattle.smpe_invocation.specs.declared.asked.WhyOptions.{WhyOptions}
 use Rattle.smpe_invocation.specs.declared.fault.ArgFault.TheVariants.{BadOperand}
-use Rattle.smpe.specs.declared.error.JobError.{JobError}
-use Rattle.smpe.specs.declared.error.JobError.TheVariants.{Memory}
-use Rattle.smpe.specs.declared.jobs.Answer.{Answer}
-use Rattle.smpe.specs.declared.messages.Fault.{Fault}
-use Rattle.smpe.specs.declared.messages.Fault.TheVariants.{Arg, Job}
-use Rattle.smpe.specs.Ending.{answer_of}
-use Rattle.smpe.specs.ListJob.{list_records}
-use Rattle.smpe.specs.Messages.{answer_status}
+use Rattle.smpe_jobs.specs.declared.error.JobError.{JobError}
+use Rattle.smpe_jobs.specs.declared.error.JobError.TheVariants.{Memory}
+use Rattle.smpe_jobs.specs.declared.jobs.Answer.{Answer}
+use Rattle.smpe_jobs.specs.declared.messages.Fault.{Fault}
+use Rattle.smpe_jobs.specs.declared.messages.Fault.TheVariants.{Arg, Job}
+use Rattle.smpe_jobs.specs.Ending.{answer_of}
+use Rattle.smpe_jobs.specs.ListJob.{list_records}
+use Rattle.smpe_jobs.specs.Messages.{answer_status}
 use Rattle.store_schema.specs.declared.error.StoreError.{StoreError}
 use Rattle.smpe_why.specs.BypassText.{IsBypassOf}
 use Rattle.smpe_why.specs.Telling.{Inquiry}

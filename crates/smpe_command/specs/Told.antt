@@ -4,12 +4,12 @@ use Rattle.terms.specs.Types.{Text}
 use Rattle.report.specs.declared.sink.Sink.{Ghosts as SinkGhosts}
 use Rattle.report.specs.Sent.{Sent}
 use Rattle.store_schema.specs.declared.error.StoreError.{StoreError}
-use Rattle.smpe.specs.declared.error.JobError.{JobError}
-use Rattle.smpe.specs.declared.error.JobError.TheVariants.{Memory, Write}
-use Rattle.smpe.specs.declared.jobs.Answer.{Answer}
-use Rattle.smpe.specs.Ending.{answer_of}
-use Rattle.smpe.specs.Commands.{job_error}
-use Rattle.smpe.specs.Messages.{answer_status, migrated_text, zone_text}
+use Rattle.smpe_jobs.specs.declared.error.JobError.{JobError}
+use Rattle.smpe_jobs.specs.declared.error.JobError.TheVariants.{Memory, Write}
+use Rattle.smpe_jobs.specs.declared.jobs.Answer.{Answer}
+use Rattle.smpe_jobs.specs.Ending.{answer_of}
+use Rattle.smpe_jobs.specs.Errors.{job_error}
+use Rattle.smpe_jobs.specs.Messages.{answer_status, migrated_text, zone_text}
 use Rattle.smpe_why.specs.Telling.{Inquiry, IsTold}
 use Rattle.smpe_why.specs.declared.found.LoadedZones.{LoadedZones}
 use Rattle.smpe_why.specs.declared.told.Told.{Told}

@@ -2,7 +2,7 @@
 ghost use Rattle.std.specs.Prelude.{◌≡◌, map, false, IfOk, IfErr};
 ghost use Rattle.std.specs.String.{string_bytes};
 ghost use Rattle.store_schema.specs.Known.{told};
-ghost use Rattle.smpe.specs.Ending.{job_of};
+ghost use Rattle.smpe_jobs.specs.Ending.{job_of};
 ghost use Rattle.smpe_command.specs.Copied.{AsksIfAny, AsksStore, TriedOver, TriesBytes, TriesCopied, TriesCopy};
 ghost use Rattle.smpe_command.specs.Copied.{TriesOver, apply_to, copy_jobs};
 ghost use Rattle.smpe_command.specs.Database.{IsStoreOver};

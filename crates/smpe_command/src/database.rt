@@ -2,7 +2,7 @@
 //! refused.
 ghost use Rattle.std.specs.Prelude.{IfOk, IfErr};
 ghost use Rattle.std.specs.String.{string_bytes};
-ghost use Rattle.smpe.specs.Ending.{job_of};
+ghost use Rattle.smpe_jobs.specs.Ending.{job_of};
 ghost use Rattle.smpe_command.specs.Database.{FailsToOpen, FoundOver, JobOver, MigratesOver, NamesOver};
 ghost use Rattle.smpe_command.specs.Database.{Opens, VerifiedOver};
 

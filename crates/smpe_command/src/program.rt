@@ -1,7 +1,7 @@
 //! The program except for its input and output.
 ghost use Rattle.std.specs.Prelude.{◌≡◌, map, IfOk, IfErr};
 ghost use Rattle.smpe_invocation.specs.declared.fault.ArgFault.TheVariants.{Memory as NoMemory};
-ghost use Rattle.smpe.specs.declared.messages.Fault.TheVariants.{Arg};
+ghost use Rattle.smpe_jobs.specs.declared.messages.Fault.TheVariants.{Arg};
 ghost use Rattle.smpe_command.specs.Answering.{Answers, Tells, TellsWords};
 
 use crate::asked_words::asked;

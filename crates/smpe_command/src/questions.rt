@@ -1,7 +1,7 @@
 //! What is asked about ids in a zone is told.
 ghost use Rattle.std.specs.Prelude.{◌≡◌, Ok, IfOk, IfErr};
 ghost use Rattle.std.specs.String.{string_bytes};
-ghost use Rattle.smpe.specs.declared.error.JobError.TheVariants.{Memory};
+ghost use Rattle.smpe_jobs.specs.declared.error.JobError.TheVariants.{Memory};
 ghost use Rattle.smpe_command.specs.Serving.{AsksZone, IsGiven, ServesWhy};
 ghost use Rattle.smpe_command.specs.Told.{TellsFound, TellsText};
 

@@ -1,6 +1,6 @@
 //! What a service set would do in an empty system, which is kept in memory and gone after the jobs.
 ghost use Rattle.std.specs.Prelude.{◌≡◌, map, false};
-ghost use Rattle.smpe.specs.Ending.{answer_of, job_of};
+ghost use Rattle.smpe_jobs.specs.Ending.{answer_of, job_of};
 ghost use Rattle.smpe_command.specs.ServiceSet.{JobsInMemory, JobsOverNew, TriesSet, greatest, receive_records};
 ghost use Rattle.smpe_command.specs.ServiceSet.{set_jobs};
 

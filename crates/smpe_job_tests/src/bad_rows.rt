@@ -3,8 +3,9 @@
 
 use crate::checked::CHECKED;
 use fields::Srel;
+use scripts::compare;
 use smpe::{JobError, ZoneError, define_zone};
-use smpe_play::{compare, in_memory, installed, opened, run_step, zone_name};
+use smpe_play::{in_memory, installed, opened, run_step, zone_name};
 use sqlite::{Alter, Connection};
 use std::alloc::Global;
 use std::test::Fail;

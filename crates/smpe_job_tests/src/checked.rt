@@ -1,7 +1,8 @@
 //! A job that commits twice, and after how many of the two commits the zones are as they are found.
 
+use scripts::compare;
 use smpe::JobError;
-use smpe_play::{FIX, JOB, JobStep, compare, opened, run_step};
+use smpe_play::{FIX, JOB, JobStep, opened, run_step};
 use sqlite::{Alter, Connection};
 use std::alloc::Global;
 use std::test::Fail;

@@ -2,10 +2,11 @@
 
 use fields::{Srel, YyDdd, ZoneName};
 use report::Out;
+use scripts::{card_file, compare, put_cards};
 use smpe::{Answer, Job, ZoneFault, list_commands, run_job, two_commands};
 use smpe_play::{
-    FIX, FUNCTION, FUNCTION_RECEIVED, ListWanted, RECEIVE, card_file, compare, in_memory, job_over,
-    opened, play_jobs, put_cards, zone_name,
+    FIX, FUNCTION, FUNCTION_RECEIVED, ListWanted, RECEIVE, in_memory, job_over, opened, play_jobs,
+    zone_name,
 };
 use sqlite::Alter;
 use std::alloc::Global;

@@ -2,8 +2,8 @@
 
 use fields::ZoneName;
 use report::Out;
+use scripts::compare;
 use smpe::{Answer, ArgFault, Fault, JobError, ZoneFault, fault_line, migrated_line, zone_line};
-use smpe_play::compare;
 use std::alloc::Global;
 use std::test::Fail;
 use store_schema::StoreError;

@@ -1,9 +1,9 @@
 //! Command lines, and what they ask for.
 
 use fields::Id;
+use scripts::compare;
 use smpe::{ArgFault, DatabaseFile, Invocation, invocation};
 use smpe_invocation::{CheckedSystem, ServiceSet, WhyOptions};
-use smpe_play::compare;
 use std::alloc::Global;
 use std::test::Fail;
 

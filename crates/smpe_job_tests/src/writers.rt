@@ -3,8 +3,9 @@
 
 use crate::checked::{AGAIN, CHECKED, REPORTS, commits_of, performed, whole_reports};
 use report::Out;
+use scripts::{card_file, compare};
 use smpe::{Answer, JobError, run_jobs};
-use smpe_play::{FIX, card_file, compare, in_memory, installed, job_over};
+use smpe_play::{FIX, in_memory, installed, job_over};
 use sqlite::{Alter, Connection};
 use std::alloc::Global;
 use std::io::{self, ErrorKind, Write};

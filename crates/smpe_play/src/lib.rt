@@ -4,9 +4,9 @@
 
 mod cards;
 mod disks;
-mod jobs;
-mod lists;
+mod job_lists;
 mod rows;
+mod running;
 mod steps;
 
 pub use cards::{
@@ -15,9 +15,9 @@ pub use cards::{
     RIVAL_RECEIVED, UPDATE_INSTALLED,
 };
 pub use disks::{connected, in_memory, new_files, opened};
-pub use jobs::{card_file, compare, define_both, job_over, put_cards, run_printing, zone_name};
-pub use lists::{ListWanted, play_jobs};
+pub use job_lists::{ListWanted, play_jobs};
 pub use rows::lines_of;
+pub use running::{define_both, job_over, run_printing, zone_name};
 pub use steps::{
     Plays, RowsLeft, StepPlace, installed, installed_files, play, play_cases, play_installed,
     play_made, play_rows, run_step,

@@ -2,10 +2,9 @@
 
 use crate::cards::{BEGINNING, Case, JobStep};
 use crate::disks::{in_memory, new_files, opened, reopened};
-use crate::jobs::{
-    card_file, compare, define_both, first_difference, job_over, put_cards, run_printing,
-};
 use crate::rows::lines_of;
+use crate::running::{define_both, job_over, run_printing};
+use scripts::{card_file, compare, first_difference, put_cards};
 use smpe::{Answer, JobError};
 use sqlite::{Alter, Connection, FileStore, MemStore};
 use sqlite_disk::Memory;

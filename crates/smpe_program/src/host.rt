@@ -8,7 +8,7 @@ ghost use Rattle.smpe_program.specs.Wary.{IsWary};
 
 use crate::copy::{CopyFault, read_copy};
 use crate::place::{has_other_form, is_missing};
-use crate::related::related_zone;
+use crate::related_zone::related_zone;
 use clap::Error as WordsError;
 use smpe_command::{DatabaseBytes, DatabaseFile, Host};
 use smpe_hints::{ReadFile, RelatedZone};

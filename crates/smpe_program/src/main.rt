@@ -7,7 +7,7 @@ mod command_line;
 mod copy;
 mod host;
 mod place;
-mod related;
+mod related_zone;
 mod telling;
 mod watched;
 

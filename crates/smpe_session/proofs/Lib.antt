@@ -1,14 +1,14 @@
 mod AllZones
 mod CarriedOut
-mod Installed
-mod Leading
+pub mod Installed
+pub mod Leading
 mod Looking
-mod Places
+pub mod Places
 mod Received
 mod Rejected
 mod RelatedZone
-mod Restored
+pub mod Restored
 mod Seeking
 mod StateZones
-mod Stepping
-mod Using
+pub mod Stepping
+pub mod Using

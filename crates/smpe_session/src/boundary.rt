@@ -33,14 +33,14 @@ pub(crate) fn unless_global(boundary: Option<ZoneName>) -> Option<Refusal>
 
 /// A zone under its name.
 #[derive(Clone, Copy)]
-pub(crate) struct BoundaryZone<'a> {
+pub struct BoundaryZone<'a> {
     pub name: ZoneName,
     pub zone: &'a Zone,
 }
 
 impl Session {
     /// The zone of the boundary, if it is of this kind.
-    pub(crate) fn place(&self, kind: ZoneKind) -> Result<BoundaryZone<'_>, Refusal>
+    pub fn place(&self, kind: ZoneKind) -> Result<BoundaryZone<'_>, Refusal>
         ensures named { IfOk result (λ v. self.now.boundary ≡ Some v.name) }
         ensures has { (s : State) → IsSessionOf s self.now → IsInventory (kept s)
             → HasPlace s self.now kind (λ v. v.name) (λ v. v.zone.now) result }
@@ -57,7 +57,8 @@ impl Session {
         Ok(BoundaryZone { name, zone })
     }
 
-    pub(crate) fn zone_at(&self, name: Option<ZoneName>) -> Option<&Zone>
+    /// The zone of this name, if the session has it.
+    pub fn zone_at(&self, name: Option<ZoneName>) -> Option<&Zone>
         ensures { option_copied result ≡ option_and_then (get bytes_eq self.now.zones) name }
     {
         match name {

@@ -24,7 +24,7 @@ impl Session {
     /// The header names the zone. Under CHECK nothing changes. Otherwise the change is made ready and committed, and
     /// then the session's zone changes, which takes no memory. So the session is never ahead of the tables. A job whose
     /// commit fails ends there, and its session with it.
-    pub(crate) fn carry_out<S: Alter>(
+    pub fn carry_out<S: Alter>(
         &mut self,
         alloc: Global,
         store: &mut Store<S>,

@@ -16,7 +16,8 @@ use std::alloc::{AllocError, Global};
 use terms::CommandWord;
 
 impl Session {
-    pub(crate) fn report(&self, alloc: Global) -> Result<Outcome<'static>, AllocError>
+    /// REPORT ERRSYSMODS for the zone of the boundary.
+    pub fn report(&self, alloc: Global) -> Result<Outcome<'static>, AllocError>
         ensures performs { IfOk result (λ outcome. (s : State) → IsSessionOf s self.now → IsInventory (kept s)
             → (date : Text) (files : Files) → Performs date files s Report s (outcome_view outcome)) }
         ensures header { IfOk result (TellsOutcomeOf Report) }

@@ -50,7 +50,8 @@ fn take_found(
 }
 
 impl Session {
-    pub(crate) fn receive<S: Alter>(
+    /// RECEIVE of what the files have into the global zone.
+    pub fn receive<S: Alter>(
         &mut self,
         alloc: Global,
         store: &mut Store<S>,

@@ -33,7 +33,8 @@ impl Session {
         Ok(())
     }
 
-    pub(crate) fn reject<S: Alter>(
+    /// REJECT of these ids from the global zone.
+    pub fn reject<S: Alter>(
         &mut self,
         alloc: Global,
         store: &mut Store<S>,

@@ -42,7 +42,8 @@ impl Session {
         Ok(true)
     }
 
-    pub(crate) fn set<S: Alter>(
+    /// SET: the boundary is this zone, if it is one.
+    pub fn set<S: Alter>(
         &mut self,
         alloc: Global,
         store: &mut Store<S>,

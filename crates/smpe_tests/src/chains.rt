@@ -1,7 +1,8 @@
 //! Chains of 5,000 SYSMODs, which are received, applied and listed without a walk that takes more and more stack.
 
 use crate::generated::run_job;
-use smpe_play::{FAILING, JobStep, Plays, RECEIVE, StepPlace, card_file, play_made, put_cards};
+use scripts::{card_file, put_cards};
+use smpe_play::{FAILING, JobStep, Plays, RECEIVE, StepPlace, play_made};
 use sqlite::Alter;
 use std::alloc::Global;
 use std::test::Fail;

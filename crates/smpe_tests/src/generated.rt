@@ -1,7 +1,8 @@
 //! Jobs over files that are generated.
 
+use scripts::{card_file, compare};
 use smpe::Answer;
-use smpe_play::{card_file, compare, job_over, run_printing};
+use smpe_play::{job_over, run_printing};
 use sqlite::Alter;
 use std::alloc::Global;
 use std::test::Fail;

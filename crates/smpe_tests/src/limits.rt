@@ -1,9 +1,9 @@
 //! A list that is too long, and a zone of 1,000 entries and 1,000 elements, in which one PTF changes one row.
 
 use crate::generated::run_job;
+use scripts::{card_file, put_cards};
 use smpe_play::{
-    JOB, JobStep, Plays, RECEIVE, RECEIVING, RowsLeft, StepPlace, card_file, play_made, play_rows,
-    put_cards,
+    JOB, JobStep, Plays, RECEIVE, RECEIVING, RowsLeft, StepPlace, play_made, play_rows,
 };
 use sqlite::Alter;
 use std::alloc::Global;

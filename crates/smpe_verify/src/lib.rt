@@ -9,10 +9,10 @@ mod breach;
 mod closed;
 mod element_rules;
 mod entry_rules;
+mod joined;
 mod law;
 mod told;
 mod verification;
-mod words;
 mod zone_by_zone;
 
 pub use breach::{Breach, ElementFault, EntryFault, Level};

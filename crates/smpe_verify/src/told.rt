@@ -4,8 +4,8 @@ ghost use Rattle.smpe_verify.specs.Telling.{IsTold, counts_text, breach_text, en
 ghost use Rattle.smpe_verify.specs.Telling.{level_text};
 
 use crate::breach::{Breach, ElementFault, EntryFault, Level};
+use crate::joined::{put, put_joined, put_line};
 use crate::verification::{Counts, Verification};
-use crate::words::{put, put_joined, put_line};
 use fields::ZoneName;
 use fields::spelling::type_text;
 use itoa::Buffer;

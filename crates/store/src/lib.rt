@@ -9,7 +9,7 @@
 
 mod change;
 mod delta;
-mod edits;
+mod global_edits;
 mod global_load;
 mod law;
 mod load;
@@ -23,4 +23,3 @@ pub use load::told;
 pub use open::Store;
 pub use store_schema::StoreError;
 pub use store_zones::ZoneHead;
-pub use sysmods::GlobalEdit;

@@ -13,7 +13,7 @@ ghost use Rattle.store.specs.Writes.{Writes, CommitsChange, IsChangeOutcome};
 
 use crate::change::Change;
 use crate::delta::write_delta;
-use crate::edits::write_edits;
+use crate::global_edits::write_edits;
 use sqlite::{Alter, Connection, Error, Transaction};
 use std::alloc::Global;
 use store_zones::insert_zone;

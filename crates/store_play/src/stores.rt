@@ -9,8 +9,8 @@ use sqlite::{Alter, Connection, Error, FileStore, Files, MemStore, Options};
 use sqlite_disk::Memory;
 use std::alloc::Global;
 use std::test::Fail;
-use store::{Change, GlobalEdit, Store};
-use sysmods::GlobalZone;
+use store::{Change, Store};
+use sysmods::{GlobalEdit, GlobalZone};
 use zones_maps::{Zone, ZoneDelta, ZoneEdits};
 
 /// Commits a change, which must succeed.

@@ -4,6 +4,8 @@ ghost use Rattle.std.specs.Prelude.{◌≡◌, ◌≢◌, ◌≤◌, ◌↔◌, 
 ghost use Rattle.std.specs.Prelude.{IsErrOf};
 ghost use Rattle.terms.specs.declared.kinds.Kind.TheVariants.{Function};
 ghost use Rattle.terms.specs.Types.{Sysmod as SysmodTerm};
+ghost use Rattle.terms.specs.Rising.{Rises};
+ghost use Rattle.terms.specs.Global.{change_cmp};
 ghost use Rattle.store_schema.specs.Forms.{VerSuitsKind, AreVersApart};
 ghost use Rattle.store_sysmods.specs.declared.ver.VerRow.{VerRow as VerLine};
 ghost use Rattle.store_sysmods.specs.declared.ifreq.IfRow.{IfRow as IfLine};
@@ -87,6 +89,26 @@ fn all_may(kind: Kind, changes: &[ElemChange]) -> bool
     changes.iter().all(|change| may_do(kind, change))
 }
 
+fn are_in_order(changes: &[ElemChange]) -> bool
+    ensures { IsTrue result ↔ Rises change_cmp (λ c. c) changes.now }
+{
+    are_rising(changes)
+}
+
+// Whether a SYSMOD of this kind may have these `++VER`s.
+fn may_have(kind: Kind, vers: &[Ver]) -> bool
+    ensures { IsTrue result ↔ (All (VerSuitsKind kind) vers.now × AllPairs (AreVersApart kind) vers.now) }
+{
+    all_suit(kind, vers) && are_apart(kind, vers)
+}
+
+// Whether a SYSMOD of this kind may have these element statements.
+fn may_do_all(kind: Kind, changes: &[ElemChange]) -> bool
+    ensures { IsTrue result ↔ (All (λ c. MayDo kind c.action) changes.now × Rises change_cmp (λ c. c) changes.now) }
+{
+    all_may(kind, changes) && are_in_order(changes)
+}
+
 // The SYSMOD of these parts.
 fn built(
     alloc: Global,
@@ -102,16 +124,10 @@ fn built(
     if vers.is_empty() {
         return Err(ReadError::BadRow);
     }
-    if !all_suit(head.kind, &vers) {
+    if !may_have(head.kind, vers.as_slice()) {
         return Err(ReadError::BadRow);
     }
-    if !are_apart(head.kind, vers.as_slice()) {
-        return Err(ReadError::BadRow);
-    }
-    if !all_may(head.kind, &changes) {
-        return Err(ReadError::BadRow);
-    }
-    if !are_rising(changes.as_slice()) {
+    if !may_do_all(head.kind, changes.as_slice()) {
         return Err(ReadError::BadRow);
     }
     Ok(Sysmod {
@@ -149,25 +165,26 @@ fn take_sysmod(
     built(alloc, head, found, changes)
 }
 
-/// The SYSMODs whose rows these are.
+/// The SYSMODs whose rows these are. It takes the rows by reference, so that none of its exits lets go of them.
 pub(crate) fn assemble(
     alloc: Global,
-    mut heads: VecDeque<HeadRow>,
-    mut vers: VecDeque<VerRow>,
-    mut ifs: VecDeque<IfRow>,
-    mut elems: VecDeque<ElemRow>,
+    heads: &mut VecDeque<HeadRow>,
+    vers: &mut VecDeque<VerRow>,
+    ifs: &mut VecDeque<IfRow>,
+    elems: &mut VecDeque<ElemRow>,
 ) -> Result<Vec<Sysmod>, ReadError>
-    requires { AreBare vers.items }
-    ensures taken { IfOk result (λ ss. AreTaken heads.items ss.items vers.items ifs.items elems.items) }
+    requires { AreBare vers.old.items }
+    ensures taken { IfOk result (λ ss. AreTaken heads.old.items ss.items vers.old.items ifs.old.items
+        elems.old.items) }
     ensures only { IfOk result (λ ss. (others : List SysmodTerm)
-        → AreTaken heads.items others vers.items ifs.items elems.items → others ≡ ss.items) }
+        → AreTaken heads.old.items others vers.old.items ifs.old.items elems.old.items → others ≡ ss.items) }
     ensures none { IsErrOf result ReadError.BadRow → (others : List SysmodTerm)
-        → ¬ AreTaken heads.items others vers.items ifs.items elems.items }
+        → ¬ AreTaken heads.old.items others vers.old.items ifs.old.items elems.old.items }
     ensures fault { IsErrOf result ReadError.Fault → ⊥ }
 {
-    let mut sysmods = Vec::new(alloc);
-    while let Some(head) = next_of(&mut heads) {
-        let sysmod = take_sysmod(alloc, head, &mut vers, &mut ifs, &mut elems)?;
+    let mut sysmods = Vec::with_capacity(alloc, heads.len())?;
+    while let Some(head) = next_of(heads) {
+        let sysmod = take_sysmod(alloc, head, vers, ifs, elems)?;
         if sysmods.push(sysmod).is_err() {
             return Err(ReadError::Memory);
         }

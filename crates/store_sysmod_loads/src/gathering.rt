@@ -128,6 +128,7 @@ pub(crate) fn take_ifs(
             return Err(ReadError::Memory);
         }
     }
+    ifs.shrink_to_fit();
     Ok(ifs)
 }
 
@@ -197,6 +198,7 @@ pub(crate) fn take_vers(
             return Err(ReadError::Memory);
         }
     }
+    vers.shrink_to_fit();
     Ok(vers)
 }
 
@@ -214,5 +216,6 @@ pub(crate) fn take_changes(
     while let Some(row) = pop_of(rows, id) {
         changes.push(row.change)?;
     }
+    changes.shrink_to_fit();
     Ok(changes)
 }

@@ -49,7 +49,7 @@ pub(crate) fn joined(
         → ¬ AreJoined bare.items sources.items others }
     ensures fault { IsErrOf result ReadError.Fault → ⊥ }
 {
-    let mut heads = Vec::new(alloc);
+    let mut heads = Vec::with_capacity(alloc, bare.len())?;
     while let Some(head) = next_of(&mut bare) {
         let names = take_sources(alloc, &mut sources, head.id)?;
         let whole = HeadRow {

@@ -75,13 +75,11 @@ pub(crate) fn gathered(alloc: Global, rows: FlatRows) -> Result<Vec<Sysmod>, Rea
     if !are_rising(rows.heads.as_slice()) {
         return Err(ReadError::BadRow);
     }
-    assemble(
-        alloc,
-        VecDeque::from(rows.heads),
-        VecDeque::from(rows.vers),
-        VecDeque::from(rows.ifs),
-        VecDeque::from(rows.elems),
-    )
+    let mut heads = VecDeque::from(rows.heads);
+    let mut vers = VecDeque::from(rows.vers);
+    let mut ifs = VecDeque::from(rows.ifs);
+    let mut elems = VecDeque::from(rows.elems);
+    assemble(alloc, &mut heads, &mut vers, &mut ifs, &mut elems)
 }
 
 /// The SYSMODs whose rows the tables of the schema hold.

@@ -5,12 +5,13 @@ use fields::{Id, IdList, Name, Reason, Source, VerNumber, YyDdd};
 use sqlite::{Alter, Connection};
 use std::alloc::Global;
 use std::test::Fail;
-use store::{Change, GlobalEdit, Store};
+use store::{Change, Store};
 use store_play::{
     all_lines, commit, commit_edits, commit_zone, compare, doubled, known_with, lines, loaded,
     opened, run, run_all, zone_name,
 };
 use store_schema::StoreError;
+use sysmods::GlobalEdit;
 use sysmods_values::Sysmod;
 use terms::{ElemType, HoldKind, Kind};
 use zones_maps::{Applied, Entry, Zone, ZoneDelta, ZoneEdits};

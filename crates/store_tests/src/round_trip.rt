@@ -6,12 +6,12 @@ use sqlite::{Alter, Connection, FileStore, MemStore};
 use sqlite_disk::Memory;
 use std::alloc::Global;
 use std::test::Fail;
-use store::{Change, GlobalEdit, Store};
+use store::{Change, Store};
 use store_play::{
     CHOSEN, FURTHER, again, all_lines, commit, commit_edits, commit_zone, compare, doubled,
     in_memory, known_with, lines, loaded, new_files, opened,
 };
-use sysmods::GlobalZone;
+use sysmods::{GlobalEdit, GlobalZone};
 use sysmods_values::{Hold, Sysmod};
 use terms::Kind;
 use zones_maps::{Zone, ZoneEdits};

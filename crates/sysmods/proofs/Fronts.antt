@@ -1,7 +1,7 @@
 -- The front of a global zone's list of SYSMODs, and one more behind it.
-use Rattle.std.proofs.Common.{◌≡◌, ◌∙◌, Bool, true, false, not, ◌&&◌, List, [], ◌∷◌, ◌++◌, fold, filter}
+use Rattle.std.proofs.Common.{◌≡◌, ◌∙◌, Bool, false, not, ◌&&◌, List, [], ◌∷◌, ◌++◌, fold, filter}
 use Rattle.std.proofs.Common.{refl, sym, ap, subst, Option, None, Some, is_some, IsTrue, All, Contains, true≢false}
-use Rattle.std.proofs.Common.{arith, append-nil, length-append, ◌≢◌}
+use Rattle.std.proofs.Common.{arith, append-nil, length-append}
 use Rattle.std.specs.declared.cmp.Ordering.TheVariants.{Less}
 use Rattle.std.specs.Ordering.{is_lt, is_eq, nat_cmp}
 use Rattle.std.specs.Cmp.Lexicographic.{slice_cmp}

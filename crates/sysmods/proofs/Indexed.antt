@@ -7,7 +7,7 @@ use Rattle.std.specs.Option.{option_map_or}
 use Rattle.std.specs.declared.cmp.Ordering.{Ordering}
 use Rattle.std.specs.Ordering.{is_eq, nat_cmp}
 use Rattle.std.specs.Cmp.Lexicographic.{slice_cmp}
-use Rattle.std.specs.BTreeMap.{get, UpdatesBy}
+use Rattle.std.specs.BTreeMap.{is_at, get, UpdatesBy}
 use Rattle.std.specs.BTreeSet.{BTreeSet, contains, Updates}
 use Rattle.std.proofs.lemmas.Map.Text.{is_eq-slice_cmp}
 use Rattle.std.proofs.lemmas.List.{take_all}
@@ -15,8 +15,11 @@ use Rattle.std.proofs.lemmas.List.Folds.{list_any_more, list_any-append}
 use Rattle.terms.specs.Types.{Id, Ver}
 use Rattle.terms.specs.Lookups.{is_in, at_most_one}
 use Rattle.terms.specs.Global.{named, named_functions}
+use Rattle.terms.proofs.Booleans.{or_false}
 use Rattle.terms.proofs.TextOrder.{same_from}
-use Rattle.sysmods.specs.Index.{Sets, has, HasAll, Grows, KeepsOthers, mentions}
+use Rattle.sysmods.specs.declared.index.IndexEntry.{IndexEntry}
+use Rattle.sysmods.specs.declared.index.IndexEntry.TheVariants.{One, More}
+use Rattle.sysmods.specs.Index.{Sets, members, has, HasAll, Grows, KeepsMembers, KeepsMembersBut, KeepsOthers, mentions}
 
 -- one of two tests passes
 pub either : {P : Type 0} (a b : Bool) → IsTrue (a || b) → (IsTrue a → P) → (IsTrue b → P) → P
@@ -67,14 +70,14 @@ has_all_ver sets y v pre sup del ifs fmid z h =
 abbrev C : Id → Id → Ordering
 C = slice_cmp nat_cmp
 
--- a set is put in place of another that it holds
-pub grows_update : (old new : Sets) (k : Id) (w : BTreeSet Id) → UpdatesBy C (C k) old new (Some w)
-    → ((y : Id) → IsTrue (has old k y) → IsTrue (contains C w y)) → Grows old new
+-- an entry is put in place of another whose ids it has
+pub grows_update : (old new : Sets) (k : Id) (w : IndexEntry) → UpdatesBy C (C k) old new (Some w)
+    → ((y : Id) → IsTrue (has old k y) → IsTrue (is_in (members w) y)) → Grows old new
 grows_update old new k w updates within z y h = by (is_eq (C k z)) refl
   where
-    now : (b : Bool) → is_eq (C k z) ≡ b → has new z y ≡ option_map_or (λ s. contains C s y)
+    now : (b : Bool) → is_eq (C k z) ≡ b → has new z y ≡ option_map_or (λ n. is_in (members n) y)
         (cond b (Some w) (get C old z)) false
-    now b e = ap (λ o. option_map_or (λ s. contains C s y) o false)
+    now b e = ap (λ o. option_map_or (λ n. is_in (members n) y) o false)
         (updates.0 z ∙ ap (λ a. cond a (Some w) (get C old z)) e)
 
     by : (b : Bool) → is_eq (C k z) ≡ b → IsTrue (has new z y)
@@ -82,21 +85,37 @@ grows_update old new k w updates within z y h = by (is_eq (C k z)) refl
         (sym (same_from k z (sym (is_eq-slice_cmp k z) ∙ e))) h)
     by false e = now false e ∙ h
 
--- what the set of an id is
-pub has_at : (sets : Sets) (k : Id) (s : BTreeSet Id) → get C sets k ≡ Some s → (y : Id) → has sets k y ≡ contains C s y
-has_at sets k s there y = ap (λ o. option_map_or (λ t. contains C t y) o false) there
+-- what the entry of an id is
+pub has_at : (sets : Sets) (k : Id) (n : IndexEntry) → get C sets k ≡ Some n → (y : Id)
+    → has sets k y ≡ is_in (members n) y
+has_at sets k n there y = ap (λ o. option_map_or (λ m. is_in (members m) y) o false) there
 
 pub has_none : (sets : Sets) (k : Id) → get C sets k ≡ None → (y : Id) → has sets k y ≡ false
-has_none sets k there y = ap (λ o. option_map_or (λ t. contains C t y) o false) there
+has_none sets k there y = ap (λ o. option_map_or (λ m. is_in (members m) y) o false) there
+
+-- what a set has
+any_same : (p q : Id → Bool) (ks : List Id) → ((k : Id) → p k ≡ q k) → list_any p ks ≡ list_any q ks
+any_same p q [] same = refl
+any_same p q (k ∷ ks) same = rw (same k, any_same p q ks same) refl
+
+in_set : (s : BTreeSet Id) (y : Id) → is_in s.keys y ≡ contains C s y
+in_set s y = any_same (bytes_eq y) (is_at (C y)) s.keys (λ k. sym (is_eq-slice_cmp y k))
 
 -- a set with one more
-pub contains_more : (old new : BTreeSet Id) (k : Id) → Updates C old new k true → (y : Id) → IsTrue (contains C old y)
-    → IsTrue (contains C new y)
-contains_more old new k updates y h = updates.0 y ∙ by (is_eq (C k y))
+pub in_more : (old new : BTreeSet Id) (k : Id) → Updates C old new k true → IsTrue (is_in new.keys k)
+in_more old new k updates = in_set new k ∙ updates.1
+
+pub keeps_more : (old new : BTreeSet Id) (k : Id) → Updates C old new k true → KeepsMembers (More old) (More new)
+keeps_more old new k updates y h = in_set new y ∙ updates.0 y ∙ by (is_eq (C k y))
   where
     by : (b : Bool) → cond b true (contains C old y) ≡ true
     by true = refl
-    by false = h
+    by false = sym (in_set old y) ∙ h
+
+-- a set in place of a single id
+pub keeps_one : (x : Id) (s : BTreeSet Id) → IsTrue (is_in s.keys x) → KeepsMembers (One x) (More s)
+keeps_one x s there y h = subst (λ w. IsTrue (is_in s.keys w)) (sym (same_from y x (sym (or_false (bytes_eq y x)) ∙ h)))
+    there
 
 -- the same ids in another list that is no other
 pub carried : (a b : Sets) (y : Id) (xs ys : List Id) → Grows a b → xs ≡ ys → HasAll a y (is_in xs)
@@ -113,14 +132,14 @@ pub has_all_map : {X : Type 0} (sets : Sets) (y : Id) (f : X → Id) (xs : List 
 has_all_map sets y f xs i all has z h = has z (ap (list_any (λ x. bytes_eq z (f x))) (take_all i xs all)
     ∙ sym (any_map f z xs) ∙ h)
 
--- a set is put in place of another that it keeps all but x of
-pub keeps_update : (old new : Sets) (k : Id) (w : BTreeSet Id) (x : Id) → UpdatesBy C (C k) old new (Some w)
-    → ((y : Id) → bytes_eq x y ≡ false → IsTrue (has old k y) → IsTrue (contains C w y)) → KeepsOthers x old new
+-- an entry is put in place of another whose ids it has, all but x
+pub keeps_update : (old new : Sets) (k : Id) (w : IndexEntry) (x : Id) → UpdatesBy C (C k) old new (Some w)
+    → ((y : Id) → bytes_eq x y ≡ false → IsTrue (has old k y) → IsTrue (is_in (members w) y)) → KeepsOthers x old new
 keeps_update old new k w x updates within z y other h = by (is_eq (C k z)) refl
   where
-    now : (b : Bool) → is_eq (C k z) ≡ b → has new z y ≡ option_map_or (λ s. contains C s y)
+    now : (b : Bool) → is_eq (C k z) ≡ b → has new z y ≡ option_map_or (λ n. is_in (members n) y)
         (cond b (Some w) (get C old z)) false
-    now b e = ap (λ o. option_map_or (λ s. contains C s y) o false)
+    now b e = ap (λ o. option_map_or (λ n. is_in (members n) y) o false)
         (updates.0 z ∙ ap (λ a. cond a (Some w) (get C old z)) e)
 
     by : (b : Bool) → is_eq (C k z) ≡ b → IsTrue (has new z y)
@@ -129,7 +148,7 @@ keeps_update old new k w x updates within z y other h = by (is_eq (C k z)) refl
     by false e = now false e ∙ h
 
 -- a set with one less
-pub contains_less : (old new : BTreeSet Id) (x : Id) → Updates C old new x false → (y : Id) → bytes_eq x y ≡ false
-    → IsTrue (contains C old y) → IsTrue (contains C new y)
-contains_less old new x updates y other h = updates.0 y ∙ ap (λ b. cond b false (contains C old y))
-    (is_eq-slice_cmp x y ∙ other) ∙ h
+pub keeps_less : (old new : BTreeSet Id) (x : Id) → Updates C old new x false → KeepsMembersBut x (More old) (More new)
+keeps_less old new x updates y other h =
+    in_set new y ∙ updates.0 y ∙ ap (λ b. cond b false (contains C old y)) (is_eq-slice_cmp x y ∙ other)
+    ∙ sym (in_set old y) ∙ h

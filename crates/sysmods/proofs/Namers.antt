@@ -6,11 +6,9 @@ use Rattle.std.specs.Option.{option_map_or}
 use Rattle.std.specs.Ordering.{nat_cmp}
 use Rattle.std.specs.Cmp.Lexicographic.{slice_cmp}
 use Rattle.std.specs.Str.{bytes_eq}
-use Rattle.std.specs.BTreeMap.{is_at, get}
-use Rattle.std.specs.BTreeSet.{BTreeSet}
+use Rattle.std.specs.BTreeMap.{get}
 use Rattle.std.proofs.lemmas.List.Folds.{list_any-append}
 use Rattle.std.proofs.lemmas.List.Elements.{All-head, All-tail}
-use Rattle.std.proofs.lemmas.Map.Text.{is_eq-slice_cmp}
 use Rattle.terms.specs.Types.{Id, Ver, Sysmod}
 use Rattle.terms.specs.Lookups.{is_in, at_most_one}
 use Rattle.terms.specs.Global.{named, named_functions}
@@ -18,7 +16,8 @@ use Rattle.terms.proofs.TextOrder.{same_from}
 use Rattle.terms.proofs.Searches.{list_any_fewer}
 use Rattle.sysmods.specs.declared.ways.Way.{Way}
 use Rattle.sysmods.specs.declared.ways.Way.TheVariants.{Named, Superseded, AsFunction}
-use Rattle.sysmods.specs.Index.{Sets, has, mentions, IsIndexed}
+use Rattle.sysmods.specs.declared.index.IndexEntry.{IndexEntry}
+use Rattle.sysmods.specs.Index.{Sets, members, has, mentions, IsIndexed}
 use Rattle.sysmods.specs.Held.{found}
 use Rattle.sysmods.specs.Ways.{names_so}
 use Rattle.sysmods.proofs.Indexed.{has_at, has_none}
@@ -116,16 +115,10 @@ module _ (xs : List Sysmod) (sets : Sets) (way : Way) (z : Id) (ks : List Id) wh
         by false true e f = absurd (true≢false (sym (from_some xs indexed itself f) ∙ e))
         by false false e f = refl
 
--- what the set of an id has
-any_same : (p q : Id → Bool) (ks : List Id) → ((k : Id) → p k ≡ q k) → list_any p ks ≡ list_any q ks
-any_same p q [] same = refl
-any_same p q (k ∷ ks) same = rw (same k, any_same p q ks same) refl
-
-pub complete_at : (sets : Sets) (z : Id) (s : BTreeSet Id) → get (slice_cmp nat_cmp) sets z ≡ Some s → (y : Id)
-    → IsTrue (has sets z y) → is_in s.keys y ≡ true
-complete_at sets z s there y h =
-    any_same (bytes_eq y) (is_at (slice_cmp nat_cmp y)) s.keys (λ k. sym (is_eq-slice_cmp y k))
-    ∙ sym (has_at sets z s there y) ∙ h
+-- what the entry of an id has
+pub complete_at : (sets : Sets) (z : Id) (n : IndexEntry) → get (slice_cmp nat_cmp) sets z ≡ Some n → (y : Id)
+    → IsTrue (has sets z y) → is_in (members n) y ≡ true
+complete_at sets z n there y h = sym (has_at sets z n there y) ∙ h
 
 pub complete_none : (sets : Sets) (z : Id) → get (slice_cmp nat_cmp) sets z ≡ None → (y : Id) → IsTrue (has sets z y)
     → is_in [] y ≡ true

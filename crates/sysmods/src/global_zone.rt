@@ -3,9 +3,10 @@ ghost use Rattle.std.specs.Prelude.{◌≡◌, ◌↔◌, ◌<◌, ◌^◌, ◌+
 ghost use Rattle.std.specs.Prelude.{OnOk};
 ghost use Rattle.std.specs.Prelude.{OnErr, option_copied, if◌then◌else◌};
 ghost use Rattle.std.specs.Map.Iter.{ShowsInOrder, deref};
+ghost use Rattle.std.specs.Option.{option_map_or};
 ghost use Rattle.terms.specs.declared.kinds.HoldKind.TheVariants.{System};
 ghost use Rattle.terms.specs.Types.{Id as AnId};
-ghost use Rattle.terms.specs.Lookups.{sysmod_of, is_received, is_function, holds_of};
+ghost use Rattle.terms.specs.Lookups.{sysmod_of, changes_of, is_received, is_function, holds_of};
 ghost use Rattle.terms.specs.Global.{IsGlobal, hold_of, is_replacing, hold as with_hold, release as released};
 ghost use Rattle.terms.specs.Global.{Receives, assign as assigned, without_sysmod};
 ghost use Rattle.terms.specs.Types.{a_global};
@@ -24,7 +25,7 @@ use fields::{Attest, Id, Reason, Source, Srel};
 use std::alloc::{AllocError, Global};
 use std::collections::btree_map::Values;
 use std::marker::Model;
-use sysmods_values::{Hold, Sysmod};
+use sysmods_values::{ElemChange, Hold, Sysmod, Ver};
 use terms::{HoldKind, Kind};
 use thiserror::Error;
 
@@ -155,6 +156,26 @@ impl GlobalZone {
         ensures { OnOk result (found.new.items ≡ found.old.items ++ function_namers self.now.sysmods id) }
     {
         self.sysmods.append_function_namers(id, found)
+    }
+
+    /// Its `++VER`s for all SRELs, if it is received.
+    pub fn vers_of(&self, id: Id) -> &[Ver]
+        ensures { result.now ≡ option_map_or (λ s. s.vers) (sysmod_of self.now id) [] }
+    {
+        match self.get(id) {
+            Some(sysmod) => sysmod.vers.as_slice(),
+            None => &[],
+        }
+    }
+
+    /// Its element statements, if it is received.
+    pub fn changes_of(&self, id: Id) -> &[ElemChange]
+        ensures { result.now ≡ changes_of self.now id }
+    {
+        match self.get(id) {
+            Some(sysmod) => sysmod.changes.as_slice(),
+            None => &[],
+        }
     }
 
     /// Whether a function of this id is received.

@@ -1,17 +1,65 @@
 //! For each id, the ids of the SYSMODs that name it.
-ghost use Rattle.std.specs.Prelude.{IsTrue, map, OnOk};
+ghost use Rattle.std.specs.Prelude.{IsTrue, map, IfOk, OnOk};
 ghost use Rattle.terms.specs.Lookups.{at_most_one, is_in};
 ghost use Rattle.sysmods.specs.Index.{has, HasAll, Grows, IsIndexed, KeepsOthers, mentions};
+ghost use Rattle.sysmods.specs.Index.{members, KeepsMembers, KeepsMembersBut};
 
 use fields::Id;
 use std::alloc::{AllocError, Global};
 use std::collections::{BTreeMap, BTreeSet};
 use sysmods_values::{IfReq, Sysmod, Ver};
 
+/// The entry of an id. Most ids are named by one SYSMOD, and its id needs no set on the heap.
+#[derive(Drop)]
+pub(crate) enum IndexEntry {
+    One(Id),
+    More(BTreeSet<Id>),
+}
+
+fn both(alloc: Global, first: Id, second: Id) -> Result<BTreeSet<Id>, AllocError>
+    ensures first { IfOk result (λ set. IsTrue (is_in set.keys first)) }
+    ensures second { IfOk result (λ set. IsTrue (is_in set.keys second)) }
+{
+    let mut set = BTreeSet::new(alloc);
+    set.insert(first)?;
+    set.insert(second)?;
+    Ok(set)
+}
+
+impl IndexEntry {
+    fn insert(&mut self, alloc: Global, namer: Id) -> Result<(), AllocError>
+        ensures has { OnOk result (IsTrue (is_in (members self.new) namer)) }
+        ensures grows { KeepsMembers self.old self.new }
+    {
+        let first = match self {
+            IndexEntry::One(first) => *first,
+            IndexEntry::More(set) => {
+                set.insert(namer)?;
+                return Ok(());
+            }
+        };
+        if first == namer {
+            return Ok(());
+        }
+        let set = both(alloc, first, namer)?;
+        *self = IndexEntry::More(set);
+        Ok(())
+    }
+
+    // A single id stays.
+    fn remove(&mut self, namer: Id)
+        ensures { KeepsMembersBut namer self.old self.new }
+    {
+        if let IndexEntry::More(set) = self {
+            set.remove(&namer);
+        }
+    }
+}
+
 /// The entry of an id may contain more ids than those that name it, so a user of the index looks at each of them.
 #[derive(Drop)]
 pub(crate) struct Index {
-    pub(crate) sets: BTreeMap<Id, BTreeSet<Id>>,
+    pub(crate) sets: BTreeMap<Id, IndexEntry>,
     alloc: Global,
 }
 
@@ -28,12 +76,10 @@ impl Index {
         ensures grows { Grows self.old.sets self.new.sets }
     {
         if let Some(namers) = self.sets.get_mut(&named) {
-            namers.insert(namer)?;
+            namers.insert(self.alloc, namer)?;
             return Ok(());
         }
-        let mut namers = BTreeSet::new(self.alloc);
-        namers.insert(namer)?;
-        self.sets.insert(named, namers)?;
+        self.sets.insert(named, IndexEntry::One(namer))?;
         Ok(())
     }
 
@@ -94,7 +140,7 @@ impl Index {
         ensures { KeepsOthers namer self.old.sets self.new.sets }
     {
         if let Some(namers) = self.sets.get_mut(&named) {
-            namers.remove(&namer);
+            namers.remove(namer);
         }
     }
 

@@ -32,7 +32,7 @@ fn numbers_of(
 ) -> Result<NumbersFound, AllocError>
     ensures { IfOk result (AreNumbers (keys nodes.now) ids.now) }
 {
-    let mut numbers = Vec::new(alloc);
+    let mut numbers = Vec::with_capacity(alloc, ids.len())?;
     for id in ids {
         let Some(number) = nodes.get_index_of(id) else {
             return Ok(NumbersFound::Missing(*id));

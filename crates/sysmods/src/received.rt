@@ -1,5 +1,5 @@
 //! The received SYSMODs.
-ghost use Rattle.std.specs.Prelude.{◌≡◌, ◌++◌, false, [], length, None, Some, not, map, filter, is_some};
+ghost use Rattle.std.specs.Prelude.{◌≡◌, ◌++◌, false, [], ◌∷◌, length, None, Some, not, map, filter, is_some};
 ghost use Rattle.std.specs.Prelude.{option_copied, IfOk, OnOk, OnErr, if◌then◌else◌};
 ghost use Rattle.std.specs.List.{list_any};
 ghost use Rattle.std.specs.Option.{option_map_or};
@@ -15,7 +15,7 @@ ghost use Rattle.sysmods.specs.Held.{found, zone_of};
 ghost use Rattle.sysmods.specs.Namers.{namers_for, names_as_function, function_namers};
 ghost use Rattle.sysmods.specs.Ways.{names_so};
 
-use crate::index::Index;
+use crate::index::{Index, IndexEntry};
 use crate::ways::Way;
 use fields::{Attest, Id, Source, Srel};
 use std::alloc::{AllocError, Global};
@@ -148,7 +148,8 @@ impl Received {
         ensures { result ≡ list_any (names_so way id) self.now }
     {
         match self.index.sets.get(&id) {
-            Some(namers) => self.any_names_so(namers, way, id),
+            Some(IndexEntry::One(namer)) => self.names_so(*namer, way, id),
+            Some(IndexEntry::More(namers)) => self.any_names_so(namers, way, id),
             None => false,
         }
     }
@@ -170,6 +171,22 @@ impl Received {
         }
     }
 
+    fn append_one(
+        &self,
+        namer: Id,
+        srel: Srel,
+        id: Id,
+        found: &mut Vec<Id>,
+    ) -> Result<(), AllocError>
+        ensures { OnOk result (found.new.items ≡ found.old.items
+            ++ filter (λ y. is_in (names_for (zone_of self.now) srel y) id) (namer ∷ [])) }
+    {
+        if self.names_for(namer, srel, id) {
+            found.push(namer)?;
+        }
+        Ok(())
+    }
+
     fn append_some(
         &self,
         namers: &BTreeSet<Id>,
@@ -182,9 +199,7 @@ impl Received {
         ensures ordered { IsOrdered (slice_cmp nat_cmp) namers.now }
     {
         for namer in namers.iter() {
-            if self.names_for(*namer, srel, id) {
-                found.push(*namer)?;
-            }
+            self.append_one(*namer, srel, id, found)?;
         }
         Ok(())
     }
@@ -195,9 +210,20 @@ impl Received {
         ensures { OnOk result (found.new.items ≡ found.old.items ++ namers_for self.now srel id) }
     {
         match self.index.sets.get(&id) {
-            Some(namers) => self.append_some(namers, srel, id, found),
+            Some(IndexEntry::One(namer)) => self.append_one(*namer, srel, id, found),
+            Some(IndexEntry::More(namers)) => self.append_some(namers, srel, id, found),
             None => Ok(()),
         }
+    }
+
+    fn append_as_function(&self, namer: Id, id: Id, found: &mut Vec<Id>) -> Result<(), AllocError>
+        ensures { OnOk result (found.new.items ≡ found.old.items
+            ++ filter (names_as_function self.now id) (namer ∷ [])) }
+    {
+        if self.names_so(namer, Way::AsFunction, id) {
+            found.push(namer)?;
+        }
+        Ok(())
     }
 
     fn append_some_as_function(
@@ -211,9 +237,7 @@ impl Received {
         ensures ordered { IsOrdered (slice_cmp nat_cmp) namers.now }
     {
         for namer in namers.iter() {
-            if self.names_so(*namer, Way::AsFunction, id) {
-                found.push(*namer)?;
-            }
+            self.append_as_function(*namer, id, found)?;
         }
         Ok(())
     }
@@ -224,7 +248,8 @@ impl Received {
         ensures { OnOk result (found.new.items ≡ found.old.items ++ function_namers self.now id) }
     {
         match self.index.sets.get(&id) {
-            Some(namers) => self.append_some_as_function(namers, id, found),
+            Some(IndexEntry::One(namer)) => self.append_as_function(*namer, id, found),
+            Some(IndexEntry::More(namers)) => self.append_some_as_function(namers, id, found),
             None => Ok(()),
         }
     }

@@ -2,7 +2,7 @@
 ghost use Rattle.std.specs.Prelude.{◌≡◌, ◌↔◌, ◌-◌, ◌++◌, List, ℕ, Contains, IsTrue, IfOk, OnOk, filter};
 ghost use Rattle.std.specs.Prelude.{option_copied, slice_get};
 ghost use Rattle.std.specs.Str.{bytes_eq};
-ghost use Rattle.terms.specs.Choice.{fmid_of, vers_of};
+ghost use Rattle.terms.specs.Choice.{fmid_of, sup_of, npre_of, del_of, vers_of};
 ghost use Rattle.terms.specs.Lookups.{is_in, meets};
 ghost use Rattle.terms.specs.Over.{IsOver, Supersedes, chain, names, owner};
 ghost use Rattle.sysmods.specs.Choices.{has_ver, picked, number_in, choice};
@@ -116,6 +116,36 @@ impl<'a> VerChoice<'a> {
         self.ver(id)?.fmid
     }
 
+    /// The SUP of the `++VER` that counts.
+    pub fn sup(&self, id: Id) -> &'a [Id]
+        ensures { result.now ≡ sup_of (choice self.now) id }
+    {
+        match self.ver(id) {
+            Some(ver) => ver.sup.as_slice(),
+            None => &[],
+        }
+    }
+
+    /// The NPRE of the `++VER` that counts.
+    pub fn npre(&self, id: Id) -> &'a [Id]
+        ensures { result.now ≡ npre_of (choice self.now) id }
+    {
+        match self.ver(id) {
+            Some(ver) => ver.npre.as_slice(),
+            None => &[],
+        }
+    }
+
+    /// The DELETE of the `++VER` that counts.
+    pub fn del(&self, id: Id) -> &'a [Id]
+        ensures { result.now ≡ del_of (choice self.now) id }
+    {
+        match self.ver(id) {
+            Some(ver) => ver.del.as_slice(),
+            None => &[],
+        }
+    }
+
     /// The id that owns its elements: a function owns its own, otherwise its FMID does.
     pub fn owner(&self, id: Id) -> Id
         ensures { result ≡ owner self.now.global.now (choice self.now) id }
@@ -224,9 +254,6 @@ impl Names for Superseded<'_, '_> {
     ghost named = { λ n. sup_of (choice n.choice.now) };
 
     fn append_named(&self, id: Id, found: &mut Vec<Id>) -> Result<(), AllocError> {
-        match self.choice.ver(id) {
-            Some(ver) => found.extend_from_slice(ver.sup.as_slice()),
-            None => Ok(()),
-        }
+        found.extend_from_slice(self.choice.sup(id))
     }
 }

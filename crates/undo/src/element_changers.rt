@@ -5,7 +5,7 @@ ghost use Rattle.undo.specs.Elements.{AreChangers, changed_keys, sharers};
 ghost use Rattle.undo.specs.Needed.{HaveElem};
 ghost use Rattle.undo.specs.Scopes.{restoring_of};
 
-use crate::scope::{RestoreScope, changes_of, unaccepted};
+use crate::scope::{RestoreScope, unaccepted};
 use fields::{Attest, Id, IdList, Name};
 use sorted::lists::{Lists, add_to_all, listed};
 use std::alloc::{AllocError, Global};
@@ -24,7 +24,8 @@ fn changed_keys(
 ) -> Result<Vec<(ElemType, Name)>, AllocError>
     ensures { IfOk result (λ keys. keys.items ≡ changed_keys global.now id) }
 {
-    changes_of(global, id)
+    global
+        .changes_of(id)
         .iter()
         .map(|change| (change.elem_type, change.name))
         .collect(alloc)
@@ -51,7 +52,8 @@ fn sharers(
 ) -> Result<Vec<Id>, AllocError>
     ensures { IfOk result (λ ids. ids.items ≡ sharers global.now changers.now id) }
 {
-    changes_of(global, id)
+    global
+        .changes_of(id)
         .iter()
         .flat_map(|change| listed(changers, (change.elem_type, change.name)).iter())
         .copied()

@@ -23,5 +23,4 @@ mod tests;
 
 pub use candidates::restore_candidates;
 pub use judging::restore_system;
-pub use needed::needs_in_restore;
-pub use scope::{RestoreScope, applied_ids};
+pub use scope::applied_ids;

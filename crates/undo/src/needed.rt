@@ -32,7 +32,7 @@ fn add_needs(
 }
 
 /// What these SYSMODs, which are applied, need in a RESTORE that names exactly them.
-pub fn needs_in_restore(
+pub(crate) fn needs_in_restore(
     alloc: Global,
     scope: &RestoreScope<'_, '_>,
     ids: &IdList,

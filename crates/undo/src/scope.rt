@@ -1,22 +1,21 @@
 //! What RESTORE looks at.
 ghost use Rattle.std.specs.Prelude.{◌≡◌, ◌++◌, [], ◌∷◌, not, filter, map, is_some, IfOk, OnOk};
-ghost use Rattle.terms.specs.Lookups.{is_applied, is_supplied, applied_ids, changes_of};
+ghost use Rattle.terms.specs.Lookups.{is_applied, is_supplied, applied_ids};
 
 use fields::Id;
 use std::alloc::{AllocError, Global};
-use sysmods::{GlobalZone, VerChoice};
-use sysmods_values::ElemChange;
+use sysmods::VerChoice;
 use zones::{Entry, Zone};
 
 /// The `++VER`s that count, the target zone, its distribution zone, and the ids that are applied in the target zone.
 /// `applied_ids` finds these once for all that a RESTORE decides.
 #[derive(Clone, Copy)]
-pub struct RestoreScope<'a, 'b> {
-    pub vers: &'a VerChoice<'b>,
-    pub zone: &'a Zone,
-    pub accepted: &'a Zone,
-    pub applied: &'a [Id],
-    pub ghost has_applied: { applied.now ≡ applied_ids zone.now },
+pub(crate) struct RestoreScope<'a, 'b> {
+    pub(crate) vers: &'a VerChoice<'b>,
+    pub(crate) zone: &'a Zone,
+    pub(crate) accepted: &'a Zone,
+    pub(crate) applied: &'a [Id],
+    pub(crate) ghost has_applied: { applied.now ≡ applied_ids zone.now },
 }
 
 fn push_if_applied(entry: &Entry, found: &mut Vec<Id>) -> Result<(), AllocError>
@@ -58,14 +57,4 @@ pub(crate) fn unaccepted(alloc: Global, accepted: &Zone, ids: &[Id]) -> Result<V
         .filter(|id| !accepted.supplies(**id))
         .copied()
         .collect(alloc)
-}
-
-/// The element statements of a received SYSMOD.
-pub(crate) fn changes_of(global: &GlobalZone, id: Id) -> &[ElemChange]
-    ensures { result.now ≡ changes_of global.now id }
-{
-    match global.get(id) {
-        Some(sysmod) => sysmod.changes.as_slice(),
-        None => &[],
-    }
 }

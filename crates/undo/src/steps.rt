@@ -5,7 +5,7 @@ ghost use Rattle.undo.specs.Scopes.{restoring_of};
 
 use crate::dependences::dependences_of;
 use crate::nodes::{Node, Step, element_at, push_step, sysmods};
-use crate::scope::{RestoreScope, changes_of, unaccepted};
+use crate::scope::{RestoreScope, unaccepted};
 use fields::Id;
 use std::alloc::{AllocError, Global};
 
@@ -31,7 +31,7 @@ pub(crate) fn all_steps(
     let global = scope.vers.global();
     let mut steps = Vec::new(alloc);
     for id in scope.applied {
-        let changes = changes_of(global, *id);
+        let changes = global.changes_of(*id);
         for change in changes {
             let these = vec![in alloc; Node::Sysmod(*id)]?;
             push_step(&mut steps, these, element_at(change))?;
@@ -39,7 +39,7 @@ pub(crate) fn all_steps(
     }
     let others = unaccepted(alloc, scope.accepted, scope.applied)?;
     for other in others.as_slice() {
-        let shared = changes_of(global, *other);
+        let shared = global.changes_of(*other);
         for change in shared {
             let these = vec![in alloc; element_at(change)]?;
             push_step(&mut steps, these, Node::Sysmod(*other))?;

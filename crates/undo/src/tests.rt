@@ -7,7 +7,7 @@ ghost use Rattle.undo.specs.Scopes.{restoring_of};
 ghost use Rattle.judge_system.specs.Said.{AreTests};
 ghost use Rattle.undo.specs.Tests.{is_behind, fails_test};
 
-use crate::scope::{RestoreScope, changes_of};
+use crate::scope::RestoreScope;
 use fields::Id;
 use std::alloc::{AllocError, Global};
 use sysmods_values::ElemChange;
@@ -65,11 +65,11 @@ fn fails(scope: &RestoreScope<'_, '_>, id: Id, test: Test) -> bool
 {
     match test {
         Test::AlreadyAccepted => scope.accepted.supplies(id),
-        Test::HasDelete => match scope.vers.ver(id) {
-            Some(ver) => !ver.del.is_empty(),
-            None => false,
-        },
-        Test::OtherLevel => changes_of(scope.vers.global(), id)
+        Test::HasDelete => !scope.vers.del(id).is_empty(),
+        Test::OtherLevel => scope
+            .vers
+            .global()
+            .changes_of(id)
             .iter()
             .any(|change| is_behind(scope, change)),
         _ => false,

@@ -1,6 +1,5 @@
 //! What SYSMODs name in DELETE.
 ghost use Rattle.std.specs.Prelude.{◌≡◌, ◌++◌, [], ◌∷◌, IfOk, OnOk, filter};
-ghost use Rattle.terms.specs.Choice.{del_of};
 ghost use Rattle.terms.specs.Lookups.{is_in};
 ghost use Rattle.terms.specs.Over.{chain};
 ghost use Rattle.terms.specs.Deleted.{deletions};
@@ -16,7 +15,7 @@ pub fn deletions(alloc: Global, vers: &VerChoice<'_>, ids: &[Id]) -> Result<Vec<
 {
     let mut dels = Vec::new(alloc);
     for id in ids {
-        append_deletions(vers, *id, &mut dels)?;
+        dels.extend_from_slice(vers.del(*id))?;
     }
     Ok(dels)
 }
@@ -57,20 +56,6 @@ fn chain_deletions(
     Ok(dels)
 }
 
-/// Adds what the SYSMOD names in DELETE.
-pub(crate) fn append_deletions(
-    vers: &VerChoice<'_>,
-    id: Id,
-    dels: &mut Vec<Id>,
-) -> Result<(), AllocError>
-    ensures { OnOk result (dels.new.items ≡ dels.old.items ++ del_of (choice vers.now) id) }
-{
-    match vers.ver(id) {
-        Some(ver) => dels.extend_from_slice(ver.del.as_slice()),
-        None => Ok(()),
-    }
-}
-
 // Adds what it names in DELETE, if it is a candidate.
 fn append_of_candidate(
     vers: &VerChoice<'_>,
@@ -82,7 +67,7 @@ fn append_of_candidate(
         ≡ dels.old.items ++ deletions (choice vers.now) (filter (is_in cands.now) (id ∷ []))) }
 {
     if cands.contains(id) {
-        append_deletions(vers, id, dels)?;
+        dels.extend_from_slice(vers.del(id))?;
     }
     Ok(())
 }

@@ -6,7 +6,6 @@ ghost use Rattle.sysmods.specs.Choices.{choice};
 ghost use Rattle.zones.specs.Gone.{is_gone, loses, binding_of, lost_by};
 
 use crate::binding::binding_ids;
-use crate::deleting::append_deletions;
 use crate::entry::TakesOut;
 use crate::taking::Taking;
 use fields::Id;
@@ -24,9 +23,7 @@ pub fn orphans(
     ensures { IfOk result (λ found. (s : Setting) → s.global ≡ vers.now.global.now → s.choice ≡ choice vers.now
         → s.zone ≡ zone.now → found.items ≡ orphans s id) }
 {
-    let mut named = Vec::new(alloc);
-    append_deletions(vers, id, &mut named)?;
-    let dels = named.as_slice();
+    let dels = vers.del(id);
     if dels.is_empty() {
         return Ok(Vec::new(alloc));
     }

@@ -2,11 +2,11 @@ use Rattle.std.proofs.Common.{[], ◌∷◌, Err, refl, sym, ap, subst}
 use Rattle.machine.specs.Machine.{Perform, Performs}
 use Rattle.cntl.specs.Views.{command_of}
 use Rattle.report.specs.Views.{outcome_view}
-use Rattle.smpe.specs.declared.error.JobError.TheVariants.{Write}
-use Rattle.smpe.specs.Commands.{job_error}
+use Rattle.smpe_jobs.specs.declared.error.JobError.TheVariants.{Write}
+use Rattle.smpe_jobs.specs.Errors.{job_error}
 use Rattle.smpe.proofs.Reports.{sent_all, sent_part}
 use Rattle.smpe.proofs.Commanding.{commands_err, reported}
-use Rattle.smpe.proofs.Early.{failed_first, broke_first}
+use Rattle.smpe_jobs.proofs.Early.{failed_first, broke_first}
 use Rattle.smpe_zones.specs.Own.{IsOwnOf}
 use Rattle.smpe_session.specs.Writing.{AnswersOf, AnswersRun, IsOutcomeOf}
 use Rattle.smpe.proofs.Coursing.{goes_one, early_first, fails_by, fails_told, performs_passes, goes_early}
@@ -15,7 +15,7 @@ use Rattle.smpe.proofs.job.run_command.Goals as goal
 pub returns-in_err-performed-clause-ended : goal.returns-in_err-performed-clause-ended
 returns-in_err-performed-clause-ended g c clean s is keeps =
     let at = c.perform.new.store in
-    let session = c.perform.new.self in
+    let session = c.perform.new.session in
     let command = command_of c.args.command.now in
     let taken = g.W.Sink.taken c.args.w.now in
     commands_err g.S.Store c.args.date c.args.files.now c.args.store.now at s session (command ∷ []) taken taken
@@ -27,7 +27,7 @@ returns-in_err-performed-clause-ended g c clean s is keeps =
 pub returns-in_err-write_report-in-Told-clause-ended : goal.returns-in_err-write_report-in-Told-clause-ended
 returns-in_err-write_report-in-Told-clause-ended g c clean s is keeps =
     let at = c.perform.new.store in
-    let session = c.perform.new.self in
+    let session = c.perform.new.session in
     let command = command_of c.args.command.now in
     let old = g.W.Sink.taken c.args.w.now in
     let new = g.W.Sink.taken c.write_report.new.w in
@@ -41,7 +41,7 @@ returns-in_err-write_report-in-Told-clause-ended g c clean s is keeps =
 pub returns-in_ok-write_report-in-Told-clause-ended : goal.returns-in_ok-write_report-in-Told-clause-ended
 returns-in_ok-write_report-in-Told-clause-ended g c clean s is keeps =
     let p = rw c.in-Told.is at (c.in_ok-performed.ensures.uses.ended clean s keeps is) in
-    reported g.S.Store c.args.date c.args.files.now c.args.store.now c.perform.new.store s p.0 c.perform.new.self
+    reported g.S.Store c.args.date c.args.files.now c.args.store.now c.perform.new.store s p.0 c.perform.new.session
     (command_of c.args.command.now) (outcome_view c.in-Told.outcome)
     (g.W.Sink.taken c.args.w.now) (g.W.Sink.taken c.write_report.new.w) _ p.1 p.2 p.3
     (sent_all _ _ _ _ _ c.in_ok-write_report-in-Told.ensures.sends c.in_ok-write_report-in-Told.ensures.fault)
@@ -50,7 +50,7 @@ returns-in_ok-write_report-in-Told-clause-ended g c clean s is keeps =
 pub returns-in_err-write_report-in-Lists-clause-ended : goal.returns-in_err-write_report-in-Lists-clause-ended
 returns-in_err-write_report-in-Lists-clause-ended g c clean s is keeps =
     let at = c.perform.new.store in
-    let session = c.perform.new.self in
+    let session = c.perform.new.session in
     let command = command_of c.args.command.now in
     let old = g.W.Sink.taken c.args.w.now in
     let new = g.W.Sink.taken c.write_report-in-Lists.new.w in
@@ -68,7 +68,7 @@ returns-in_ok-write_report-in-Lists-clause-ended g c clean s is keeps =
     let p = rw c.in-Lists.is at (c.in_ok-performed.ensures.uses.ended clean s keeps is) in
     let performs = subst (λ d. Performs c.args.date c.args.files.now s d s (outcome_view c.list.result)) (sym p.0)
     (c.list.ensures.performs s p.1 c.args.date c.args.files.now) in
-    reported g.S.Store c.args.date c.args.files.now c.args.store.now c.perform.new.store s s c.perform.new.self
+    reported g.S.Store c.args.date c.args.files.now c.args.store.now c.perform.new.store s s c.perform.new.session
     (command_of c.args.command.now) (outcome_view c.list.result)
     (g.W.Sink.taken c.args.w.now) (g.W.Sink.taken c.write_report-in-Lists.new.w) _ performs p.1 p.2
     (sent_all _ _ _ _ _ c.in_ok-write_report-in-Lists.ensures.sends c.in_ok-write_report-in-Lists.ensures.fault)

@@ -1,7 +1,7 @@
 use Rattle.std.proofs.Common.{◌∷◌, [], ◌+◌, map, take, drop, ◌++◌, sym, subst, max, Ok, arith, rules}
 use Rattle.std.proofs.lemmas.List.{take_all}
 use Rattle.cntl.specs.Views.{command_of}
-use Rattle.smpe.specs.Ending.{EndsEarly}
+use Rattle.smpe_jobs.specs.Ending.{EndsEarly}
 use Rattle.machine.specs.Machine.{Perform}
 use Rattle.smpe.specs.Commands.{EndsCommands}
 use Rattle.smpe.specs.Going.{Goes, GoesEarly}

@@ -5,13 +5,13 @@ use Rattle.cntl.specs.Views.{command_of}
 use Rattle.cntl.specs.Faults.{FailsFile}
 use Rattle.machine.specs.Machine.{RunFiles, Begin, Code, Files}
 use Rattle.store.proofs.NoState.{loads_read}
-use Rattle.smpe.specs.declared.error.JobError.TheVariants.{Write}
-use Rattle.smpe.specs.Commands.{job_error}
+use Rattle.smpe_jobs.specs.declared.error.JobError.TheVariants.{Write}
+use Rattle.smpe_jobs.specs.Errors.{job_error}
 use Rattle.smpe_zones.proofs.Once.{is_later, follows_on}
-use Rattle.smpe.proofs.Early.{ends_unbegun}
+use Rattle.smpe_jobs.proofs.Early.{ends_unbegun}
 use Rattle.smpe.proofs.Reports.{sent_all, sent_part}
 use Rattle.smpe.proofs.Single.{control_same, job_err, faulty_ran, faulty_broke, unbegun, begun}
-use Rattle.smpe.proofs.Closing.{keeps_closed, job_closed}
+use Rattle.smpe_jobs.proofs.Closing.{keeps_closed, job_closed}
 use Rattle.smpe.proofs.Coursing.{jobs_unbegun, job_early, begin_early, faulty_early, fails_by, faulty_goes, begun_goes}
 use Rattle.smpe.proofs.job.run_job.Goals as goal
 

@@ -4,8 +4,8 @@ use Rattle.store.proofs.Going.{goes_err}
 use Rattle.smpe_zones.specs.declared.error.ZoneError.TheVariants.{Store}
 use Rattle.smpe_zones.specs.Definitions.{definition, fault_of}
 use Rattle.smpe_zones.specs.Own.{IsOwn}
-use Rattle.smpe.specs.declared.error.JobError.TheVariants.{Memory}
-use Rattle.smpe.specs.Commands.{job_error}
+use Rattle.smpe_jobs.specs.declared.error.JobError.TheVariants.{Memory}
+use Rattle.smpe_jobs.specs.Errors.{job_error}
 use Rattle.smpe.proofs.Single.{define_done, define_refused, define_memory, define_fault, refused_so}
 use Rattle.smpe.specs.Going.{JobsStopped}
 use Rattle.smpe.proofs.Coursing.{defined_goes, refused_goes, define_early, fails_by}

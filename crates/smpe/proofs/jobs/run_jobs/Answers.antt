@@ -1,12 +1,12 @@
 use Rattle.std.proofs.Common.{◌∷◌, [], ◌++◌, ◌+◌, map, take, drop, Ok, refl, sym, ap, ◌∙◌, subst, arith, rules}
 use Rattle.std.proofs.lemmas.List.{map-append, take_all}
-use Rattle.smpe.specs.declared.error.JobError.TheVariants.{Memory}
-use Rattle.smpe.specs.Ending.{EndsAmong, EndsJobs, job_of, answer_of}
+use Rattle.smpe_jobs.specs.declared.error.JobError.TheVariants.{Memory}
+use Rattle.smpe_jobs.specs.Ending.{EndsAmong, EndsJobs, job_of, answer_of}
 use Rattle.smpe_zones.proofs.Once.{follows_itself, follows_on}
-use Rattle.smpe.proofs.Early.{ends_unbegun}
+use Rattle.smpe_jobs.proofs.Early.{ends_unbegun}
 use Rattle.smpe.proofs.Taken.{taken_more, taken_split}
-use Rattle.smpe.proofs.Listing.{jobs_err, jobs_more, jobs_stop}
-use Rattle.smpe.proofs.Closing.{keeps_closed, closed_now}
+use Rattle.smpe_jobs.proofs.Listing.{jobs_err, jobs_more, jobs_stop}
+use Rattle.smpe_jobs.proofs.Closing.{keeps_closed, closed_now}
 use Rattle.smpe.specs.Going.{JobsPassed, JobsStopped}
 use Rattle.smpe.proofs.Coursing.{jobs_unbegun, jobs_one_more, jobs_stopped, stopped_more, jobs_early}
 use Rattle.smpe.proofs.jobs.run_jobs.Goals as goal

@@ -5,7 +5,7 @@ use Rattle.sqlite.specs.State.{HasCleanDisk}
 use Rattle.machine.specs.State.{State}
 use Rattle.smpe_zones.specs.Kept.{Keeps}
 use Rattle.smpe_zones.specs.Ends.{Follows}
-use Rattle.smpe.specs.Ending.{EndsJobs, KeepsClosed, job_of, answer_of}
+use Rattle.smpe_jobs.specs.Ending.{EndsJobs, KeepsClosed, job_of, answer_of}
 use Rattle.smpe.specs.Going.{JobsPassed}
 use Rattle.smpe.proofs.jobs.run_jobs.Given as goal
 

@@ -1,6 +1,6 @@
 use Rattle.std.proofs.Common.{◌∷◌, [], sym, subst}
 use Rattle.smpe.specs.Going.{JobGoes, JobsStopped}
-use Rattle.smpe.specs.Ending.{EndsAmong, EndsJob, job_of, answer_of}
+use Rattle.smpe_jobs.specs.Ending.{EndsAmong, EndsJob, job_of, answer_of}
 use Rattle.smpe.proofs.Single.{job_err}
 use Rattle.smpe.proofs.Coursing.{job_early}
 use Rattle.smpe.proofs.jobs.run_one.Goals as goal

@@ -1,8 +1,8 @@
 use Rattle.std.proofs.Common.{◌≡◌, ◌∙◌, List, Ok, Err, map, ap, refl}
 use Rattle.std.proofs.lemmas.Result.{err_from_is_err_and}
 use Rattle.machine.specs.Machine as machine
-use Rattle.smpe.specs.Ending.{answer_of}
-use Rattle.smpe.specs.declared.jobs.Answer.{Answer}
+use Rattle.smpe_jobs.specs.Ending.{answer_of}
+use Rattle.smpe_jobs.specs.declared.jobs.Answer.{Answer}
 use Rattle.smpe_command.specs.ServiceSet.{greatest}
 use Rattle.smpe_command.proofs.OneJob.{tries_as, alike_ok, alike_err}
 use Rattle.smpe_command.proofs.checks.checked.Goals as goal

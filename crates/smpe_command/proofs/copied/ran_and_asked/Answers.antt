@@ -2,8 +2,8 @@ use Rattle.std.proofs.Common.{◌≡◌, ◌∙◌, List, Ok, Err, Result, map, 
 use Rattle.std.specs.Prelude.{max}
 use Rattle.std.proofs.lemmas.Result.{err_from_is_err_and}
 use Rattle.machine.specs.Machine as machine
-use Rattle.smpe.specs.Ending.{answer_of, job_of}
-use Rattle.smpe.specs.declared.jobs.Answer.{Answer}
+use Rattle.smpe_jobs.specs.Ending.{answer_of, job_of}
+use Rattle.smpe_jobs.specs.declared.jobs.Answer.{Answer}
 use Rattle.smpe_command.specs.Copied.{at_least}
 use Rattle.smpe_command.specs.ServiceSet.{greatest}
 use Rattle.smpe_command.proofs.Copying.{tried}

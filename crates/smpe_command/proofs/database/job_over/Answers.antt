@@ -2,9 +2,9 @@ use Rattle.std.proofs.Common.{◌∷◌, [], ◌∙◌, List, map, Ok, ap, inr, 
 use Rattle.std.specs.String.{string_bytes}
 use Rattle.std.proofs.lemmas.Result.{err_from_is_err_and}
 use Rattle.smpe_zones.specs.Kept.{kept}
-use Rattle.smpe.specs.Ending.{answer_of, job_of}
-use Rattle.smpe.specs.declared.jobs.Job.{Job}
-use Rattle.smpe.proofs.Early.{jobs_since}
+use Rattle.smpe_jobs.specs.Ending.{answer_of, job_of}
+use Rattle.smpe_jobs.specs.declared.jobs.Job.{Job}
+use Rattle.smpe_jobs.proofs.Early.{jobs_since}
 use Rattle.smpe_command.specs.Database.{JobsOver}
 use Rattle.smpe_command.proofs.OneJob.{over_as, alike_ok, alike_err, only_one}
 use Rattle.smpe_command.proofs.database.job_over.Given.{Over}

@@ -1,6 +1,6 @@
 use Rattle.std.proofs.Common.{◌≡◌, [], inr, refl, subst}
 use Rattle.std.specs.String.{string_bytes}
-use Rattle.smpe.specs.ListJob.{list_records}
+use Rattle.smpe_jobs.specs.ListJob.{list_records}
 use Rattle.machine.specs.Machine as machine
 use Rattle.machine.specs.Machine.{RunFiles}
 use Rattle.smpe_command.specs.Database.{JobOver}

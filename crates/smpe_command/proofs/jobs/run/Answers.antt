@@ -2,7 +2,7 @@ use Rattle.std.proofs.Common.{[], ◌∷◌, ◌∙◌, List, Ok, Some, Err, ap,
 use Rattle.std.specs.Prelude.{Result, option_map}
 use Rattle.std.specs.String.{string_bytes}
 use Rattle.std.proofs.lemmas.Result.{err_from_is_err_and}
-use Rattle.smpe.specs.declared.messages.Fault.{Fault}
+use Rattle.smpe_jobs.specs.declared.messages.Fault.{Fault}
 use Rattle.smpe_command.specs.Careful.{LooksIf}
 use Rattle.smpe_command.specs.Reading.{ReadsAll}
 use Rattle.smpe_command.proofs.jobs.run.Given.{Over}

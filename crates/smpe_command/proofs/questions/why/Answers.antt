@@ -1,6 +1,6 @@
 use Rattle.std.proofs.Common.{◌∙◌, Err, ap, inl, refl}
 use Rattle.std.proofs.lemmas.Result.{err_from_is_err_and}
-use Rattle.smpe.specs.declared.messages.Fault.TheVariants.{Job}
+use Rattle.smpe_jobs.specs.declared.messages.Fault.TheVariants.{Job}
 use Rattle.smpe_command.proofs.questions.why.Goals as goal
 
 pub returns-in_err-bypass : goal.returns-in_err-bypass

@@ -1,5 +1,5 @@
 use Rattle.std.proofs.Common.{◌≡◌, map, take}
-use Rattle.smpe.specs.Ending.{answer_of}
+use Rattle.smpe_jobs.specs.Ending.{answer_of}
 use Rattle.smpe_command.specs.ServiceSet.{greatest}
 use Rattle.smpe_command.proofs.service_set.greatest_status.Given as goal
 

@@ -1,7 +1,7 @@
 use Rattle.std.proofs.Common.{Err, map, ap, inl, inr, refl}
-use Rattle.smpe.specs.Ending.{answer_of, job_of}
-use Rattle.smpe.specs.FromEmpty.{empty_system}
-use Rattle.smpe.proofs.Early.{jobs_since}
+use Rattle.smpe_jobs.specs.Ending.{answer_of, job_of}
+use Rattle.smpe_jobs.specs.FromEmpty.{empty_system}
+use Rattle.smpe_jobs.proofs.Early.{jobs_since}
 use Rattle.smpe_zones.specs.Kept.{kept}
 use Rattle.smpe_command.proofs.service_set.jobs_over_new.Goals as goal
 

@@ -1,5 +1,5 @@
 use Rattle.std.proofs.Common.{◌∙◌, List, map, inr, subst, refl}
-use Rattle.smpe.specs.Ending.{answer_of}
+use Rattle.smpe_jobs.specs.Ending.{answer_of}
 use Rattle.smpe_command.specs.ServiceSet.{JobsInMemory, set_jobs}
 use Rattle.smpe_command.proofs.service_set.tried.Goals as goal
 

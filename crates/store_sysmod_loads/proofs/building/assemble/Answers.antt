@@ -40,8 +40,8 @@ loop-head-preserved c =
     record {
       bare = c.in_ok-sysmod.ensures.bare;
       told = λ more h.
-          subst (λ (ss : List Sysmod). AreTaken c.args.heads.items ss c.args.vers.items c.args.ifs.items
-          c.args.elems.items) (sym (ap (λ (ss : List Sysmod). ss ++ more) pushed
+          subst (λ (ss : List Sysmod). AreTaken c.args.heads.now.items ss c.args.vers.now.items c.args.ifs.now.items
+          c.args.elems.now.items) (sym (ap (λ (ss : List Sysmod). ss ++ more) pushed
           ∙ append_assoc sysmods (s ∷ []) more))
           (c.loop-head.invariant.told (s ∷ more) (subst (λ (heads : List HeadRow).
           AreTaken heads (s ∷ more) vers ifs elems) (sym c.in-Some.ensures.some)
@@ -69,5 +69,5 @@ returns-clause-taken c =
     let elems : c.loop-head.elems.items ≡ [] = nil_from_length c.loop-head.elems.items (grind (arith, common_steps)) in
     let there = subst (λ (heads : List HeadRow). AreTaken heads [] c.loop-head.vers.items c.loop-head.ifs.items
     c.loop-head.elems.items) (sym c.in_default.ensures.none) (vers, ifs, elems) in
-    subst (λ (ss : List Sysmod). AreTaken c.args.heads.items ss c.args.vers.items c.args.ifs.items c.args.elems.items)
+    subst (λ (ss : List Sysmod). AreTaken c.args.heads.now.items ss c.args.vers.now.items c.args.ifs.now.items c.args.elems.now.items)
     (append-nil c.loop-head.sysmods.items) (c.loop-head.invariant.told [] there)

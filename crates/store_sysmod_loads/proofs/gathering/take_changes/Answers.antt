@@ -32,6 +32,6 @@ returns-clause-only c others rest h =
     let it = c.loop-row.invariant.only others rest h in
     let last = changes_end c.args.id c.loop-row.rows.items it.0 rest c.in_default.ensures.none.1 it.2 in (
       it.1 ∙ ap (λ (xs : List Change). c.loop-row.changes.items ++ xs) last.0
-          ∙ append-nil c.loop-row.changes.items,
+          ∙ append-nil c.loop-row.changes.items ∙ sym c.shrink_to_fit.ensures.items,
       last.1 ∙ sym c.in_default.ensures.none.0,
     )

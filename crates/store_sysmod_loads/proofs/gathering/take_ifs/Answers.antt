@@ -58,7 +58,8 @@ returns-clause-only c others rest h =
     let last = ifs_end c.args.id c.args.srel c.args.place (length c.loop-row.ifs.items + 1) c.loop-row.rows.items it.0
     rest
     c.in_default.ensures.none.1 it.2 in (
-      it.1 ∙ ap (λ (xs : List IfReq). c.loop-row.ifs.items ++ xs) last.0 ∙ append-nil c.loop-row.ifs.items,
+      it.1 ∙ ap (λ (xs : List IfReq). c.loop-row.ifs.items ++ xs) last.0 ∙ append-nil c.loop-row.ifs.items
+          ∙ sym c.shrink_to_fit.ensures.items,
       last.1
           ∙ sym c.in_default.ensures.none.0,
     )

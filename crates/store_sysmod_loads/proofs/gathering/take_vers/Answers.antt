@@ -83,7 +83,8 @@ returns-clause-only c others rest more h =
     let it = c.loop-row.invariant.only others rest more h in
     let last = vers_end c.loop-row.vers.items c.args.id c.loop-row.rows.items c.loop-row.ifs.items it.0 rest more
     c.in_default.ensures.none.1 it.2 in (
-      it.1 ∙ ap (λ (xs : List Ver). c.loop-row.vers.items ++ xs) last.0 ∙ append-nil c.loop-row.vers.items,
+      it.1 ∙ ap (λ (xs : List Ver). c.loop-row.vers.items ++ xs) last.0 ∙ append-nil c.loop-row.vers.items
+          ∙ sym c.shrink_to_fit.ensures.items,
       last.1
           ∙ sym c.in_default.ensures.none.0,
       last.2,

@@ -21,15 +21,15 @@ returns-clause-taken c =
     let up : Rises (slice_cmp nat_cmp) (λ (h : HeadRow). h.id) c.args.rows.heads.items =
     rw c.as_slice.ensures.value at (c.are_rising.ensures.0 c.if-not-are_rising.false) in
     if_ok c.assemble.result _ _ (λ sysmods told.
-    let flat = taken_flat c.from.result.items sysmods.items c.from-2.result.items c.from-3.result.items
-    c.from-4.result.items told in
-    let heads = sym c.from.ensures.0 ∙ flat.heads_are in
+    let flat = taken_flat c.from-heads.result.items sysmods.items c.from-vers.result.items c.from-ifs.result.items
+    c.from-elems.result.items told in
+    let heads = sym c.from-heads.ensures.0 ∙ flat.heads_are in
     record {
       rows_are = record {
         heads = heads;
-        vers = sym c.from-2.ensures.0 ∙ flat.vers_are;
-        ifs = sym c.from-3.ensures.0 ∙ flat.ifs_are;
-        elems = sym c.from-4.ensures.0 ∙ flat.elems_are;
+        vers = sym c.from-vers.ensures.0 ∙ flat.vers_are;
+        ifs = sym c.from-ifs.ensures.0 ∙ flat.ifs_are;
+        elems = sym c.from-elems.ensures.0 ∙ flat.elems_are;
       };
       whole = record {
         built = flat.built;
@@ -41,12 +41,12 @@ returns-clause-taken c =
 pub returns-clause-only : goal.returns-clause-only
 returns-clause-only c =
     if_ok c.assemble.result _ _ (λ sysmods only others formed has.
-    only others (taken_as others _ _ _ _ _ _ _ _ (c.from.ensures.0 ∙ has.heads) (c.from-2.ensures.0 ∙ has.vers)
-    (c.from-3.ensures.0 ∙ has.ifs) (c.from-4.ensures.0 ∙ has.elems)
+    only others (taken_as others _ _ _ _ _ _ _ _ (c.from-heads.ensures.0 ∙ has.heads) (c.from-vers.ensures.0 ∙ has.vers)
+    (c.from-ifs.ensures.0 ∙ has.ifs) (c.from-elems.ensures.0 ∙ has.elems)
     (flat_taken others (ids_up others formed) formed.built formed.none_carried))) c.assemble.ensures.only
 
 pub returns-clause-none : goal.returns-clause-none
 returns-clause-none c bad others formed has =
-    c.assemble.ensures.none bad others (taken_as others _ _ _ _ _ _ _ _ (c.from.ensures.0 ∙ has.heads)
-    (c.from-2.ensures.0 ∙ has.vers) (c.from-3.ensures.0 ∙ has.ifs) (c.from-4.ensures.0 ∙ has.elems)
+    c.assemble.ensures.none bad others (taken_as others _ _ _ _ _ _ _ _ (c.from-heads.ensures.0 ∙ has.heads)
+    (c.from-vers.ensures.0 ∙ has.vers) (c.from-ifs.ensures.0 ∙ has.ifs) (c.from-elems.ensures.0 ∙ has.elems)
     (flat_taken others (ids_up others formed) formed.built formed.none_carried))

@@ -9,15 +9,12 @@ use Rattle.zones.proofs.orphaned.orphans.Goals as goal
 
 pub returns-then-is_empty : goal.returns-then-is_empty
 returns-then-is_empty c s eg ec ez =
-    let named : c.as_slice-dels.result.now ≡ del_of (choice c.args.vers.now) c.args.id =
-    c.as_slice-dels.ensures.value ∙ rw c.new-named.ensures.items at c.in_ok-append_deletions.ensures in
-    let none : c.as_slice-dels.result.now ≡ [] = nil_from_length _ (eqb-true _ _ (sym c.if-is_empty.ensures)) in
-    c.new.ensures.items ∙ sym (orphans_none s c.args.id (ap (λ d. del_of d c.args.id) ec ∙ sym named ∙ none))
+    let none : c.del-dels.result.now ≡ [] = nil_from_length _ (eqb-true _ _ (sym c.if-is_empty.ensures)) in
+    c.new.ensures.items ∙ sym (orphans_none s c.args.id (ap (λ d. del_of d c.args.id) ec ∙ sym c.del-dels.ensures
+    ∙ none))
 
 pub returns : goal.returns
 returns c =
-    let named : c.as_slice-dels.result.now ≡ del_of (choice c.args.vers.now) c.args.id =
-    c.as_slice-dels.ensures.value ∙ rw c.new-named.ensures.items at c.in_ok-append_deletions.ensures in
     IfOk-weaker c.lost_ids.result _ _
     (λ found same s eg ec ez. same ∙ lost_orphans c.args.vers.now.global.now (choice c.args.vers.now)
-    c.as_slice-dels.result.now c.args.zone.now s c.args.id named eg ec ez) c.lost_ids.ensures
+    c.del-dels.result.now c.args.zone.now s c.args.id c.del-dels.ensures eg ec ez) c.lost_ids.ensures

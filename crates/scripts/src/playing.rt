@@ -1,0 +1,91 @@
+//! Playing scripts.
+
+use crate::compared::first_difference;
+use crate::step::ScriptStep;
+use std::alloc::Global;
+use std::test::Fail;
+
+/// What performs the steps of a script.
+pub trait Performs {
+    /// Begins a case, in which nothing is left of the one before it.
+    fn begin(&mut self, alloc: Global) -> Result<(), Fail>;
+
+    /// Performs a step, and appends what it prints.
+    fn perform(
+        &mut self,
+        alloc: Global,
+        step: ScriptStep<'_>,
+        printed: &mut Vec<u8>,
+    ) -> Result<(), Fail>;
+}
+
+/// How many steps were played, and a line for each that did not print what it must.
+#[derive(Drop)]
+pub struct Played {
+    pub steps: usize,
+    pub differences: String,
+}
+
+/// Plays the cases of a script.
+pub fn play<P: Performs>(alloc: Global, script: &str, performer: &mut P) -> Result<Played, Fail> {
+    let mut played = Played {
+        steps: 0,
+        differences: String::new(alloc),
+    };
+    let mut cases = script.split("\n* ");
+    let _explanation = cases.next();
+    for case in cases {
+        play_case(alloc, case, performer, &mut played)?;
+    }
+    Ok(played)
+}
+
+fn play_case<P: Performs>(
+    alloc: Global,
+    case: &str,
+    performer: &mut P,
+    played: &mut Played,
+) -> Result<(), Fail> {
+    performer.begin(alloc)?;
+    let mut steps = case.split("\n> ");
+    let shows = steps.next().unwrap_or("");
+    for text in steps {
+        play_step(alloc, shows, ScriptStep { text }, performer, played)?;
+    }
+    Ok(())
+}
+
+fn play_step<P: Performs>(
+    alloc: Global,
+    shows: &str,
+    step: ScriptStep<'_>,
+    performer: &mut P,
+    played: &mut Played,
+) -> Result<(), Fail> {
+    let mut printed = Vec::new(alloc);
+    performer.perform(alloc, step, &mut printed)?;
+    played.steps = played.steps.saturating_add(1);
+    let printed = std::str::from_utf8(printed.as_slice())?;
+    put_difference(alloc, shows, step, printed, &mut played.differences)
+}
+
+// Appends a line, unless this is what the step must print.
+fn put_difference(
+    alloc: Global,
+    shows: &str,
+    step: ScriptStep<'_>,
+    printed: &str,
+    differences: &mut String,
+) -> Result<(), Fail> {
+    let (printed, wanted) = (printed.trim_end_matches('\n'), step.part("PRINTS"));
+    if printed == wanted {
+        return Ok(());
+    }
+    let head = step.head();
+    let (number, got, wanted) = first_difference(printed, wanted);
+    let line = format!(in alloc;
+        "{shows}: {head}: line {number}: got {got:?}, wanted {wanted:?}\n"
+    )?;
+    differences.push_str(line.as_str())?;
+    Ok(())
+}

@@ -1,0 +1,94 @@
+//! What a command would decide: its candidates, their tests and needs, and which of them are kept.
+ghost use Rattle.judge_system.specs.Judged.{HasParts};
+
+use crate::printed::{put_bypassed, put_candidates, put_failures, put_ids, put_needs, put_numbers};
+use crate::shop::Shop;
+use cntl::{Command, Install};
+use fields::RestoreList;
+use judge::{Judged, install_system};
+use judge_system::Decided;
+use select::candidates;
+use solve::{Solver, Sweep, Worklist, causers};
+use std::alloc::{AllocError, Global};
+use sysmods::GlobalZone;
+use undo::{restore_candidates, restore_system};
+use zones::Zone;
+
+/// Judges an APPLY or RESTORE in the target zone, or an ACCEPT in the distribution zone.
+pub(crate) fn judge(
+    alloc: Global,
+    shop: &Shop,
+    command: &Command,
+    printed: &mut Vec<u8>,
+) -> Result<(), AllocError> {
+    let (global, target, distribution) = (&shop.global, &shop.target, &shop.distribution);
+    match command {
+        Command::Apply(install) => judge_install(alloc, global, target, None, install, printed),
+        Command::Accept(install) => {
+            judge_install(alloc, global, distribution, Some(target), install, printed)
+        }
+        Command::Restore { list, .. } => {
+            judge_restore(alloc, global, target, distribution, list, printed)
+        }
+        _ => Ok(()),
+    }
+}
+
+fn judge_install(
+    alloc: Global,
+    global: &GlobalZone,
+    zone: &Zone,
+    related: Option<&Zone>,
+    install: &Install,
+    printed: &mut Vec<u8>,
+) -> Result<(), AllocError> {
+    let candidates = candidates(alloc, global, zone, &install.selection)?;
+    put_candidates(&candidates, printed)?;
+    let judged = install_system(alloc, global, zone, related, &candidates, &install.bypass)?;
+    put_judged(alloc, &judged, printed)
+}
+
+fn judge_restore(
+    alloc: Global,
+    global: &GlobalZone,
+    zone: &Zone,
+    accepted: &Zone,
+    list: &RestoreList,
+    printed: &mut Vec<u8>,
+) -> Result<(), AllocError> {
+    let candidates = restore_candidates(alloc, global, zone, accepted, list)?;
+    put_candidates(&candidates, printed)?;
+    let judged = restore_system(alloc, global, zone, accepted, &candidates)?;
+    put_judged(alloc, &judged, printed)
+}
+
+// The numbered system by its ids, which candidates are kept, and why the others are not.
+fn put_judged(alloc: Global, judged: &Judged<'_>, printed: &mut Vec<u8>) -> Result<(), AllocError>
+    requires { HasParts judged.now }
+{
+    put_numbers(judged, printed)?;
+    put_needs(judged.needs.as_slice(), printed)?;
+    put_bypassed(judged.bypassed.as_slice(), printed)?;
+    let Decided { kept, failed } = decided(alloc, judged)?;
+    put_ids(b"KEPT", kept.as_slice(), printed)?;
+    put_failures(failed.as_slice(), printed)?;
+    put_sweep(alloc, judged, printed)
+}
+
+fn decided(alloc: Global, judged: &Judged<'_>) -> Result<Decided, AllocError>
+    requires { HasParts judged.now }
+{
+    let kept = Worklist.greatest(alloc, &judged.system)?;
+    let causers = causers(alloc, &judged.system, &kept)?;
+    judged.decided(alloc, &kept, causers.as_slice())
+}
+
+// A line if the other solver keeps other numbers.
+fn put_sweep(alloc: Global, judged: &Judged<'_>, printed: &mut Vec<u8>) -> Result<(), AllocError> {
+    let kept = Worklist.greatest(alloc, &judged.system)?;
+    let swept = Sweep.greatest(alloc, &judged.system)?;
+    if kept.flags() != swept.flags() {
+        printed.extend_from_slice(b"SWEEP DIFFERS\n")?;
+    }
+    Ok(())
+}

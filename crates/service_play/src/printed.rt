@@ -1,0 +1,236 @@
+//! What calls return, as text.
+
+use fields::spelling::{need_text, test_text, type_text};
+use fields::{Id, ZoneName};
+use judge::Judged;
+use judge_system::{Failure, OpenNeed, RequisiteOf};
+use report::{Header, Out, Outcome, ReportLine, errsysmods, write_report};
+use sorted::Edit;
+use std::alloc::{AllocError, Global};
+use std::test::Fail;
+use sysmods::GlobalZone;
+use terms::{CommandWord, NotChosen, Test};
+use zones::{Candidates, Zone, ZoneDelta};
+
+// A line of these words.
+fn put_words(words: &[&[u8]], text: &mut Vec<u8>) -> Result<(), AllocError> {
+    for word in words {
+        text.extend_from_slice(word)?;
+        text.push(b' ')?;
+    }
+    let _blank = text.pop();
+    end_line(text)
+}
+
+fn end_line(text: &mut Vec<u8>) -> Result<(), AllocError> {
+    text.push(b'\n')?;
+    Ok(())
+}
+
+// A word after a blank.
+fn put_word(word: &[u8], text: &mut Vec<u8>) -> Result<(), AllocError> {
+    text.push(b' ')?;
+    text.extend_from_slice(word)
+}
+
+/// A line of these two words.
+pub(crate) fn put_line(word: &[u8], other: &[u8], text: &mut Vec<u8>) -> Result<(), AllocError> {
+    text.extend_from_slice(word)?;
+    put_word(other, text)?;
+    end_line(text)
+}
+
+/// A line for each of these ids.
+pub(crate) fn put_ids(word: &[u8], ids: &[Id], text: &mut Vec<u8>) -> Result<(), AllocError> {
+    for id in ids {
+        put_line(word, id.as_bytes(), text)?;
+    }
+    Ok(())
+}
+
+/// A line for each candidate with a requisite of it that BYPASS covers.
+pub(crate) fn put_bypassed(pairs: &[(Id, Id)], text: &mut Vec<u8>) -> Result<(), AllocError> {
+    for pair in pairs {
+        let (of, id) = *pair;
+        put_words(&[b"BYPASSED", of.as_bytes(), id.as_bytes()], text)?;
+    }
+    Ok(())
+}
+
+/// A line for each of these needs.
+pub(crate) fn put_needs(needs: &[RequisiteOf], text: &mut Vec<u8>) -> Result<(), AllocError> {
+    for need in needs {
+        let RequisiteOf { of, kind, id } = *need;
+        put_words(
+            &[b"NEED", of.as_bytes(), need_text(kind), id.as_bytes()],
+            text,
+        )?;
+    }
+    Ok(())
+}
+
+/// A line for each candidate that fails tests, in the order of their numbers.
+pub(crate) fn put_numbers(judged: &Judged<'_>, text: &mut Vec<u8>) -> Result<(), AllocError> {
+    for (id, tests) in judged.ids.iter().zip(judged.tests.iter()) {
+        put_tests(*id, tests.as_slice(), text)?;
+    }
+    Ok(())
+}
+
+fn put_tests(id: Id, tests: &[Test], text: &mut Vec<u8>) -> Result<(), AllocError> {
+    for test in tests {
+        put_words(&[b"FAILS", id.as_bytes(), test_text(*test)], text)?;
+    }
+    Ok(())
+}
+
+// The tests that a candidate fails, what it needs in vain, and who causes it.
+fn put_failure(failure: &Failure, text: &mut Vec<u8>) -> Result<(), AllocError> {
+    for test in failure.tests.as_slice() {
+        put_line(b"  TEST", test_text(*test), text)?;
+    }
+    for need in failure.needs.as_slice() {
+        let OpenNeed { kind, id } = *need;
+        put_words(&[b"  NEED", need_text(kind), id.as_bytes()], text)?;
+    }
+    put_ids(b"  CAUSER", failure.causers.as_slice(), text)
+}
+
+/// A line for each of these candidates, followed by its failure.
+pub(crate) fn put_failures(failed: &[(Id, Failure)], text: &mut Vec<u8>) -> Result<(), AllocError> {
+    for (id, failure) in failed {
+        put_line(b"FAILED", id.as_bytes(), text)?;
+        put_failure(failure, text)?;
+    }
+    Ok(())
+}
+
+fn why_text(why: NotChosen) -> &'static [u8] {
+    match why {
+        NotChosen::Already => b"ALREADY",
+        NotChosen::Deleted => b"DELETED",
+        NotChosen::Missing => b"MISSING",
+        NotChosen::NoVer => b"NOVER",
+        NotChosen::NotApplied => b"NOTAPPLIED",
+    }
+}
+
+/// A line for each candidate, and for each id that is left out.
+pub(crate) fn put_candidates(
+    candidates: &Candidates,
+    text: &mut Vec<u8>,
+) -> Result<(), AllocError> {
+    put_ids(b"CANDIDATE", candidates.ids.as_slice(), text)?;
+    for left in candidates.left_out.as_slice() {
+        let (id, why) = *left;
+        put_words(&[b"LEFT", id.as_bytes(), why_text(why)], text)?;
+    }
+    Ok(())
+}
+
+// What became of something at whose key there was something, or nothing.
+fn put_text(puts: bool, stood: bool) -> &'static [u8] {
+    match (puts, stood) {
+        (true, true) => b"CHANGED",
+        (true, false) => b"NEW",
+        (false, _) => b"REMOVED",
+    }
+}
+
+// A line for each edit of an entry.
+fn put_entry_edits(delta: &ZoneDelta, text: &mut Vec<u8>) -> Result<(), AllocError> {
+    for (edit, stood) in delta.entries().iter().zip(delta.entries_stood().iter()) {
+        let (id, puts) = match edit {
+            Edit::Put(entry) => (entry.id, true),
+            Edit::Remove(id) => (*id, false),
+        };
+        put_words(
+            &[b"ENTRY", id.as_bytes(), put_text(puts, stood.is_some())],
+            text,
+        )?;
+    }
+    Ok(())
+}
+
+// A line for each edit of an element.
+fn put_element_edits(delta: &ZoneDelta, text: &mut Vec<u8>) -> Result<(), AllocError> {
+    for (edit, stood) in delta.elements().iter().zip(delta.elements_stood().iter()) {
+        let (elem_type, name, puts) = match edit {
+            Edit::Put(element) => (element.elem_type, element.name, true),
+            Edit::Remove(key) => (key.0, key.1, false),
+        };
+        put_words(
+            &[
+                b"ELEM",
+                type_text(elem_type),
+                name.as_bytes(),
+                put_text(puts, *stood),
+            ],
+            text,
+        )?;
+    }
+    Ok(())
+}
+
+/// A line for each edit, and what LIST prints of the zone as they change it, beside the old one.
+pub(crate) fn put_delta(
+    alloc: Global,
+    name: &[u8],
+    zone: &Zone,
+    delta: &ZoneDelta,
+    text: &mut Vec<u8>,
+) -> Result<(), Fail> {
+    put_entry_edits(delta, text)?;
+    put_element_edits(delta, text)?;
+    put_zone(name, &delta.apply(alloc, zone)?, text)
+}
+
+/// The report of a command with these lines, without a boundary.
+pub(crate) fn put_report(
+    word: CommandWord,
+    lines: Vec<ReportLine>,
+    text: &mut Vec<u8>,
+) -> Result<(), Fail> {
+    let header = Header {
+        word,
+        boundary: None,
+        check: false,
+    };
+    put_outcome(&Outcome::Ran { header, lines }, text)
+}
+
+fn put_outcome(outcome: &Outcome<'_>, text: &mut Vec<u8>) -> Result<(), Fail> {
+    write_report(outcome, &mut Out::new(text))?;
+    Ok(())
+}
+
+/// What LIST prints of a zone.
+pub(crate) fn put_zone(name: &[u8], zone: &Zone, text: &mut Vec<u8>) -> Result<(), Fail> {
+    let header = Header {
+        word: CommandWord::List,
+        boundary: Some(zone_name(name)?),
+        check: false,
+    };
+    let outcome = Outcome::Listed {
+        header,
+        zone,
+        text: false,
+    };
+    put_outcome(&outcome, text)
+}
+
+/// What REPORT ERRSYSMODS prints of a zone.
+pub(crate) fn put_errsysmods(
+    alloc: Global,
+    name: &[u8],
+    global: &GlobalZone,
+    zone: &Zone,
+    text: &mut Vec<u8>,
+) -> Result<(), Fail> {
+    let outcome = errsysmods(alloc, zone_name(name)?, global, zone)?;
+    put_outcome(&outcome, text)
+}
+
+fn zone_name(name: &[u8]) -> Result<ZoneName, Fail> {
+    Ok(ZoneName::read(name).ok_or("no name of a zone")?)
+}

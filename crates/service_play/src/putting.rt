@@ -1,0 +1,84 @@
+//! Installs and restores of ids that are kept whatever a command would decide.
+ghost use Rattle.std.specs.Prelude.{◌≡◌};
+ghost use Rattle.std.specs.List.{list_all};
+ghost use Rattle.terms.specs.Lookups.{changes_of, is_nil};
+
+use crate::printed::{put_delta, put_ids};
+use crate::shop::Shop;
+use change::{Installed, Installing, install, restore};
+use fields::{Id, IdList, YyDdd};
+use std::alloc::{AllocError, Global};
+use std::test::Fail;
+use sysmods::{GlobalZone, Overs, VerChoice};
+use zones::{Zone, choose};
+
+/// Puts these ids into the target zone, beside the old one. They must change no element.
+pub(crate) fn put_in(
+    alloc: Global,
+    shop: &Shop,
+    cards: &str,
+    printed: &mut Vec<u8>,
+) -> Result<(), Fail> {
+    let kept = ids(alloc, cards)?;
+    let vers = choose(alloc, &shop.global, &shop.target, &kept)?;
+    let Installed { delta, effective } = installed(alloc, &vers, &shop.target, &kept)?;
+    put_ids(b"EFFECTIVE", effective.as_slice(), printed)?;
+    put_delta(alloc, b"TGT1", &shop.target, &delta, printed)
+}
+
+// What these ids put into the zone.
+fn installed(
+    alloc: Global,
+    vers: &VerChoice<'_>,
+    zone: &Zone,
+    kept: &IdList,
+) -> Result<Installed, Fail> {
+    if !change_nothing(vers.global(), kept.as_slice()) {
+        return Err(Fail::from("an id that changes an element"));
+    }
+    let installing = Installing {
+        overs: Overs::new(alloc, vers),
+        zone,
+        kept,
+        bypassed: &[],
+        date: YyDdd::new(2024, 140),
+    };
+    Ok(install(alloc, installing)?)
+}
+
+// Whether none of these SYSMODs changes an element.
+fn change_nothing(global: &GlobalZone, ids: &[Id]) -> bool
+    ensures { result ≡ list_all (λ x. is_nil (changes_of global.now x)) ids.now }
+{
+    ids.iter().all(|id| changes_nothing(global, *id))
+}
+
+fn changes_nothing(global: &GlobalZone, id: Id) -> bool
+    ensures { result ≡ is_nil (changes_of global.now id) }
+{
+    match global.get(id) {
+        Some(sysmod) => sysmod.changes.is_empty(),
+        None => true,
+    }
+}
+
+/// Takes these ids off the target zone, beside the old one.
+pub(crate) fn take_off(
+    alloc: Global,
+    shop: &Shop,
+    cards: &str,
+    printed: &mut Vec<u8>,
+) -> Result<(), Fail> {
+    let kept = ids(alloc, cards)?;
+    let delta = restore(alloc, &shop.global, &shop.target, &shop.distribution, &kept)?;
+    put_delta(alloc, b"TGT1", &shop.target, &delta, printed)
+}
+
+// The ids of these cards.
+fn ids(alloc: Global, cards: &str) -> Result<IdList, Fail> {
+    let mut ids = IdList::new(alloc);
+    for word in cards.split_whitespace() {
+        ids.insert(Id::read(word.as_bytes()).ok_or("no id")?)?;
+    }
+    Ok(ids)
+}

@@ -1,5 +1,0 @@
-use Rattle.smpe.proofs.Found.{next_open_finds_holds}
-use Rattle.smpe.proofs.law.next_open_finds.Goals as goal
-
-pub returns : goal.returns
-returns g c = next_open_finds_holds g.S.Store g.T.Store

@@ -1,0 +1,66 @@
+//! A command is performed.
+ghost use Rattle.std.specs.Prelude.{◌≡◌, IfOk, IsErrOf};
+ghost use Rattle.cntl.specs.Views.{command_of};
+ghost use Rattle.smpe_zones.specs.Own.{IsOwnOf};
+ghost use Rattle.smpe_session.specs.Sessions.{IsSessionOf, HasDone, LooksOnly, told};
+ghost use Rattle.smpe_session.specs.Uses.{UsesStore};
+ghost use Rattle.smpe_session.specs.Writing.{AnswersOf, AnswersRun};
+
+use crate::install::install;
+use crate::restore::restore;
+use cntl::Command;
+use fields::YyDdd;
+use report::Outcome;
+use smpe_session::{Files, Performed, Session};
+use sqlite::Alter;
+use std::alloc::Global;
+use store::{Store, StoreError};
+use terms::ZoneKind;
+
+fn told(ended: Result<Outcome<'static>, StoreError>) -> Result<Performed, StoreError>
+    ensures { result ≡ told ended.entry }
+{
+    Ok(Performed::Told(ended?))
+}
+
+/// Performs a command and commits it before it returns. Returns `Memory` if memory runs out, `Fault` if the database
+/// fails, and `NoState` if it loads a zone whose rows stand for none. After an error no command of the job may follow:
+/// the session's global zone may be ahead of the tables.
+pub fn perform<S: Alter>(
+    session: &mut Session,
+    alloc: Global,
+    store: &mut Store<S>,
+    date: YyDdd,
+    files: &Files<'_>,
+    command: &Command,
+) -> Result<Performed, StoreError>
+    ensures uses { UsesStore S.Store store.old store.new
+        (λ own. IsOwnOf (command_of command.now) own × IfOk result (AnswersRun own))
+        (λ s ended. IsSessionOf s session.old → HasDone S.Store store.old store.new s session.new date files.now
+        (command_of command.now) ended) result }
+    ensures header { IfOk result (AnswersOf (command_of command.now)) }
+    ensures looks { LooksOnly (command_of command.now) → (store.new ≡ store.old)
+        × ¬ IsErrOf result StoreError.Fault }
+{
+    match command {
+        Command::Set(name) => told(session.set(alloc, store, *name)),
+        Command::Receive(what) => told(session.receive(alloc, store, files, what)),
+        Command::Reject(ids) => told(session.reject(alloc, store, ids)),
+        Command::Apply(operands) => {
+            told(install(session, alloc, store, date, ZoneKind::Target, operands))
+        }
+        Command::Accept(operands) => {
+            told(install(
+                session,
+                alloc,
+                store,
+                date,
+                ZoneKind::Distribution,
+                operands,
+            ))
+        }
+        Command::Restore { list, check } => told(restore(session, alloc, store, list, *check)),
+        Command::List { text } => Ok(Performed::Lists { text: *text }),
+        Command::Report => Ok(Performed::Told(session.report(alloc)?)),
+    }
+}

@@ -1,0 +1,59 @@
+//! RESTORE: SYSMODs leave the target zone of the boundary, which goes back to the level of its distribution zone.
+ghost use Rattle.std.specs.Prelude.{◌≡◌, false, IfOk};
+ghost use Rattle.terms.specs.Types.{Text, Restore};
+ghost use Rattle.fields.specs.Choices.{restore_list_of};
+ghost use Rattle.machine.specs.Machine.{Files};
+ghost use Rattle.smpe_session.specs.Sessions.{IsSessionOf, HasPerformed};
+ghost use Rattle.smpe_session.specs.Uses.{UsesStore};
+ghost use Rattle.smpe_session.specs.Writing.{TellsOutcomeOf, TellsRun};
+ghost use Rattle.smpe_zones.specs.Own.{IsOfZone};
+
+use fields::RestoreList;
+use report::{Header, Outcome, Refusal};
+use smpe_service::Restored;
+use smpe_session::Session;
+use sqlite::Alter;
+use std::alloc::Global;
+use store::{Store, StoreError};
+use terms::{CommandWord, ZoneKind};
+
+/// RESTORE of a list from the target zone of the boundary.
+pub(crate) fn restore<S: Alter>(
+    session: &mut Session,
+    alloc: Global,
+    store: &mut Store<S>,
+    list: &RestoreList,
+    check: bool,
+) -> Result<Outcome<'static>, StoreError>
+    ensures uses { UsesStore S.Store store.old store.new (λ own. IsOfZone own × (check ≡ false)
+        × IfOk result (TellsRun own))
+        (λ s ended. IsSessionOf s session.old → (date : Text) (files : Files)
+        → HasPerformed S.Store store.old store.new s session.new date files (Restore (restore_list_of list.now) check)
+        ended) result }
+    ensures header { IfOk result (TellsOutcomeOf (Restore (restore_list_of list.now) check)) }
+{
+    let accepted = session.seek_accepted(store)?;
+    let header = Header {
+        word: CommandWord::Restore,
+        boundary: session.boundary,
+        check,
+    };
+    let place = match session.place(ZoneKind::Target) {
+        Ok(place) => place,
+        Err(refusal) => return Ok(Outcome::Refused { header, refusal }),
+    };
+    let Some(accepted) = session.zone_at(accepted) else {
+        // Each target zone has a distribution zone.
+        let refusal = Refusal::WrongKind;
+        return Ok(Outcome::Refused { header, refusal });
+    };
+    let name = place.name;
+    let Restored { delta, lines } = smpe_service::restore(
+        alloc,
+        &session.global,
+        place.zone,
+        accepted,
+        list,
+    )?;
+    session.carry_out(alloc, store, header, name, delta, lines)
+}

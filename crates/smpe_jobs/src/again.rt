@@ -1,0 +1,47 @@
+//! A store that is opened again after jobs that ended early.
+ghost use Rattle.std.specs.Prelude.{◌≡◌, false, IfOk};
+ghost use Rattle.smpe_jobs.specs.Reopened.{GoesOn};
+ghost use Rattle.sqlite.specs.Files.{file_state, over_files};
+ghost use Rattle.sqlite.specs.State.{HasCleanDisk};
+ghost use Rattle.store.specs.View.{ShowsLeft};
+
+use sqlite::{Connection, FileStore, Files, Options};
+use sqlite_disk::Crash;
+use std::alloc::Global;
+use store::{Store, StoreError};
+
+// Takes apart what is left of the connection, without a call of its disks, brings these back, and opens their files.
+fn connected_again<D: Crash + Drop>(
+    alloc: Global,
+    conn: Connection<FileStore<D>>,
+    options: Options,
+) -> Result<Connection<FileStore<D>>, (Files<D>, StoreError)>
+    ensures shows { IfOk result (λ again. HasCleanDisk (file_state again)
+        → HasCleanDisk (file_state conn) × ShowsLeft over_files conn over_files again) }
+    ensures mode { IfOk result (λ again. again.in_transaction ≡ false) }
+{
+    let mut files = conn.into_store().close();
+    files.log.crash();
+    files.db.crash();
+    match Connection::open_files(alloc, files, options) {
+        Ok(again) => Ok(again),
+        Err((error, left)) => Err((left.into_files(), StoreError::from(error))),
+    }
+}
+
+/// Goes on after jobs, even if a fault shut the connection: takes apart what is left of it, brings its disks back, and
+/// opens the store over their files again. The error returns the files: `Memory` if memory runs out, `Fault` if the
+/// disks fail, and any other one if the tables were not the store's.
+pub fn reopened<D: Crash + Drop>(
+    alloc: Global,
+    conn: Connection<FileStore<D>>,
+    options: Options,
+) -> Result<Store<FileStore<D>>, (Files<D>, StoreError)>
+    ensures { IfOk result (λ again. HasCleanDisk (file_state again) → GoesOn over_files conn over_files again) }
+{
+    let again = connected_again(alloc, conn, options)?;
+    match Store::open(alloc, again) {
+        Ok(store) => Ok(store),
+        Err((conn, error)) => Err((conn.into_store().close(), error)),
+    }
+}

@@ -1,0 +1,34 @@
+//! The command file of a listing, and others of two commands.
+ghost use Rattle.std.specs.Prelude.{◌≡◌, ◌≤◌, ◌∷◌, [], length, false, IfOk};
+ghost use Rattle.terms.specs.Types.{Set, ListZone};
+ghost use Rattle.terms.specs.Commands.{IsCommandFile};
+ghost use Rattle.smpe_jobs.specs.ListJob.{list_records, two_records};
+
+use fields::ZoneName;
+use std::alloc::{AllocError, Global};
+
+/// The command file that lists a zone: `SET BDY(zone).` and `LIST.`, a record each.
+pub fn list_commands(alloc: Global, zone: ZoneName) -> Result<Vec<u8>, AllocError>
+    ensures records { IfOk result (λ file. file.items ≡ list_records zone) }
+    ensures commands { IfOk result (λ file. IsCommandFile file.items (Set zone ∷ ListZone false ∷ [])) }
+{
+    let mut set = Vec::new(alloc);
+    set.extend_from_slice(b"SET BDY(")?;
+    set.extend_from_slice(zone.as_bytes())?;
+    set.extend_from_slice(b").")?;
+    two_commands(alloc, set.as_slice(), b"LIST.")
+}
+
+/// A command file of two commands, a record each.
+pub fn two_commands(alloc: Global, first: &[u8], second: &[u8]) -> Result<Vec<u8>, AllocError>
+    requires first { length first.now ≤ 80 }
+    requires second { length second.now ≤ 80 }
+    ensures { IfOk result (λ file. file.items ≡ two_records first.now second.now) }
+{
+    let mut file = Vec::new(alloc);
+    file.extend_from_slice(first)?;
+    file.resize(80, b' ')?;
+    file.extend_from_slice(second)?;
+    file.resize(160, b' ')?;
+    Ok(file)
+}

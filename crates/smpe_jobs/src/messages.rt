@@ -1,0 +1,196 @@
+//! The program's own lines: how the definition of a zone ended, and why a run did not reach its end.
+ghost use Rattle.std.specs.Prelude.{◌≡◌, ◌<◌, ◌++◌, length, false, codes, is_err, IfOk};
+ghost use Rattle.report.specs.Sent.{Sent};
+ghost use Rattle.machine.specs.Machine.{Defined, NotDefined};
+ghost use Rattle.smpe_zones.specs.Definitions.{fault_of};
+ghost use Rattle.smpe_jobs.specs.Ending.{answer_of};
+ghost use Rattle.smpe_jobs.specs.Messages.{answer_status, fault_status, fault_text, job_text, migrated_text, program_line};
+ghost use Rattle.smpe_jobs.specs.Messages.{refused_text, store_text, zone_fault_text, zone_text};
+
+use crate::error::JobError;
+use crate::jobs::Answer;
+use fields::ZoneName;
+use report::{Sink, WriteFault, put, write_all};
+use smpe_invocation::ArgFault;
+use smpe_zones::ZoneFault;
+use store::StoreError;
+use thiserror::Error;
+
+fn zone_fault_text(fault: ZoneFault) -> &'static [u8]
+    ensures { result.now ≡ zone_fault_text (fault_of fault) }
+{
+    match fault {
+        ZoneFault::NameTaken => b"Zn1",
+        ZoneFault::WrongRelated => b"Zn2",
+        ZoneFault::OtherSrel => b"Zn3",
+        ZoneFault::TooMany => b"Zn4",
+    }
+}
+
+fn write_defined<W: Sink>(name: &ZoneName, w: &mut W) -> Result<u8, WriteFault>
+    ensures sends { Sent W.Sink w.old w.new (zone_text name.now Defined) }
+    ensures fault { W.has_failed w.new ≡ is_err result }
+    ensures status { IfOk result (λ status. status ≡ answer_status Defined) }
+{
+    put(b"ZONE ", w);
+    put(name.as_bytes(), w);
+    write_all(b" DEFINED\n", w)?;
+    Ok(0)
+}
+
+fn write_refused<W: Sink>(fault: ZoneFault, w: &mut W) -> Result<u8, WriteFault>
+    ensures sends { Sent W.Sink w.old w.new (refused_text (fault_of fault)) }
+    ensures fault { W.has_failed w.new ≡ is_err result }
+    ensures status { IfOk result (λ status. status ≡ answer_status (NotDefined (fault_of fault))) }
+{
+    put(b"ZONE REFUSED ", w);
+    put(zone_fault_text(fault), w);
+    write_all(b"\n", w)?;
+    Ok(12)
+}
+
+/// The program's status for this answer: for a job its return code.
+pub fn status_of(answer: &Answer) -> u8
+    ensures { result ≡ answer_status (answer_of answer.now) }
+{
+    match answer {
+        Answer::Code(code) => *code,
+        Answer::Defined => 0,
+        Answer::Refused(_) => 12,
+    }
+}
+
+/// Writes the line of a defined or refused zone, and returns the program's status: for a job its return code, which has
+/// no line here. Returns an error if the line cannot be written.
+pub fn zone_line<W: Sink>(name: ZoneName, answer: &Answer, w: &mut W) -> Result<u8, WriteFault>
+    ensures sends { Sent W.Sink w.old w.new (zone_text name (answer_of answer.now)) }
+    ensures fault { W.has_failed w.old ≡ false → W.has_failed w.new ≡ is_err result }
+    ensures after { 0 < length (zone_text name (answer_of answer.now)) → W.has_failed w.new ≡ is_err result }
+    ensures status { IfOk result (λ status. status ≡ answer_status (answer_of answer.now)) }
+{
+    match answer {
+        Answer::Code(code) => Ok(*code),
+        Answer::Defined => write_defined(&name, w),
+        Answer::Refused(why) => write_refused(*why, w),
+    }
+}
+
+/// Writes the line of a database that has the tables of this program's schema, and returns the program's status.
+/// Returns an error if the line cannot be written.
+pub fn migrated_line<W: Sink>(w: &mut W) -> Result<u8, WriteFault>
+    ensures sends { Sent W.Sink w.old w.new migrated_text }
+    ensures fault { W.has_failed w.new ≡ is_err result }
+    ensures status { IfOk result (λ status. status ≡ 0) }
+{
+    write_all(b"SCHEMA 3\n", w)?;
+    Ok(0)
+}
+
+/// The status of a program that ends with a fault.
+pub const FAULT_STATUS: u8 = 16;
+
+/// The faults of the program.
+#[derive(Debug, Drop, Error)]
+pub enum Fault<'a> {
+    /// That of a job, also if its store was not opened.
+    #[error("{0}")]
+    Job(JobError),
+    #[error("{0}")]
+    Arg(ArgFault),
+    /// The name of a file that cannot be read.
+    #[error("cannot read {0}")]
+    CannotRead(&'a str),
+    /// A careful job has no command.
+    #[error("no command")]
+    NoCommand,
+    /// A SET of a careful job names this zone.
+    #[error("a zone is not defined")]
+    NoZone(ZoneName),
+}
+
+impl From<JobError> for Fault<'_> {
+    ghost use Rattle.std.specs.Prelude.{◌≡◌};
+    ghost use Rattle.smpe_jobs.specs.declared.messages.Fault.TheVariants.{Job};
+
+    ghost from_gives = { λ error fault. fault ≡ Job error };
+
+    fn from(error: JobError) -> Self {
+        Fault::Job(error)
+    }
+}
+
+fn store_text(error: StoreError) -> &'static [u8]
+    ensures { result.now ≡ store_text error }
+{
+    match error {
+        StoreError::Fault => b"store Sf1",
+        StoreError::OtherSchema => b"store Sf2",
+        StoreError::NoState => b"store Sf3",
+        StoreError::Memory => b"out of memory",
+    }
+}
+
+fn job_text(error: JobError) -> &'static [u8]
+    ensures { result.now ≡ job_text error }
+{
+    match error {
+        JobError::Memory => b"out of memory",
+        JobError::Store(error) => store_text(error),
+        JobError::Write => b"write",
+    }
+}
+
+fn write_line<W: Sink>(text: &[u8], w: &mut W) -> Result<(), WriteFault>
+    ensures sends { Sent W.Sink w.old w.new (program_line text.now) }
+    ensures fault { W.has_failed w.new ≡ is_err result }
+{
+    put(b"smpe: ", w);
+    put(text, w);
+    write_all(b"\n", w)
+}
+
+fn write_unread<W: Sink>(name: &str, w: &mut W) -> Result<(), WriteFault>
+    ensures sends { Sent W.Sink w.old w.new (program_line (codes "cannot read " ++ name.now)) }
+    ensures fault { W.has_failed w.new ≡ is_err result }
+{
+    put(b"smpe: cannot read ", w);
+    put(name.as_bytes(), w);
+    write_all(b"\n", w)
+}
+
+fn write_undefined<W: Sink>(name: &ZoneName, w: &mut W) -> Result<(), WriteFault>
+    ensures sends { Sent W.Sink w.old w.new (program_line (codes "no zone " ++ name.now)) }
+    ensures fault { W.has_failed w.new ≡ is_err result }
+{
+    put(b"smpe: no zone ", w);
+    put(name.as_bytes(), w);
+    write_all(b"\n", w)
+}
+
+fn write_fault<W: Sink>(fault: &Fault<'_>, w: &mut W) -> Result<(), WriteFault>
+    ensures sends { Sent W.Sink w.old w.new (fault_text fault.now) }
+    ensures fault { W.has_failed w.old ≡ false → W.has_failed w.new ≡ is_err result }
+    ensures after { 0 < length (fault_text fault.now) → W.has_failed w.new ≡ is_err result }
+{
+    match fault {
+        Fault::Job(error) => write_line(job_text(*error), w),
+        Fault::Arg(ArgFault::Memory) => write_line(b"out of memory", w),
+        Fault::Arg(ArgFault::BadOperand) => write_line(b"bad operand", w),
+        Fault::Arg(ArgFault::Clap(_)) => Ok(()),
+        Fault::CannotRead(name) => write_unread(name, w),
+        Fault::NoCommand => write_line(b"no command", w),
+        Fault::NoZone(name) => write_undefined(name, w),
+    }
+}
+
+/// Writes the line of a fault, and returns the program's status. It leaves the text of an error of `clap` to the
+/// caller. Returns an error if the line cannot be written.
+pub fn fault_line<W: Sink>(fault: &Fault<'_>, w: &mut W) -> Result<u8, WriteFault>
+    ensures sends { Sent W.Sink w.old w.new (fault_text fault.now) }
+    ensures fault { W.has_failed w.old ≡ false → W.has_failed w.new ≡ is_err result }
+    ensures after { 0 < length (fault_text fault.now) → W.has_failed w.new ≡ is_err result }
+    ensures status { IfOk result (λ status. status ≡ fault_status) }
+{
+    write_fault(fault, w)?;
+    Ok(FAULT_STATUS)
+}

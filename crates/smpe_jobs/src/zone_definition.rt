@@ -1,0 +1,35 @@
+//! The definition of a zone.
+ghost use Rattle.sqlite.specs.Held.{state};
+ghost use Rattle.sqlite.specs.State.{HasCleanDisk};
+ghost use Rattle.machine.specs.State.{State};
+ghost use Rattle.smpe_zones.specs.Kept.{Keeps};
+ghost use Rattle.smpe_zones.specs.Definitions.{HasCourse, HasDefined, definition};
+ghost use Rattle.smpe_zones.specs.Ends.{Follows};
+ghost use Rattle.smpe_jobs.specs.Ending.{KeepsClosed};
+
+use fields::{Attest, Srel, ZoneName};
+use smpe_zones::ZoneError;
+use sqlite::Alter;
+use store::Store;
+use terms::ZoneKind;
+
+/// Adds a zone without entries. `Refused` is the first that applies of `NameTaken`, `WrongRelated`, `OtherSrel` and
+/// `TooMany`. Returns `Memory` if memory runs out. `Store` is `Fault` if the database fails, or `NoState` if the rows
+/// of zones stand for none.
+pub fn define_zone<S: Alter>(
+    store: &mut Store<S>,
+    name: ZoneName,
+    kind: ZoneKind,
+    srel: Srel,
+    related: Option<ZoneName>,
+) -> Result<(), ZoneError>
+    ensures follows { Follows S.Store store.old store.new }
+    ensures ended { HasCleanDisk (state S.Store store.new) → (s : State) → Keeps S.Store store.old s
+        → HasDefined S.Store store.old store.new s (definition name kind srel related) result }
+    ensures course { HasCourse S.Store store.old store.new (definition name kind srel related) result }
+    ensures closed { KeepsClosed S.Store store.old store.new }
+{
+    name.attest();
+    srel.attest();
+    smpe_zones::define_zone(store, name, kind, srel, related)
+}
