@@ -7,10 +7,12 @@
 #![tactic(auto)]
 
 mod error_holds;
+mod fact;
 mod global_lines;
 mod held_for_error;
 mod line_words;
 mod lines;
+mod optional_texts;
 mod outcome;
 mod page;
 mod pieces;
@@ -20,9 +22,13 @@ mod sink;
 mod write;
 mod zone_lines;
 
+pub use fact::{Fact, Found, Maker, Rank, Requisite, Resolution, Standing};
 pub use held_for_error::errsysmods;
+pub use line_words::{LineWord, append_words};
+pub use optional_texts::{class_text, date_text, id_text};
 pub use outcome::{Header, Outcome, Place, Refusal, ReportLine, Status};
 pub use pieces::{put, write_all};
 pub use places::place_of;
 pub use sink::{Out, Sink, WriteFault};
 pub use write::write_report;
+pub use zone_lines::applied_word;

@@ -1,18 +1,21 @@
-//! Words, and lines that consist of them.
-ghost use Rattle.std.specs.Prelude.{◌<◌, ◌∷◌, length, map};
+//! Words, and lines that consist of them, on a page or in a text.
+ghost use Rattle.std.specs.Prelude.{◌≡◌, ◌<◌, ◌∷◌, ◌++◌, length, map, OnOk};
 ghost use Rattle.machine.specs.Report.{words_line, list_text};
 ghost use Rattle.report.specs.Paged.{Paged};
 ghost use Rattle.report.specs.WordTexts.{word_text};
 
 use crate::page::Page;
-use crate::sink::Sink;
+use crate::sink::{Out, Sink};
 use fields::{Id, Source};
 use itoa::Buffer;
+use std::alloc::AllocError;
 
 /// A word of a line.
 #[derive(Clone, Copy)]
-pub(crate) enum LineWord<'a> {
+pub enum LineWord<'a> {
     Of(&'a [u8]),
+    /// Followed by a colon.
+    Named(&'a [u8]),
     /// The word, or `-`.
     Optional(Option<&'a [u8]>),
     /// The first word if it is so, otherwise the second.
@@ -61,6 +64,10 @@ fn put_word<W: Sink>(word: LineWord<'_>, page: &mut Page<'_, W>)
 {
     match word {
         LineWord::Of(text) | LineWord::Optional(Some(text)) => page.put(text),
+        LineWord::Named(text) => {
+            page.put(text);
+            page.put(b":");
+        }
         LineWord::Optional(None) => page.put(b"-"),
         LineWord::If(true, text, _) | LineWord::If(false, _, text) => page.put(text),
         LineWord::Left(places, text) => {
@@ -89,4 +96,18 @@ pub(crate) fn put_words<W: Sink>(start: &[u8], words: &[LineWord<'_>], page: &mu
         put_word(*word, page);
     }
     page.put(b"\n");
+}
+
+/// Appends such a line to a text.
+pub fn append_words(
+    start: &[u8],
+    words: &[LineWord<'_>],
+    text: &mut Vec<u8>,
+) -> Result<(), AllocError>
+    ensures { OnOk result (text.new.items ≡ text.old.items ++ words_line (start.now ∷ map word_text words.now)) }
+{
+    let mut out = Out::new(text);
+    let mut page = Page::new(&mut out);
+    put_words(start, words, &mut page);
+    page.empty().map_err(|_fault| AllocError)
 }

@@ -6,14 +6,14 @@ ghost use Rattle.terms.specs.Over.{chain};
 ghost use Rattle.terms.specs.Deleted.{is_taken_out};
 ghost use Rattle.sysmods.specs.Choices.{choice};
 ghost use Rattle.zones.specs.Scopes.{global_of, choice_of};
-ghost use Rattle.report_why.specs.Facts.{delete_facts};
+ghost use Rattle.report.specs.Facts.{delete_facts};
 ghost use Rattle.report_why.specs.Asking.{setting_in};
-ghost use Rattle.report_why.specs.Views.{fact_view};
+ghost use Rattle.report.specs.FactViews.{fact_view};
 
 use crate::asking::Asking;
-use crate::fact::Fact;
 use crate::looks::takes_out;
 use fields::Id;
+use report::Fact;
 use std::alloc::{AllocError, Global};
 use sysmods::VerChoice;
 use zones::Scope;

@@ -5,14 +5,14 @@ ghost use Rattle.terms.specs.Changes.{is_replacement};
 ghost use Rattle.terms.specs.Lookups.{changes_of, element_of};
 ghost use Rattle.sysmods.specs.Choices.{choice};
 ghost use Rattle.zones.specs.Scopes.{global_of};
-ghost use Rattle.report_why.specs.Facts.{IsFound, HasFound, IsElementFact};
+ghost use Rattle.report.specs.Facts.{IsFound, HasFound, IsElementFact};
 ghost use Rattle.report_why.specs.Asking.{setting_in, view_in};
-ghost use Rattle.report_why.specs.Views.{found_view, fact_view};
+ghost use Rattle.report.specs.FactViews.{found_view, fact_view};
 ghost use Rattle.report_why.specs.Makers.{IsMaker};
 
 use crate::asking::Asking;
-use crate::fact::{Fact, Found, Maker, Rank};
 use fields::Id;
+use report::{Fact, Found, Maker, Rank};
 use std::alloc::{AllocError, Global};
 use sysmods::{GlobalZone, VerChoice};
 use sysmods_values::{Action, ElemChange};

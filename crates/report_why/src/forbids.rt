@@ -3,13 +3,13 @@ ghost use Rattle.std.specs.Prelude.{◌≡◌, ◌&&◌, [], filter, map, IfOk};
 ghost use Rattle.terms.specs.Lookups.{is_applied};
 ghost use Rattle.terms.specs.Choice.{npre_of};
 ghost use Rattle.sysmods.specs.Choices.{choice};
-ghost use Rattle.report_why.specs.Facts.{forbids, npre_facts};
+ghost use Rattle.report.specs.Facts.{forbids, npre_facts};
 ghost use Rattle.report_why.specs.Asking.{setting_in, view_in};
-ghost use Rattle.report_why.specs.Views.{fact_view};
+ghost use Rattle.report.specs.FactViews.{fact_view};
 
 use crate::asking::Asking;
-use crate::fact::Fact;
 use fields::{Attest, Id};
+use report::Fact;
 use std::alloc::{AllocError, Global};
 use sysmods::VerChoice;
 

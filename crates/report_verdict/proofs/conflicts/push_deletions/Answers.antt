@@ -2,7 +2,7 @@ use Rattle.std.proofs.Common.{◌++◌, ◌∙◌, ap, arith, take_all}
 use Rattle.std.specs.List.{flat_map}
 use Rattle.zones.specs.Scopes.{setting_of}
 use Rattle.report_verdict.specs.Conflicts.{deletion_of}
-use Rattle.report_why.proofs.TextParts.{grown_more}
+use Rattle.report.proofs.Texts.{grown_more}
 use Rattle.report_verdict.proofs.conflicts.push_deletions.Goals as goal
 
 pub loop-del-preserved : goal.loop-del-preserved

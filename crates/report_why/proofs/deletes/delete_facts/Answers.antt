@@ -4,7 +4,7 @@ use Rattle.terms.specs.Choice.{del_of}
 use Rattle.terms.specs.Over.{chain}
 use Rattle.terms.specs.Deleted.{is_taken_out}
 use Rattle.zones.specs.Scopes.{global_of, choice_of}
-use Rattle.report_why.specs.Facts.{DeleteFact, TakesFact}
+use Rattle.report.specs.Facts.{DeleteFact, TakesFact}
 use Rattle.report_why.proofs.deletes.delete_facts.Goals as goal
 
 pub returns : goal.returns
