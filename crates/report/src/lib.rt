@@ -2,8 +2,10 @@
 //! lines before they become text. Writing it hands the sink its text, or a beginning of it if the sink fails, and
 //! returns the highest code of the lines. That takes no memory from the heap: pieces of lines wait on a page of fixed
 //! size, and LIST's lines are made from the zone to which its outcome refers. The crate also finds what REPORT
-//! ERRSYSMODS prints: the ERROR holds that a zone leaves open, each with the received SYSMODs that resolve it. Every
-//! call that allocates returns `AllocError` if memory runs out.
+//! ERRSYSMODS prints: the ERROR holds that a zone leaves open, each with the received SYSMODs that resolve it. And it
+//! has what the lines about one id are made of: the facts about it as values (`Fact`), and the words of a line
+//! (`LineWord`), which `append_words` appends to a text. Every call that allocates returns `AllocError` if memory runs
+//! out.
 #![tactic(auto)]
 
 mod error_holds;

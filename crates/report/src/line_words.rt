@@ -1,11 +1,12 @@
 //! Words, and lines that consist of them, on a page or in a text.
-ghost use Rattle.std.specs.Prelude.{◌≡◌, ◌<◌, ◌∷◌, ◌++◌, length, map, OnOk};
+ghost use Rattle.std.specs.Prelude.{◌≡◌, ◌<◌, ◌∷◌, ◌++◌, length, map, is_err, OnOk};
 ghost use Rattle.machine.specs.Report.{words_line, list_text};
 ghost use Rattle.report.specs.Paged.{Paged};
+ghost use Rattle.report.specs.Sent.{Sent};
 ghost use Rattle.report.specs.WordTexts.{word_text};
 
 use crate::page::Page;
-use crate::sink::{Out, Sink};
+use crate::sink::{Out, Sink, WriteFault};
 use fields::{Id, Source};
 use itoa::Buffer;
 use std::alloc::AllocError;
@@ -98,6 +99,16 @@ pub(crate) fn put_words<W: Sink>(start: &[u8], words: &[LineWord<'_>], page: &mu
     page.put(b"\n");
 }
 
+// Writes such a line. After an error a beginning of it has gone out.
+fn write_words<W: Sink>(start: &[u8], words: &[LineWord<'_>], w: &mut W) -> Result<(), WriteFault>
+    ensures sends { Sent W.Sink w.old w.new (words_line (start.now ∷ map word_text words.now)) }
+    ensures fault { W.has_failed w.new ≡ is_err result }
+{
+    let mut page = Page::new(w);
+    put_words(start, words, &mut page);
+    page.empty()
+}
+
 /// Appends such a line to a text.
 pub fn append_words(
     start: &[u8],
@@ -106,8 +117,10 @@ pub fn append_words(
 ) -> Result<(), AllocError>
     ensures { OnOk result (text.new.items ≡ text.old.items ++ words_line (start.now ∷ map word_text words.now)) }
 {
-    let mut out = Out::new(text);
-    let mut page = Page::new(&mut out);
-    put_words(start, words, &mut page);
-    page.empty().map_err(|_fault| AllocError)
+    let mut line = Out::new(Vec::new(*text.allocator()));
+    if write_words(start, words, &mut line).is_err() {
+        return Err(AllocError);
+    }
+    text.extend_from_slice(line.writer().as_slice())?;
+    Ok(())
 }
