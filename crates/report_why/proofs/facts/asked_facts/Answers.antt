@@ -5,6 +5,6 @@ use Rattle.report_why.proofs.facts.asked_facts.Goals as goal
 
 pub returns : goal.returns
 returns c =
-    IfOk-weaker _ _ _
+    IfOk-weaker c.joined.result _ _
     (λ all is. are_asked (setting_in c.args.asking.now) c.args.asking.now.id all.items c.in_ok-facts.facts.items
     c.in_ok-holds.holds.items is c.in_ok-facts.ensures c.in_ok-holds.ensures) c.joined.ensures

@@ -18,7 +18,7 @@ returns c =
     let x = c.args.asking.now.id in
     let changes = c.in_ok-changes.changes.items in
     let needed = c.in_ok-needed.needed.items in
-    IfOk-weaker _ _ _
+    IfOk-weaker c.joined-3.result _ _
     (λ all is. are_facts s x all.items c.in_ok-own.own.items c.in_ok-asked.asked.items changes needed
     (is ∙ ap (λ l. l ++ needed) (c.in_ok-changed.ensures ∙ ap (λ l. l ++ changes) c.in_ok-facts.ensures))
     (c.in_ok-own.ensures
@@ -29,4 +29,4 @@ returns c =
     (subst₂ (λ g zone. AreNeeded g zone x (map fact_view needed)) (sym c.requires.global) (sym c.requires.zone)
     (c.in_ok-needed.ensures g zone
     (all_needed g (counting g zone []) zone c.as_slice.result.now c.attest.ensures refl
-    (c.as_slice.ensures.value ∙ c.args.lookups.now.needed_is))))) c.joined.ensures
+    (c.as_slice.ensures.value ∙ c.args.lookups.now.needed_is))))) c.joined-3.ensures

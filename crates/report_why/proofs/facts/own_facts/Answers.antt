@@ -12,7 +12,7 @@ pub returns : goal.returns
 returns c =
     let s = setting_of c.args.scope.now in
     let x = c.args.id in
-    IfOk-weaker _ _ _
+    IfOk-weaker c.joined.result _ _
     (λ all is. seen_behind fact_view all.items c.in_ok-facts.facts.items c.in_ok-vers.vers.items
     (standing_facts c.args.lookups.now.global.now c.args.lookups.now.zone.now x) (ver_facts s x) is c.in_ok-facts.ensures
     (c.in_ok-vers.ensures
