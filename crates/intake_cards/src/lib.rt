@@ -14,6 +14,7 @@ mod printed;
 mod read;
 mod reason;
 mod remark;
+mod remark_list;
 mod remarks;
 mod tables;
 
@@ -24,7 +25,8 @@ pub use errors::CardError;
 pub use line::NO_LATIN;
 pub use place::CardPlace;
 pub use printed::PrintedCards;
-pub use read::{CardNote, CardOddity, Cards, read_cards};
+pub use read::{CardNote, CardOddity, CardReader, Cards, read_cards};
 pub use reason::RemarkReason;
 pub use remark::{Deed, Remark};
+pub use remark_list::RemarkList;
 pub use remarks::{Remarks, StandIn, Subject};
