@@ -6,6 +6,7 @@ use Rattle.mcs.specs.declared.file.Item.{Item}
 use Rattle.mcs.specs.declared.file.Item.TheVariants.{Sysmod, Assign}
 use Rattle.mcs.specs.declared.hold_item.HoldItem.{HoldItem}
 use Rattle.intake_read.specs.declared.items.WideSysmod.{WideSysmod}
+use Rattle.intake_read.specs.declared.items.WideHold.{WideHold}
 use Rattle.intake_read.specs.declared.items.WideFile.{WideFile}
 use Rattle.intake_sysmod.specs.NoLooser.{IsNoLooser}
 use Rattle.intake_sysmod.specs.Users.{run_of}
@@ -32,15 +33,13 @@ pub record SysmodBecomes (decide : Bool) (run : List WideSysmod) (stated : WideS
   pub no_looser : IfSome sysmod (IsNoLooser decide run stated)
   pub held : Become (HoldBecomes (option_map (λ s. s.id) sysmod)) stated.holds.items (holds_in sysmod) outside
 
--- what a file becomes: its SYSMODs, and outside of them the holds of these, other holds, and releases
+-- what a file becomes: its SYSMODs, and outside of them the holds of these, and releases
 pub record FileBecomes (decide : Bool) (run : List WideSysmod) (stated : WideFile) (items : List Item)
     (outside : List PlacedItem) : Type 0 where
   pub of_sysmods : List PlacedItem
-  pub holds : List PlacedItem
   pub releases : List PlacedItem
-  pub outside_are : outside ≡ of_sysmods ++ holds ++ releases
+  pub outside_are : outside ≡ of_sysmods ++ releases
   pub sysmods_become : Become (SysmodBecomes decide run) stated.sysmods.items items of_sysmods
-  pub holds_become : Become (HoldBecomes None) stated.holds.items [] holds
   pub releases_become : Become ReleaseBecomes stated.releases.items [] releases
 
 -- the items by the places of their statements, from the first file to the last
@@ -51,12 +50,15 @@ pub record AreInOrder (placed : List PlacedItem) (items : List HoldItem) : Type 
   pub items_are : items ≡ map (λ p. p.item) ordered
 
 -- PTFIN has what the SYSMODs of the files become, in their order, and then assignments. The hold file has the holds and
--- releases that are outside SYSMODs, in the order of their statements.
-pub record FilesBecome (decide : Bool) (files : List WideFile) (items : List Item) (hold_items : List HoldItem) :
-    Type 0 where
+-- releases that are outside SYSMODs, in the order of their statements: those of the files, and `holds`, which are not
+-- kept with the files.
+pub record FilesBecome (decide : Bool) (files : List WideFile) (holds : List WideHold) (items : List Item)
+    (hold_items : List HoldItem) : Type 0 where
   pub sysmods : List Item
   pub assigns : List terms.Assign
   pub outside : List PlacedItem
+  pub held : List PlacedItem
   pub items_are : items ≡ sysmods ++ map Assign assigns
   pub become : Become (FileBecomes decide (run_of files)) files sysmods outside
-  pub in_order : AreInOrder outside hold_items
+  pub holds_become : Become (HoldBecomes None) holds [] held
+  pub in_order : AreInOrder (outside ++ held) hold_items

@@ -12,9 +12,11 @@ mod holds;
 mod names;
 mod narrowed;
 mod notes;
+mod outside;
 mod placed;
 mod refusals;
 mod sysmods;
 
 pub use files::narrow;
 pub use narrowed::{NarrowError, Narrowed, Tally};
+pub use outside::{OutsideHolds, read_statements};

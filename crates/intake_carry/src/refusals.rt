@@ -46,7 +46,12 @@ fn tell_fault(
     }
 }
 
-fn tell_hold(alloc: Global, remarks: &mut Remarks, stated: &WideHold) -> Result<bool, AllocError> {
+/// Tells of the hold if it can't be carried, and answers whether that is so.
+pub(crate) fn tell_hold(
+    alloc: Global,
+    remarks: &mut Remarks,
+    stated: &WideHold,
+) -> Result<bool, AllocError> {
     let subject = Subject {
         place: stated.place,
         word: b"HOLD",
@@ -138,14 +143,14 @@ fn tell_broken(
     Ok(any)
 }
 
-/// Tells of the holds and releases of a file that can't be carried, those in SYSMODs too, and answers whether there
-/// are any. These lack something that tells a hold from others, or leave it open, or have something wrong with them.
+/// Tells of the releases of a file that can't be carried, and of such holds in SYSMODs, and answers whether there are
+/// any. These lack something that tells a hold from others, or leave it open, or have something wrong with them.
 pub(crate) fn tell_refusals(
     alloc: Global,
     remarks: &mut Remarks,
     file: &WideFile,
 ) -> Result<bool, AllocError> {
-    let mut any = tell_holds(alloc, remarks, file.holds.as_slice())?;
+    let mut any = false;
     for release in file.releases.iter() {
         if tell_release(alloc, remarks, release)? {
             any = true;

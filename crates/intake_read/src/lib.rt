@@ -21,5 +21,5 @@ pub use items::{
     WideSysmod, WideVer,
 };
 pub use known::is_element;
-pub use read::read_wide;
+pub use read::WideReader;
 pub use told::{tell_no_decision, tell_odd};
