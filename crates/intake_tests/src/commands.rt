@@ -132,10 +132,12 @@ fn outcome(alloc: Global, text: &[u8], known: &Option<Vec<KnownSysmod>>) -> Resu
             lines.push(b'\n')?;
         }
     }
-    for remark in &file.remarks {
-        let line = remark.line(alloc, "", "line")?;
-        lines.extend_from_slice(line.trim_ascii_start())?;
-        lines.push(b'\n')?;
+    for place in 0..file.remarks.len() {
+        if let Some(remark) = file.remarks.get(place) {
+            let line = remark.line(alloc, "", "line")?;
+            lines.extend_from_slice(line.trim_ascii_start())?;
+            lines.push(b'\n')?;
+        }
     }
     Ok(String::from_utf8_lossy(alloc, &lines)?)
 }
