@@ -1,6 +1,6 @@
 //! A shop's file as cards, whatever its lines and its code are: 80 columns of ASCII each, and what was assumed. Also
-//! words on cards as they are printed, and the remarks on a statement that is not carried exactly as it is on its
-//! cards. Every call that allocates fails with `AllocError` if memory runs out.
+//! the words of cards, cards as they are printed, and the remarks on a statement that is not carried exactly as it is
+//! on its cards. Every call that allocates fails with `AllocError` if memory runs out.
 #![tactic(auto)]
 
 mod card;
@@ -17,6 +17,7 @@ mod remark;
 mod remark_list;
 mod remarks;
 mod tables;
+mod words;
 
 pub use card::{Card, Tail};
 pub use code::{Code, Layout};
@@ -30,3 +31,4 @@ pub use reason::RemarkReason;
 pub use remark::{Deed, Remark};
 pub use remark_list::RemarkList;
 pub use remarks::{Remarks, StandIn, Subject};
+pub use words::{CardPiece, CardScanner, Open, Token, is_word_byte};

@@ -11,7 +11,6 @@ mod operands;
 mod read;
 mod statement;
 mod told;
-mod words;
 
 pub use errors::WideError;
 pub use intake_cards::{Card, CardPlace};

@@ -4,8 +4,7 @@ use crate::gather::FileSoFar;
 use crate::items::{OtherReason, SwallowedStatement, WideFile, WideHold};
 use crate::known::{is_text_elsewhere, takes_text};
 use crate::statement::{WideStatement, statement_of};
-use crate::words::{CardPiece, CardScanner, Open, Token, is_word_byte};
-use intake_cards::{Card, CardPlace, Tail};
+use intake_cards::{Card, CardPiece, CardPlace, CardScanner, Open, Tail, Token, is_word_byte};
 use std::alloc::{AllocError, Global};
 
 /// What a card belongs to.
@@ -100,6 +99,19 @@ fn has_inline(pieces: &[CardPiece]) -> bool {
 }
 
 impl WideReader {
+    /// A reader that has taken no card.
+    pub fn new(alloc: Global) -> WideReader {
+        WideReader {
+            alloc,
+            scanner: CardScanner::new(alloc),
+            part: CardPart::Before,
+            place: CardPlace { file: 0, card: 0 },
+            is_cut: false,
+            whole: None,
+            gathered: FileSoFar::new(alloc),
+        }
+    }
+
     // Takes the next card.
     fn card(&mut self, card: &Card) -> Result<(), WideError> {
         if card.begins_statement() {
@@ -217,19 +229,6 @@ impl WideReader {
             return self.gathered.add(statement);
         }
         Ok(())
-    }
-
-    /// A reader that has taken no card.
-    pub fn new(alloc: Global) -> WideReader {
-        WideReader {
-            alloc,
-            scanner: CardScanner::new(alloc),
-            part: CardPart::Before,
-            place: CardPlace { file: 0, card: 0 },
-            is_cut: false,
-            whole: None,
-            gathered: FileSoFar::new(alloc),
-        }
     }
 
     /// Takes the next card. Where it ends a hold outside SYSMODs, it hands out that hold. Returns `NoStatement` if
