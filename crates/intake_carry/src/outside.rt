@@ -128,7 +128,8 @@ impl OutsideHolds {
 
     // Adds the hold, if there is one.
     fn add_any(&mut self, alloc: Global, hold: Option<WideHold>) -> Result<(), AllocError>
-        ensures { OnOk result (CarriesHolds self.old → CarriesHolds self.new) }
+        ensures { OnOk result ((stated : List WideHold) → AreCarried stated self.old
+            → AreCarried (stated ++ option_to_list hold) self.new) }
     {
         match hold {
             Some(hold) => self.add(alloc, &hold),

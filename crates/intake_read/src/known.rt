@@ -126,10 +126,11 @@ pub(crate) fn known_as(word: &[u8]) -> WideWord {
     if let Some(kind) = header_kind(word) {
         return WideWord::Header(kind);
     }
-    if is_element(word) {
+    let known = other_word(word);
+    if known == WideWord::Unknown && is_element(word) {
         return WideWord::Element;
     }
-    other_word(word)
+    known
 }
 
 /// Whether a statement of this word needs what stands in parentheses behind the word.

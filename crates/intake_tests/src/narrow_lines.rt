@@ -10,11 +10,7 @@ use std::alloc::{AllocError, Global};
 use std::test::Fail;
 
 // The statements of a file.
-fn wide(
-    alloc: Global,
-    text: &[u8],
-    held: &mut OutsideHolds,
-) -> Result<Vec<WideFile>, Fail> {
+fn wide(alloc: Global, text: &[u8], held: &mut OutsideHolds) -> Result<Vec<WideFile>, Fail> {
     let mut cards = CardReader::open(0, text, None, None)?;
     let mut notes = Vec::new(alloc);
     let file = read_statements(alloc, &mut cards, &mut notes, held)?;
@@ -46,11 +42,7 @@ fn put_cards(lines: &mut Vec<u8>, cards: &[u8]) -> Result<(), AllocError> {
 }
 
 // Appends the lines of the remarks.
-fn put_remarks(
-    alloc: Global,
-    lines: &mut Vec<u8>,
-    remarks: &RemarkList,
-) -> Result<(), AllocError> {
+fn put_remarks(alloc: Global, lines: &mut Vec<u8>, remarks: &RemarkList) -> Result<(), AllocError> {
     for place in 0..remarks.len() {
         let Some(remark) = remarks.get(place) else {
             continue;

@@ -11,7 +11,7 @@ returns c = λ holds carried.
     let files = c.args.files.now in
     let held = c.args.held.placed.items in
     let all = c.in_ok-gathered-2.ensures.outside
-        ∙ ap (λ p. gathered.outside.items ++ p.items) c.tell_all_refusals.ensures.same in
+    ∙ ap (λ p. gathered.outside.items ++ p.items) c.tell_all_refusals.ensures.same in
     record {
       sysmods = gathered.items.items;
       assigns = c.in_ok-assigns.assigns.items;

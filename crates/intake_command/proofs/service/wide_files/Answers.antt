@@ -15,9 +15,9 @@ pub loop-name-preserved : goal.loop-name-preserved
 loop-name-preserved g c = record {
   held = λ k. c.in_ok-file.ensures.held (c.loop-name.invariant.held k);
   read = read_next g.H.IntakeHost string_bytes c.args.asked.now.files.items c.loop-name.name-index c.name-item.result _
-    c.loop-name.files.items c.push.new.self.items c.in_ok-file.file c.in_ok-file.ensures.ok.0
-    (omega (arith, ap length c.deref-name-items.ensures.value)) (rw c.deref-name-items.ensures.value at c.name-item.is)
-    c.as_str.ensures.value c.in_ok-push.ensures.items c.loop-name.invariant.read c.in_ok-file.ensures.ok.1;
+      c.loop-name.files.items c.push.new.self.items c.in_ok-file.file c.in_ok-file.ensures.ok.0
+      (omega (arith, ap length c.deref-name-items.ensures.value)) (rw c.deref-name-items.ensures.value at c.name-item.is)
+      c.as_str.ensures.value c.in_ok-push.ensures.items c.loop-name.invariant.read c.in_ok-file.ensures.ok.1;
 }
 
 pub returns-in_err-file-clause-err : goal.returns-in_err-file-clause-err

@@ -1,5 +1,6 @@
-use Rattle.std.proofs.Common.{[], ◌∷◌, ◌++◌}
+use Rattle.std.proofs.Common.{subst, sym, append-nil}
+use Rattle.intake_carry.specs.Outside.{AreCarried}
 use Rattle.intake_carry.proofs.outside.OutsideHolds.add_any.Goals as goal
 
-pub returns-in-Some : goal.returns-in-Some
-returns-in-Some c = λ k. (k.0 ++ c.in-Some.hold ∷ [], c.add.ensures k.0 k.1)
+pub returns-in-None : goal.returns-in-None
+returns-in-None c = λ stated carried. subst (λ l. AreCarried l c.args.self.now) (sym (append-nil stated)) carried
