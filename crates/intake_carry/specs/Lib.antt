@@ -1,3 +1,4 @@
 pub mod Become
 pub mod Carried
 pub mod Holds
+pub mod Keys

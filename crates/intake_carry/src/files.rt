@@ -6,6 +6,7 @@ ghost use Rattle.intake_carry.specs.Carried.{item_in, SysmodBecomes, FileBecomes
 use crate::assigns::{assigns_of, with_assigns};
 use crate::copies::OtherCopies;
 use crate::errors::HoldError;
+use crate::held_copies::without_held;
 use crate::names::name_stand_ins;
 use crate::narrowed::{NarrowError, Narrowed};
 use crate::notes::{tell_notes, tell_swallowed};
@@ -169,9 +170,11 @@ pub fn narrow(alloc: Global, files: &[WideFile], options: Options) -> Result<Nar
         Err(HoldError::Memory) => return Err(NarrowError::Memory),
         Err(HoldError::BadHold) => return Err(NarrowError::Refused(remarks.list)),
     };
+    let CarriedItems { items, outside } = gathered;
+    let outside = without_held(alloc, &mut remarks, &copies, items.as_slice(), outside)?;
     name_stand_ins(alloc, &mut remarks, files)?;
     let assigns = assigns_of(alloc, &mut remarks, files)?;
-    let items = with_assigns(alloc, gathered.items, assigns)?;
-    let hold_items = in_order(alloc, gathered.outside)?;
+    let items = with_assigns(alloc, items, assigns)?;
+    let hold_items = in_order(alloc, outside)?;
     Ok(Narrowed::new(items, hold_items, remarks))
 }

@@ -65,6 +65,14 @@ fn count(remarks: &[Remark], word: &[u8], reason: RemarkReason) -> usize {
         .count()
 }
 
+// How many holds of copies are not carried, because the copy that is carried has one of the same reason.
+fn already_held(remarks: &[Remark]) -> usize {
+    remarks
+        .iter()
+        .filter(|one| one.reason == RemarkReason::HeldAlready)
+        .count()
+}
+
 // How many `++ASSIGN`s are left out: not those of which only an id is.
 fn assigns_left_out(remarks: &[Remark]) -> usize {
     let mut last: Option<CardPlace> = None;
@@ -97,7 +105,8 @@ impl Narrowed {
         };
         let holds = Tally {
             carried: holds_in(items.as_slice(), hold_items.as_slice()),
-            left_out: count(list, b"++HOLD", RemarkReason::Fixcat),
+            left_out: count(list, b"++HOLD", RemarkReason::Fixcat)
+                .saturating_add(already_held(list)),
         };
         let releases = Tally {
             carried: releases_in(hold_items.as_slice()),

@@ -19,6 +19,8 @@ use sysmods_values::Hold;
 pub(crate) struct PlacedItem {
     pub place: CardPlace,
     pub item: HoldItem,
+    /// It was an internal hold of a SYSMOD that is left out.
+    pub was_internal: bool,
 }
 
 /// Adds a hold after the others.
@@ -32,6 +34,7 @@ pub(crate) fn put_outside(
     placed.push(PlacedItem {
         place,
         item: HoldItem::Hold(hold),
+        was_internal: false,
     })?;
     Ok(())
 }
@@ -47,6 +50,7 @@ fn put_release(
     placed.push(PlacedItem {
         place,
         item: HoldItem::Release(release),
+        was_internal: false,
     })?;
     Ok(())
 }

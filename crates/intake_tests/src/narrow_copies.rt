@@ -19,9 +19,9 @@ const COPIES_CARRIED: &str = "\
     ==\n\
     ++HOLD(UA00001) SYSTEM FMID(HAA1100) REASON(DOC).\n\
     ! f line 1: ++PTF(UA00001): left out: another copy of it is carried\n\
-    - f line 3: ++HOLD(UA00001): carried otherwise: stands in the file of holds\n\
     - f line 4: ++PTF(UA00001) REWORK: dropped: it changes no decision: 2024002\n\
-    ! f line 6: ++PTF(UA00001): left out: another copy of it is carried\n";
+    ! f line 6: ++PTF(UA00001): left out: another copy of it is carried\n\
+    - f line 3: ++HOLD(UA00001): carried otherwise: stands in the file of holds\n";
 
 #[test]
 fn the_copy_of_the_highest_rework_is_carried(rt: HostRuntime) -> Result<(), Fail> {

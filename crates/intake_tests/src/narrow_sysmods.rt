@@ -124,7 +124,7 @@ const ASSIGNS_CARRIED: &str =
     - f line 1: ++ASSIGN(RSU2401) TO: carried otherwise: an id that stands there twice is named once: UA00002\n\
     ! f line 1: ++ASSIGN(RSU2401) TO: left out: a bad id: UA1\n\
     ! f line 2: ++ASSIGN(RSU-2401) SOURCEID: left out: a bad value: RSU-2401\n\
-    ! f line 3: ++ASSIGN SOURCEID: left out: a bad value\n";
+    ! f line 3: ++ASSIGN SOURCEID: left out: it is missing\n";
 
 #[test]
 fn assignments_are_carried_or_told(rt: HostRuntime) -> Result<(), Fail> {

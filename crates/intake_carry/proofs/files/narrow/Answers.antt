@@ -16,5 +16,6 @@ returns c =
       become = subst (λ d. Become (FileBecomes d (run_of files)) files gathered.items.items gathered.outside.items)
           c.sort.ensures (subst (λ r. Become (FileBecomes c.sort.new.self.decide r) files gathered.items.items
           gathered.outside.items) c.in_ok-users.ensures c.in-Ok.ensures);
-      in_order = subst (AreInOrder gathered.outside.items) (sym c.new.ensures.holds) c.in_ok-hold_items.ensures;
+      in_order = subst (λ l. AreInOrder l c.new.result.hold_items.items) c.in_ok-outside.ensures
+          (subst (AreInOrder c.in_ok-outside.outside.items) (sym c.new.ensures.holds) c.in_ok-hold_items.ensures);
     }
