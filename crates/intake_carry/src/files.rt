@@ -1,13 +1,16 @@
 //! The statements of files.
-ghost use Rattle.std.specs.Prelude.{◌≡◌, ◌++◌, IfOk, IsFalse, List};
+ghost use Rattle.std.specs.Prelude.{◌≡◌, ◌++◌, IfOk, IsFalse, List, map};
+ghost use Rattle.terms.specs.Types as terms;
+ghost use Rattle.mcs.specs.declared.file.Item.TheVariants as item;
 ghost use Rattle.intake_read.specs.declared.items.WideHold.{WideHold};
 ghost use Rattle.intake_carry.specs.Become.{Become};
-ghost use Rattle.intake_carry.specs.Carried.{item_in, SysmodBecomes, FileBecomes, FilesBecome};
+ghost use Rattle.intake_carry.specs.Carried.{item_in, AreInOrder, SysmodBecomes, FileBecomes, FilesBecome};
 ghost use Rattle.intake_carry.specs.Outside.{AreCarried};
 
 use crate::assigns::{assigns_of, with_assigns};
 use crate::copies::OtherCopies;
 use crate::errors::HoldError;
+use crate::held_copies::without_held;
 use crate::names::name_stand_ins;
 use crate::narrowed::{NarrowError, Narrowed};
 use crate::notes::{tell_notes, tell_swallowed};
@@ -170,6 +173,36 @@ fn tell_all_refusals(
     Ok(any || held.is_refused)
 }
 
+// Holds and releases, and then those holds that were carried when they were read.
+fn all_placed(
+    mut placed: Vec<PlacedItem>,
+    mut held: Vec<PlacedItem>,
+) -> Result<Vec<PlacedItem>, AllocError>
+    ensures { IfOk result (λ all. all.items ≡ placed.items ++ held.items) }
+{
+    placed.append(&mut held)?;
+    Ok(placed)
+}
+
+// The items with the assignments, and the hold file's in their order, with all remarks.
+fn finished(
+    alloc: Global,
+    mut remarks: Remarks,
+    files: &[WideFile],
+    items: Vec<Item>,
+    outside: Vec<PlacedItem>,
+) -> Result<Narrowed, AllocError>
+    ensures items { IfOk result (λ narrowed. (assigns : List terms.Assign)
+        × (narrowed.items.items ≡ items.items ++ map item.Assign assigns)) }
+    ensures in_order { IfOk result (λ narrowed. AreInOrder outside.items narrowed.hold_items.items) }
+{
+    name_stand_ins(alloc, &mut remarks, files)?;
+    let assigns = assigns_of(alloc, &mut remarks, files)?;
+    let items = with_assigns(alloc, items, assigns)?;
+    let hold_items = in_order(alloc, outside)?;
+    Ok(Narrowed::new(items, hold_items, remarks))
+}
+
 /// What the files state, as RECEIVE takes it, in the order of the files: each SYSMOD that is carried is no looser than
 /// it is stated, and no ERROR, SYSTEM or USER hold or release is lost. `held` is what becomes of their holds outside
 /// SYSMODs. The remarks tell all else. Returns `Refused`, with all remarks, if a hold or a release of such a kind cannot
@@ -207,10 +240,9 @@ pub fn narrow(
         Err(HoldError::Memory) => return Err(NarrowError::Memory),
         Err(HoldError::BadHold) => return Err(NarrowError::Refused(remarks.list)),
     };
-    let gathered = with_outside(gathered, held.placed)?;
-    name_stand_ins(alloc, &mut remarks, files)?;
-    let assigns = assigns_of(alloc, &mut remarks, files)?;
-    let items = with_assigns(alloc, gathered.items, assigns)?;
-    let hold_items = in_order(alloc, gathered.outside)?;
-    Ok(Narrowed::new(items, hold_items, remarks))
+    let CarriedItems { items, outside } = gathered;
+    let outside = without_held(alloc, &mut remarks, &copies, items.as_slice(), outside)?;
+    let outside = all_placed(outside, held.placed)?;
+    let narrowed = finished(alloc, remarks, files, items, outside)?;
+    Ok(narrowed)
 }

@@ -88,6 +88,9 @@ impl LeftOutCounts {
         if remark.reason == RemarkReason::WholeSysmod {
             self.sysmods = self.sysmods.saturating_add(1);
         }
+        if remark.reason == RemarkReason::HeldAlready {
+            self.holds = self.holds.saturating_add(1);
+        }
         if remark.deed != Deed::LeftOut {
             return;
         }

@@ -80,6 +80,7 @@ fn placed_hold(
     Ok(Some(PlacedItem {
         place: hold.place,
         item: HoldItem::Hold(carried),
+        was_internal: false,
     }))
 }
 

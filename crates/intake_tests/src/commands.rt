@@ -24,7 +24,7 @@ const COMMENTED: &str = "\
 REJECT SELECT(UA00001 /* A| B */ ,UA00002). => REJECT SELECT(UA00001,UA00002).|\
 line 1: REJECT: dropped: it stands in a comment: B
 /* ALL| OF IT */ LIST. => LIST.
-APPLY PTFS /* A| CHECK.| LIST. */ . => APPLY PTFS.|line 1: APPLY: dropped: it stands in a comment: CHECK.
+APPLY PTFS /* A| CHECK.| LIST. */ . => APPLY PTFS.|line 1: APPLY: dropped: it stands in a comment: CHECK. LIST.
 APPLY PTFS /* A| */ CHECK. => APPLY PTFS CHECK.
 ";
 

@@ -19,10 +19,10 @@ fn wide(alloc: Global, text: &[u8], held: &mut OutsideHolds) -> Result<Vec<WideF
     Ok(files)
 }
 
-/// Options without members.
-pub(crate) fn options(alloc: Global, decide: bool) -> Options {
+// Options without members, and without stand-ins.
+fn options(alloc: Global) -> Options {
     Options {
-        decide,
+        decide: false,
         syslibs: Vec::new(alloc),
         members: Vec::new(alloc),
     }
@@ -80,10 +80,10 @@ fn lines(alloc: Global, narrowed: &Narrowed) -> Result<Vec<u8>, Fail> {
 }
 
 // What comes of a file.
-fn outcome(alloc: Global, text: &[u8], options: Options) -> Result<String, Fail> {
+fn outcome(alloc: Global, text: &[u8]) -> Result<String, Fail> {
     let mut held = OutsideHolds::new(alloc);
     let files = wide(alloc, text, &mut held)?;
-    let lines = match narrow(alloc, files.as_slice(), held, options) {
+    let lines = match narrow(alloc, files.as_slice(), held, options(alloc)) {
         Ok(narrowed) => lines(alloc, &narrowed)?,
         Err(NarrowError::Refused(remarks)) => {
             let mut lines = Vec::new(alloc);
@@ -117,18 +117,8 @@ pub(crate) fn compare(name: &str, got: &str, wanted: &str) -> Result<(), Fail> {
     Err(Fail::new(format_args!("{name}: got {got:?}, wanted {wanted:?}")))
 }
 
-/// A failure, unless these lines come of the file under the options.
-pub(crate) fn check_with(
-    alloc: Global,
-    text: &[u8],
-    options: Options,
-    wanted: &str,
-) -> Result<(), Fail> {
-    let got = outcome(alloc, text, options)?;
-    compare("what comes of the file", got.as_str(), wanted)
-}
-
-/// A failure, unless these lines come of the file under no options.
+/// A failure, unless these lines come of the file.
 pub(crate) fn check(alloc: Global, text: &[u8], wanted: &str) -> Result<(), Fail> {
-    check_with(alloc, text, options(alloc, false), wanted)
+    let got = outcome(alloc, text)?;
+    compare("what comes of the file", got.as_str(), wanted)
 }
