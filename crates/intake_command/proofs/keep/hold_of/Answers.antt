@@ -3,12 +3,12 @@ use Rattle.terms.specs.HoldFile.{IsHoldFile}
 use Rattle.intake_command.proofs.HoldParts.{no_items, more_items}
 use Rattle.intake_command.proofs.keep.hold_of.Goals as goal
 
-pub loop-_-init : goal.loop-_-init
-loop-_-init c = ([], refl, subst (λ b. IsHoldFile b []) (sym c.new-bytes.ensures.items) no_items)
+pub loop-init : goal.loop-init
+loop-init c = ([], refl, subst (λ b. IsHoldFile b []) (sym c.new-bytes.ensures.items) no_items)
 
-pub loop-_-preserved : goal.loop-_-preserved
-loop-_-preserved c =
-    let l = c.loop-_ in
+pub loop-preserved : goal.loop-preserved
+loop-preserved c =
+    let l = c.loop in
     let first = c.first_part-part.result.first.now in (
       l.invariant.0 ++ first,
       append_assoc l.invariant.0 first _ ∙ ap (λ r. l.invariant.0 ++ r) c.first_part-part.ensures ∙ l.invariant.1,
@@ -18,7 +18,7 @@ loop-_-preserved c =
 
 pub returns : goal.returns
 returns c =
-    let l = c.loop-_ in
+    let l = c.loop in
     subst (λ all. IsHoldFile _ all) (ap _ l.invariant.1)
     (more_items l.bytes.items _ _ l.invariant.0 l.rest.now l.invariant.2 c.in_ok-records-2.ensures
     c.in_ok-append-2.ensures.items)
