@@ -1,5 +1,5 @@
 //! The holds outside SYSMODs. Each is carried when it has been read, so that what the file states of it is not kept.
-ghost use Rattle.std.specs.Prelude.{◌≡◌, ◌++◌, ◌∷◌, [], List, OnOk, IfOk, None, option_to_list};
+ghost use Rattle.std.specs.Prelude.{◌++◌, ◌∷◌, [], List, OnOk, IfOk, None, option_to_list};
 ghost use Rattle.intake_read.specs.declared.items.WideHold.{WideHold};
 ghost use Rattle.intake_carry.specs.Holds.{HoldBecomes};
 ghost use Rattle.intake_carry.specs.Outside.{AreCarried, CarriesHolds};
