@@ -1,5 +1,6 @@
 use Rattle.std.proofs.Common.{[], ◌++◌, subst, sym, ap, ◌∙◌, refl, append_assoc}
 use Rattle.terms.specs.HoldFile.{IsHoldFile}
+use Rattle.mcs.specs.HoldItems as hold_files
 use Rattle.intake_command.proofs.HoldParts.{no_items, more_items}
 use Rattle.intake_command.proofs.keep.hold_of.Goals as goal
 
@@ -19,6 +20,6 @@ loop-preserved c =
 pub returns : goal.returns
 returns c =
     let l = c.loop in
-    subst (λ all. IsHoldFile _ all) (ap _ l.invariant.1)
-    (more_items l.bytes.items _ _ l.invariant.0 l.rest.now l.invariant.2 c.in_ok-records-2.ensures
-    c.in_ok-append-2.ensures.items)
+    subst (λ xs. IsHoldFile c.append-2.new.self.items (hold_files.items xs)) l.invariant.1
+    (more_items l.bytes.items _ c.append-2.new.self.items l.invariant.0 l.rest.now l.invariant.2
+    c.in_ok-records-2.ensures c.in_ok-append-2.ensures.items)
