@@ -1,5 +1,5 @@
 -- The keys of holds: id, kind and reason.
-use Rattle.std.specs.Prelude.{◌≡◌, ◌×◌, List}
+use Rattle.std.specs.Prelude.{◌≡◌, List}
 use Rattle.std.specs.List.{list_any}
 use Rattle.std.specs.BTreeSet.{BTreeSet}
 use Rattle.std.specs.Cmp.Lexicographic.{slice_cmp}

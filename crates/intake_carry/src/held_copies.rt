@@ -1,5 +1,5 @@
 //! Holds of copies that are left out, of which the copy that is carried has one of the same key.
-ghost use Rattle.std.specs.Prelude.{◌≡◌, not, List, IfOk, OnOk};
+ghost use Rattle.std.specs.Prelude.{◌≡◌, ◌++◌, not, List, IfOk, OnOk};
 ghost use Rattle.std.specs.List.{filter, flat_map};
 ghost use Rattle.terms.specs.Types as terms;
 ghost use Rattle.mcs.specs.declared.file.Item.{Item as AnItem};
