@@ -101,7 +101,13 @@ fn tell_hold(
     };
     if keys.contains(&key_of(hold)) {
         let reason = hold.reason.as_bytes();
-        return remarks.tell_dropped(alloc, &subject, b"REASON", RemarkReason::HeldAlready, reason);
+        return remarks.tell_dropped(
+            alloc,
+            &subject,
+            b"REASON",
+            RemarkReason::HeldAlready,
+            reason,
+        );
     }
     if copies.are_of(hold.id.as_bytes()) {
         return remarks.tell_carried(alloc, &subject, b"", RemarkReason::HeldOutside, b"");

@@ -105,8 +105,9 @@ impl Narrowed {
         };
         let holds = Tally {
             carried: holds_in(items.as_slice(), hold_items.as_slice()),
-            left_out: count(list, b"++HOLD", RemarkReason::Fixcat)
-                .saturating_add(already_held(list)),
+            left_out: count(list, b"++HOLD", RemarkReason::Fixcat).saturating_add(already_held(
+                list,
+            )),
         };
         let releases = Tally {
             carried: releases_in(hold_items.as_slice()),

@@ -28,7 +28,14 @@ fn tell_fault(
     if let Some(one) = open_key(odd) {
         let operand = &one.operand;
         let name = operand.name.as_slice();
-        remarks.tell(alloc, subject, name, Deed::Refused, odd_reason(one), operand.text())?;
+        remarks.tell(
+            alloc,
+            subject,
+            name,
+            Deed::Refused,
+            odd_reason(one),
+            operand.text(),
+        )?;
         return Ok(true);
     }
     match fault {
@@ -115,7 +122,14 @@ fn tell_broken_hold(
         id: other.name.as_slice(),
     };
     let reason = RemarkReason::from(other.reason);
-    remarks.tell(alloc, &subject, missing_word(other), Deed::Refused, reason, b"")
+    remarks.tell(
+        alloc,
+        &subject,
+        missing_word(other),
+        Deed::Refused,
+        reason,
+        b"",
+    )
 }
 
 fn tell_broken(
