@@ -62,7 +62,8 @@ pub next_key : (old new : BTreeSet HoldKey) (before holds : List Hold) (i : ℕ)
     → h ≡ get_or holds i h → Updates key_cmp old new (hold_key h) true → AreKeysOf old (before ++ take i holds)
     → AreKeysOf new (before ++ take (i + 1) holds)
 next_key old new before holds i h below at updates are =
-    subst (λ l. AreKeysOf new (before ++ l)) (sym (take_more holds i h below ∙ ap (λ u. take i holds ++ u ∷ []) (sym at)))
+    subst (λ l. AreKeysOf new (before ++ l))
+    (sym (take_more holds i h below ∙ ap (λ u. take i holds ++ u ∷ []) (sym at)))
     (subst (AreKeysOf new) (append_assoc before (take i holds) (h ∷ []))
     (one_more old new h (before ++ take i holds) updates are))
 

@@ -70,8 +70,8 @@ pub record AreInOrder (placed : List PlacedItem) (items : List HoldItem) : Type 
   pub items_are : items ≡ map (λ p. p.item) ordered
 
 -- PTFIN has what the SYSMODs of the files become, in their order, and then assignments. The hold file has the holds and
--- releases that are outside SYSMODs, in the order of their statements: all but the holds of copies that are left out for
--- which the copy that is carried has one of the same key.
+-- releases that are outside SYSMODs, in the order of their statements, but no hold of a copy that is left out if the
+-- copy that is carried has one of the same key.
 pub record FilesBecome (decide : Bool) (files : List WideFile) (items : List Item) (hold_items : List HoldItem) :
     Type 0 where
   pub sysmods : List Item

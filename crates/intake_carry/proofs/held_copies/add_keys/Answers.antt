@@ -14,5 +14,6 @@ loop-hold-preserved c = λ before are.
 
 pub returns : goal.returns
 returns c = λ before are.
-    subst (λ l. AreKeysOf c.loop-hold.keys (before ++ l)) (take_all c.loop-hold.hold-index c.args.holds.now (omega arith))
+    subst (λ l. AreKeysOf c.loop-hold.keys (before ++ l))
+    (take_all c.loop-hold.hold-index c.args.holds.now (omega arith))
     (c.loop-hold.invariant before are)
