@@ -16,6 +16,8 @@ use Rattle.std.proofs.lemmas.Map.Text.{is_eq-slice_cmp}
 use Rattle.terms.proofs.Booleans.{and_assoc}
 use Rattle.terms.proofs.Orderings.{is_eq_then}
 use Rattle.terms.specs.declared.kinds.HoldKind.{HoldKind}
+use Rattle.terms.specs.declared.kinds.HoldKind.TheVariants.{Error, System, User}
+use Rattle.terms.specs.contracts.kinds.HoldKindOrd.TheImpl as kind_order
 use Rattle.terms.specs.Types.{Text, Id, Hold, hold_number}
 use Rattle.terms.specs.Global.{has_key}
 use Rattle.mcs.specs.declared.file.Item.{Item}
@@ -25,11 +27,20 @@ use Rattle.intake_carry.specs.Keys.{HoldKey, key_cmp, AreKeysOf}
 abbrev pub hold_key : Hold → HoldKey
 hold_key h = (h.id, (h.kind, h.reason))
 
+-- the derived order of kinds
+cmp_kinds : (a b : HoldKind) → kind_order.ghosts.cmp a b ≡ nat_cmp (hold_number a) (hold_number b)
+cmp_kinds Error Error = refl
+cmp_kinds System Error = refl
+cmp_kinds User Error = refl
+cmp_kinds a b = refl
+
 -- the order finds a key just where the hold has it
 key_ties : (h : Hold) (id : Id) (kind : HoldKind) (reason : Text)
     → is_eq (key_cmp (hold_key h) (id, (kind, reason))) ≡ has_key id kind reason h
 key_ties h id kind reason =
-    is_eq_then (slice_cmp nat_cmp h.id id) (ordering_then (nat_cmp (hold_number h.kind) (hold_number kind))
+    ap (λ o. is_eq (ordering_then (slice_cmp nat_cmp h.id id) (ordering_then o (slice_cmp nat_cmp h.reason reason))))
+    (cmp_kinds h.kind kind)
+    ∙ is_eq_then (slice_cmp nat_cmp h.id id) (ordering_then (nat_cmp (hold_number h.kind) (hold_number kind))
     (slice_cmp nat_cmp h.reason reason))
     ∙ ap (λ b. is_eq (slice_cmp nat_cmp h.id id) && b) (is_eq_then (nat_cmp (hold_number h.kind) (hold_number kind))
     (slice_cmp nat_cmp h.reason reason))
@@ -62,7 +73,8 @@ pub next_key : (old new : BTreeSet HoldKey) (before holds : List Hold) (i : ℕ)
     → h ≡ get_or holds i h → Updates key_cmp old new (hold_key h) true → AreKeysOf old (before ++ take i holds)
     → AreKeysOf new (before ++ take (i + 1) holds)
 next_key old new before holds i h below at updates are =
-    subst (λ l. AreKeysOf new (before ++ l)) (sym (take_more holds i h below ∙ ap (λ u. take i holds ++ u ∷ []) (sym at)))
+    subst (λ l. AreKeysOf new (before ++ l))
+    (sym (take_more holds i h below ∙ ap (λ u. take i holds ++ u ∷ []) (sym at)))
     (subst (AreKeysOf new) (append_assoc before (take i holds) (h ∷ []))
     (one_more old new h (before ++ take i holds) updates are))
 

@@ -69,9 +69,9 @@ pub record AreInOrder (placed : List PlacedItem) (items : List HoldItem) : Type 
   pub items_are : items ≡ map (λ p. p.item) ordered
 
 -- PTFIN has what the SYSMODs of the files become, in their order, and then assignments. The hold file has the holds and
--- releases that are outside SYSMODs, in the order of their statements: those of the files, but for the holds of copies
--- that are left out for which the copy that is carried has one of the same key; and `holds`, which are not kept with
--- the files.
+-- releases that are outside SYSMODs, in the order of their statements, but no hold of a copy that is left out if the
+-- copy that is carried has one of the same key. `holds` are the holds of the files that are in no SYSMOD, which are not
+-- kept with the files.
 pub record FilesBecome (decide : Bool) (files : List WideFile) (holds : List WideHold) (items : List Item)
     (hold_items : List HoldItem) : Type 0 where
   pub sysmods : List Item

@@ -1,12 +1,13 @@
 -- The keys of holds: id, kind and reason.
-use Rattle.std.specs.Prelude.{◌≡◌, ◌×◌, List}
+use Rattle.std.specs.Prelude.{◌≡◌, List}
 use Rattle.std.specs.List.{list_any}
 use Rattle.std.specs.BTreeSet.{BTreeSet}
 use Rattle.std.specs.Cmp.Lexicographic.{slice_cmp}
 use Rattle.std.specs.Ordering.{nat_cmp, ordering_then}
 use Rattle.std.specs.declared.cmp.Ordering.{Ordering}
 use Rattle.terms.specs.declared.kinds.HoldKind.{HoldKind}
-use Rattle.terms.specs.Types.{Id, Text, Hold, hold_number}
+use Rattle.terms.specs.contracts.kinds.HoldKindOrd.TheImpl as kind_order
+use Rattle.terms.specs.Types.{Id, Text, Hold}
 use Rattle.terms.specs.Global.{has_key}
 use Rattle.std.specs.BTreeSet as set
 
@@ -17,7 +18,7 @@ HoldKey = Id × (HoldKind × Text)
 abbrev pub key_cmp : HoldKey → HoldKey → Ordering
 key_cmp a b =
     ordering_then (slice_cmp nat_cmp a.0 b.0)
-    (ordering_then (nat_cmp (hold_number a.1.0) (hold_number b.1.0)) (slice_cmp nat_cmp a.1.1 b.1.1))
+    (ordering_then (kind_order.ghosts.cmp a.1.0 b.1.0) (slice_cmp nat_cmp a.1.1 b.1.1))
 
 -- The set has the keys of these holds, and no others.
 abbrev pub AreKeysOf : BTreeSet HoldKey → List Hold → Type 0

@@ -1,5 +1,5 @@
 //! Holds of copies that are left out, of which the copy that is carried has one of the same key.
-ghost use Rattle.std.specs.Prelude.{◌≡◌, not, List, IfOk, OnOk};
+ghost use Rattle.std.specs.Prelude.{◌≡◌, ◌++◌, not, List, IfOk, OnOk};
 ghost use Rattle.std.specs.List.{filter, flat_map};
 ghost use Rattle.terms.specs.Types as terms;
 ghost use Rattle.mcs.specs.declared.file.Item.{Item as AnItem};
@@ -36,24 +36,23 @@ fn add_keys(keys: &mut BTreeSet<HoldKey>, holds: &[Hold]) -> Result<(), AllocErr
     Ok(())
 }
 
-// The same of those of an item.
-fn add_item(keys: &mut BTreeSet<HoldKey>, item: &Item) -> Result<(), AllocError>
-    ensures { OnOk result ((before : List terms.Hold) → AreKeysOf keys.old before
-        → AreKeysOf keys.new (before ++ holds_of item.now)) }
+// The holds of an item, which are internal.
+fn holds_of(item: &Item) -> &[Hold]
+    ensures { result.now ≡ holds_of item.now }
 {
     match item {
-        Item::Sysmod(sysmod) => add_keys(keys, sysmod.holds.as_slice()),
-        Item::Assign(_) => Ok(()),
+        Item::Sysmod(sysmod) => sysmod.holds.as_slice(),
+        Item::Assign(_) => &[],
     }
 }
 
-// The keys of the holds that the items have, which are internal.
+// The keys of the holds that the items have.
 fn internal_keys(alloc: Global, items: &[Item]) -> Result<BTreeSet<HoldKey>, AllocError>
     ensures { IfOk result (λ keys. AreKeysOf keys (flat_map holds_of items.now)) }
 {
     let mut keys = BTreeSet::new(alloc);
     for item in items {
-        add_item(&mut keys, item)?;
+        add_keys(&mut keys, holds_of(item))?;
     }
     Ok(keys)
 }

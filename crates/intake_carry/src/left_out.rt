@@ -12,11 +12,11 @@ use intake_read::{WideHold, WideHoldKind, WideSysmod};
 use mcs::HoldItem;
 use std::alloc::{AllocError, Global};
 
-/// Whether it is a SYSTEM hold on the SYSMOD of the id.
-pub(crate) fn is_on(id: &[u8], hold: &WideHold) -> bool
-    ensures { IsTrue result ↔ IsInternal (Some id.now) hold.now }
+/// Whether it is a SYSTEM hold on the SYSMOD.
+pub(crate) fn is_on(stated: &WideSysmod, hold: &WideHold) -> bool
+    ensures { IsTrue result ↔ IsInternal (Some stated.now.id.items) hold.now }
 {
-    hold.kind == Some(WideHoldKind::System) && hold.id.as_slice() == id
+    hold.kind == Some(WideHoldKind::System) && stated.id.as_slice() == hold.id.as_slice()
 }
 
 /// A remark that a hold of a SYSMOD is in the hold file.
@@ -41,10 +41,9 @@ pub(crate) fn tell_left_outside(
     remarks: &mut Remarks,
     stated: &WideSysmod,
 ) -> Result<(), AllocError> {
-    let id = stated.id.as_slice();
-    let has_copies = copies.are_of(id);
+    let has_copies = copies.are_of(stated.id.as_slice());
     for hold in stated.holds.iter() {
-        let is_told_later = has_copies && is_on(id, hold);
+        let is_told_later = has_copies && is_on(stated, hold);
         if hold.kind != Some(WideHoldKind::Fixcat) && !is_told_later {
             tell_outside(alloc, remarks, hold)?;
         }
@@ -65,7 +64,7 @@ pub(crate) fn left_holds(
         let Some(carried) = carried_hold(alloc, remarks, hold, None)? else {
             continue;
         };
-        let was_internal = is_on(stated.id.as_slice(), hold);
+        let was_internal = is_on(stated, hold);
         left.push(PlacedItem {
             place: hold.place,
             item: HoldItem::Hold(carried),

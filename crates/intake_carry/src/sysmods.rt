@@ -107,7 +107,7 @@ fn tell_later_holds(
 ) -> Result<(), AllocError> {
     let holds = stated.holds.as_slice();
     for (place, hold) in holds.iter().enumerate() {
-        let is_internal = is_on(stated.id.as_slice(), hold);
+        let is_internal = is_on(stated, hold);
         let has_later = holds
             .iter()
             .skip(place.saturating_add(1))
