@@ -1,4 +1,4 @@
-use Rattle.std.proofs.Common.{◌++◌, subst, sym, append-nil, arith, true}
+use Rattle.std.proofs.Common.{◌++◌, true, subst, sym, append-nil, arith}
 use Rattle.std.specs.BTreeSet.{Updates}
 use Rattle.std.proofs.lemmas.List.{take_all}
 use Rattle.intake_carry.specs.Keys.{key_cmp, AreKeysOf}
