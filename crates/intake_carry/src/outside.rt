@@ -166,5 +166,6 @@ pub fn read_statements(
     cards.note_end(notes)?;
     held.add_any(alloc, reader.take_end()?)?;
     held.end_file(alloc)?;
-    reader.into_file()
+    let file = reader.into_file()?;
+    Ok(file)
 }

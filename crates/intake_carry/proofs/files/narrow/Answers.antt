@@ -1,5 +1,5 @@
-use Rattle.std.proofs.Common.{◌++◌, not, subst, ap, ◌∙◌}
-use Rattle.std.specs.List.{filter}
+use Rattle.std.proofs.Common.{[], None, ◌++◌, subst, ap, ◌∙◌}
+use Rattle.intake_carry.specs.Holds.{HoldBecomes}
 use Rattle.intake_carry.specs.Become.{Become}
 use Rattle.intake_carry.specs.Carried.{FileBecomes, AreInOrder}
 use Rattle.intake_sysmod.specs.Users.{run_of}
@@ -22,7 +22,7 @@ returns c = λ holds carried.
       become = subst (λ d. Become (FileBecomes d (run_of files)) files gathered.items.items gathered.outside.items)
           c.sort.ensures (subst (λ r. Become (FileBecomes c.sort.new.self.decide r) files gathered.items.items
           gathered.outside.items) c.in_ok-users.ensures c.in-Ok.ensures);
-      holds_become = subst (λ p. Become _ holds [] p.items) c.tell_all_refusals.ensures.same (carried (c.in_ok-tell_all_refusals.ensures.refused c.if-tell_all_refusals.false));
+      holds_become = subst (λ p. Become (HoldBecomes None) holds [] p.items) c.tell_all_refusals.ensures.same (carried (c.in_ok-tell_all_refusals.ensures.refused c.if-tell_all_refusals.false));
       in_order = subst (λ l. AreInOrder l c.in_ok-narrowed.narrowed.hold_items.items) all
           c.in_ok-narrowed.ensures.in_order;
     }
