@@ -14,8 +14,6 @@ use Rattle.intake_carry.specs.Become.{Become}
 use Rattle.intake_carry.specs.Holds.{placed_at, wide_kind, IsHold, IsHoldKey, IsInternal, HoldBecomes}
 use Rattle.intake_carry.specs.Holds.{IsInside, IsOutside}
 use Rattle.intake_carry.specs.declared.placed.PlacedItem.{PlacedItem}
-use Rattle.intake_carry.specs.declared.outside.OutsideHolds.{OutsideHolds}
-use Rattle.intake_carry.specs.Outside.{AreCarried}
 use Rattle.mcs.specs.declared.hold_item.HoldItem.TheVariants.{Hold}
 
 pub become_more : {X A B : Type 0} (R : X → List A → List B → Type 0) (xs : List X) (ones : List A) (others : List B)
@@ -128,14 +126,11 @@ not_inside hold stated internal = by hold.internal refl
     by true e = absurd (none (internal.0 e).1)
     by false e = e
 
--- one hold more outside SYSMODs
-pub held_more : (stated : List WideHold) (hold : WideHold) (old new : OutsideHolds) (other : List PlacedItem)
-    → HoldBecomes None hold [] other → new.placed.items ≡ old.placed.items ++ other → new.is_refused ≡ old.is_refused
-    → AreCarried stated old → AreCarried (stated ++ hold ∷ []) new
-held_more stated hold old new other becomes placed same carried = λ f.
-    subst (Become (HoldBecomes None) (stated ++ hold ∷ []) []) (sym placed)
-    (become_more (HoldBecomes None) stated [] old.placed.items hold [] other (carried (sym same ∙ f)) becomes)
-
--- where a hold was refused, nothing is said
-pub held_refused : (stated : List WideHold) (new : OutsideHolds) → IsTrue new.is_refused → AreCarried stated new
-held_refused stated new refused = λ f. absurd (true≢false (sym refused ∙ f))
+-- one hold more outside SYSMODs, unless one of them was refused
+pub held_more : (stated : List WideHold) (hold : WideHold) (placed after other : List PlacedItem) (refused : Bool)
+    → HoldBecomes None hold [] other → after ≡ placed ++ other
+    → (IsFalse refused → Become (HoldBecomes None) stated [] placed)
+    → IsFalse refused → Become (HoldBecomes None) (stated ++ hold ∷ []) [] after
+held_more stated hold placed after other refused becomes e carried f =
+    subst (Become (HoldBecomes None) (stated ++ hold ∷ []) []) (sym e)
+    (become_more (HoldBecomes None) stated [] placed hold [] other (carried f) becomes)

@@ -1,7 +1,8 @@
-use Rattle.std.proofs.Common.{[], None, ◌++◌, subst, ap, ◌∙◌}
-use Rattle.intake_carry.specs.Holds.{HoldBecomes}
+use Rattle.std.proofs.Common.{◌≡◌, ◌++◌, not, List, subst, ap, ◌∙◌}
+use Rattle.std.specs.List.{filter}
+use Rattle.mcs.specs.declared.file.Item.{Item}
 use Rattle.intake_carry.specs.Become.{Become}
-use Rattle.intake_carry.specs.Carried.{FileBecomes, AreInOrder}
+use Rattle.intake_carry.specs.Carried.{FileBecomes, AreInOrder, is_held_by_copy}
 use Rattle.intake_sysmod.specs.Users.{run_of}
 use Rattle.intake_carry.proofs.files.narrow.Goals as goal
 
@@ -10,9 +11,10 @@ returns c = λ holds carried.
     let gathered = c.in-Ok.gathered in
     let files = c.args.files.now in
     let held = c.args.held.placed.items in
-    let all = c.in_ok-outside-2.ensures
-    ∙ ap (λ p. p ++ c.tell_all_refusals.new.held.placed.items) c.in_ok-outside.ensures
-    ∙ ap (λ p. _ ++ p.items) c.tell_all_refusals.ensures.same in
+    let kept = c.in_ok-outside.outside.items in
+    let all = c.in_ok-outside-2.ensures ∙ ap (λ p. kept ++ p.items) c.tell_all_refusals.ensures.same
+    ∙ ap (λ k. k ++ held) (subst (λ (i : List Item). kept ≡ filter (λ p. not (is_held_by_copy i p))
+    gathered.outside.items) c.as_slice.ensures.value c.in_ok-outside.ensures) in
     record {
       sysmods = gathered.items.items;
       assigns = c.in_ok-narrowed.ensures.items.0;
@@ -22,7 +24,7 @@ returns c = λ holds carried.
       become = subst (λ d. Become (FileBecomes d (run_of files)) files gathered.items.items gathered.outside.items)
           c.sort.ensures (subst (λ r. Become (FileBecomes c.sort.new.self.decide r) files gathered.items.items
           gathered.outside.items) c.in_ok-users.ensures c.in-Ok.ensures);
-      holds_become = subst (λ p. Become (HoldBecomes None) holds [] p.items) c.tell_all_refusals.ensures.same (carried (c.in_ok-tell_all_refusals.ensures.refused c.if-tell_all_refusals.false));
+      holds_become = carried (c.in_ok-tell_all_refusals.ensures.refused c.if-branch.false);
       in_order = subst (λ l. AreInOrder l c.in_ok-narrowed.narrowed.hold_items.items) all
           c.in_ok-narrowed.ensures.in_order;
     }
