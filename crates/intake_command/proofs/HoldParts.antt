@@ -16,23 +16,25 @@ use Rattle.mcs.specs.declared.hold_item.HoldItem.{HoldItem}
 -- the same items, counted from another number
 renumbered : (k n : ℕ) (records : Lines) (xs : List terms.HoldItem) (m : ℕ) (rest : Lines)
     → BeginsWithItems n records xs m rest → (m' : ℕ) × BeginsWithItems k records xs m' rest
-renumbered k n records [] m rest b = (k, refl, b.1)
+renumbered k n records [] m rest b = (k, (refl, b.1))
 renumbered k n records (x ∷ xs) m rest b =
     let g : Group = b.0 in
     let after = renumbered (k + length g.records) b.1 b.2 xs m rest b.5 in (
       after.0,
-      record { number = k; records = g.records },
-      k + length g.records,
-      b.2,
-      record {
-        records_are = b.3.records_are;
-        number_is = refl;
-        is_group = b.3.is_group;
-        next_is = refl;
-        rest_starts = b.3.rest_starts;
-      },
-      b.4,
-      after.1,
+      (
+        record { number = k; records = g.records },
+        k + length g.records,
+        b.2,
+        record {
+          records_are = b.3.records_are;
+          number_is = refl;
+          is_group = b.3.is_group;
+          next_is = refl;
+          rest_starts = b.3.rest_starts;
+        },
+        b.4,
+        after.1,
+      ),
     )
 
 -- what follows the items

@@ -229,7 +229,8 @@ fn keep_made<H: IntakeHost>(
     let stand_ins = made.stand_ins;
     let folder = asked.out.as_str();
     let lines = draft_remarks(alloc, host, folder, sources, made.remarks, lines)?;
-    keep_service(alloc, host, folder, &items, &hold_items, stand_ins, lines)
+    keep_service(alloc, host, folder, &items, &hold_items, stand_ins, lines)?;
+    Ok(())
 }
 
 // Drafts all remarks but the last ones, and returns the lines of these.
