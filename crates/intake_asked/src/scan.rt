@@ -44,7 +44,7 @@ pub struct CommandComment {
     pub place: CardPlace,
     /// The word of the command.
     pub command: Vec<u8>,
-    /// The first text of a later card.
+    /// What it has on later cards, with a blank between two of them.
     pub text: Vec<u8>,
 }
 
@@ -72,7 +72,7 @@ struct CommandScanner {
     commands: Vec<WideCommand>,
     words: Vec<WideOperand>,
     within: Within,
-    // Where the last comment opens, and the first text that it has on a later card, if it is inside a command.
+    // Where the last comment opens, and what it has on later cards, if it is inside a command.
     comment: CardPlace,
     swallowed: Vec<u8>,
     comments: Vec<CommandComment>,
@@ -159,11 +159,16 @@ impl CommandScanner {
         matches!(self.within, Within::Comment | Within::Star)
     }
 
-    // The next card. What it has of a comment that opens inside a command on an earlier one is kept, if it is the first.
+    // The next card. What it has of a comment that opens inside a command on an earlier one is kept.
     fn begin_card(&mut self, text: &[u8]) -> Result<(), AllocError> {
-        if self.is_in_comment() && !self.words.is_empty() && self.swallowed.is_empty() {
-            self.swallowed.extend_from_slice(before_end(text))?;
+        if !self.is_in_comment() || self.words.is_empty() {
+            return Ok(());
         }
+        let text = before_end(text);
+        if !self.swallowed.is_empty() && !text.is_empty() {
+            self.swallowed.push(b' ')?;
+        }
+        self.swallowed.extend_from_slice(text)?;
         Ok(())
     }
 

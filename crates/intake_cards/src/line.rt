@@ -29,6 +29,13 @@ impl CutLine {
         }
     }
 
+    // Puts a line of up to 80 letters into the first columns.
+    fn fill(&mut self, line: &[u8]) {
+        for (there, letter) in self.text.iter_mut().zip(line) {
+            *there = *letter;
+        }
+    }
+
     // Puts the letter into the column, which counts from 0.
     fn put(&mut self, column: usize, letter: u8) {
         match self.text.get_mut(column) {
@@ -43,12 +50,19 @@ impl CutLine {
 /// The line as columns. In UTF-8 a letter has one column, however many bytes it has. A line that is not in UTF-8 has a
 /// column for each byte.
 pub(crate) fn cut_line(line: &[u8], code: Code) -> CutLine {
-    if code == Code::Ascii && line.iter().any(|byte| *byte >= 0x80) {
-        if let Ok(text) = str::from_utf8(line) {
-            return cut_text(text);
+    let mut cut = CutLine::new();
+    if code == Code::Ascii {
+        let is_ascii = !line.iter().any(|byte| *byte >= 0x80);
+        if is_ascii && line.len() <= cut.text.len() {
+            cut.fill(line);
+            return cut;
+        }
+        if !is_ascii {
+            if let Ok(text) = str::from_utf8(line) {
+                return cut_text(text);
+            }
         }
     }
-    let mut cut = CutLine::new();
     let mut before = b' ';
     for (column, byte) in line.iter().enumerate() {
         let letter = code.ascii(*byte);

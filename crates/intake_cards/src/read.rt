@@ -1,4 +1,4 @@
-//! The bytes of a file as its cards.
+//! The bytes of a file as its cards, one after the other.
 use crate::card::Card;
 use crate::code::{Code, Layout};
 use crate::errors::CardError;
@@ -7,7 +7,7 @@ use crate::guessed::{
 };
 use crate::line::{CutLine, PastColumns, cut_line};
 use crate::place::CardPlace;
-use std::alloc::Global;
+use std::alloc::{AllocError, Global};
 
 /// What cards of a file have that is no card's.
 #[derive(Clone, Copy, Debug, PartialEq, Eq)]
@@ -48,93 +48,213 @@ pub struct Cards {
     pub notes: Vec<CardNote>,
 }
 
-impl Cards {
-    // Notes the oddity of the card at that place.
-    fn note(&mut self, oddity: CardOddity, place: CardPlace) -> Result<(), CardError> {
-        for known in self.notes.iter_mut() {
-            if known.oddity == oddity {
-                known.cards = known.cards.saturating_add(1);
-                return Ok(());
-            }
+/// Reads the cards of a file, one after the other.
+#[derive(Clone, Copy)]
+pub struct CardReader<'a> {
+    /// How the file is laid out, as it was asked for or as the bytes tell.
+    pub form: Layout,
+    /// Its code, likewise.
+    pub code: Code,
+    /// The number of the file among those that are read.
+    file: usize,
+    /// The lines or records that are not read yet.
+    rest: &'a [u8],
+    /// How many cards were read.
+    cards: usize,
+    has_mark: bool,
+    has_padding: bool,
+    /// The delimiter that ended the cards.
+    delimiter: Option<CardPlace>,
+}
+
+// Notes the oddity of the card at that place.
+fn note(notes: &mut Vec<CardNote>, oddity: CardOddity, place: CardPlace) -> Result<(), AllocError> {
+    for known in notes.iter_mut() {
+        if known.oddity == oddity {
+            known.cards = known.cards.saturating_add(1);
+            return Ok(());
         }
-        self.notes.push(CardNote {
-            oddity,
-            first: place,
-            cards: 1,
-        })?;
-        Ok(())
+    }
+    notes.push(CardNote {
+        oddity,
+        first: place,
+        cards: 1,
+    })?;
+    Ok(())
+}
+
+// Notes the characters of the card that are no printable ASCII.
+fn note_characters(notes: &mut Vec<CardNote>, card: &Card) -> Result<(), AllocError> {
+    if card.is_printable() {
+        return Ok(());
+    }
+    if card.text.contains(&b'\t') {
+        note(notes, CardOddity::Tab, card.place)?;
+    }
+    if card
+        .text
+        .iter()
+        .any(|byte| *byte != b'\t' && !(0x20 <= *byte && *byte <= 0x7E))
+    {
+        note(notes, CardOddity::NotPrintable, card.place)?;
+    }
+    Ok(())
+}
+
+// The card of a line.
+fn card_of(place: CardPlace, line: &CutLine) -> Card {
+    Card {
+        place,
+        text: line.text,
+        is_cut: line.past == PastColumns::More,
+        ends_comment: line.past == PastColumns::More && line.ends_comment,
+    }
+}
+
+impl<'a> CardReader<'a> {
+    /// A reader of the cards of a file, which is the one of this number among those that are read. Layout and code are
+    /// those that are asked for, or those that the bytes show. Returns an error if the bytes show that they are no
+    /// cards, or if records are asked for and 80 does not divide the length.
+    pub fn open(
+        file: usize,
+        bytes: &'a [u8],
+        form: Option<Layout>,
+        code: Option<Code>,
+    ) -> Result<CardReader<'a>, CardError> {
+        if let Some(fault) = shown_fault(bytes) {
+            return Err(fault);
+        }
+        let marked = bytes.strip_prefix(b"\xEF\xBB\xBF");
+        let text = marked.unwrap_or(bytes);
+        let code = code.unwrap_or(guessed_code(text));
+        let form = form.unwrap_or(guessed_layout(text, code));
+        if form == Layout::Text && code == Code::Ascii && has_bare_returns(text) {
+            return Err(CardError::CarriageReturns);
+        }
+        let solid = solid(text, form, code);
+        if form == Layout::Records && solid.len() % 80 != 0 {
+            return Err(CardError::ShortRecord {
+                bytes: solid.len() % 80,
+            });
+        }
+        Ok(CardReader {
+            form,
+            code,
+            file,
+            rest: solid,
+            cards: 0,
+            has_mark: marked.is_some(),
+            has_padding: solid.len() < text.len(),
+            delimiter: None,
+        })
     }
 
-    // Adds the card of a line.
-    fn add(&mut self, place: CardPlace, line: &CutLine) -> Result<(), CardError> {
-        let card = Card {
-            place,
-            text: line.text,
-            is_cut: line.past == PastColumns::More,
-            ends_comment: line.past == PastColumns::More && line.ends_comment,
+    // The place of the card that was read last.
+    fn place(&self) -> CardPlace {
+        CardPlace {
+            file: self.file,
+            card: self.cards,
+        }
+    }
+
+    // The next line or record as columns.
+    fn next_line(&mut self) -> Option<CutLine> {
+        if self.rest.is_empty() {
+            return None;
+        }
+        let (line, rest) = match self.form {
+            Layout::Text => first_line(self.rest, self.code),
+            Layout::Records => first_record(self.rest),
         };
+        self.rest = rest;
+        self.cards = self.cards.saturating_add(1);
+        Some(cut_line(line, self.code))
+    }
+
+    // The next card, with notes on what it has that is no card's.
+    fn noted_card(&mut self, notes: &mut Vec<CardNote>) -> Result<Option<Card>, AllocError> {
+        let Some(line) = self.next_line() else {
+            return Ok(None);
+        };
+        let card = card_of(self.place(), &line);
         match line.past {
             PastColumns::Nothing => {}
-            PastColumns::Blanks => self.note(CardOddity::BlanksBehind80, place)?,
-            PastColumns::More => self.note(CardOddity::LongLine, place)?,
+            PastColumns::Blanks => note(notes, CardOddity::BlanksBehind80, card.place)?,
+            PastColumns::More => note(notes, CardOddity::LongLine, card.place)?,
         }
-        if !card.is_printable() {
-            if card.text.contains(&b'\t') {
-                self.note(CardOddity::Tab, place)?;
-            }
-            if card
-                .text
-                .iter()
-                .any(|byte| *byte != b'\t' && !(0x20 <= *byte && *byte <= 0x7E))
-            {
-                self.note(CardOddity::NotPrintable, place)?;
-            }
-        }
-        self.cards.push(card)?;
-        Ok(())
+        note_characters(notes, &card)?;
+        Ok(Some(card))
     }
 
-    // Adds the lines.
-    fn add_lines(&mut self, file: usize, bytes: &[u8]) -> Result<(), CardError> {
-        let code = self.code;
-        for (i, ended) in bytes
-            .split_inclusive(|byte| code.ends_line(*byte))
-            .enumerate()
-        {
-            let line = cut_line(without_end(ended, code), code);
-            self.add(CardPlace { file, card: i + 1 }, &line)?;
+    // Whether all further cards are blank.
+    fn is_rest_blank(&self) -> bool {
+        let mut ahead = *self;
+        for _ in 0..usize::MAX {
+            let Some(line) = ahead.next_line() else {
+                return true;
+            };
+            if !card_of(ahead.place(), &line).is_blank() {
+                return false;
+            }
+        }
+        true
+    }
+
+    /// The next card, or nothing after the last one. A delimiter after the last other card, and blank cards after it,
+    /// are left out. Notes what the cards have that is no card's.
+    pub fn next_card(&mut self, notes: &mut Vec<CardNote>) -> Result<Option<Card>, AllocError> {
+        if self.has_mark && self.cards == 0 {
+            let first = CardPlace {
+                file: self.file,
+                card: 1,
+            };
+            note(notes, CardOddity::ByteOrderMark, first)?;
+            self.has_mark = false;
+        }
+        let Some(card) = self.noted_card(notes)? else {
+            return Ok(None);
+        };
+        if !card.is_delimiter() || !self.is_rest_blank() {
+            return Ok(Some(card));
+        }
+        self.delimiter = Some(card.place);
+        for _ in 0..usize::MAX {
+            if self.noted_card(notes)?.is_none() {
+                break;
+            }
+        }
+        Ok(None)
+    }
+
+    /// Notes what follows the last card.
+    pub fn note_end(&self, notes: &mut Vec<CardNote>) -> Result<(), AllocError> {
+        if self.has_padding {
+            note(notes, CardOddity::Padding, self.place())?;
+        }
+        if let Some(place) = self.delimiter {
+            note(notes, CardOddity::Delimiter, place)?;
         }
         Ok(())
     }
+}
 
-    // Adds the records.
-    fn add_records(&mut self, file: usize, bytes: &[u8]) -> Result<(), CardError> {
-        let (records, rest) = bytes.as_chunks::<80>();
-        if !rest.is_empty() {
-            return Err(CardError::ShortRecord { bytes: rest.len() });
-        }
-        for (i, record) in records.iter().enumerate() {
-            let line = cut_line(record, self.code);
-            self.add(CardPlace { file, card: i + 1 }, &line)?;
-        }
-        Ok(())
+// The first line without its end, and what follows it.
+fn first_line(bytes: &[u8], code: Code) -> (&[u8], &[u8]) {
+    let end = bytes.iter().position(|byte| code.ends_line(*byte));
+    let Some(place) = end else {
+        return (bytes, b"");
+    };
+    match bytes.split_at_checked(place.saturating_add(1)) {
+        Some((ended, rest)) => (without_end(ended, code), rest),
+        None => (bytes, b""),
     }
+}
 
-    // Leaves out a delimiter after the last other card, and blank cards after it.
-    fn drop_delimiter(&mut self) -> Result<(), CardError> {
-        let mut last = None;
-        for (place, card) in self.cards.iter().enumerate() {
-            if !card.is_blank() {
-                last = Some((place, *card));
-            }
-        }
-        if let Some((place, card)) = last {
-            if card.is_delimiter() {
-                self.cards.truncate(place);
-                self.note(CardOddity::Delimiter, card.place)?;
-            }
-        }
-        Ok(())
+// The first record, and what follows it.
+fn first_record(bytes: &[u8]) -> (&[u8], &[u8]) {
+    match bytes.split_at_checked(80) {
+        Some(both) => both,
+        None => (bytes, b""),
     }
 }
 
@@ -162,9 +282,7 @@ fn solid<'a>(bytes: &'a [u8], layout: Layout, code: Code) -> &'a [u8] {
     }
 }
 
-/// The cards of a file, which is the one of this number among those that are read. Layout and code are those that are
-/// asked for, or those that the bytes show. Returns an error if the bytes show that they are no cards, or if records
-/// are asked for and 80 does not divide the length.
+/// The cards of a file, as `CardReader` reads them.
 pub fn read_cards(
     alloc: Global,
     file: usize,
@@ -172,34 +290,20 @@ pub fn read_cards(
     form: Option<Layout>,
     code: Option<Code>,
 ) -> Result<Cards, CardError> {
-    if let Some(fault) = shown_fault(bytes) {
-        return Err(fault);
+    let mut reader = CardReader::open(file, bytes, form, code)?;
+    let mut cards = Vec::new(alloc);
+    let mut notes = Vec::new(alloc);
+    for _ in 0..usize::MAX {
+        let Some(card) = reader.next_card(&mut notes)? else {
+            break;
+        };
+        cards.push(card)?;
     }
-    let marked = bytes.strip_prefix(b"\xEF\xBB\xBF");
-    let text = marked.unwrap_or(bytes);
-    let code = code.unwrap_or(guessed_code(text));
-    let form = form.unwrap_or(guessed_layout(text, code));
-    if form == Layout::Text && code == Code::Ascii && has_bare_returns(text) {
-        return Err(CardError::CarriageReturns);
-    }
-    let mut found = Cards {
-        form,
-        code,
-        cards: Vec::new(alloc),
-        notes: Vec::new(alloc),
-    };
-    if marked.is_some() {
-        found.note(CardOddity::ByteOrderMark, CardPlace { file, card: 1 })?;
-    }
-    let solid = solid(text, form, code);
-    match form {
-        Layout::Text => found.add_lines(file, solid)?,
-        Layout::Records => found.add_records(file, solid)?,
-    }
-    if solid.len() < text.len() {
-        let card = found.cards.len();
-        found.note(CardOddity::Padding, CardPlace { file, card })?;
-    }
-    found.drop_delimiter()?;
-    Ok(found)
+    reader.note_end(&mut notes)?;
+    Ok(Cards {
+        form: reader.form,
+        code: reader.code,
+        cards,
+        notes,
+    })
 }

@@ -18,20 +18,20 @@ pub enum Deed {
 }
 
 /// A remark on one statement, or one operand of it.
-#[derive(Debug, Drop)]
-pub struct Remark {
+#[derive(Clone, Copy, Debug)]
+pub struct Remark<'a> {
     /// Where the statement begins.
     pub place: CardPlace,
     /// The statement's word, with its plus signs.
-    pub statement: Vec<u8>,
+    pub statement: &'a [u8],
     /// The id or the name in it, and nothing where it has none.
-    pub id: Vec<u8>,
+    pub id: &'a [u8],
     /// The operand's word, or nothing where the whole statement is meant.
-    pub operand: Vec<u8>,
+    pub operand: &'a [u8],
     pub deed: Deed,
     pub reason: RemarkReason,
     /// The value or the text that is meant, as it stood.
-    pub text: Vec<u8>,
+    pub text: &'a [u8],
 }
 
 impl Deed {
@@ -46,7 +46,7 @@ impl Deed {
     }
 }
 
-impl Remark {
+impl Remark<'_> {
     /// Whether what is told leaves out something that may be asked for.
     pub fn matters(&self) -> bool {
         match self.deed {
@@ -57,11 +57,11 @@ impl Remark {
     }
 
     /// Whether it tells the same of a statement of the same word.
-    pub(crate) fn says_the_same(&self, other: &Remark) -> bool {
+    pub(crate) fn says_the_same(&self, other: &Remark<'_>) -> bool {
         self.deed == other.deed
             && self.reason == other.reason
-            && self.statement.as_slice() == other.statement.as_slice()
-            && self.operand.as_slice() == other.operand.as_slice()
+            && self.statement == other.statement
+            && self.operand == other.operand
     }
 
     /// The line that tells it, without an end of line. `file` is the name of its file, `unit` is "record" or "line".
@@ -69,15 +69,15 @@ impl Remark {
         let card = self.place.card;
         let mut line = format!(in alloc; "{file} {unit} {card}: ")?.into_bytes();
         let about = line.len();
-        line.extend_from_slice(&self.statement)?;
+        line.extend_from_slice(self.statement)?;
         if !self.id.is_empty() {
             line.extend_from_slice(b"(")?;
-            line.extend_from_slice(&self.id)?;
+            line.extend_from_slice(self.id)?;
             line.extend_from_slice(b")")?;
         }
         if !self.operand.is_empty() {
             line.extend_from_slice(b" ")?;
-            line.extend_from_slice(&self.operand)?;
+            line.extend_from_slice(self.operand)?;
         }
         if line.len() > about {
             line.extend_from_slice(b": ")?;
@@ -87,7 +87,7 @@ impl Remark {
         line.extend_from_slice(self.reason.words().as_bytes())?;
         if !self.text.is_empty() {
             line.extend_from_slice(b": ")?;
-            line.extend_from_slice(&self.text)?;
+            line.extend_from_slice(self.text)?;
         }
         Ok(line)
     }

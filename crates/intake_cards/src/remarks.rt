@@ -3,6 +3,7 @@
 use crate::place::CardPlace;
 use crate::reason::RemarkReason;
 use crate::remark::{Deed, Remark};
+use crate::remark_list::RemarkList;
 use fields::{Id, Name};
 use std::alloc::{AllocError, Global};
 
@@ -36,7 +37,7 @@ pub struct StandIn {
 #[derive(Debug, Drop)]
 pub struct Remarks {
     /// In the order in which they were told.
-    pub list: Vec<Remark>,
+    pub list: RemarkList,
     /// How many stand-ins were told.
     pub stand_ins: usize,
     /// Each stand-in for an element that the profile lacks.
@@ -47,29 +48,45 @@ pub struct Remarks {
     pub forbidding: usize,
 }
 
-/// A remark, and how many more say the same.
-#[derive(Drop)]
+/// A remark by its place in the list, and how many more say the same.
+#[derive(Clone, Copy)]
 struct Cause {
-    remark: Remark,
+    place: usize,
     more: usize,
 }
 
-fn add_cause(causes: &mut Vec<Cause>, remark: Remark) -> Result<(), AllocError> {
-    for cause in causes.iter_mut() {
-        if cause.remark.says_the_same(&remark) {
-            cause.more = cause.more.saturating_add(1);
-            return Ok(());
+// Of the remarks that say the same of statements of one word the first, with how many more there are.
+fn causes_of(alloc: Global, list: &RemarkList) -> Result<Vec<Cause>, AllocError> {
+    let mut causes: Vec<Cause> = Vec::new(alloc);
+    for place in 0..list.len() {
+        let Some(remark) = list.get(place) else {
+            continue;
+        };
+        if !add_to_causes(list, causes.as_mut_slice(), &remark) {
+            causes.push(Cause { place, more: 0 })?;
         }
     }
-    causes.push(Cause { remark, more: 0 })?;
-    Ok(())
+    Ok(causes)
+}
+
+// Counts the remark where one of the causes says the same, and answers whether one does.
+fn add_to_causes(list: &RemarkList, causes: &mut [Cause], remark: &Remark<'_>) -> bool {
+    for cause in causes.iter_mut() {
+        if let Some(first) = list.get(cause.place) {
+            if first.says_the_same(remark) {
+                cause.more = cause.more.saturating_add(1);
+                return true;
+            }
+        }
+    }
+    false
 }
 
 impl Remarks {
     /// No remark, and nothing counted.
     pub fn new(alloc: Global) -> Remarks {
         Remarks {
-            list: Vec::new(alloc),
+            list: RemarkList::new(alloc),
             stand_ins: 0,
             named: Vec::new(alloc),
             with_stand_ins: Vec::new(alloc),
@@ -96,16 +113,28 @@ impl Remarks {
             statement.extend_from_slice(b"++")?;
             statement.extend_from_slice(subject.word)?;
         }
-        self.list.push(Remark {
+        self.put(subject, statement.as_slice(), operand, deed, reason, text)
+    }
+
+    // Adds the remark on the statement of this word, with its plus signs.
+    fn put(
+        &mut self,
+        subject: &Subject<'_>,
+        statement: &[u8],
+        operand: &[u8],
+        deed: Deed,
+        reason: RemarkReason,
+        text: &[u8],
+    ) -> Result<(), AllocError> {
+        self.list.push(&Remark {
             place: subject.place,
             statement,
-            id: Vec::from_slice(alloc, subject.id)?,
-            operand: Vec::from_slice(alloc, operand)?,
+            id: subject.id,
+            operand,
             deed,
             reason,
-            text: Vec::from_slice(alloc, text)?,
-        })?;
-        Ok(())
+            text,
+        })
     }
 
     /// Tells that the operand, or the whole statement where `operand` is empty, says the same in other words, or is a
@@ -139,33 +168,30 @@ impl Remarks {
         self.stand_ins = self.stand_ins.saturating_add(others.stand_ins);
         self.named.append(&mut others.named)?;
         self.with_stand_ins.append(&mut others.with_stand_ins)?;
-        self.list.append(&mut others.list)
+        self.list.append(others.list)
     }
 
     /// Puts the remarks of a SYSMOD that is left out behind these: of those that say the same of statements of one word
     /// the first, with how many there are.
     pub fn append_causes(&mut self, alloc: Global, others: Remarks) -> Result<(), AllocError> {
-        let mut causes = Vec::new(alloc);
-        for remark in others.list {
-            add_cause(&mut causes, remark)?;
-        }
-        for cause in causes {
-            let Cause { mut remark, more } = cause;
+        let causes = causes_of(alloc, &others.list)?;
+        for cause in causes.iter() {
+            let Some(mut remark) = others.list.get(cause.place) else {
+                continue;
+            };
+            let more = cause.more;
+            let often = format!(in alloc; "{more} more")?;
             if more > 0 {
-                remark.text = format!(in alloc; "{more} more")?.into_bytes();
+                remark.text = often.as_bytes();
             }
-            self.list.push(remark)?;
+            self.list.push(&remark)?;
         }
         Ok(())
     }
 
     /// Says that what was to be left out is dropped: what it belongs to is carried in another way.
     pub fn drop_in_place_of_leaving_out(&mut self) {
-        for remark in self.list.iter_mut() {
-            if remark.deed == Deed::LeftOut {
-                remark.deed = Deed::Dropped;
-            }
-        }
+        self.list.drop_in_place_of_leaving_out();
     }
 
     /// Tells that a SYSMOD is left out because of this operand, or of the whole statement where `operand` is empty.

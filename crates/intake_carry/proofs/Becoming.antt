@@ -125,3 +125,12 @@ not_inside hold stated internal = by hold.internal refl
     by : (b : Bool) → hold.internal ≡ b → IsFalse hold.internal
     by true e = absurd (none (internal.0 e).1)
     by false e = e
+
+-- one hold more outside SYSMODs, unless one of them was refused
+pub held_more : (stated : List WideHold) (hold : WideHold) (placed after other : List PlacedItem) (refused : Bool)
+    → HoldBecomes None hold [] other → after ≡ placed ++ other
+    → (IsFalse refused → Become (HoldBecomes None) stated [] placed)
+    → IsFalse refused → Become (HoldBecomes None) (stated ++ hold ∷ []) [] after
+held_more stated hold placed after other refused becomes e carried f =
+    subst (Become (HoldBecomes None) (stated ++ hold ∷ []) []) (sym e)
+    (become_more (HoldBecomes None) stated [] placed hold [] other (carried f) becomes)

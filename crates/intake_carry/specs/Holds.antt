@@ -1,6 +1,6 @@
 -- What the holds and releases of a file become. Their operands are those of ++HOLD and ++RELEASE in IBM z/OS SMP/E
 -- Reference, "SMP/E modification control statements"; FIXCAT holds hold nothing unless a command asks for them.
-use Rattle.std.specs.Prelude.{◌≡◌, ℕ, Bool, false, List, [], ◌∷◌, Option, Some, IsTrue, IsFalse, Vec}
+use Rattle.std.specs.Prelude.{◌≡◌, ◌↔◌, ℕ, Bool, false, List, [], ◌∷◌, Option, Some, IsTrue, IsFalse, Vec}
 use Rattle.std.specs.declared.alloc.Global.{Global}
 use Rattle.std.specs.declared.cmp.Ordering.{Ordering}
 use Rattle.std.specs.Ordering.{nat_cmp, ordering_then}
@@ -60,9 +60,13 @@ place_cmp a b = ordering_then (nat_cmp a.file b.file) (nat_cmp a.card b.card)
 
 -- an item of the hold file, whose statement begins there
 abbrev pub placed_at : CardPlace → HoldItem → PlacedItem
-placed_at place item = record { place = place; item = item }
+placed_at place item = record { place = place; item = item; was_internal = false }
 
--- The hold is internal: a SYSTEM hold on the SYSMOD that it is in. A SYSMOD that is left out has no id.
+-- the hold of a SYSMOD that is left out, which begins there: it is outside now, internal or not where it stood
+abbrev pub left_at : CardPlace → HoldItem → Bool → PlacedItem
+left_at place item was_internal = record { place = place; item = item; was_internal = was_internal }
+
+-- The hold is internal: a SYSTEM hold on the SYSMOD that it is in, which has this id. Outside of SYSMODs there is none.
 abbrev pub IsInternal : Option Id → WideHold → Type 0
 IsInternal own stated = (stated.kind ≡ Some System) × (own ≡ Some stated.id.items)
 
@@ -73,6 +77,13 @@ pub data HoldBecomes (own : Option Id) (stated : WideHold) : List terms.Hold →
       → HoldBecomes own stated (hold ∷ []) []
   IsOutside : (hold : terms.Hold) → IsHold stated hold → IsFalse hold.internal → (¬ IsInternal own stated)
       → HoldBecomes own stated [] (placed_at stated.place (Hold hold) ∷ [])
+
+-- The same of a hold in a SYSMOD of this id that is left out: it is outside, and it is known whether it was internal.
+pub data LeftHoldBecomes (id : Text) (stated : WideHold) : List terms.Hold → List PlacedItem → Type 0 where
+  IsFixcat : stated.kind ≡ Some Fixcat → LeftHoldBecomes id stated [] []
+  IsLeft : (hold : terms.Hold) → IsHold stated hold → IsFalse hold.internal → (was_internal : Bool)
+      → IsTrue was_internal ↔ IsInternal (Some id) stated
+      → LeftHoldBecomes id stated [] (left_at stated.place (Hold hold) was_internal ∷ [])
 
 -- A FIXCAT release becomes nothing, and any other one an item of the hold file.
 pub data ReleaseBecomes (stated : WideRelease) : List terms.Hold → List PlacedItem → Type 0 where

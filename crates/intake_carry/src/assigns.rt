@@ -2,9 +2,10 @@
 ghost use Rattle.std.specs.Prelude.{◌≡◌, ◌++◌, IfOk, map};
 ghost use Rattle.mcs.specs.declared.file.Item.TheVariants as item;
 
+use crate::odd::{is_odd, leave_out_odd};
 use fields::{Id, Source};
-use intake_cards::{Deed, RemarkReason, Remarks, Subject};
-use intake_read::{WideAssign, WideFile, tell_odd};
+use intake_cards::{RemarkReason, Remarks, Subject};
+use intake_read::{WideAssign, WideFile};
 use mcs::{Assign, Item};
 use std::alloc::{AllocError, Global};
 use std::collections::BTreeSet;
@@ -54,6 +55,48 @@ fn ids_of(
     Ok(ids)
 }
 
+// Tells of the operands that an `++ASSIGN` may not have, and of those that it lacks. The answer is whether it is whole.
+fn has_operands(
+    alloc: Global,
+    remarks: &mut Remarks,
+    subject: &Subject<'_>,
+    stated: &WideAssign,
+) -> Result<bool, AllocError> {
+    let odd = stated.odd.as_slice();
+    leave_out_odd(alloc, remarks, subject, odd)?;
+    let lacks_source = subject.id.is_empty() && !is_odd(odd, b"SOURCEID");
+    if lacks_source {
+        remarks.leave_out(alloc, subject, b"SOURCEID", RemarkReason::Missing, b"")?;
+    }
+    let lacks_ids = stated.to.is_empty() && !is_odd(odd, b"TO");
+    if lacks_ids {
+        remarks.leave_out(alloc, subject, b"TO", RemarkReason::Missing, b"")?;
+    }
+    Ok(odd.is_empty() && !lacks_source && !lacks_ids)
+}
+
+// The source that an `++ASSIGN` names, or nothing if it names none that is known here, which is told.
+fn source_of(
+    alloc: Global,
+    remarks: &mut Remarks,
+    subject: &Subject<'_>,
+) -> Result<Option<Source>, AllocError> {
+    let stated = subject.id;
+    let upper = stated.to_ascii_uppercase(alloc)?;
+    let Some(source) = Source::read(upper.as_slice()) else {
+        if stated.contains(&b'.') {
+            remarks.tell_dropped(alloc, subject, b"", RemarkReason::LongSource, b"")?;
+        } else {
+            remarks.leave_out(alloc, subject, b"SOURCEID", RemarkReason::BadValue, stated)?;
+        }
+        return Ok(None);
+    };
+    if upper.as_slice() != stated {
+        remarks.tell_carried(alloc, subject, b"SOURCEID", RemarkReason::LowerCase, b"")?;
+    }
+    Ok(Some(source))
+}
+
 // Appends what an `++ASSIGN` says. What is left out or differs is told.
 fn put_assign(
     alloc: Global,
@@ -61,42 +104,25 @@ fn put_assign(
     assigns: &mut Vec<Assign>,
     stated: &WideAssign,
 ) -> Result<(), AllocError> {
-    let source = match &stated.source {
-        Some(text) => text.as_slice(),
-        None => b"",
-    };
     let subject = Subject {
         place: stated.place,
         word: b"ASSIGN",
-        id: source,
+        id: match &stated.source {
+            Some(text) => text.as_slice(),
+            None => b"",
+        },
     };
-    if !stated.odd.is_empty() {
-        return tell_odd(
-            alloc,
-            remarks,
-            &subject,
-            stated.odd.as_slice(),
-            Deed::LeftOut,
-        );
+    if !has_operands(alloc, remarks, &subject, stated)? {
+        return Ok(());
     }
-    let upper = source.to_ascii_uppercase(alloc)?;
-    let Some(known) = Source::read(upper.as_slice()) else {
-        if source.contains(&b'.') {
-            return remarks.tell_dropped(alloc, &subject, b"", RemarkReason::LongSource, b"");
-        }
-        return remarks.leave_out(alloc, &subject, b"SOURCEID", RemarkReason::BadValue, source);
+    let Some(source) = source_of(alloc, remarks, &subject)? else {
+        return Ok(());
     };
-    if upper.as_slice() != source {
-        remarks.tell_carried(alloc, &subject, b"SOURCEID", RemarkReason::LowerCase, b"")?;
-    }
-    if stated.to.is_empty() {
-        return remarks.leave_out(alloc, &subject, b"TO", RemarkReason::Missing, b"");
-    }
     let ids = ids_of(alloc, remarks, &subject, stated.to.as_slice())?;
     if ids.len() > MOST_IDS {
         remarks.tell_carried(alloc, &subject, b"TO", RemarkReason::Split, b"")?;
     }
-    put_each(alloc, assigns, known, ids.as_slice())
+    put_each(alloc, assigns, source, ids.as_slice())
 }
 
 /// The assignments of the files, and that of the SYSMODs with stand-ins.

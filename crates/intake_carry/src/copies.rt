@@ -16,6 +16,7 @@ struct SysmodCopy {
 #[derive(Drop)]
 pub(crate) struct OtherCopies {
     places: BTreeSet<CardPlace>,
+    ids: BTreeSet<Id>,
 }
 
 // The number, or the most that there is where it is greater.
@@ -47,6 +48,7 @@ impl OtherCopies {
         let mut best = BTreeMap::new(alloc);
         let mut others = OtherCopies {
             places: BTreeSet::new(alloc),
+            ids: BTreeSet::new(alloc),
         };
         for file in files {
             for sysmod in file.sysmods.iter() {
@@ -73,6 +75,7 @@ impl OtherCopies {
             best.insert(id, copy)?;
             return Ok(());
         };
+        self.ids.insert(id)?;
         if copy.rework > before.rework {
             self.places.insert(before.place)?;
             best.insert(id, copy)?;
@@ -85,5 +88,13 @@ impl OtherCopies {
     /// Whether it is a copy that is not carried.
     pub(crate) fn has(&self, sysmod: &WideSysmod) -> bool {
         self.places.contains(&sysmod.place)
+    }
+
+    /// Whether the files have the SYSMOD more than once.
+    pub(crate) fn are_of(&self, id: &[u8]) -> bool {
+        match Id::read(id) {
+            Some(id) => self.ids.contains(&id),
+            None => false,
+        }
     }
 }

@@ -8,13 +8,18 @@ mod comment;
 mod copies;
 mod errors;
 mod files;
+mod held_copies;
 mod holds;
+mod left_out;
 mod names;
 mod narrowed;
 mod notes;
+mod odd;
+mod outside;
 mod placed;
 mod refusals;
 mod sysmods;
 
 pub use files::narrow;
 pub use narrowed::{NarrowError, Narrowed, Tally};
+pub use outside::{OutsideHolds, read_statements};

@@ -1,7 +1,7 @@
 //! What comes of narrowing.
 ghost use Rattle.std.specs.Prelude.{◌≡◌};
 
-use intake_cards::{Deed, Remark, RemarkReason, Remarks, StandIn};
+use intake_cards::{Deed, Remark, RemarkList, RemarkReason, Remarks, StandIn};
 use intake_read::CardPlace;
 use mcs::{HoldItem, Item};
 use std::alloc::{AllocError, AllocFailed};
@@ -21,7 +21,7 @@ pub struct Narrowed {
     pub items: Vec<Item>,
     /// The hold file, in the order of the files.
     pub hold_items: Vec<HoldItem>,
-    pub remarks: Vec<Remark>,
+    pub remarks: RemarkList,
     pub sysmods: Tally,
     pub holds: Tally,
     pub releases: Tally,
@@ -40,7 +40,7 @@ pub enum NarrowError {
     #[error("out of memory")]
     Memory,
     #[error("a hold or a release can't be carried")]
-    Refused(Vec<Remark>),
+    Refused(RemarkList),
 }
 
 impl From<AllocError> for NarrowError {
@@ -55,30 +55,65 @@ impl<T: Drop> From<AllocFailed<T>> for NarrowError {
     }
 }
 
-// How many of the remarks are about a statement that is left out for the reason.
-fn count(remarks: &[Remark], word: &[u8], reason: RemarkReason) -> usize {
-    remarks
-        .iter()
-        .filter(|one| one.reason == reason
-            && one.deed == Deed::LeftOut
-            && one.statement.as_slice() == word)
-        .count()
+/// What the remarks tell of statements that are left out.
+#[derive(Clone, Copy)]
+struct LeftOutCounts {
+    sysmods: usize,
+    holds: usize,
+    releases: usize,
+    assigns: usize,
+    /// The `++ASSIGN` that was counted last.
+    assign: Option<CardPlace>,
 }
 
-// How many `++ASSIGN`s are left out: not those of which only an id is.
-fn assigns_left_out(remarks: &[Remark]) -> usize {
-    let mut last: Option<CardPlace> = None;
-    let mut found = 0usize;
-    for one in remarks {
-        let is_one = one.deed == Deed::LeftOut
-            && one.reason != RemarkReason::BadId
-            && one.statement.as_slice() == b"++ASSIGN".as_slice();
-        if is_one && last != Some(one.place) {
-            found = found.saturating_add(1);
-            last = Some(one.place);
+impl LeftOutCounts {
+    // How many statements of each word the remarks leave out.
+    fn of(remarks: &RemarkList) -> LeftOutCounts {
+        let mut counts = LeftOutCounts {
+            sysmods: 0,
+            holds: 0,
+            releases: 0,
+            assigns: 0,
+            assign: None,
+        };
+        for place in 0..remarks.len() {
+            if let Some(remark) = remarks.get(place) {
+                counts.add(&remark);
+            }
+        }
+        counts
+    }
+
+    fn add(&mut self, remark: &Remark<'_>) {
+        if remark.reason == RemarkReason::WholeSysmod {
+            self.sysmods = self.sysmods.saturating_add(1);
+        }
+        if remark.reason == RemarkReason::HeldAlready {
+            self.holds = self.holds.saturating_add(1);
+        }
+        if remark.deed != Deed::LeftOut {
+            return;
+        }
+        if remark.statement == b"++ASSIGN".as_slice() {
+            self.add_assign(remark);
+        }
+        if remark.reason == RemarkReason::Fixcat {
+            if remark.statement == b"++HOLD".as_slice() {
+                self.holds = self.holds.saturating_add(1);
+            }
+            if remark.statement == b"++RELEASE".as_slice() {
+                self.releases = self.releases.saturating_add(1);
+            }
         }
     }
-    found
+
+    // Counts an `++ASSIGN` once, and none of which only an id is left out.
+    fn add_assign(&mut self, remark: &Remark<'_>) {
+        if remark.reason != RemarkReason::BadId && self.assign != Some(remark.place) {
+            self.assigns = self.assigns.saturating_add(1);
+            self.assign = Some(remark.place);
+        }
+    }
 }
 
 impl Narrowed {
@@ -87,25 +122,22 @@ impl Narrowed {
         ensures items { result.items.items ≡ items.items }
         ensures holds { result.hold_items.items ≡ hold_items.items }
     {
-        let list = remarks.list.as_slice();
+        let left_out = LeftOutCounts::of(&remarks.list);
         let sysmods = Tally {
             carried: sysmods_in(items.as_slice()),
-            left_out: list
-                .iter()
-                .filter(|one| one.reason == RemarkReason::WholeSysmod)
-                .count(),
+            left_out: left_out.sysmods,
         };
         let holds = Tally {
             carried: holds_in(items.as_slice(), hold_items.as_slice()),
-            left_out: count(list, b"++HOLD", RemarkReason::Fixcat),
+            left_out: left_out.holds,
         };
         let releases = Tally {
             carried: releases_in(hold_items.as_slice()),
-            left_out: count(list, b"++RELEASE", RemarkReason::Fixcat),
+            left_out: left_out.releases,
         };
         let assigns = Tally {
             carried: items.len().saturating_sub(sysmods.carried),
-            left_out: assigns_left_out(list),
+            left_out: left_out.assigns,
         };
         Narrowed {
             items,

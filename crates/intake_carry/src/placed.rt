@@ -1,15 +1,15 @@
 //! Holds and releases of the hold file, in the order of the files.
-ghost use Rattle.std.specs.Prelude.{◌≡◌, ◌∷◌, ◌++◌, [], IfOk, OnOk, None, map, IsPermutation};
+ghost use Rattle.std.specs.Prelude.{◌≡◌, ◌∷◌, ◌++◌, [], IfOk, OnOk, map, IsPermutation};
 ghost use Rattle.std.specs.List.Sorted.{IsSortedByKey};
 ghost use Rattle.mcs.specs.declared.hold_item.HoldItem.TheVariants.{Hold as AHold, Release as ARelease};
 ghost use Rattle.intake_carry.specs.Become.{Become};
-ghost use Rattle.intake_carry.specs.Holds.{placed_at, place_cmp, HoldBecomes, ReleaseBecomes};
+ghost use Rattle.intake_carry.specs.Holds.{placed_at, place_cmp, ReleaseBecomes};
 ghost use Rattle.intake_carry.specs.Carried.{AreInOrder};
 
 use crate::errors::HoldError;
-use crate::holds::{carried_hold, carried_release};
+use crate::holds::carried_release;
 use intake_cards::Remarks;
-use intake_read::{CardPlace, WideHold, WideRelease};
+use intake_read::{CardPlace, WideRelease};
 use mcs::{HoldItem, Release};
 use std::alloc::{AllocError, Global};
 use sysmods_values::Hold;
@@ -19,6 +19,8 @@ use sysmods_values::Hold;
 pub(crate) struct PlacedItem {
     pub place: CardPlace,
     pub item: HoldItem,
+    /// It was an internal hold of a SYSMOD that is left out.
+    pub was_internal: bool,
 }
 
 /// Adds a hold after the others.
@@ -32,6 +34,7 @@ pub(crate) fn put_outside(
     placed.push(PlacedItem {
         place,
         item: HoldItem::Hold(hold),
+        was_internal: false,
     })?;
     Ok(())
 }
@@ -47,26 +50,9 @@ fn put_release(
     placed.push(PlacedItem {
         place,
         item: HoldItem::Release(release),
+        was_internal: false,
     })?;
     Ok(())
-}
-
-/// The holds, each external. What is left out or differs is told.
-pub(crate) fn placed_holds(
-    alloc: Global,
-    remarks: &mut Remarks,
-    stated: &[WideHold],
-) -> Result<Vec<PlacedItem>, HoldError>
-    ensures { IfOk result (λ placed. Become (HoldBecomes None) stated.now [] placed.items) }
-{
-    let mut placed = Vec::with_capacity(alloc, stated.len())?;
-    for hold in stated {
-        let Some(carried) = carried_hold(alloc, remarks, hold, None)? else {
-            continue;
-        };
-        put_outside(&mut placed, hold.place, carried)?;
-    }
-    Ok(placed)
 }
 
 /// The releases. What is left out or differs is told.

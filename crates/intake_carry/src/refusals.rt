@@ -1,8 +1,10 @@
 //! Holds and releases that can't be carried. With one of them nothing is carried at all.
 
 use crate::holds::{HoldFault, hold_key, release_key};
+use crate::odd::odd_reason;
 use intake_cards::{Deed, RemarkReason, Remarks, Subject};
 use intake_read::{OddOperand, WideFile, WideHold, WideOther, WideRelease};
+use intake_sysmod::missing_word;
 use std::alloc::{AllocError, Global};
 
 /// Operands that tell a hold from others: a second one leaves open which is meant.
@@ -26,8 +28,14 @@ fn tell_fault(
     if let Some(one) = open_key(odd) {
         let operand = &one.operand;
         let name = operand.name.as_slice();
-        let reason = RemarkReason::from(one.reason);
-        remarks.tell(alloc, subject, name, Deed::Refused, reason, operand.text())?;
+        remarks.tell(
+            alloc,
+            subject,
+            name,
+            Deed::Refused,
+            odd_reason(one),
+            operand.text(),
+        )?;
         return Ok(true);
     }
     match fault {
@@ -46,7 +54,12 @@ fn tell_fault(
     }
 }
 
-fn tell_hold(alloc: Global, remarks: &mut Remarks, stated: &WideHold) -> Result<bool, AllocError> {
+/// Tells of the hold if it can't be carried, and answers whether that is so.
+pub(crate) fn tell_hold(
+    alloc: Global,
+    remarks: &mut Remarks,
+    stated: &WideHold,
+) -> Result<bool, AllocError> {
     let subject = Subject {
         place: stated.place,
         word: b"HOLD",
@@ -113,12 +126,13 @@ fn tell_broken_hold(
         word: other.word.as_slice(),
         id: other.name.as_slice(),
     };
+    let reason = RemarkReason::from(other.reason);
     remarks.tell(
         alloc,
         &subject,
-        b"",
+        missing_word(other),
         Deed::Refused,
-        RemarkReason::from(other.reason),
+        reason,
         b"",
     )
 }
@@ -138,14 +152,14 @@ fn tell_broken(
     Ok(any)
 }
 
-/// Tells of the holds and releases of a file that can't be carried, those in SYSMODs too, and answers whether there
-/// are any. These lack something that tells a hold from others, or leave it open, or have something wrong with them.
+/// Tells of the releases of a file that can't be carried, and of such holds in SYSMODs, and answers whether there are
+/// any. These lack something that tells a hold from others, or leave it open, or have something wrong with them.
 pub(crate) fn tell_refusals(
     alloc: Global,
     remarks: &mut Remarks,
     file: &WideFile,
 ) -> Result<bool, AllocError> {
-    let mut any = tell_holds(alloc, remarks, file.holds.as_slice())?;
+    let mut any = false;
     for release in file.releases.iter() {
         if tell_release(alloc, remarks, release)? {
             any = true;

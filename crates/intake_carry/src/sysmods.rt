@@ -1,20 +1,21 @@
 //! SYSMODs with their holds.
-ghost use Rattle.std.specs.Prelude.{◌≡◌, ◌++◌, ◌∷◌, [], IfOk, IfSome, OnOk, IsTrue, IsFalse, Some, option_map};
+ghost use Rattle.std.specs.Prelude.{◌≡◌, ◌++◌, ◌∷◌, [], IfOk, IfSome, OnOk, IsTrue, IsFalse, Some};
 ghost use Rattle.terms.specs.declared.kinds.HoldKind.TheVariants.{System};
 ghost use Rattle.intake_sysmod.specs.NoLooser.{IsNoLooser};
 ghost use Rattle.intake_carry.specs.Become.{Become};
 ghost use Rattle.mcs.specs.declared.hold_item.HoldItem.TheVariants.{Hold as AHold};
 ghost use Rattle.intake_carry.specs.Holds.{placed_at, HoldBecomes};
-ghost use Rattle.intake_carry.specs.Carried.{item_in, holds_in, SysmodBecomes};
+ghost use Rattle.intake_carry.specs.Carried.{item_in, HoldsBecome, SysmodBecomes};
 
 use crate::copies::OtherCopies;
 use crate::errors::HoldError;
 use crate::holds::carried_hold;
-use crate::placed::{PlacedItem, placed_holds, put_outside};
+use crate::left_out::{is_on, left_holds, tell_left_outside, tell_outside};
+use crate::placed::{PlacedItem, put_outside};
 use fields::Id;
 use fields::spelling::kind_text;
 use intake_cards::{CardPlace, RemarkReason, Remarks, Subject};
-use intake_read::{WideHold, WideHoldKind, WideSysmod};
+use intake_read::{WideHold, WideSysmod};
 use intake_sysmod::{Options, Users, carried_sysmod};
 use std::alloc::{AllocError, Global};
 use sysmods_values::{Hold, Sysmod};
@@ -54,30 +55,6 @@ fn put_hold(
         put_outside(outside, place, hold)?;
         Ok(())
     }
-}
-
-// A remark that a hold of a SYSMOD is in the hold file.
-fn tell_outside(alloc: Global, remarks: &mut Remarks, stated: &WideHold) -> Result<(), AllocError> {
-    let subject = Subject {
-        place: stated.place,
-        word: b"HOLD",
-        id: stated.id.as_slice(),
-    };
-    remarks.tell_carried(alloc, &subject, b"", RemarkReason::HeldOutside, b"")
-}
-
-// Tells the same of all holds of a SYSMOD that is left out.
-fn tell_all_outside(
-    alloc: Global,
-    remarks: &mut Remarks,
-    stated: &[WideHold],
-) -> Result<(), AllocError> {
-    for hold in stated {
-        if hold.kind != Some(WideHoldKind::Fixcat) {
-            tell_outside(alloc, remarks, hold)?;
-        }
-    }
-    Ok(())
 }
 
 // Puts the SYSTEM holds on the SYSMOD into it, and returns the others, which are in the hold file. What differs is
@@ -130,8 +107,7 @@ fn tell_later_holds(
 ) -> Result<(), AllocError> {
     let holds = stated.holds.as_slice();
     for (place, hold) in holds.iter().enumerate() {
-        let is_internal = hold.kind == Some(WideHoldKind::System)
-            && hold.id.as_slice() == stated.id.as_slice();
+        let is_internal = is_on(stated, hold);
         let has_later = holds
             .iter()
             .skip(place.saturating_add(1))
@@ -158,8 +134,7 @@ fn carried_part(
 ) -> Result<CarriedPart, HoldError>
     requires { sysmod.holds ≡ [] }
     ensures same { IfOk result (λ part. IfSome part.sysmod (λ s. s ≡ record sysmod { holds = s.holds })) }
-    ensures held { IfOk result (λ part. Become (HoldBecomes (option_map (λ s. s.id) part.sysmod)) stated.now.holds.items
-        (holds_in part.sysmod) part.outside.items) }
+    ensures held { IfOk result (λ part. HoldsBecome stated.now part.sysmod part.outside.items) }
 {
     tell_later_holds(alloc, remarks, stated)?;
     let outside = put_holds(alloc, remarks, stated, &mut sysmod)?;
@@ -211,9 +186,8 @@ pub(crate) fn part_of(
         part.outside.items) }
 {
     let Some(sysmod) = carried_copy(alloc, options, users, copies, remarks, stated)? else {
-        let holds = stated.holds.as_slice();
-        tell_all_outside(alloc, remarks, holds)?;
-        let outside = placed_holds(alloc, remarks, holds)?;
+        tell_left_outside(alloc, copies, remarks, stated)?;
+        let outside = left_holds(alloc, remarks, stated)?;
         return Ok(CarriedPart {
             sysmod: None,
             outside,

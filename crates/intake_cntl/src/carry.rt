@@ -57,22 +57,22 @@ pub(crate) fn carry_command(
     wide: &WideCommand,
 ) -> Result<Option<Carried>, AllocError> {
     let head = wide.head.name.as_slice();
-    if !is_whole(alloc, told, wide)? {
+    if !is_whole(told, wide)? {
         return Ok(None);
     }
     if is_no_decision(head) {
-        tell_command(alloc, told, wide, Deed::Dropped, RemarkReason::NoDecision)?;
+        tell_command(told, wide, Deed::Dropped, RemarkReason::NoDecision)?;
         return Ok(None);
     }
     let Some(command) = command_of(head) else {
-        tell_command(alloc, told, wide, Deed::Refused, RemarkReason::NoCommand)?;
+        tell_command(told, wide, Deed::Refused, RemarkReason::NoCommand)?;
         return Ok(None);
     };
     if wide.head.value.is_some() {
-        tell_command(alloc, told, wide, Deed::Refused, RemarkReason::BadValue)?;
+        tell_command(told, wide, Deed::Refused, RemarkReason::BadValue)?;
     }
     if wide.is_behind {
-        tell_command(alloc, told, wide, Deed::Carried, RemarkReason::OwnCard)?;
+        tell_command(told, wide, Deed::Carried, RemarkReason::OwnCard)?;
     }
     let operands = carried_operands(alloc, told, &command, known, wide)?;
     Ok(Some(Carried {
@@ -83,13 +83,9 @@ pub(crate) fn carry_command(
 }
 
 // Whether it has its period. What is said of the whole command is told.
-fn is_whole(
-    alloc: Global,
-    told: &mut CommandRemarks,
-    wide: &WideCommand,
-) -> Result<bool, AllocError> {
+fn is_whole(told: &mut CommandRemarks, wide: &WideCommand) -> Result<bool, AllocError> {
     if wide.has_lower_case {
-        tell_command(alloc, told, wide, Deed::Carried, RemarkReason::LowerCase)?;
+        tell_command(told, wide, Deed::Carried, RemarkReason::LowerCase)?;
     }
     let reason = match wide.end {
         CommandEnd::Period => return Ok(true),
@@ -101,22 +97,15 @@ fn is_whole(
                 operand: b"",
                 text: b"",
             };
-            told.tell(
-                alloc,
-                opens,
-                words,
-                Deed::Refused,
-                RemarkReason::OpenComment,
-            )?;
+            told.tell(opens, words, Deed::Refused, RemarkReason::OpenComment)?;
             return Ok(false);
         }
     };
-    tell_command(alloc, told, wide, Deed::Refused, reason)?;
+    tell_command(told, wide, Deed::Refused, reason)?;
     Ok(false)
 }
 
 fn tell_command(
-    alloc: Global,
     told: &mut CommandRemarks,
     wide: &WideCommand,
     deed: Deed,
@@ -127,7 +116,7 @@ fn tell_command(
         operand: b"",
         text: wide.head.text(),
     };
-    told.tell(alloc, wide.place, words, deed, reason)
+    told.tell(wide.place, words, deed, reason)
 }
 
 fn carried_operands<'a>(
@@ -151,12 +140,12 @@ fn carried_operands<'a>(
             continue;
         };
         if has_word(&carried, one.word) {
-            asked.refuse(alloc, told, b"", RemarkReason::Twice)?;
+            asked.refuse(told, b"", RemarkReason::Twice)?;
         } else {
             carried.push(one)?;
         }
     }
-    let carried = with_group(alloc, told, command, operands, carried)?;
+    let carried = with_group(told, command, operands, carried)?;
     for operand in operands {
         let asked = AskedOperand {
             command,
@@ -205,7 +194,6 @@ impl AskedOperand<'_> {
 
     pub(crate) fn tell(
         &self,
-        alloc: Global,
         told: &mut CommandRemarks,
         text: &[u8],
         deed: Deed,
@@ -216,23 +204,21 @@ impl AskedOperand<'_> {
             operand: self.operand.name.as_slice(),
             text,
         };
-        told.tell(alloc, self.operand.place, words, deed, reason)
+        told.tell(self.operand.place, words, deed, reason)
     }
 
     pub(crate) fn refuse(
         &self,
-        alloc: Global,
         told: &mut CommandRemarks,
         text: &[u8],
         reason: RemarkReason,
     ) -> Result<(), AllocError> {
-        self.tell(alloc, told, text, Deed::Refused, reason)
+        self.tell(told, text, Deed::Refused, reason)
     }
 
     // Tells that the word is an abbreviation, where it is one.
     fn spell_out(
         &self,
-        alloc: Global,
         told: &mut CommandRemarks,
         word: &[u8],
         full: &[u8],
@@ -240,7 +226,7 @@ impl AskedOperand<'_> {
         if word == full {
             return Ok(());
         }
-        self.tell(alloc, told, full, Deed::Carried, RemarkReason::SpelledOut)
+        self.tell(told, full, Deed::Carried, RemarkReason::SpelledOut)
     }
 }
 
@@ -252,12 +238,11 @@ fn carried_operand(
 ) -> Result<Option<CarriedOperand>, AllocError> {
     let operand = asked.operand;
     let Some(known) = asked.spelling() else {
-        asked.refuse(alloc, told, operand.text(), RemarkReason::NoOperand)?;
+        asked.refuse(told, operand.text(), RemarkReason::NoOperand)?;
         return Ok(None);
     };
     if known.form == OperandForm::Dropped {
         asked.tell(
-            alloc,
             told,
             operand.text(),
             Deed::Dropped,
@@ -265,7 +250,7 @@ fn carried_operand(
         )?;
         return Ok(None);
     }
-    asked.spell_out(alloc, told, known.word, known.full)?;
+    asked.spell_out(told, known.word, known.full)?;
     let Some(value) = carried_value(alloc, told, asked, &known)? else {
         return Ok(None);
     };
@@ -288,14 +273,14 @@ fn carried_value(
                 Value::Nothing,
             )),
             _ => {
-                asked.refuse(alloc, told, b"", RemarkReason::Missing)?;
+                asked.refuse(told, b"", RemarkReason::Missing)?;
                 Ok(None)
             }
         };
     };
     match known.form {
         OperandForm::Flag => {
-            asked.refuse(alloc, told, list.as_slice(), RemarkReason::NoOperand)?;
+            asked.refuse(told, list.as_slice(), RemarkReason::NoOperand)?;
             Ok(None)
         }
         OperandForm::GroupExtend => Ok(Some(Value::Nothing)),
@@ -330,21 +315,21 @@ fn listed(
         if form == OperandForm::Sources && member.ends_with(b"*") {
             put_sources(alloc, told, asked, member, &mut members)?;
         } else if !has_form(form, member) {
-            asked.refuse(alloc, told, member, RemarkReason::BadValue)?;
+            asked.refuse(told, member, RemarkReason::BadValue)?;
         } else if members.iter().any(|other| other.as_slice() == member) {
-            asked.tell(alloc, told, member, Deed::Dropped, RemarkReason::Twice)?;
+            asked.tell(told, member, Deed::Dropped, RemarkReason::Twice)?;
         } else {
             members.push(Vec::from_slice(alloc, member)?)?;
         }
     }
     if is_empty {
-        asked.refuse(alloc, told, b"", RemarkReason::Missing)?;
+        asked.refuse(told, b"", RemarkReason::Missing)?;
     }
     if members.len() > MOST {
-        asked.refuse(alloc, told, b"", RemarkReason::LongList)?;
+        asked.refuse(told, b"", RemarkReason::LongList)?;
     }
     if matches!(form, OperandForm::Source | OperandForm::Zone) && members.len() > 1 {
-        asked.refuse(alloc, told, list, RemarkReason::BadValue)?;
+        asked.refuse(told, list, RemarkReason::BadValue)?;
     }
     Ok(members)
 }
@@ -378,19 +363,13 @@ fn put_sources(
     members: &mut Vec<Vec<u8>>,
 ) -> Result<(), AllocError> {
     let Some(known) = asked.known else {
-        return asked.refuse(alloc, told, member, RemarkReason::NeedsKnown);
+        return asked.refuse(told, member, RemarkReason::NeedsKnown);
     };
     let front = member.strip_suffix(b"*").unwrap_or(member);
     if put_beginning(alloc, known, front, members)? {
-        asked.tell(
-            alloc,
-            told,
-            member,
-            Deed::Carried,
-            RemarkReason::KnownSources,
-        )
+        asked.tell(told, member, Deed::Carried, RemarkReason::KnownSources)
     } else {
-        asked.refuse(alloc, told, member, RemarkReason::NoSource)
+        asked.refuse(told, member, RemarkReason::NoSource)
     }
 }
 
@@ -430,7 +409,7 @@ fn bypass(
 ) -> Result<Option<Value>, AllocError> {
     let mut members: Vec<CarriedMember> = Vec::new(alloc);
     if asked.bypassed.is_empty() {
-        asked.refuse(alloc, told, list, RemarkReason::Missing)?;
+        asked.refuse(told, list, RemarkReason::Missing)?;
     }
     for operand in asked.bypassed {
         let asked = AskedOperand { operand, ..*asked };
@@ -438,7 +417,7 @@ fn bypass(
             continue;
         };
         if members.iter().any(|other| other.word == member.word) {
-            asked.refuse(alloc, told, b"", RemarkReason::Twice)?;
+            asked.refuse(told, b"", RemarkReason::Twice)?;
         } else {
             members.push(member)?;
         }
@@ -457,23 +436,17 @@ fn carried_member(
 ) -> Result<Option<CarriedMember>, AllocError> {
     let member = asked.operand;
     let Some(known) = spelling_of(asked.command.members, member.name.as_slice()) else {
-        asked.refuse(alloc, told, member.text(), RemarkReason::NoOperand)?;
+        asked.refuse(told, member.text(), RemarkReason::NoOperand)?;
         return Ok(None);
     };
     if known.form == OperandForm::Dropped {
-        asked.tell(
-            alloc,
-            told,
-            member.text(),
-            Deed::Dropped,
-            RemarkReason::NoDecision,
-        )?;
+        asked.tell(told, member.text(), Deed::Dropped, RemarkReason::NoDecision)?;
         return Ok(None);
     }
-    asked.spell_out(alloc, told, known.word, known.full)?;
+    asked.spell_out(told, known.word, known.full)?;
     let Some(list) = &member.value else {
         if known.form == OperandForm::Classes {
-            asked.refuse(alloc, told, b"", RemarkReason::Missing)?;
+            asked.refuse(told, b"", RemarkReason::Missing)?;
         }
         return Ok(Some(CarriedMember {
             word: known.full,
@@ -481,7 +454,7 @@ fn carried_member(
         }));
     };
     if known.form == OperandForm::Flag {
-        asked.refuse(alloc, told, list.as_slice(), RemarkReason::BadValue)?;
+        asked.refuse(told, list.as_slice(), RemarkReason::BadValue)?;
         return Ok(None);
     }
     let listed = listed(alloc, told, asked, known.form, list.as_slice())?;
@@ -498,7 +471,6 @@ fn place_of(operands: &[CarriedOperand], word: &[u8]) -> Option<usize> {
 
 // GROUP that stands alone is said by GROUP with SELECT's ids, in place of SELECT, where nothing else is chosen.
 fn with_group<'a>(
-    alloc: Global,
     told: &mut CommandRemarks,
     command: &'a CarriedCommand,
     operands: &'a [WideOperand],
@@ -521,14 +493,14 @@ fn with_group<'a>(
     };
     carried.retain(|operand| operand.word != b"GROUP".as_slice());
     let Some(select) = place_of(&carried, b"SELECT") else {
-        asked.refuse(alloc, told, b"", RemarkReason::NoOperand)?;
+        asked.refuse(told, b"", RemarkReason::NoOperand)?;
         return Ok(carried);
     };
     if carried.iter().any(|operand| chooses(operand.word)) {
-        asked.refuse(alloc, told, b"", RemarkReason::NoOperand)?;
+        asked.refuse(told, b"", RemarkReason::NoOperand)?;
         return Ok(carried);
     }
-    asked.tell(alloc, told, b"", Deed::Carried, RemarkReason::GroupOfSelect)?;
+    asked.tell(told, b"", Deed::Carried, RemarkReason::GroupOfSelect)?;
     if let Some(select) = carried.get_mut(select) {
         select.word = b"GROUP";
     }

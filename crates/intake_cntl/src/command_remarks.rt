@@ -1,20 +1,20 @@
 //! What is told of a command.
 
-use intake_cards::{Deed, Remark, RemarkReason};
+use intake_cards::{Deed, Remark, RemarkList, RemarkReason};
 use intake_read::CardPlace;
 use std::alloc::{AllocError, Global};
 
 /// The remarks so far, and how many of them say that nothing is written.
 #[derive(Drop)]
 pub(crate) struct CommandRemarks {
-    pub(crate) remarks: Vec<Remark>,
+    pub(crate) remarks: RemarkList,
     pub(crate) refusals: usize,
 }
 
 impl CommandRemarks {
     pub(crate) fn new(alloc: Global) -> CommandRemarks {
         CommandRemarks {
-            remarks: Vec::new(alloc),
+            remarks: RemarkList::new(alloc),
             refusals: 0,
         }
     }
@@ -22,7 +22,6 @@ impl CommandRemarks {
     /// Tells something of an operand of a command, or of the command where the operand is empty.
     pub(crate) fn tell(
         &mut self,
-        alloc: Global,
         place: CardPlace,
         words: RemarkWords<'_>,
         deed: Deed,
@@ -31,16 +30,15 @@ impl CommandRemarks {
         if deed == Deed::Refused {
             self.refusals = self.refusals.saturating_add(1);
         }
-        self.remarks.push(Remark {
+        self.remarks.push(&Remark {
             place,
-            statement: Vec::from_slice(alloc, words.command)?,
-            id: Vec::new(alloc),
-            operand: Vec::from_slice(alloc, words.operand)?,
+            statement: words.command,
+            id: b"",
+            operand: words.operand,
             deed,
             reason,
-            text: Vec::from_slice(alloc, words.text)?,
-        })?;
-        Ok(())
+            text: words.text,
+        })
     }
 }
 

@@ -9,7 +9,7 @@ use crate::command_remarks::{CommandRemarks, RemarkWords};
 use crate::print::put_command;
 use cntl::{CntlError, Command, read_cntl};
 use intake_asked::{CommandComment, KnownSysmod, WideCommand, WideCommands, are_said, says};
-use intake_cards::{Deed, PrintedCards, Remark, RemarkReason, Tail};
+use intake_cards::{Deed, PrintedCards, RemarkList, RemarkReason, Tail};
 use intake_read::{Card, CardPlace};
 use std::alloc::{AllocError, Global};
 use terms::CommandCode;
@@ -20,7 +20,7 @@ pub struct CommandFile {
     /// The records, where every word is carried or dropped.
     pub bytes: Option<Vec<u8>>,
     /// What is told, in the order of the file.
-    pub remarks: Vec<Remark>,
+    pub remarks: RemarkList,
     /// How many commands are carried.
     pub carried: usize,
     /// How many are dropped or named.
@@ -39,8 +39,8 @@ pub fn command_file(
         × IsCommandFile bytes.items commands × AreSaid known.now wide.now.commands.items commands)) }
 {
     let mut told = CommandRemarks::new(alloc);
-    tell_cards(alloc, &mut told, cards, &wide.cut)?;
-    tell_comments(alloc, &mut told, &wide.comments)?;
+    tell_cards(&mut told, cards, &wide.cut)?;
+    tell_comments(&mut told, &wide.comments)?;
     let made = records_of(alloc, &mut told, wide.commands.as_slice(), known)?;
     let carried = made.carried;
     let others = made.others;
@@ -85,7 +85,6 @@ fn records_of(
 
 // Tells the texts of columns 73 to 80, and the cards that are cut.
 fn tell_cards(
-    alloc: Global,
     told: &mut CommandRemarks,
     cards: &[Card],
     cut: &[CardPlace],
@@ -94,7 +93,6 @@ fn tell_cards(
         if card.tail() == Tail::Other {
             let text = card.text[72..].trim_ascii();
             tell_card(
-                alloc,
                 told,
                 card.place,
                 text,
@@ -104,24 +102,13 @@ fn tell_cards(
         }
     }
     for place in cut {
-        tell_card(
-            alloc,
-            told,
-            *place,
-            b"",
-            Deed::Refused,
-            RemarkReason::LongLine,
-        )?;
+        tell_card(told, *place, b"", Deed::Refused, RemarkReason::LongLine)?;
     }
     Ok(())
 }
 
 // Tells what stands in comments inside commands, from the second card on, where each comment opens.
-fn tell_comments(
-    alloc: Global,
-    told: &mut CommandRemarks,
-    comments: &[CommandComment],
-) -> Result<(), AllocError> {
+fn tell_comments(told: &mut CommandRemarks, comments: &[CommandComment]) -> Result<(), AllocError> {
     for comment in comments {
         let words = RemarkWords {
             command: comment.command.as_slice(),
@@ -129,7 +116,6 @@ fn tell_comments(
             text: comment.text.as_slice(),
         };
         told.tell(
-            alloc,
             comment.place,
             words,
             Deed::Dropped,
@@ -140,7 +126,6 @@ fn tell_comments(
 }
 
 fn tell_card(
-    alloc: Global,
     told: &mut CommandRemarks,
     place: CardPlace,
     text: &[u8],
@@ -152,7 +137,7 @@ fn tell_card(
         operand: b"",
         text,
     };
-    told.tell(alloc, place, words, deed, reason)
+    told.tell(place, words, deed, reason)
 }
 
 // Puts the command's records behind the others, where all of it can be said, and answers whether it was put there. One
@@ -189,13 +174,12 @@ fn append(
         Err(CntlError::Memory) => return Err(AllocError),
         Err(CntlError::Fault { code, .. }) => reason_of(&command, code),
     };
-    tell_unread(alloc, told, &command, reason)?;
+    tell_unread(told, &command, reason)?;
     Ok(false)
 }
 
 // Names a command whose records are not read as it is, with the operand that it must have and has not.
 fn tell_unread(
-    alloc: Global,
     told: &mut CommandRemarks,
     command: &Carried,
     reason: RemarkReason,
@@ -209,7 +193,7 @@ fn tell_unread(
         operand,
         text: b"",
     };
-    told.tell(alloc, command.place, words, Deed::Refused, reason)
+    told.tell(command.place, words, Deed::Refused, reason)
 }
 
 // The operand that the command can't be without.

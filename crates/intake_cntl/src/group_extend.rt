@@ -29,28 +29,22 @@ pub(crate) fn with_excluded(
             continue;
         }
         let Some((_, kind, choosing)) = KEPT_OUT.iter().find(|(word, _, _)| *word == member) else {
-            asked.refuse(alloc, told, member, RemarkReason::NoOperand)?;
+            asked.refuse(told, member, RemarkReason::NoOperand)?;
             continue;
         };
         if has_word(&carried, *choosing) {
-            asked.refuse(alloc, told, member, RemarkReason::Contradiction)?;
+            asked.refuse(told, member, RemarkReason::Contradiction)?;
         }
         let Some(known) = asked.known else {
-            asked.refuse(alloc, told, member, RemarkReason::NeedsKnown)?;
+            asked.refuse(told, member, RemarkReason::NeedsKnown)?;
             continue;
         };
-        asked.tell(
-            alloc,
-            told,
-            member,
-            Deed::Carried,
-            RemarkReason::KnownExcluded,
-        )?;
+        asked.tell(told, member, Deed::Carried, RemarkReason::KnownExcluded)?;
         put_of_kind(alloc, known, *kind, &carried, &mut ids)?;
     }
     put_excluded(alloc, &mut carried, ids)?;
     if has_long_exclude(&carried) {
-        asked.refuse(alloc, told, b"", RemarkReason::LongList)?;
+        asked.refuse(told, b"", RemarkReason::LongList)?;
     }
     Ok(carried)
 }

@@ -9,39 +9,43 @@ use Rattle.mcs.specs.HoldItems as hold
 use Rattle.mcs.specs.declared.file.Item.{Item}
 use Rattle.mcs.specs.declared.hold_item.HoldItem.{HoldItem}
 use Rattle.intake_read.specs.declared.items.WideFile.{WideFile}
+use Rattle.intake_read.specs.declared.items.WideHold.{WideHold}
 use Rattle.intake_carry.specs.Carried.{FilesBecome}
 use Rattle.intake_asked.specs.declared.known.KnownSysmod.{KnownSysmod}
 use Rattle.intake_asked.specs.declared.scan.WideCommand.{WideCommand}
 use Rattle.intake_words.specs.declared.options.IntakeOptions.{IntakeOptions}
 use Rattle.intake_command.specs.Acts.{HostAct, Gives, Puts, Prints, Speaks, IsQuiet}
 use Rattle.intake_command.specs.Done.{LeadTo, HasDone}
-use Rattle.intake_command.specs.Keeping.{IsServiceFiles, KeepsFiles}
-use Rattle.intake_command.specs.Serving.{AreRead, ServesFiles, ServesCommands, IsKnownList, IsCommandEnd, folder_of, inputs}
+use Rattle.intake_command.specs.Keeping.{KeepsFiles}
+use Rattle.intake_command.specs.Serving.{AreRead, KeepsService, ServesFiles, ServesCommands, IsKnownList, IsCommandEnd, folder_of, inputs}
 use Rattle.intake_command.specs.Serving.{IsWithin, IsCleared, EndsApart, Ends, EndsServed, comparisons}
 use Rattle.intake_command.specs.declared.surroundings.IntakeHost.{Ghosts}
 use Rattle.intake_command.proofs.Doing.{joined, one}
 
 module _ {H : Type 0} (host : Ghosts H) (asked : IntakeOptions) where
-  pub served_files : {a b c d e : H} (files : List WideFile) (items : List Item) (outside : List HoldItem)
-      (summary : List ℕ) → HasDone host (AreRead (map string_bytes asked.files.items) files) a b
-      → HasDone host (All IsQuiet) b c → FilesBecome asked.decide files items outside
-      → KeepsFiles host c (folder_of asked) (IsServiceFiles (ptfin.items items) (hold.items outside)) d
+  pub served_files : {a b c d e : H} (files : List WideFile) (holds : List WideHold) (items : List Item)
+      (outside : List HoldItem) (summary : List ℕ)
+      → HasDone host (AreRead (map string_bytes asked.files.items) files) a b
+      → HasDone host (All IsQuiet) b c → FilesBecome asked.decide files holds items outside
+      → HasDone host (KeepsService (folder_of asked) (ptfin.items items) (hold.items outside)) c d
       → host.does d (Prints summary) e → HasDone host (ServesFiles asked) a e
-  served_files {a} {b} {c} {d} {e} files items outside summary r m become k p = record {
-    acts = r.acts ++ m.acts ++ Puts (folder_of asked) k.0 ∷ Prints summary ∷ [];
-    lead = joined host a (r.acts ++ m.acts) (Puts (folder_of asked) k.0 ∷ Prints summary ∷ []) c e
-        (joined host a r.acts m.acts b c r.lead m.lead) (d, k.2, (e, p, refl));
+  served_files {a} {b} {c} {d} {e} files holds items outside summary r m become k p = record {
+    acts = r.acts ++ m.acts ++ k.acts ++ Prints summary ∷ [];
+    lead = joined host a (r.acts ++ m.acts ++ k.acts) (Prints summary ∷ []) d e
+        (joined host a (r.acts ++ m.acts) k.acts c d (joined host a r.acts m.acts b c r.lead m.lead) k.lead)
+        (e, p, refl);
     are = record {
       files = files;
       reading = r.acts;
       read = r.are;
       more = m.acts;
       quiet = m.are;
+      holds = holds;
       items = items;
       outside = outside;
       become = become;
-      kept = k.0;
-      are_kept = k.1;
+      keeping = k.acts;
+      keeps = k.are;
       summary = summary;
       acts_are = refl;
     };

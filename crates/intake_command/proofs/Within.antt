@@ -1,5 +1,5 @@
 -- What stays within the folder.
-use Rattle.std.proofs.Common.{◌≡◌, ℕ, List, [], ◌∷◌, Option, Some, None, Vec, subst, sym, refl, inl, inr}
+use Rattle.std.proofs.Common.{◌≡◌, ℕ, List, [], ◌∷◌, ◌++◌, Option, Some, None, Vec, subst, sym, refl, inl, inr}
 use Rattle.std.specs.List.{All}
 use Rattle.std.specs.Prelude.{IsTrue, codes}
 use Rattle.terms.specs.Lookups.{is_in}
@@ -10,23 +10,37 @@ use Rattle.terms.specs.Types.{Text}
 use Rattle.intake_read.specs.declared.items.WideFile.{WideFile}
 use Rattle.intake_asked.specs.declared.known.KnownSysmod.{KnownSysmod}
 use Rattle.intake_asked.specs.declared.scan.WideCommand.{WideCommand}
-use Rattle.intake_command.specs.Acts.{HostAct, Gives, Withholds, Compares, Puts, Loses, Prints, Speaks, IsQuiet}
+use Rattle.intake_command.specs.Acts.{HostAct, Gives, Withholds, Compares, Drafts, Puts, Loses, Prints, Speaks}
+use Rattle.intake_command.specs.Acts.{IsQuiet}
 use Rattle.intake_command.specs.Acts.{FolderFiles}
 use Rattle.intake_command.specs.Done.{HasDone}
 use Rattle.intake_command.specs.Files.{AreOutputs, outputs}
 use Rattle.intake_command.specs.Keeping.{IsServiceFiles, IsCommandFiles, IsRemarksFile, KeepsFiles, KeepsNothing}
-use Rattle.intake_command.specs.Serving.{AreRead, IsWithin, IsKnownList, IsCommandEnd}
+use Rattle.intake_command.specs.Serving.{AreRead, DraftsRemarks, KeepsService, IsWithin, IsKnownList, IsCommandEnd}
 use Rattle.intake_command.specs.declared.surroundings.IntakeHost.{Ghosts}
-use Rattle.intake_command.proofs.Doing.{both, did, idle, one, quiet_did, weaker}
+use Rattle.intake_command.proofs.Doing.{both, did, idle, joined, one, quiet_did, weaker}
+use Rattle.std.specs.declared.io.Error.{Error}
 
 is_within : (folder : Text) (act : HostAct) → IsQuiet act → IsWithin folder act
 is_within folder (Gives name bytes) q = tt
 is_within folder (Withholds name error) q = tt
 is_within folder (Compares one other same) q = tt
+is_within folder (Drafts into name bytes) q = absurd q
 is_within folder (Puts into files) q = absurd q
 is_within folder (Loses of files error) q = absurd q
 is_within folder (Prints text) q = tt
 is_within folder Speaks q = tt
+
+-- what is drafted stays within the folder
+drafted_within : (folder : Text) (act : HostAct) → DraftsRemarks folder act → IsWithin folder act
+drafted_within folder (Drafts into name bytes) d = (d.0, subst (λ n. IsTrue (is_in outputs n)) (sym d.1) refl)
+drafted_within folder (Gives name bytes) d = absurd d
+drafted_within folder (Withholds name error) d = absurd d
+drafted_within folder (Compares one other same) d = absurd d
+drafted_within folder (Puts into files) d = absurd d
+drafted_within folder (Loses of files error) d = absurd d
+drafted_within folder (Prints text) d = absurd d
+drafted_within folder Speaks d = absurd d
 
 -- each file that was read was given, and nothing else was done
 pub read_quiet : (names : List Text) (files : List WideFile) (acts : List HostAct) → AreRead names files acts
@@ -122,3 +136,47 @@ module _ {H : Type 0} (host : Ghosts H) (folder : Text) where
   pub within_did : (before : H) (act : HostAct) (after : H) → host.does before act after → IsQuiet act
       → HasDone host (All (IsWithin folder)) before after
   within_did before act after does is = quiet_within (quiet_did host before act after does is)
+
+  pub drafts_within : {before after : H} → HasDone host (All (DraftsRemarks folder)) before after
+      → HasDone host (All (IsWithin folder)) before after
+  drafts_within p =
+      weaker host p (λ xs all. All-weaker (DraftsRemarks folder) (IsWithin folder) (drafted_within folder) xs all)
+
+  -- one more part of the remarks is drafted
+  pub drafted : {before after : H} (bytes : List ℕ) → host.does before (Drafts folder (codes "remarks") bytes) after
+      → HasDone host (All (DraftsRemarks folder)) before after
+  drafted {before} {after} bytes does =
+      did host before (Drafts folder (codes "remarks") bytes) after does
+      (one (DraftsRemarks folder) (Drafts folder (codes "remarks") bytes) (refl, refl))
+
+  pub draft_lost : {before after : H} (bytes : List ℕ) (error : Error)
+      → host.does before (Loses folder ((codes "remarks", Some bytes) ∷ []) error) after
+      → HasDone host (All (IsWithin folder)) before after
+  draft_lost {before} {after} bytes error does =
+      let files : FolderFiles = (codes "remarks", Some bytes) ∷ [] in
+      did host before (Loses folder files error) after does (one (IsWithin folder) (Loses folder files error)
+      (refl, more_outputs (codes "remarks") (Some bytes) [] refl none_more))
+
+  pub drafts_more : {before between after : H} → HasDone host (All (DraftsRemarks folder)) before between
+      → HasDone host (All (DraftsRemarks folder)) between after
+      → HasDone host (All (DraftsRemarks folder)) before after
+  drafts_more p q = both host p q (λ xs ys a b. All-append (DraftsRemarks folder) xs ys a b)
+
+  -- the remarks were drafted, and then the files were kept
+  pub kept_service : {before between after : H} (items : List terms.Item) (holds : List terms.HoldItem)
+      → HasDone host (All (DraftsRemarks folder)) before between
+      → KeepsFiles host between folder (IsServiceFiles items holds) after
+      → HasDone host (KeepsService folder items holds) before after
+  kept_service {before} {between} {after} items holds p kept = record {
+    acts = p.acts ++ Puts folder kept.0 ∷ [];
+    lead = joined host before p.acts (Puts folder kept.0 ∷ []) between after p.lead (after, kept.2, refl);
+    are = record { drafts = p.acts; drafted = p.are; kept = kept.0; are_kept = kept.1; acts_are = refl };
+  }
+
+  pub service_within : {before after : H} (items : List terms.Item) (holds : List terms.HoldItem)
+      → HasDone host (KeepsService folder items holds) before after
+      → HasDone host (All (IsWithin folder)) before after
+  service_within items holds p =
+      weaker host p (λ acts k. subst (All (IsWithin folder)) (sym k.acts_are) (All-append (IsWithin folder) k.drafts
+      (Puts folder k.kept ∷ []) (All-weaker (DraftsRemarks folder) (IsWithin folder) (drafted_within folder) k.drafts
+      k.drafted) (one (IsWithin folder) (Puts folder k.kept) (refl, service_outputs items holds k.kept k.are_kept))))

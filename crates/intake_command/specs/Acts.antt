@@ -14,7 +14,11 @@ pub data HostAct : Type 0 where
   Withholds : (name : Text) (error : Error) → HostAct
   -- Whether both names are of one file that is there.
   Compares : (one : Text) (other : Text) (same : Bool) → HostAct
-  -- The folder has these files, each with its bytes, and none of those that have no bytes.
+  -- Bytes were written to the draft of the file of this name, after those that are there. The folder does not have the
+  -- file yet.
+  Drafts : (folder : Text) (name : Text) (bytes : List ℕ) → HostAct
+  -- The folder has these files, each with what was drafted of it and then its bytes, and none of those that have no
+  -- bytes.
   Puts : (folder : Text) (files : FolderFiles) → HostAct
   -- Nothing of these files is left in the folder, for this error.
   Loses : (folder : Text) (files : FolderFiles) (error : Error) → HostAct
@@ -25,6 +29,7 @@ pub data HostAct : Type 0 where
 
 -- It puts nothing into a folder, and takes nothing out.
 abbrev pub IsQuiet : HostAct → Type 0
+IsQuiet (Drafts folder name bytes) = ⊥
 IsQuiet (Puts folder files) = ⊥
 IsQuiet (Loses folder files error) = ⊥
 IsQuiet _ = Unit {0}

@@ -1,5 +1,7 @@
 -- What a run does.
 use Rattle.std.specs.Prelude.{◌≡◌, ◌⊎◌, ℕ, false, List, [], ◌∷◌, ◌++◌, Option, Some, None, Vec, map, option_map, All}
+use Rattle.std.specs.Prelude.{IsTrue, codes}
+use Rattle.terms.specs.Lookups.{is_in}
 use Rattle.std.specs.Prelude.{option_to_list}
 use Rattle.std.specs.List.{flat_map}
 use Rattle.std.specs.String.{string_bytes}
@@ -12,13 +14,14 @@ use Rattle.mcs.specs.HoldItems as hold
 use Rattle.mcs.specs.declared.file.Item.{Item}
 use Rattle.mcs.specs.declared.hold_item.HoldItem.{HoldItem}
 use Rattle.intake_read.specs.declared.items.WideFile.{WideFile}
+use Rattle.intake_read.specs.declared.items.WideHold.{WideHold}
 use Rattle.intake_carry.specs.Become.{Become}
 use Rattle.intake_carry.specs.Carried.{FilesBecome}
 use Rattle.intake_asked.specs.declared.known.KnownSysmod.{KnownSysmod}
 use Rattle.intake_asked.specs.declared.scan.WideCommand.{WideCommand}
 use Rattle.intake_asked.specs.Said.{AreSaid}
 use Rattle.intake_words.specs.declared.options.IntakeOptions.{IntakeOptions}
-use Rattle.intake_command.specs.Acts.{HostAct, Gives, Compares, Puts, Loses, Prints, FolderFiles, IsQuiet}
+use Rattle.intake_command.specs.Acts.{HostAct, Gives, Compares, Drafts, Puts, Loses, Prints, FolderFiles, IsQuiet}
 use Rattle.intake_command.specs.Files.{path_of, new_path_of, outputs, no_outputs, AreOutputs}
 use Rattle.intake_command.specs.Keeping.{IsServiceFiles, IsCommandFiles, IsRemarksFile}
 
@@ -50,21 +53,36 @@ IsRead name files acts = (file : WideFile) × (bytes : List ℕ) × (files ≡ f
 abbrev pub AreRead : List Text → List WideFile → List HostAct → Type 0
 AreRead names files acts = Become IsRead names files acts
 
+-- Part of the remarks was drafted.
+abbrev pub DraftsRemarks : Text → HostAct → Type 0
+DraftsRemarks folder (Drafts into name bytes) = (into ≡ folder) × (name ≡ codes "remarks")
+DraftsRemarks folder _ = ⊥
+
+-- Remarks were drafted, and nothing else; then the folder was given these items, with the remarks.
+pub record KeepsService (folder : Text) (items : List terms.Item) (holds : List terms.HoldItem) (acts : List HostAct) :
+    Type 0 where
+  pub drafts : List HostAct
+  pub drafted : All (DraftsRemarks folder) drafts
+  pub kept : FolderFiles
+  pub are_kept : IsServiceFiles items holds kept
+  pub acts_are : acts ≡ drafts ++ Puts folder kept ∷ []
+
 -- The files that are named were read, one by one, and then those of --relfile; what their statements become was put
--- into the folder, and the summary was printed.
+-- into the folder, and the summary was printed. `holds` are the holds outside SYSMODs, in order.
 pub record ServesFiles (asked : IntakeOptions) (acts : List HostAct) : Type 0 where
   pub files : List WideFile
   pub reading : List HostAct
   pub read : AreRead (map string_bytes asked.files.items) files reading
   pub more : List HostAct
   pub quiet : All IsQuiet more
+  pub holds : List WideHold
   pub items : List Item
   pub outside : List HoldItem
-  pub become : FilesBecome asked.decide files items outside
-  pub kept : FolderFiles
-  pub are_kept : IsServiceFiles (ptfin.items items) (hold.items outside) kept
+  pub become : FilesBecome asked.decide files holds items outside
+  pub keeping : List HostAct
+  pub keeps : KeepsService (folder_of asked) (ptfin.items items) (hold.items outside) keeping
   pub summary : List ℕ
-  pub acts_are : acts ≡ reading ++ more ++ Puts (folder_of asked) kept ∷ Prints summary ∷ []
+  pub acts_are : acts ≡ reading ++ more ++ keeping ++ Prints summary ∷ []
 
 -- the list of known SYSMODs, if one is named
 abbrev pub IsKnownList : Option Text → Option (Vec KnownSysmod Global) → List HostAct → Type 0
@@ -99,6 +117,7 @@ Serves asked (Some name) status acts = ServesCommands asked name status acts
 
 -- Nothing was put into another folder, nor other files into this one.
 abbrev pub IsWithin : Text → HostAct → Type 0
+IsWithin folder (Drafts into name bytes) = (into ≡ folder) × IsTrue (is_in outputs name)
 IsWithin folder (Puts into files) = (into ≡ folder) × AreOutputs files
 IsWithin folder (Loses of files error) = (of ≡ folder) × AreOutputs files
 IsWithin folder _ = Unit {0}

@@ -1,5 +1,5 @@
 //! What is written, and read back before.
-ghost use Rattle.std.specs.Prelude.{IfOk, OnOk, OnErr, List};
+ghost use Rattle.std.specs.Prelude.{◌≡◌, ◌++◌, IfOk, OnOk, OnErr, List};
 ghost use Rattle.terms.specs.Types as terms;
 ghost use Rattle.terms.specs.Ptfin.{IsPtfin};
 ghost use Rattle.terms.specs.HoldFile.{IsHoldFile};
@@ -17,8 +17,11 @@ use intake_words::IntakeFault;
 use mcs::{HoldItem, Item, McsError, read_hold, read_ptfin};
 use std::alloc::Global;
 
-/// Puts the items into `ptfin`, the holds and releases into `hold`, and the remarks beside them, with what stand-ins
-/// are for; where there is nothing of these, a file of an earlier run is taken away. `NotReadBack` comes
+/// How many items of a hold file are printed and read back at a time.
+const AT_A_TIME: usize = 512;
+
+/// Puts the items into `ptfin`, the holds and releases into `hold`, and the remarks beside them, of which some may be
+/// drafted, with what stand-ins are for; where there is nothing of these, a file of an earlier run is taken away. `NotReadBack` comes
 /// where a file is not read as what was meant, and `CannotWrite` where the folder does not take them.
 pub fn keep_service<H: IntakeHost>(
     alloc: Global,
@@ -58,8 +61,46 @@ fn ptfin_of(alloc: Global, meant: &[Item]) -> Result<Vec<u8>, IntakeFault>
     Ok(bytes)
 }
 
-// The records of a hold file that is read as these holds and releases.
+// The records of a hold file that is read as these holds and releases. They are printed and read back a part at a time,
+// so that only a part of them is there twice.
 fn hold_of(alloc: Global, meant: &[HoldItem]) -> Result<Vec<u8>, IntakeFault>
+    ensures { IfOk result (λ bytes. IsHoldFile bytes.items (hold_files.items meant.now)) }
+{
+    let mut bytes = Vec::new(alloc);
+    let mut rest = meant;
+    for _ in 0..meant.len() / AT_A_TIME {
+        let part = first_part(rest);
+        let mut records = part_of(alloc, part.first)?;
+        bytes.append(&mut records)?;
+        rest = part.rest;
+    }
+    let mut records = part_of(alloc, rest)?;
+    bytes.append(&mut records)?;
+    Ok(bytes)
+}
+
+/// Some items, and those after them.
+#[derive(Clone, Copy)]
+struct HoldPart<'a> {
+    first: &'a [HoldItem],
+    rest: &'a [HoldItem],
+}
+
+// The first items, as many as are read back at a time, and the others.
+fn first_part(items: &[HoldItem]) -> HoldPart<'_>
+    ensures { result.first.now ++ result.rest.now ≡ items.now }
+{
+    match items.split_at_checked(AT_A_TIME) {
+        Some((first, rest)) => HoldPart { first, rest },
+        None => HoldPart {
+            first: &[],
+            rest: items,
+        },
+    }
+}
+
+// The records of a part of a hold file, which is a hold file too.
+fn part_of(alloc: Global, meant: &[HoldItem]) -> Result<Vec<u8>, IntakeFault>
     ensures { IfOk result (λ bytes. IsHoldFile bytes.items (hold_files.items meant.now)) }
 {
     let bytes = hold_file(alloc, meant)?;

@@ -3,22 +3,25 @@ ghost use Rattle.std.specs.Prelude.{◌≡◌, ◌⊎◌, ℕ, List, IfOk, OnOk,
 ghost use Rattle.std.specs.String.{string_bytes};
 ghost use Rattle.mcs.specs.Files as ptfin;
 ghost use Rattle.mcs.specs.HoldItems as hold;
+ghost use Rattle.intake_read.specs.declared.items.WideHold.{WideHold};
 ghost use Rattle.intake_carry.specs.Carried.{FilesBecome};
+ghost use Rattle.intake_carry.specs.Outside.{AreCarried, CarriesHolds};
 ghost use Rattle.intake_command.specs.Acts.{IsQuiet, Gives};
 ghost use Rattle.intake_command.specs.Done.{HasDone};
-ghost use Rattle.intake_command.specs.Keeping.{IsServiceFiles, KeepsFiles, KeepsNothing};
-ghost use Rattle.intake_command.specs.Serving.{AreRead, ServesFiles, IsWithin, folder_of};
+ghost use Rattle.intake_command.specs.Serving.{AreRead, ServesFiles, KeepsService, DraftsRemarks, IsWithin, folder_of};
 
 use crate::keep::keep_service;
 use crate::members::members;
 use crate::printing::print;
 use crate::reading::read;
 use crate::surroundings::IntakeHost;
-use intake_carry::{NarrowError, Narrowed, narrow};
-use intake_read::{WideFile, read_wide};
+use intake_cards::RemarkList;
+use intake_carry::{NarrowError, Narrowed, OutsideHolds, narrow, read_statements};
+use intake_read::WideFile;
 use intake_sysmod::{Options, RelfileMember};
 use intake_words::{
-    InputFiles, IntakeFault, IntakeOptions, cards_of, refused, stand_ins_file, summary_of, tell,
+    InputFiles, IntakeFault, IntakeOptions, open_cards, put_line, refused, stand_ins_file,
+    summary_of, tell_assumed,
 };
 use mcs::{HoldItem, Item};
 use std::alloc::{AllocError, Global};
@@ -26,13 +29,16 @@ use std::alloc::{AllocError, Global};
 /// The status where something is left out that may be asked for.
 const LEFT_OUT_STATUS: u8 = 4;
 
+/// How many bytes of remarks are drafted at a time.
+const DRAFTED: usize = 65_536;
+
 /// What is to be put into the folder, and what is to be said of it.
 #[derive(Drop)]
 struct MadeFiles {
     items: Vec<Item>,
     hold_items: Vec<HoldItem>,
     stand_ins: Option<Vec<u8>>,
-    remarks: Vec<u8>,
+    remarks: RemarkList,
     summary: Vec<u8>,
     is_whole: bool,
 }
@@ -48,13 +54,14 @@ pub(crate) fn serve_files<H: IntakeHost>(
     ensures err { OnErr result (HasDone H.IntakeHost (All (IsWithin (folder_of asked.now))) host.old host.new) }
 {
     let mut sources = InputFiles::new(alloc);
-    let mut remarks = Vec::new(alloc);
-    let files = wide_files(alloc, host, &mut sources, asked, &mut remarks)?;
-    let members = members(alloc, host, &mut sources, asked, &files, &mut remarks)?;
-    let made = made_of(alloc, &sources, asked, &files, members, remarks)?;
+    let mut lines = Vec::new(alloc);
+    let mut held = OutsideHolds::new(alloc);
+    let files = wide_files(alloc, host, &mut sources, asked, &mut held, &mut lines)?;
+    let members = members(alloc, host, &mut sources, asked, &files, &mut lines)?;
+    let made = made_of(alloc, &sources, asked, &files, held, members)?;
     let summary = made.summary.clone()?;
     let status = status(made.is_whole);
-    keep_made(alloc, host, asked, made)?;
+    keep_made(alloc, host, asked, &sources, made, lines)?;
     print(host, &summary)?;
     Ok(status)
 }
@@ -65,24 +72,26 @@ fn status(is_whole: bool) -> u8
     if is_whole { 0 } else { LEFT_OUT_STATUS }
 }
 
-// What the files state, one after the other.
+// What the files state, one after the other. Their holds outside SYSMODs are carried as they are read.
 fn wide_files<H: IntakeHost>(
     alloc: Global,
     host: &mut H,
     sources: &mut InputFiles,
     asked: &IntakeOptions,
-    remarks: &mut Vec<u8>,
+    held: &mut OutsideHolds,
+    lines: &mut Vec<u8>,
 ) -> Result<Vec<WideFile>, IntakeFault>
     ensures ok { IfOk result (λ files. HasDone H.IntakeHost
         (AreRead (map string_bytes asked.now.files.items) files.items) host.old host.new) }
+    ensures held { OnOk result (CarriesHolds held.old → CarriesHolds held.new) }
     ensures err { OnErr result (HasDone H.IntakeHost (All IsQuiet) host.old host.new) }
 {
     let mut files = Vec::new(alloc);
     for name in asked.files.iter() {
-        let file = wide_file(alloc, host, sources, asked, name.as_str(), remarks)?;
+        let file = wide_file(alloc, host, sources, asked, name.as_str(), held, lines)?;
         files.push(file)?;
     }
-    if !has_statement(&files) {
+    if held.is_empty() && !has_statement(&files) {
         return Err(IntakeFault::NoStatement);
     }
     Ok(files)
@@ -94,13 +103,15 @@ fn wide_file<H: IntakeHost>(
     sources: &mut InputFiles,
     asked: &IntakeOptions,
     name: &str,
-    remarks: &mut Vec<u8>,
+    held: &mut OutsideHolds,
+    lines: &mut Vec<u8>,
 ) -> Result<WideFile, IntakeFault>
     ensures ok { OnOk result ((bytes : List ℕ) × H.does host.old (Gives name.now bytes) host.new) }
+    ensures held { OnOk result (CarriesHolds held.old → CarriesHolds held.new) }
     ensures err { OnErr result (HasDone H.IntakeHost (All IsQuiet) host.old host.new) }
 {
     let bytes = read(alloc, host, name)?;
-    let file = statements_of(alloc, sources, asked, name, bytes, remarks)?;
+    let file = statements_of(alloc, sources, asked, name, bytes, held, lines)?;
     Ok(file)
 }
 
@@ -111,21 +122,23 @@ fn statements_of(
     asked: &IntakeOptions,
     name: &str,
     bytes: Vec<u8>,
-    remarks: &mut Vec<u8>,
-) -> Result<WideFile, IntakeFault> {
-    let cards = cards_of(
-        alloc, sources, name, &bytes, asked.form, asked.code, remarks,
-    )?;
-    drop(bytes);
-    match read_wide(alloc, &cards) {
-        Ok(file) => Ok(file),
-        Err(error) => Err(IntakeFault::of_statement(alloc, sources, &error)),
-    }
+    held: &mut OutsideHolds,
+    lines: &mut Vec<u8>,
+) -> Result<WideFile, IntakeFault>
+    ensures { OnOk result (CarriesHolds held.old → CarriesHolds held.new) }
+{
+    let mut cards = open_cards(alloc, sources, name, &bytes, asked.form, asked.code)?;
+    let mut notes = Vec::new(alloc);
+    let file = match read_statements(alloc, &mut cards, &mut notes, held) {
+        Ok(file) => file,
+        Err(error) => return Err(IntakeFault::of_statement(alloc, sources, &error)),
+    };
+    tell_assumed(alloc, name, cards.form, cards.code, &notes, lines)?;
+    Ok(file)
 }
 
 fn has_statement(files: &[WideFile]) -> bool {
     files.iter().any(|file| !file.sysmods.is_empty()
-        || !file.holds.is_empty()
         || !file.releases.is_empty()
         || !file.assigns.is_empty()
         || !file.others.is_empty())
@@ -137,45 +150,39 @@ fn made_of(
     sources: &InputFiles,
     asked: &IntakeOptions,
     files: &[WideFile],
+    held: OutsideHolds,
     members: Vec<RelfileMember>,
-    remarks: Vec<u8>,
 ) -> Result<MadeFiles, IntakeFault>
-    ensures { IfOk result (λ made. FilesBecome asked.now.decide files.now made.items.items made.hold_items.items) }
+    ensures { (holds : List WideHold) → AreCarried holds held → IfOk result (λ made. FilesBecome asked.now.decide
+        files.now holds made.items.items made.hold_items.items) }
 {
     let options = Options {
         decide: asked.decide,
         syslibs: asked.syslibs.clone()?,
         members,
     };
-    let narrowed = match narrow(alloc, files, options) {
+    let narrowed = match narrow(alloc, files, held, options) {
         Ok(narrowed) => narrowed,
         Err(NarrowError::Memory) => return Err(IntakeFault::Memory),
         Err(NarrowError::Refused(remarks)) => return Err(refused(alloc, sources, &remarks)),
     };
-    let made = told(alloc, sources, asked, narrowed, remarks)?;
+    let made = told(alloc, asked, narrowed)?;
     Ok(made)
 }
 
 // With what is said of it.
-fn told(
-    alloc: Global,
-    sources: &InputFiles,
-    asked: &IntakeOptions,
-    narrowed: Narrowed,
-    mut remarks: Vec<u8>,
-) -> Result<MadeFiles, AllocError>
+fn told(alloc: Global, asked: &IntakeOptions, narrowed: Narrowed) -> Result<MadeFiles, AllocError>
     ensures items { IfOk result (λ made. made.items.items ≡ narrowed.items.items) }
     ensures holds { IfOk result (λ made. made.hold_items.items ≡ narrowed.hold_items.items) }
 {
-    tell(alloc, sources, &narrowed.remarks, &mut remarks)?;
     let summary = summary_of(alloc, asked.decide, asked.json, &narrowed)?;
     let stand_ins = stand_ins(alloc, asked, &narrowed)?;
-    let is_whole = is_whole(&narrowed);
+    let is_whole = is_whole(&narrowed.remarks);
     Ok(MadeFiles {
         items: narrowed.items,
         hold_items: narrowed.hold_items,
         stand_ins,
-        remarks,
+        remarks: narrowed.remarks,
         summary,
         is_whole,
     })
@@ -193,29 +200,82 @@ fn stand_ins(
 }
 
 // Whether nothing is left out that may be asked for.
-fn is_whole(narrowed: &Narrowed) -> bool {
-    !narrowed.remarks.iter().any(|remark| remark.matters())
+fn is_whole(remarks: &RemarkList) -> bool {
+    for place in 0..remarks.len() {
+        if let Some(remark) = remarks.get(place) {
+            if remark.matters() {
+                return false;
+            }
+        }
+    }
+    true
 }
 
+// Drafts the remarks, and then puts all files into the folder. `lines` are the first lines of the remarks.
 fn keep_made<H: IntakeHost>(
     alloc: Global,
     host: &mut H,
     asked: &IntakeOptions,
+    sources: &InputFiles,
     made: MadeFiles,
+    lines: Vec<u8>,
 ) -> Result<(), IntakeFault>
-    ensures ok { OnOk result (KeepsFiles H.IntakeHost host.old (folder_of asked.now)
-        (IsServiceFiles (ptfin.items made.items.items) (hold.items made.hold_items.items)) host.new) }
-    ensures err { OnErr result (KeepsNothing H.IntakeHost host.old (folder_of asked.now) host.new) }
+    ensures ok { OnOk result (HasDone H.IntakeHost (KeepsService (folder_of asked.now)
+        (ptfin.items made.items.items) (hold.items made.hold_items.items)) host.old host.new) }
+    ensures err { OnErr result (HasDone H.IntakeHost (All (IsWithin (folder_of asked.now))) host.old host.new) }
 {
+    let items = made.items;
+    let hold_items = made.hold_items;
     let stand_ins = made.stand_ins;
-    let remarks = made.remarks;
-    keep_service(
-        alloc,
-        host,
-        asked.out.as_str(),
-        &made.items,
-        &made.hold_items,
-        stand_ins,
-        remarks,
-    )
+    let folder = asked.out.as_str();
+    let lines = draft_remarks(alloc, host, folder, sources, made.remarks, lines)?;
+    keep_service(alloc, host, folder, &items, &hold_items, stand_ins, lines)?;
+    Ok(())
+}
+
+// Drafts all remarks but the last ones, and returns the lines of these.
+fn draft_remarks<H: IntakeHost>(
+    alloc: Global,
+    host: &mut H,
+    folder: &str,
+    sources: &InputFiles,
+    remarks: RemarkList,
+    lines: Vec<u8>,
+) -> Result<Vec<u8>, IntakeFault>
+    ensures ok { OnOk result (HasDone H.IntakeHost (All (DraftsRemarks folder.now)) host.old host.new) }
+    ensures err { OnErr result (HasDone H.IntakeHost (All (IsWithin folder.now)) host.old host.new) }
+{
+    let mut lines = lines;
+    for place in 0..remarks.len() {
+        let Some(remark) = remarks.get(place) else {
+            continue;
+        };
+        put_line(alloc, sources, &remark, &mut lines)?;
+        lines = draft_if_long(host, folder, lines)?;
+    }
+    Ok(lines)
+}
+
+// Drafts the lines if there are enough of them, and returns those that are left.
+fn draft_if_long<H: IntakeHost>(
+    host: &mut H,
+    folder: &str,
+    lines: Vec<u8>,
+) -> Result<Vec<u8>, IntakeFault>
+    ensures ok { OnOk result (HasDone H.IntakeHost (All (DraftsRemarks folder.now)) host.old host.new) }
+    ensures err { OnErr result (HasDone H.IntakeHost (All (IsWithin folder.now)) host.old host.new) }
+{
+    if lines.len() < DRAFTED {
+        return Ok(lines);
+    }
+    match host.draft(folder, "remarks", &lines) {
+        Ok(()) => Ok(cleared(lines)),
+        Err(_) => Err(IntakeFault::CannotWrite),
+    }
+}
+
+// Room for as many lines.
+fn cleared(mut lines: Vec<u8>) -> Vec<u8> {
+    lines.clear();
+    lines
 }

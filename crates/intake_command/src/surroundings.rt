@@ -1,6 +1,7 @@
 //! What the program asks of its surroundings.
 ghost use Rattle.std.specs.Prelude.{IfOk, IfErr, OnOk, OnErr, map};
-ghost use Rattle.intake_command.specs.Acts.{HostAct, Gives, Withholds, Compares, Puts, Loses, Prints, Speaks};
+ghost use Rattle.std.specs.Prelude.{◌∷◌, [], Some};
+ghost use Rattle.intake_command.specs.Acts.{HostAct, Gives, Withholds, Compares, Drafts, Puts, Loses, Prints, Speaks};
 ghost use Rattle.intake_command.specs.Files.{named};
 
 use crate::files::Named;
@@ -16,7 +17,15 @@ pub trait IntakeHost {
         ensures ok { IfOk result (λ bytes. does self.old (Gives name.now bytes.items) self.new) }
         ensures err { IfErr result (λ error. does self.old (Withholds name.now error) self.new) };
 
-    /// Puts all files into the folder, and takes those away that have no bytes. The folder is made if it is not there
+    /// Writes the bytes to the draft of the file of this name, after those that were written there before. The folder is
+    /// made if it is not there. The error tells why that can't be done; then nothing of the file is left in it.
+    fn draft(&mut self, folder: &str, name: &'static str, bytes: &[u8]) -> io::Result<()>
+        ensures ok { OnOk result (does self.old (Drafts folder.now name.now bytes.now) self.new) }
+        ensures err { IfErr result (λ error. does self.old (Loses folder.now ((name.now, Some bytes.now) ∷ []) error)
+            self.new) };
+
+    /// Puts all files into the folder, each with what was drafted of it before its bytes, and takes those away that have
+    /// no bytes, their drafts too. The folder is made if it is not there
     /// and a file has bytes.
     /// The error tells why that can't be done; then nothing of these is left in it.
     fn keep(&mut self, folder: &str, files: &[Named]) -> io::Result<()>

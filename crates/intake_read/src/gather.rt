@@ -1,6 +1,8 @@
 //! Statements one behind the other, gathered as SYSMODs and what stands beside them.
 use crate::errors::WideError;
-use crate::items::{Note, NoteReason, OtherReason, SwallowedStatement, WideFile, WideSysmod};
+use crate::items::{
+    Note, NoteReason, OtherReason, SwallowedStatement, WideFile, WideHold, WideSysmod,
+};
 use crate::known::{WideWord, known_as};
 use crate::made::{assign, condition, element, hold, other, release, sysmod, ver};
 use crate::operands::members;
@@ -8,12 +10,13 @@ use crate::statement::WideStatement;
 use intake_cards::{Card, CardPlace};
 use std::alloc::{AllocError, Global};
 
-/// The statements so far: a file's items, and the SYSMOD that is begun.
+/// The statements so far: a file's items, the SYSMOD that is begun, and a hold that is to be handed out.
 #[derive(Drop)]
 pub(crate) struct FileSoFar {
     alloc: Global,
     file: WideFile,
     begun: Option<WideSysmod>,
+    hold: Option<WideHold>,
 }
 
 impl FileSoFar {
@@ -22,7 +25,6 @@ impl FileSoFar {
             alloc,
             file: WideFile {
                 sysmods: Vec::new(alloc),
-                holds: Vec::new(alloc),
                 releases: Vec::new(alloc),
                 assigns: Vec::new(alloc),
                 others: Vec::new(alloc),
@@ -30,6 +32,7 @@ impl FileSoFar {
                 notes: Vec::new(alloc),
             },
             begun: None,
+            hold: None,
         }
     }
 
@@ -39,11 +42,17 @@ impl FileSoFar {
             alloc: _,
             mut file,
             begun,
+            hold: _,
         } = self;
         if let Some(sysmod) = begun {
             file.sysmods.push(sysmod)?;
         }
         Ok(file)
+    }
+
+    /// The last statement, if it is a hold outside SYSMODs. It is handed out once.
+    pub fn take_hold(&mut self) -> Option<WideHold> {
+        self.hold.take()
     }
 
     /// Keeps a statement that stands in a comment.
@@ -154,7 +163,7 @@ impl FileSoFar {
         let found = hold(self.alloc, statement)?;
         match &mut self.begun {
             Some(sysmod) => sysmod.holds.push(found)?,
-            None => self.file.holds.push(found)?,
+            None => self.hold = Some(found),
         }
         Ok(())
     }

@@ -244,12 +244,11 @@ pub struct SwallowedStatement {
     pub name: Vec<u8>,
 }
 
-/// A file's statements. Each list keeps the order of the file, and the places say how the lists go together.
+/// A file's statements, but for its holds outside SYSMODs, which `WideReader` hands out as it reads them. Each list keeps
+/// the order of the file, and the places say how the lists go together.
 #[derive(Drop)]
 pub struct WideFile {
     pub sysmods: Vec<WideSysmod>,
-    /// Those that stand in no SYSMOD.
-    pub holds: Vec<WideHold>,
     pub releases: Vec<WideRelease>,
     pub assigns: Vec<WideAssign>,
     /// `++FEATURE`, `++PRODUCT` and `++NULL`, wherever they stand.

@@ -46,8 +46,14 @@ static LANGUAGES: &[u8] =
     b"ARA CHS CHT DAN DES DEU ELL ENG ENP ENU ESP FIN FRA FRB FRC FRS HEB ISL ITA ITS JPN KOR NLB \
     NLD NOR PTB PTG RMS RUS SVE THA TRK";
 
-// Whether the word is among these, which blanks separate.
-fn is_among(word: &[u8], words: &[u8]) -> bool {
+/// Statements about load modules.
+static LOAD_MODULES: &[u8] = b"JCLIN MOVE RENAME DELETE";
+
+/// Statements that bring no service.
+static NO_SERVICE: &[u8] = b"FEATURE PRODUCT NULL";
+
+/// Whether the word is among these, which blanks separate.
+pub(crate) fn is_among(word: &[u8], words: &[u8]) -> bool {
     words
         .split(|byte| *byte == b' ')
         .any(|known| *known == *word)
@@ -72,28 +78,59 @@ pub fn is_element(word: &[u8]) -> bool {
     is_among(word, PLAIN_ELEMENTS) || may_have_language(word) || has_language(word)
 }
 
+// The kind of the SYSMOD that the word begins.
+fn header_kind(word: &[u8]) -> Option<Kind> {
+    if word == b"FUNCTION".as_slice() {
+        return Some(Kind::Function);
+    }
+    if word == b"PTF".as_slice() {
+        return Some(Kind::Ptf);
+    }
+    if word == b"APAR".as_slice() {
+        return Some(Kind::Apar);
+    }
+    if word == b"USERMOD".as_slice() {
+        return Some(Kind::Usermod);
+    }
+    None
+}
+
+// What a word says that no header and no element has.
+fn other_word(word: &[u8]) -> WideWord {
+    if word == b"VER".as_slice() {
+        return WideWord::Ver;
+    }
+    if word == b"IF".as_slice() {
+        return WideWord::If;
+    }
+    if word == b"HOLD".as_slice() {
+        return WideWord::Hold;
+    }
+    if word == b"RELEASE".as_slice() {
+        return WideWord::Release;
+    }
+    if word == b"ASSIGN".as_slice() {
+        return WideWord::Assign;
+    }
+    if is_among(word, LOAD_MODULES) {
+        return WideWord::LoadModules;
+    }
+    if is_among(word, NO_SERVICE) {
+        return WideWord::NoService;
+    }
+    WideWord::Unknown
+}
+
 /// What the word, without its `++`, says that the statement is.
 pub(crate) fn known_as(word: &[u8]) -> WideWord {
-    match word {
-        b"FUNCTION" => WideWord::Header(Kind::Function),
-        b"PTF" => WideWord::Header(Kind::Ptf),
-        b"APAR" => WideWord::Header(Kind::Apar),
-        b"USERMOD" => WideWord::Header(Kind::Usermod),
-        b"VER" => WideWord::Ver,
-        b"IF" => WideWord::If,
-        b"HOLD" => WideWord::Hold,
-        b"RELEASE" => WideWord::Release,
-        b"ASSIGN" => WideWord::Assign,
-        b"JCLIN" | b"MOVE" | b"RENAME" | b"DELETE" => WideWord::LoadModules,
-        b"FEATURE" | b"PRODUCT" | b"NULL" => WideWord::NoService,
-        _ => {
-            if is_element(word) {
-                WideWord::Element
-            } else {
-                WideWord::Unknown
-            }
-        }
+    if let Some(kind) = header_kind(word) {
+        return WideWord::Header(kind);
     }
+    let known = other_word(word);
+    if known == WideWord::Unknown && is_element(word) {
+        return WideWord::Element;
+    }
+    known
 }
 
 /// Whether a statement of this word needs what stands in parentheses behind the word.

@@ -11,7 +11,6 @@ mod operands;
 mod read;
 mod statement;
 mod told;
-mod words;
 
 pub use errors::WideError;
 pub use intake_cards::{Card, CardPlace};
@@ -21,5 +20,5 @@ pub use items::{
     WideSysmod, WideVer,
 };
 pub use known::is_element;
-pub use read::read_wide;
+pub use read::WideReader;
 pub use told::{tell_no_decision, tell_odd};

@@ -3,19 +3,20 @@ use crate::items::{
     OddOperand, OddReason, OtherReason, WideAssign, WideElement, WideHold, WideHoldKind, WideIf,
     WideOperand, WideOther, WideRelease, WideSysmod, WideVer,
 };
+use crate::known::is_among;
 use crate::operands::{keep_odd, take_list, take_text, take_value};
 use crate::statement::WideStatement;
+use intake_cards::CardPlace;
 use std::alloc::{AllocError, Global};
 use terms::Kind;
 
-/// The SYSMOD that the header begins.
-pub(crate) fn sysmod(
-    alloc: Global,
-    kind: Kind,
-    statement: WideStatement,
-) -> Result<WideSysmod, AllocError> {
-    let mut sysmod = WideSysmod {
-        place: statement.place,
+/// Operands of headers that change no decision.
+const DROPPED: &[u8] = b"REWORK DESC DESCRIPTION FILES RFDSNPFX RFDSNTYPE RFDSNTYP FESN";
+
+// The SYSMOD of a header, of which nothing is known yet but its kind.
+fn begun(alloc: Global, place: CardPlace, kind: Kind) -> WideSysmod {
+    WideSysmod {
+        place,
         kind,
         id: Vec::new(alloc),
         dropped: Vec::new(alloc),
@@ -24,7 +25,24 @@ pub(crate) fn sysmod(
         holds: Vec::new(alloc),
         elements: Vec::new(alloc),
         others: Vec::new(alloc),
-    };
+    }
+}
+
+fn add_to_sysmod(sysmod: &mut WideSysmod, operand: WideOperand) -> Result<(), AllocError> {
+    if is_among(operand.name.as_slice(), DROPPED) {
+        sysmod.dropped.push(operand)?;
+        return Ok(());
+    }
+    keep_odd(&mut sysmod.odd, operand, OddReason::Unknown)
+}
+
+/// The SYSMOD that the header begins.
+pub(crate) fn sysmod(
+    alloc: Global,
+    kind: Kind,
+    statement: WideStatement,
+) -> Result<WideSysmod, AllocError> {
+    let mut sysmod = begun(alloc, statement.place, kind);
     if let Some(reason) = statement.fault {
         sysmod.id = statement.name.clone()?;
         sysmod.others.push(other(reason, statement))?;
@@ -32,17 +50,7 @@ pub(crate) fn sysmod(
     }
     sysmod.id = statement.name;
     for operand in statement.operands {
-        match operand.name.as_slice() {
-            b"REWORK"
-            | b"DESC"
-            | b"DESCRIPTION"
-            | b"FILES"
-            | b"RFDSNPFX"
-            | b"RFDSNTYPE"
-            | b"RFDSNTYP"
-            | b"FESN" => { sysmod.dropped.push(operand)? }
-            _ => keep_odd(&mut sysmod.odd, operand, OddReason::Unknown)?,
-        }
+        add_to_sysmod(&mut sysmod, operand)?;
     }
     Ok(sysmod)
 }

@@ -1,11 +1,10 @@
 //! Cards as statements, one behind the other.
 use crate::errors::WideError;
 use crate::gather::FileSoFar;
-use crate::items::{OtherReason, SwallowedStatement, WideFile};
+use crate::items::{OtherReason, SwallowedStatement, WideFile, WideHold};
 use crate::known::{is_text_elsewhere, takes_text};
 use crate::statement::{WideStatement, statement_of};
-use crate::words::{CardPiece, CardScanner, Open, Token, is_word_byte};
-use intake_cards::{Card, CardPlace, Tail};
+use intake_cards::{Card, CardPiece, CardPlace, CardScanner, Open, Tail, Token, is_word_byte};
 use std::alloc::{AllocError, Global};
 
 /// What a card belongs to.
@@ -21,9 +20,9 @@ enum CardPart {
     Inline,
 }
 
-/// How far the cards were read.
+/// Reads the statements of a file's cards, which it takes one after the other.
 #[derive(Drop)]
-struct Reader {
+pub struct WideReader {
     alloc: Global,
     scanner: CardScanner,
     part: CardPart,
@@ -99,7 +98,20 @@ fn has_inline(pieces: &[CardPiece]) -> bool {
     has_word
 }
 
-impl Reader {
+impl WideReader {
+    /// A reader that has taken no card.
+    pub fn new(alloc: Global) -> WideReader {
+        WideReader {
+            alloc,
+            scanner: CardScanner::new(alloc),
+            part: CardPart::Before,
+            place: CardPlace { file: 0, card: 0 },
+            is_cut: false,
+            whole: None,
+            gathered: FileSoFar::new(alloc),
+        }
+    }
+
     // Takes the next card.
     fn card(&mut self, card: &Card) -> Result<(), WideError> {
         if card.begins_statement() {
@@ -218,37 +230,36 @@ impl Reader {
         }
         Ok(())
     }
-}
 
-/// The statements of a file's cards. `NoStatement` comes where more than blanks and comments stands before the first
-/// statement, `OpenComment` where a comment is open behind the last card, and `Statement` where a hold, a release or an
-/// assignment has something wrong with it, or a statement that belongs to a SYSMOD or that is not known stands before
-/// the first SYSMOD.
-pub fn read_wide(alloc: Global, cards: &[Card]) -> Result<WideFile, WideError> {
-    let mut reader = Reader {
-        alloc,
-        scanner: CardScanner::new(alloc),
-        part: CardPart::Before,
-        place: CardPlace { file: 0, card: 0 },
-        is_cut: false,
-        whole: None,
-        gathered: FileSoFar::new(alloc),
-    };
-    for card in cards {
-        reader.card(card)?;
+    /// Takes the next card. Where it ends a hold outside SYSMODs, it hands out that hold. Returns `NoStatement` if
+    /// more than blanks and comments stands before the first statement, and `Statement` if a statement that belongs to a
+    /// SYSMOD, or that is not known, stands before the first SYSMOD.
+    pub fn take(&mut self, card: &Card) -> Result<Option<WideHold>, WideError> {
+        self.card(card)?;
+        Ok(self.gathered.take_hold())
     }
-    if let Open::Comment(place) = reader.scanner.open() {
-        return Err(WideError::OpenComment { place });
+
+    /// Ends the last statement, and hands it out if it is a hold outside SYSMODs. Returns `OpenComment` if a comment is
+    /// open after the last card.
+    pub fn take_end(&mut self) -> Result<Option<WideHold>, WideError> {
+        if let Open::Comment(place) = self.scanner.open() {
+            return Err(WideError::OpenComment { place });
+        }
+        self.end()?;
+        Ok(self.gathered.take_hold())
     }
-    reader.end()?;
-    let Reader {
-        alloc: _,
-        scanner: _,
-        part: _,
-        place: _,
-        is_cut: _,
-        whole: _,
-        gathered,
-    } = reader;
-    gathered.into_file()
+
+    /// All other statements, after `take_end`.
+    pub fn into_file(self) -> Result<WideFile, WideError> {
+        let WideReader {
+            alloc: _,
+            scanner: _,
+            part: _,
+            place: _,
+            is_cut: _,
+            whole: _,
+            gathered,
+        } = self;
+        gathered.into_file()
+    }
 }

@@ -1,8 +1,7 @@
 //! A statement as it stands: its word, its name and its operands.
 use crate::items::{OtherReason, WideOperand};
 use crate::known::{is_upper, known_as, needs_name};
-use crate::words::{CardPiece, Open, Token};
-use intake_cards::{Card, CardPlace};
+use intake_cards::{Card, CardPiece, CardPlace, Open, Token};
 use std::alloc::{AllocError, Global};
 
 /// A statement as it stands.

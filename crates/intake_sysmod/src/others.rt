@@ -5,6 +5,18 @@ use intake_elements::Options;
 use intake_read::{OtherReason, WideOther};
 use std::alloc::{AllocError, Global};
 
+/// What a statement that is carried nowhere lacks, or nothing if its reason is another one.
+pub fn missing_word(other: &WideOther) -> &'static [u8] {
+    if other.reason != OtherReason::NoName {
+        return b"";
+    }
+    match other.word.as_slice() {
+        b"VER" => b"SREL",
+        b"FUNCTION" | b"PTF" | b"APAR" | b"USERMOD" | b"HOLD" | b"RELEASE" => b"(ID)",
+        _ => b"(NAME)",
+    }
+}
+
 /// Tells of the statements of a SYSMOD or of a file that are carried nowhere, and answers whether a SYSMOD can be
 /// carried without them.
 pub fn tell_others(
@@ -25,7 +37,8 @@ pub fn tell_others(
         } else if other.reason == OtherReason::LoadModules && options.decide {
             remarks.tell_dropped(alloc, &subject, b"", RemarkReason::LoadModules, b"")?;
         } else {
-            remarks.leave_out(alloc, &subject, b"", RemarkReason::from(other.reason), b"")?;
+            let reason = RemarkReason::from(other.reason);
+            remarks.leave_out(alloc, &subject, missing_word(other), reason, b"")?;
             good = false;
         }
     }

@@ -24,7 +24,7 @@ const COMMENTED: &str = "\
 REJECT SELECT(UA00001 /* A| B */ ,UA00002). => REJECT SELECT(UA00001,UA00002).|\
 line 1: REJECT: dropped: it stands in a comment: B
 /* ALL| OF IT */ LIST. => LIST.
-APPLY PTFS /* A| CHECK.| LIST. */ . => APPLY PTFS.|line 1: APPLY: dropped: it stands in a comment: CHECK.
+APPLY PTFS /* A| CHECK.| LIST. */ . => APPLY PTFS.|line 1: APPLY: dropped: it stands in a comment: CHECK. LIST.
 APPLY PTFS /* A| */ CHECK. => APPLY PTFS CHECK.
 ";
 
@@ -132,10 +132,12 @@ fn outcome(alloc: Global, text: &[u8], known: &Option<Vec<KnownSysmod>>) -> Resu
             lines.push(b'\n')?;
         }
     }
-    for remark in &file.remarks {
-        let line = remark.line(alloc, "", "line")?;
-        lines.extend_from_slice(line.trim_ascii_start())?;
-        lines.push(b'\n')?;
+    for place in 0..file.remarks.len() {
+        if let Some(remark) = file.remarks.get(place) {
+            let line = remark.line(alloc, "", "line")?;
+            lines.extend_from_slice(line.trim_ascii_start())?;
+            lines.push(b'\n')?;
+        }
     }
     Ok(String::from_utf8_lossy(alloc, &lines)?)
 }

@@ -6,19 +6,9 @@ mod cards;
 #[cfg(test)]
 mod commands;
 #[cfg(test)]
-mod narrow_copies;
-#[cfg(test)]
-mod narrow_elements;
-#[cfg(test)]
-mod narrow_holds;
+mod narrow_items;
 #[cfg(test)]
 mod narrow_lines;
-#[cfg(test)]
-mod narrow_long;
-#[cfg(test)]
-mod narrow_stand_ins;
-#[cfg(test)]
-mod narrow_sysmods;
 #[cfg(test)]
 mod program;
 #[cfg(test)]

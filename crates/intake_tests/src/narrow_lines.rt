@@ -1,27 +1,28 @@
 //! What comes of a file, as lines: what is carried of it, read back, and what is told.
 
-use intake_cards::{Remark, read_cards};
-use intake_carry::{NarrowError, Narrowed, narrow};
+use intake_cards::{CardReader, RemarkList};
+use intake_carry::{NarrowError, Narrowed, OutsideHolds, narrow, read_statements};
 use intake_command::{are_same_hold_items, are_same_items, hold_file, ptfin};
-use intake_read::{WideFile, read_wide};
+use intake_read::WideFile;
 use intake_sysmod::Options;
 use mcs::{read_hold, read_ptfin};
 use std::alloc::{AllocError, Global};
 use std::test::Fail;
 
 // The statements of a file.
-fn wide(alloc: Global, text: &[u8]) -> Result<Vec<WideFile>, Fail> {
-    let cards = read_cards(alloc, 0, text, None, None)?;
-    let file = read_wide(alloc, cards.cards.as_slice())?;
+fn wide(alloc: Global, text: &[u8], held: &mut OutsideHolds) -> Result<Vec<WideFile>, Fail> {
+    let mut cards = CardReader::open(0, text, None, None)?;
+    let mut notes = Vec::new(alloc);
+    let file = read_statements(alloc, &mut cards, &mut notes, held)?;
     let mut files = Vec::new(alloc);
     files.push(file)?;
     Ok(files)
 }
 
-/// Options without members.
-pub(crate) fn options(alloc: Global, decide: bool) -> Options {
+// Options without members, and without stand-ins.
+fn options(alloc: Global) -> Options {
     Options {
-        decide,
+        decide: false,
         syslibs: Vec::new(alloc),
         members: Vec::new(alloc),
     }
@@ -41,8 +42,11 @@ fn put_cards(lines: &mut Vec<u8>, cards: &[u8]) -> Result<(), AllocError> {
 }
 
 // Appends the lines of the remarks.
-fn put_remarks(alloc: Global, lines: &mut Vec<u8>, remarks: &[Remark]) -> Result<(), AllocError> {
-    for remark in remarks {
+fn put_remarks(alloc: Global, lines: &mut Vec<u8>, remarks: &RemarkList) -> Result<(), AllocError> {
+    for place in 0..remarks.len() {
+        let Some(remark) = remarks.get(place) else {
+            continue;
+        };
         let mark: &[u8] = if remark.matters() { b"! " } else { b"- " };
         lines.extend_from_slice(mark)?;
         let line = remark.line(alloc, "f", "line")?;
@@ -71,19 +75,20 @@ fn lines(alloc: Global, narrowed: &Narrowed) -> Result<Vec<u8>, Fail> {
     put_cards(&mut lines, cards.as_slice())?;
     lines.extend_from_slice(b"==\n")?;
     put_cards(&mut lines, holds.as_slice())?;
-    put_remarks(alloc, &mut lines, narrowed.remarks.as_slice())?;
+    put_remarks(alloc, &mut lines, &narrowed.remarks)?;
     Ok(lines)
 }
 
 // What comes of a file.
-fn outcome(alloc: Global, text: &[u8], options: Options) -> Result<String, Fail> {
-    let files = wide(alloc, text)?;
-    let lines = match narrow(alloc, files.as_slice(), options) {
+fn outcome(alloc: Global, text: &[u8]) -> Result<String, Fail> {
+    let mut held = OutsideHolds::new(alloc);
+    let files = wide(alloc, text, &mut held)?;
+    let lines = match narrow(alloc, files.as_slice(), held, options(alloc)) {
         Ok(narrowed) => lines(alloc, &narrowed)?,
         Err(NarrowError::Refused(remarks)) => {
             let mut lines = Vec::new(alloc);
             lines.extend_from_slice(b"refused\n")?;
-            put_remarks(alloc, &mut lines, remarks.as_slice())?;
+            put_remarks(alloc, &mut lines, &remarks)?;
             lines
         }
         Err(NarrowError::Memory) => return Err("out of memory".into()),
@@ -112,18 +117,8 @@ pub(crate) fn compare(name: &str, got: &str, wanted: &str) -> Result<(), Fail> {
     Err(Fail::new(format_args!("{name}: got {got:?}, wanted {wanted:?}")))
 }
 
-/// A failure, unless these lines come of the file under the options.
-pub(crate) fn check_with(
-    alloc: Global,
-    text: &[u8],
-    options: Options,
-    wanted: &str,
-) -> Result<(), Fail> {
-    let got = outcome(alloc, text, options)?;
-    compare("what comes of the file", got.as_str(), wanted)
-}
-
-/// A failure, unless these lines come of the file under no options.
+/// A failure, unless these lines come of the file.
 pub(crate) fn check(alloc: Global, text: &[u8], wanted: &str) -> Result<(), Fail> {
-    check_with(alloc, text, options(alloc, false), wanted)
+    let got = outcome(alloc, text)?;
+    compare("what comes of the file", got.as_str(), wanted)
 }

@@ -117,6 +117,13 @@ impl IntakeHost for Memory {
         Err(Error::from(ErrorKind::NotFound))
     }
 
+    fn draft(&mut self, folder: &str, _name: &'static str, _bytes: &[u8]) -> io::Result<()> {
+        if folder == "full" {
+            return Err(Error::from(ErrorKind::StorageFull));
+        }
+        Ok(())
+    }
+
     fn keep(&mut self, folder: &str, files: &[Named]) -> io::Result<()> {
         if folder == "full" {
             return Err(Error::from(ErrorKind::StorageFull));

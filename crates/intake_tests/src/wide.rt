@@ -1,8 +1,6 @@
 //! Statements, and what is read of each.
 
-use crate::wide_spelled::{items, spelled_file, with_notes};
-use intake_cards::read_cards;
-use intake_read::read_wide;
+use crate::wide_spelled::{items, read_whole, spelled_file, with_notes};
 use std::alloc::{AllocError, Global};
 use std::test::Fail;
 
@@ -225,10 +223,9 @@ fn deep(alloc: Global, depth: usize) -> Result<Vec<u8>, AllocError> {
 #[test]
 fn parentheses_may_be_deep(rt: HostRuntime) -> Result<(), Fail> {
     let text = deep(rt.alloc(), 5_000)?;
-    let cards = read_cards(rt.alloc(), 0, text.as_slice(), None, None)?;
-    let file = read_wide(rt.alloc(), cards.cards.as_slice())?;
-    assert_eq!(rt; file.holds.len(), 2);
-    let comment = match file.holds.first() {
+    let read = read_whole(rt.alloc(), text.as_slice(), None, None)?;
+    assert_eq!(rt; read.holds.len(), 2);
+    let comment = match read.holds.first() {
         Some(hold) => hold.comment.as_ref().map_or(0, |text| text.len()),
         None => 0,
     };

@@ -1,13 +1,14 @@
 //! The items of a wide file as text.
 
-use intake_cards::{Code, Layout, read_cards};
+use intake_cards::{CardReader, Code, Layout};
 use intake_read::{
     NoteReason, OddOperand, OddReason, OtherReason, WideAssign, WideElement, WideError, WideFile,
-    WideHold, WideHoldKind, WideIf, WideOperand, WideOther, WideRelease, WideSysmod, WideVer,
-    read_wide,
+    WideHold, WideHoldKind, WideIf, WideOperand, WideOther, WideReader, WideRelease, WideSysmod,
+    WideVer,
 };
-use std::alloc::{AllocError, Global};
+use std::alloc::{AllocError, AllocFailed, Global};
 use terms::Kind;
+use thiserror::Error;
 
 /// A text that is written bit by bit.
 #[derive(Drop)]
@@ -217,11 +218,11 @@ impl Spelled {
         Ok(())
     }
 
-    fn file(&mut self, file: &WideFile) -> Result<(), AllocError> {
+    fn file(&mut self, file: &WideFile, holds: &[WideHold]) -> Result<(), AllocError> {
         for sysmod in file.sysmods.as_slice() {
             self.sysmod(sysmod)?;
         }
-        for hold in file.holds.as_slice() {
+        for hold in holds {
             self.hold(hold)?;
         }
         for release in file.releases.as_slice() {
@@ -293,20 +294,79 @@ pub(crate) fn spelled_file(
     has_notes: bool,
 ) -> Result<Spelled, AllocError> {
     let mut found = Spelled::new(alloc);
-    let Ok(cards) = read_cards(alloc, 0, bytes, form, code) else {
-        found.put(b"; no cards")?;
-        return Ok(found);
-    };
-    match read_wide(alloc, cards.cards.as_slice()) {
-        Ok(file) => {
-            found.file(&file)?;
+    match read_whole(alloc, bytes, form, code) {
+        Ok(read) => {
+            found.file(&read.file, read.holds.as_slice())?;
             if has_notes {
-                found.notes(&file)?;
+                found.notes(&read.file)?;
             }
         }
-        Err(error) => put_error(&mut found, error)?,
+        Err(Unread::NoCards) => found.put(b"; no cards")?,
+        Err(Unread::Statement(error)) => put_error(&mut found, error)?,
     }
     Ok(found)
+}
+
+/// A file's statements, and its holds outside SYSMODs.
+#[derive(Drop)]
+pub(crate) struct ReadFile {
+    pub(crate) file: WideFile,
+    pub(crate) holds: Vec<WideHold>,
+}
+
+/// Why a file is not read.
+#[derive(Debug, Drop, Error)]
+pub(crate) enum Unread {
+    #[error("no cards")]
+    NoCards,
+    #[error("{0}")]
+    Statement(WideError),
+}
+
+impl From<AllocError> for Unread {
+    fn from(_e: AllocError) -> Unread {
+        Unread::Statement(WideError::Memory)
+    }
+}
+
+impl<T: Drop> From<AllocFailed<T>> for Unread {
+    fn from(_e: AllocFailed<T>) -> Unread {
+        Unread::Statement(WideError::Memory)
+    }
+}
+
+impl From<WideError> for Unread {
+    fn from(error: WideError) -> Unread {
+        Unread::Statement(error)
+    }
+}
+
+/// The statements of a file.
+pub(crate) fn read_whole(
+    alloc: Global,
+    bytes: &[u8],
+    form: Option<Layout>,
+    code: Option<Code>,
+) -> Result<ReadFile, Unread> {
+    let Ok(mut cards) = CardReader::open(0, bytes, form, code) else {
+        return Err(Unread::NoCards);
+    };
+    let mut notes = Vec::new(alloc);
+    let mut reader = WideReader::new(alloc);
+    let mut holds = Vec::new(alloc);
+    for _ in 0..usize::MAX {
+        let Some(card) = cards.next_card(&mut notes)? else {
+            break;
+        };
+        if let Some(hold) = reader.take(&card)? {
+            holds.push(hold)?;
+        }
+    }
+    if let Some(hold) = reader.take_end()? {
+        holds.push(hold)?;
+    }
+    let file = reader.into_file()?;
+    Ok(ReadFile { file, holds })
 }
 
 fn put_error(found: &mut Spelled, error: WideError) -> Result<(), AllocError> {

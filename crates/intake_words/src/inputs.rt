@@ -1,7 +1,7 @@
 //! The files that are read, by their numbers.
 
 use crate::fault::IntakeFault;
-use intake_cards::{Card, CardOddity, CardPlace, Cards, Code, Layout, read_cards};
+use intake_cards::{Card, CardNote, CardOddity, CardPlace, CardReader, Code, Layout, read_cards};
 use std::alloc::{AllocError, Global};
 
 /// A file that was read: its name, and how it is laid out.
@@ -85,23 +85,44 @@ pub fn cards_of(
         Err(error) => return Err(IntakeFault::of_cards(alloc, name, error)),
     };
     sources.add(alloc, name, found.form)?;
-    tell_assumed(alloc, name, &found, remarks)?;
+    tell_assumed(alloc, name, found.form, found.code, &found.notes, remarks)?;
     Ok(found.cards)
 }
 
-// How the file was read, and what of its cards is no card's.
-fn tell_assumed(
+/// A reader of the cards of the file of this name, which is the next one.
+pub fn open_cards<'a>(
+    alloc: Global,
+    sources: &mut InputFiles,
+    name: &str,
+    bytes: &'a [u8],
+    form: Option<Layout>,
+    code: Option<Code>,
+) -> Result<CardReader<'a>, IntakeFault> {
+    let file = sources.all.len();
+    match CardReader::open(file, bytes, form, code) {
+        Ok(cards) => {
+            sources.add(alloc, name, cards.form)?;
+            Ok(cards)
+        }
+        Err(error) => Err(IntakeFault::of_cards(alloc, name, error)),
+    }
+}
+
+/// Tells how the file was read, and what of its cards is no card's.
+pub fn tell_assumed(
     alloc: Global,
     name: &str,
-    found: &Cards,
+    form: Layout,
+    code: Code,
+    notes: &[CardNote],
     remarks: &mut Vec<u8>,
 ) -> Result<(), AllocError> {
-    let form = form_words(found.form);
-    let code = code_words(found.code);
-    let line = format!(in alloc; "{name}: read as {form} in {code}\n")?;
+    let words = form_words(form);
+    let code = code_words(code);
+    let line = format!(in alloc; "{name}: read as {words} in {code}\n")?;
     remarks.extend_from_slice(line.as_bytes())?;
-    let unit = unit(found.form);
-    for note in &found.notes {
+    let unit = unit(form);
+    for note in notes {
         let first = note.first.card;
         let count = note.cards;
         let words = oddity_words(note.oddity);

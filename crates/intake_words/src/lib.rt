@@ -14,9 +14,9 @@ mod summary;
 mod summary_json;
 
 pub use fault::IntakeFault;
-pub use inputs::{InputFiles, cards_of};
+pub use inputs::{InputFiles, cards_of, open_cards, tell_assumed};
 pub use options::{IntakeOptions, WordsFault, read_words};
 pub use relfile::{RelfileElement, relfile_elements};
-pub use remarks::{refused, tell};
+pub use remarks::{put_line, refused, tell};
 pub use stand_ins::stand_ins_file;
 pub use summary::{command_summary, summary_of};

@@ -2,30 +2,43 @@
 
 use crate::fault::IntakeFault;
 use crate::inputs::InputFiles;
-use intake_cards::{Deed, Remark};
+use intake_cards::{Deed, Remark, RemarkList};
 use std::alloc::{AllocError, Global};
 
-fn line(alloc: Global, sources: &InputFiles, remark: &Remark) -> Result<Vec<u8>, AllocError> {
+fn line(alloc: Global, sources: &InputFiles, remark: &Remark<'_>) -> Result<Vec<u8>, AllocError> {
     let file = remark.place.file;
     remark.line(alloc, sources.name(file), sources.unit(file))
 }
 
-/// Appends a line for each remark, with its file and card.
+/// Appends the line of a remark, with its file and card.
+pub fn put_line(
+    alloc: Global,
+    sources: &InputFiles,
+    remark: &Remark<'_>,
+    lines: &mut Vec<u8>,
+) -> Result<(), AllocError> {
+    lines.extend_from_slice(line(alloc, sources, remark)?.trim_ascii_end())?;
+    lines.push(b'\n')?;
+    Ok(())
+}
+
+/// Appends a line for each remark.
 pub fn tell(
     alloc: Global,
     sources: &InputFiles,
-    remarks: &[Remark],
+    remarks: &RemarkList,
     lines: &mut Vec<u8>,
 ) -> Result<(), AllocError> {
-    for remark in remarks {
-        lines.extend_from_slice(line(alloc, sources, remark)?.trim_ascii_end())?;
-        lines.push(b'\n')?;
+    for place in 0..remarks.len() {
+        if let Some(remark) = remarks.get(place) {
+            put_line(alloc, sources, &remark, lines)?;
+        }
     }
     Ok(())
 }
 
 /// If something is refused, nothing is written: each such remark is a line of the fault.
-pub fn refused(alloc: Global, sources: &InputFiles, remarks: &[Remark]) -> IntakeFault {
+pub fn refused(alloc: Global, sources: &InputFiles, remarks: &RemarkList) -> IntakeFault {
     match refusals(alloc, sources, remarks) {
         Ok(lines) => IntakeFault::Statements(lines),
         Err(_) => IntakeFault::Memory,
@@ -35,12 +48,14 @@ pub fn refused(alloc: Global, sources: &InputFiles, remarks: &[Remark]) -> Intak
 fn refusals(
     alloc: Global,
     sources: &InputFiles,
-    remarks: &[Remark],
+    remarks: &RemarkList,
 ) -> Result<Vec<Vec<u8>>, AllocError> {
     let mut lines = Vec::new(alloc);
-    for remark in remarks {
-        if remark.deed == Deed::Refused {
-            lines.push(line(alloc, sources, remark)?)?;
+    for place in 0..remarks.len() {
+        if let Some(remark) = remarks.get(place) {
+            if remark.deed == Deed::Refused {
+                lines.push(line(alloc, sources, &remark)?)?;
+            }
         }
     }
     Ok(lines)

@@ -1,7 +1,7 @@
 //! What is printed of a run.
 
 use crate::summary_json::json_summary;
-use intake_cards::{Deed, Remark, RemarkReason};
+use intake_cards::{Deed, Remark, RemarkList, RemarkReason};
 use intake_carry::{Narrowed, Tally};
 use std::alloc::{AllocError, Global};
 
@@ -17,16 +17,18 @@ pub(crate) struct ToldCount {
 }
 
 // How many remarks have each deed and reason, in the order in which they first occur.
-pub(crate) fn counts_of(alloc: Global, remarks: &[Remark]) -> Result<Vec<ToldCount>, AllocError> {
+pub(crate) fn counts_of(alloc: Global, remarks: &RemarkList) -> Result<Vec<ToldCount>, AllocError> {
     let mut all: Vec<ToldCount> = Vec::new(alloc);
-    for remark in remarks {
-        count(&mut all, remark)?;
+    for place in 0..remarks.len() {
+        if let Some(remark) = remarks.get(place) {
+            count(&mut all, &remark)?;
+        }
     }
     Ok(all)
 }
 
 // A line for each deed and reason, with how many remarks tell them.
-fn by_reason(alloc: Global, remarks: &[Remark], lines: &mut Vec<u8>) -> Result<(), AllocError> {
+fn by_reason(alloc: Global, remarks: &RemarkList, lines: &mut Vec<u8>) -> Result<(), AllocError> {
     for told in &counts_of(alloc, remarks)? {
         let count = told.count;
         let deed = told.deed.words();
@@ -37,7 +39,7 @@ fn by_reason(alloc: Global, remarks: &[Remark], lines: &mut Vec<u8>) -> Result<(
     Ok(())
 }
 
-fn count(all: &mut Vec<ToldCount>, remark: &Remark) -> Result<(), AllocError> {
+fn count(all: &mut Vec<ToldCount>, remark: &Remark<'_>) -> Result<(), AllocError> {
     for told in all.iter_mut() {
         if told.deed == remark.deed && told.reason == remark.reason {
             told.count = told.count.saturating_add(1);
@@ -53,7 +55,7 @@ fn count(all: &mut Vec<ToldCount>, remark: &Remark) -> Result<(), AllocError> {
 }
 
 /// Whether the remark tells that a SYSMOD is left out.
-pub(crate) fn is_left_out(remark: &Remark) -> bool {
+pub(crate) fn is_left_out(remark: &Remark<'_>) -> bool {
     matches!(
         remark.reason,
         RemarkReason::WholeSysmod | RemarkReason::OtherCopy
@@ -62,15 +64,19 @@ pub(crate) fn is_left_out(remark: &Remark) -> bool {
 
 /// Why the SYSMOD of the remark at the place, `header`, is left out: the first remark on one of its statements that
 /// says so, or itself.
-pub(crate) fn cause_of<'a>(remarks: &'a [Remark], place: usize, header: &'a Remark) -> &'a Remark {
+pub(crate) fn cause_of<'a>(
+    remarks: &'a RemarkList,
+    place: usize,
+    header: Remark<'a>,
+) -> Remark<'a> {
     let mut cause = header;
-    let Some((before, _)) = remarks.split_at_checked(place) else {
-        return cause;
-    };
     if header.reason != RemarkReason::WholeSysmod {
         return cause;
     }
-    for remark in before.iter().rev() {
+    for before in (0..place).rev() {
+        let Some(remark) = remarks.get(before) else {
+            return cause;
+        };
         if remark.place.file != header.place.file || remark.place.card < header.place.card {
             return cause;
         }
@@ -85,57 +91,51 @@ pub(crate) fn cause_of<'a>(remarks: &'a [Remark], place: usize, header: &'a Rema
 }
 
 /// The statement of a remark, with its id and its operand.
-pub(crate) fn subject_text(remark: &Remark) -> Result<Vec<u8>, AllocError> {
-    let mut text = remark.statement.clone()?;
+pub(crate) fn subject_text(alloc: Global, remark: &Remark<'_>) -> Result<Vec<u8>, AllocError> {
+    let mut text = Vec::from_slice(alloc, remark.statement)?;
     if !remark.id.is_empty() {
         text.extend_from_slice(b"(")?;
-        text.extend_from_slice(&remark.id)?;
+        text.extend_from_slice(remark.id)?;
         text.extend_from_slice(b")")?;
     }
     if !remark.operand.is_empty() {
         if !text.is_empty() {
             text.push(b' ')?;
         }
-        text.extend_from_slice(&remark.operand)?;
+        text.extend_from_slice(remark.operand)?;
     }
     Ok(text)
 }
 
 /// What the cause says, in words.
-pub(crate) fn cause_text(cause: &Remark) -> Result<Vec<u8>, AllocError> {
-    let mut text = subject_text(cause)?;
+pub(crate) fn cause_text(alloc: Global, cause: &Remark<'_>) -> Result<Vec<u8>, AllocError> {
+    let mut text = subject_text(alloc, cause)?;
     if !text.is_empty() {
         text.extend_from_slice(b": ")?;
     }
     text.extend_from_slice(cause.reason.words().as_bytes())?;
     if !cause.text.is_empty() {
         text.extend_from_slice(b": ")?;
-        text.extend_from_slice(&cause.text)?;
+        text.extend_from_slice(cause.text)?;
     }
     Ok(text)
 }
 
 // A line for each SYSMOD that is left out, with its first cause.
-fn left_out(alloc: Global, remarks: &[Remark], lines: &mut Vec<u8>) -> Result<(), AllocError> {
+fn left_out(alloc: Global, remarks: &RemarkList, lines: &mut Vec<u8>) -> Result<(), AllocError> {
     let mut found = 0usize;
-    for (place, remark) in remarks.iter().enumerate() {
-        if !is_left_out(remark) {
+    for place in 0..remarks.len() {
+        let Some(remark) = remarks.get(place) else {
+            continue;
+        };
+        if !is_left_out(&remark) {
             continue;
         }
         found = found.saturating_add(1);
-        if found > MOST_LINES {
-            continue;
+        if found <= MOST_LINES {
+            let cause = cause_of(remarks, place, remark);
+            put_left_out(alloc, &remark, &cause, lines)?;
         }
-        lines.extend_from_slice(b"LEFTOUT ")?;
-        let cause = cause_of(remarks, place, remark);
-        if cause.statement.as_slice() != remark.statement.as_slice()
-            || cause.id.as_slice() != remark.id.as_slice()
-        {
-            lines.extend_from_slice(&subject_text(remark)?)?;
-            lines.extend_from_slice(b": ")?;
-        }
-        lines.extend_from_slice(cause_text(cause)?.trim_ascii_end())?;
-        lines.push(b'\n')?;
     }
     if found > MOST_LINES {
         let more = found.saturating_sub(MOST_LINES);
@@ -145,12 +145,34 @@ fn left_out(alloc: Global, remarks: &[Remark], lines: &mut Vec<u8>) -> Result<()
     Ok(())
 }
 
+// The line for a SYSMOD that is left out.
+fn put_left_out(
+    alloc: Global,
+    remark: &Remark<'_>,
+    cause: &Remark<'_>,
+    lines: &mut Vec<u8>,
+) -> Result<(), AllocError> {
+    lines.extend_from_slice(b"LEFTOUT ")?;
+    if cause.statement != remark.statement || cause.id != remark.id {
+        lines.extend_from_slice(&subject_text(alloc, remark)?)?;
+        lines.extend_from_slice(b": ")?;
+    }
+    lines.extend_from_slice(cause_text(alloc, cause)?.trim_ascii_end())?;
+    lines.push(b'\n')?;
+    Ok(())
+}
+
 /// How many remarks have the reason.
-pub(crate) fn number_of(remarks: &[Remark], reason: RemarkReason) -> usize {
-    remarks
-        .iter()
-        .filter(|remark| remark.reason == reason)
-        .count()
+pub(crate) fn number_of(remarks: &RemarkList, reason: RemarkReason) -> usize {
+    let mut number = 0usize;
+    for place in 0..remarks.len() {
+        if let Some(remark) = remarks.get(place) {
+            if remark.reason == reason {
+                number = number.saturating_add(1);
+            }
+        }
+    }
+    number
 }
 
 // A line where the number is not 0.
@@ -188,7 +210,7 @@ pub fn command_summary(
     carried: usize,
     others: usize,
     is_written: bool,
-    remarks: &[Remark],
+    remarks: &RemarkList,
 ) -> Result<Vec<u8>, AllocError> {
     let mut lines = Vec::new(alloc);
     if is_written {
@@ -207,7 +229,7 @@ fn service_summary(
     decide: bool,
     narrowed: &Narrowed,
 ) -> Result<Vec<u8>, AllocError> {
-    let remarks = narrowed.remarks.as_slice();
+    let remarks = &narrowed.remarks;
     let mut lines = Vec::new(alloc);
     left_out(alloc, remarks, &mut lines)?;
     warnings(alloc, narrowed, &mut lines)?;
@@ -224,7 +246,7 @@ fn service_summary(
 
 // What else matters.
 fn warnings(alloc: Global, narrowed: &Narrowed, lines: &mut Vec<u8>) -> Result<(), AllocError> {
-    let remarks = narrowed.remarks.as_slice();
+    let remarks = &narrowed.remarks;
     let outside = number_of(remarks, RemarkReason::HeldOutside);
     let words =
         "of SYSMODs stand in the hold file: they are on others, or the SYSMOD is not carried";
@@ -239,7 +261,7 @@ fn warnings(alloc: Global, narrowed: &Narrowed, lines: &mut Vec<u8>) -> Result<(
 // How many SYSMODs have stand-ins. If elements are passed over, what CHECK answers holds for these files together.
 fn check_line(alloc: Global, narrowed: &Narrowed, lines: &mut Vec<u8>) -> Result<(), AllocError> {
     let stand_ins = narrowed.stand_ins;
-    let passed_over = number_of(narrowed.remarks.as_slice(), RemarkReason::PassedOver);
+    let passed_over = number_of(&narrowed.remarks, RemarkReason::PassedOver);
     let which = if passed_over > 0 {
         "these files are for CHECK, all of them together"
     } else {

@@ -1,7 +1,7 @@
 //! The summary of a run over files for programs: one object in JSON.
 
 use crate::summary::{cause_of, cause_text, counts_of, is_left_out, number_of};
-use intake_cards::{Remark, RemarkReason};
+use intake_cards::{RemarkList, RemarkReason};
 use intake_carry::{Narrowed, Tally};
 use std::alloc::{AllocError, Global};
 
@@ -65,18 +65,22 @@ fn begin(json: &mut Vec<u8>) -> Result<(), AllocError> {
     Ok(())
 }
 
-fn put_left_out(json: &mut Vec<u8>, remarks: &[Remark]) -> Result<(), AllocError> {
+fn put_left_out(alloc: Global, json: &mut Vec<u8>, remarks: &RemarkList) -> Result<(), AllocError> {
     put_name(json, "left_out")?;
     json.push(b'[')?;
-    for (place, remark) in remarks.iter().enumerate() {
-        if is_left_out(remark) {
+    for place in 0..remarks.len() {
+        let Some(remark) = remarks.get(place) else {
+            continue;
+        };
+        if is_left_out(&remark) {
+            let cause = cause_of(remarks, place, remark);
             begin(json)?;
             put_name(json, "statement")?;
-            put_text(json, &remark.statement)?;
+            put_text(json, remark.statement)?;
             put_name(json, "id")?;
-            put_text(json, &remark.id)?;
+            put_text(json, remark.id)?;
             put_name(json, "cause")?;
-            put_text(json, &cause_text(cause_of(remarks, place, remark))?)?;
+            put_text(json, &cause_text(alloc, &cause)?)?;
             json.push(b'}')?;
         }
     }
@@ -84,7 +88,7 @@ fn put_left_out(json: &mut Vec<u8>, remarks: &[Remark]) -> Result<(), AllocError
     Ok(())
 }
 
-fn put_remarks(alloc: Global, json: &mut Vec<u8>, remarks: &[Remark]) -> Result<(), AllocError> {
+fn put_remarks(alloc: Global, json: &mut Vec<u8>, remarks: &RemarkList) -> Result<(), AllocError> {
     put_name(json, "remarks")?;
     json.push(b'[')?;
     for told in &counts_of(alloc, remarks)? {
@@ -102,10 +106,10 @@ fn put_remarks(alloc: Global, json: &mut Vec<u8>, remarks: &[Remark]) -> Result<
 
 /// The same as the summary in lines: what is left out and why, what else matters, and how much there is of each.
 pub(crate) fn json_summary(alloc: Global, narrowed: &Narrowed) -> Result<Vec<u8>, AllocError> {
-    let remarks = narrowed.remarks.as_slice();
+    let remarks = &narrowed.remarks;
     let mut json = Vec::new(alloc);
     json.push(b'{')?;
-    put_left_out(&mut json, remarks)?;
+    put_left_out(alloc, &mut json, remarks)?;
     let held = number_of(remarks, RemarkReason::HeldOutside);
     put_number(alloc, &mut json, "holds_outside", held)?;
     let swallowed = number_of(remarks, RemarkReason::StatementInComment);

@@ -12,6 +12,6 @@ use std::process::ExitCode;
 
 fn main(rt: HostRuntime) -> ExitCode {
     let words = words(&rt);
-    let mut host = FileSystem { rt: &rt };
+    let mut host = FileSystem::new(&rt);
     ExitCode::from(command(rt.alloc(), &mut host, &words))
 }

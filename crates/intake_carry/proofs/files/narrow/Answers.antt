@@ -1,20 +1,30 @@
-use Rattle.std.proofs.Common.{subst, sym, ◌∙◌}
+use Rattle.std.proofs.Common.{◌≡◌, ◌++◌, not, List, subst, ap, ◌∙◌}
+use Rattle.std.specs.List.{filter}
+use Rattle.mcs.specs.declared.file.Item.{Item}
 use Rattle.intake_carry.specs.Become.{Become}
-use Rattle.intake_carry.specs.Carried.{FileBecomes, AreInOrder}
+use Rattle.intake_carry.specs.Carried.{FileBecomes, AreInOrder, is_held_by_copy}
 use Rattle.intake_sysmod.specs.Users.{run_of}
 use Rattle.intake_carry.proofs.files.narrow.Goals as goal
 
 pub returns : goal.returns
-returns c =
+returns c = λ holds carried.
     let gathered = c.in-Ok.gathered in
     let files = c.args.files.now in
+    let held = c.args.held.placed.items in
+    let kept = c.in_ok-outside.outside.items in
+    let all = c.in_ok-outside-2.ensures ∙ ap (λ p. kept ++ p.items) c.tell_all_refusals.ensures.same
+    ∙ ap (λ k. k ++ held) (subst (λ (i : List Item). kept ≡ filter (λ p. not (is_held_by_copy i p))
+    gathered.outside.items) c.as_slice.ensures.value c.in_ok-outside.ensures) in
     record {
       sysmods = gathered.items.items;
-      assigns = c.in_ok-assigns.assigns.items;
+      assigns = c.in_ok-narrowed.ensures.items.0;
       outside = gathered.outside.items;
-      items_are = c.new.ensures.items ∙ c.in_ok-items.ensures;
+      held = held;
+      items_are = c.in_ok-narrowed.ensures.items.1;
       become = subst (λ d. Become (FileBecomes d (run_of files)) files gathered.items.items gathered.outside.items)
           c.sort.ensures (subst (λ r. Become (FileBecomes c.sort.new.self.decide r) files gathered.items.items
           gathered.outside.items) c.in_ok-users.ensures c.in-Ok.ensures);
-      in_order = subst (AreInOrder gathered.outside.items) (sym c.new.ensures.holds) c.in_ok-hold_items.ensures;
+      holds_become = carried (c.in_ok-tell_all_refusals.ensures.refused c.if-branch.false);
+      in_order = subst (λ l. AreInOrder l c.in_ok-narrowed.narrowed.hold_items.items) all
+          c.in_ok-narrowed.ensures.in_order;
     }

@@ -1,24 +1,19 @@
-use Rattle.std.proofs.Common.{[], None, subst, sym, ap, ◌∙◌, ◌++◌}
+use Rattle.std.proofs.Common.{[], subst, sym}
 use Rattle.intake_carry.specs.Become.{Become}
 use Rattle.intake_carry.specs.Carried.{SysmodBecomes}
-use Rattle.intake_carry.specs.Holds.{HoldBecomes, ReleaseBecomes}
+use Rattle.intake_carry.specs.Holds.{ReleaseBecomes}
 use Rattle.intake_carry.proofs.files.of_file.Goals as goal
 
 pub returns : goal.returns
 returns c =
     let g = c.in_ok-gathered.gathered in
-    let holds = c.in_ok-holds.holds.items in
     let releases = c.in_ok-releases.releases.items in
     record {
       of_sysmods = g.outside.items;
-      holds = holds;
       releases = releases;
-      outside_are = c.in_ok-gathered-3.ensures.outside
-          ∙ ap (λ o. o ++ releases) c.in_ok-gathered-2.ensures.outside;
+      outside_are = c.in_ok-gathered-2.ensures.outside;
       sysmods_become = subst (λ i. Become (SysmodBecomes c.args.options.now.decide c.args.users.now) c.args.file.now.sysmods.items i
-          g.outside.items) (sym (c.in_ok-gathered-3.ensures.items ∙ c.in_ok-gathered-2.ensures.items))
-          c.in_ok-gathered.ensures;
-      holds_become = subst (λ l. Become (HoldBecomes None) l [] holds) c.as_slice-4.ensures.value c.in_ok-holds.ensures;
-      releases_become = subst (λ l. Become ReleaseBecomes l [] releases) c.as_slice-5.ensures.value
+          g.outside.items) (sym c.in_ok-gathered-2.ensures.items) c.in_ok-gathered.ensures;
+      releases_become = subst (λ l. Become ReleaseBecomes l [] releases) c.as_slice-4.ensures.value
           c.in_ok-releases.ensures;
     }

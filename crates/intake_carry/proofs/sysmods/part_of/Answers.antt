@@ -1,6 +1,4 @@
-use Rattle.std.proofs.Common.{[], None, subst, refl}
-use Rattle.intake_carry.specs.Become.{Become}
-use Rattle.intake_carry.specs.Holds.{HoldBecomes}
+use Rattle.std.proofs.Common.{None, refl}
 use Rattle.intake_carry.proofs.WithHolds.{with_its_holds}
 use Rattle.intake_carry.proofs.sysmods.part_of.Goals as goal
 
@@ -9,8 +7,7 @@ returns-in_default c = record {
   sysmod = None;
   items_are = refl;
   no_looser = tt;
-  held = subst (λ l. Become (HoldBecomes None) l [] c.in_ok-outside.outside.items) c.as_slice-holds.ensures.value
-      c.in_ok-outside.ensures;
+  held = c.in_ok-outside.ensures;
 }
 
 pub returns : goal.returns

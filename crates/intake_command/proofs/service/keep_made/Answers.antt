@@ -1,16 +1,21 @@
-use Rattle.std.proofs.Common.{subst, subst₂}
-use Rattle.std.specs.Result.{OnOk}
-use Rattle.mcs.specs.Files as ptfin
-use Rattle.mcs.specs.HoldItems as hold
-use Rattle.intake_command.specs.Keeping.{IsServiceFiles, KeepsFiles}
+use Rattle.intake_command.specs.Serving.{folder_of}
+use Rattle.intake_command.proofs.Doing.{on_err}
+use Rattle.intake_command.proofs.Within.{drafts_within, kept_service, nothing_within, within}
 use Rattle.intake_command.proofs.service.keep_made.Goals as goal
+
+pub returns-in_err-lines-clause-err : goal.returns-in_err-lines-clause-err
+returns-in_err-lines-clause-err g c = on_err _ (rw c.as_str-folder.ensures.value at c.in_err-lines.ensures.err)
+
+pub returns-in_err-keep_service-clause-err : goal.returns-in_err-keep_service-clause-err
+returns-in_err-keep_service-clause-err g c =
+    let f = folder_of c.args.asked.now in
+    let drafted = rw c.as_str-folder.ensures.value at c.in_ok-lines.ensures.ok in
+    on_err _ (within g.H.IntakeHost f (drafts_within g.H.IntakeHost f drafted)
+    (nothing_within g.H.IntakeHost f (rw c.as_str-folder.ensures.value at c.in_err-keep_service.ensures.err)))
 
 pub returns-clause-ok : goal.returns-clause-ok
 returns-clause-ok g c =
-    let items = c.args.made.items.items in
-    let holds = c.args.made.hold_items.items in
-    subst (λ f. OnOk c.keep_service.result (KeepsFiles g.H.IntakeHost c.args.host.now f
-    (IsServiceFiles (ptfin.items items) (hold.items holds)) c.keep_service.new.host)) c.as_str.ensures.value
-    (subst₂ (λ xs ys. OnOk c.keep_service.result (KeepsFiles g.H.IntakeHost c.args.host.now c.as_str.result.now
-    (IsServiceFiles (ptfin.items xs) (hold.items ys)) c.keep_service.new.host)) c.deref.ensures.value
-    c.deref-2.ensures.value c.keep_service.ensures.ok)
+    let drafted = rw c.as_str-folder.ensures.value at c.in_ok-lines.ensures.ok in
+    let kept = rw c.as_str-folder.ensures.value at c.in_ok-keep_service.ensures.ok in
+    kept_service g.H.IntakeHost (folder_of c.args.asked.now) _ _ drafted
+    (rw c.deref-2.ensures.value at (rw c.deref.ensures.value at kept))

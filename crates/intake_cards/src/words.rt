@@ -1,13 +1,14 @@
 //! The words of cards, one after the other: words, what stands in parentheses, periods. Comments separate them, and so
 //! do blanks, commas and the ends of cards; in parentheses a comment is a blank, but in those of a text (COMMENT, DESC)
 //! it belongs to the text.
-use intake_cards::{Card, CardPlace};
+use crate::card::Card;
+use crate::place::CardPlace;
 use std::alloc::{AllocError, Global};
 use std::mem;
 
 /// What a piece is.
 #[derive(Drop)]
-pub(crate) enum Token {
+pub enum Token {
     /// Letters, digits, `$`, `#`, `@` and other characters of names, the letters in upper case.
     Word(Vec<u8>),
     /// What stands in parentheses, as it is, inner parentheses too. Blanks at either end of a card are left away, and
@@ -22,7 +23,7 @@ pub(crate) enum Token {
 
 /// A word, a list or another character, and the card where it begins.
 #[derive(Drop)]
-pub(crate) struct CardPiece {
+pub struct CardPiece {
     pub place: CardPlace,
     pub token: Token,
 }
@@ -42,7 +43,7 @@ enum State {
 
 /// What is open where the cards end that a scanner has taken.
 #[derive(Clone, Copy, Debug, PartialEq, Eq)]
-pub(crate) enum Open {
+pub enum Open {
     Nothing,
     /// Parentheses, and where the first of them opens.
     Parenthesis(CardPlace),
@@ -52,7 +53,7 @@ pub(crate) enum Open {
 
 /// Takes cards, one after the other, and finds their pieces.
 #[derive(Drop)]
-pub(crate) struct CardScanner {
+pub struct CardScanner {
     alloc: Global,
     state: State,
     /// How many parentheses are open.
@@ -74,7 +75,7 @@ pub(crate) struct CardScanner {
 }
 
 /// Whether words have the character.
-pub(crate) fn is_word_byte(byte: u8) -> bool {
+pub fn is_word_byte(byte: u8) -> bool {
     byte.is_ascii_alphanumeric() || matches!(byte, b'$' | b'#' | b'@' | b'+' | b'_' | b'-')
 }
 
@@ -85,7 +86,7 @@ fn has_text(word: &[u8]) -> bool {
 
 impl CardScanner {
     /// A scanner that has taken no card.
-    pub(crate) fn new(alloc: Global) -> CardScanner {
+    pub fn new(alloc: Global) -> CardScanner {
         let nowhere = CardPlace { file: 0, card: 0 };
         CardScanner {
             alloc,
@@ -104,7 +105,7 @@ impl CardScanner {
     }
 
     /// What is open behind the cards that were taken.
-    pub(crate) fn open(&self) -> Open {
+    pub fn open(&self) -> Open {
         match self.state {
             State::Comment | State::Star => Open::Comment(self.comment_place),
             _ => {
@@ -118,22 +119,22 @@ impl CardScanner {
     }
 
     /// The pieces so far.
-    pub(crate) fn pieces(&self) -> &[CardPiece] {
+    pub fn pieces(&self) -> &[CardPiece] {
         self.pieces.as_slice()
     }
 
     /// Whether a word so far has a letter in lower case, since pieces were taken last.
-    pub(crate) fn has_lower(&self) -> bool {
+    pub fn has_lower(&self) -> bool {
         self.has_lower
     }
 
     /// Whether a period is among the pieces so far.
-    pub(crate) fn has_period(&self) -> bool {
+    pub fn has_period(&self) -> bool {
         self.has_period
     }
 
     /// Takes the pieces so far out of it. Parentheses that are open are forgotten, and a comment stays open.
-    pub(crate) fn take_pieces(&mut self) -> Vec<CardPiece> {
+    pub fn take_pieces(&mut self) -> Vec<CardPiece> {
         self.depth = 0;
         self.has_lower = false;
         self.has_period = false;
@@ -145,7 +146,7 @@ impl CardScanner {
     }
 
     /// Takes columns of a card, up to column 72.
-    pub(crate) fn take(&mut self, place: CardPlace, columns: &[u8]) -> Result<(), AllocError> {
+    pub fn take(&mut self, place: CardPlace, columns: &[u8]) -> Result<(), AllocError> {
         for byte in columns {
             self.byte(place, *byte)?;
         }
@@ -153,7 +154,7 @@ impl CardScanner {
     }
 
     /// Takes columns 1 to 72 of a card.
-    pub(crate) fn take_card(&mut self, card: &Card) -> Result<(), AllocError> {
+    pub fn take_card(&mut self, card: &Card) -> Result<(), AllocError> {
         self.take(card.place, card.columns())
     }
 
@@ -342,7 +343,7 @@ impl CardScanner {
     }
 
     /// Goes on behind a comment, which is a blank in a list.
-    pub(crate) fn end_comment(&mut self) {
+    pub fn end_comment(&mut self) {
         if self.depth > 0 {
             self.state = State::List;
             self.list_blank();

@@ -1,0 +1,151 @@
+//! Holds of copies that are left out, of which the copy that is carried has one of the same key.
+ghost use Rattle.std.specs.Prelude.{◌≡◌, ◌++◌, not, List, IfOk, OnOk};
+ghost use Rattle.std.specs.List.{filter, flat_map};
+ghost use Rattle.terms.specs.Types as terms;
+ghost use Rattle.mcs.specs.declared.file.Item.{Item as AnItem};
+ghost use Rattle.intake_carry.specs.Carried.{holds_of, is_held, is_held_by_copy};
+ghost use Rattle.intake_carry.specs.Keys.{AreKeysOf};
+
+use crate::copies::OtherCopies;
+use crate::placed::PlacedItem;
+use fields::{Id, Reason as HoldReason};
+use intake_cards::{CardPlace, RemarkReason, Remarks, Subject};
+use mcs::{HoldItem, Item};
+use std::alloc::{AllocError, Global};
+use std::collections::BTreeSet;
+use sysmods_values::Hold;
+use terms::HoldKind;
+
+/// What tells holds apart: id, kind and reason.
+type HoldKey = (Id, (HoldKind, HoldReason));
+
+fn key_of(hold: &Hold) -> HoldKey
+    ensures { result ≡ (hold.now.id, (hold.now.kind, hold.now.reason)) }
+{
+    (hold.id, (hold.kind, hold.reason))
+}
+
+// Adds the keys of the holds.
+fn add_keys(keys: &mut BTreeSet<HoldKey>, holds: &[Hold]) -> Result<(), AllocError>
+    ensures { OnOk result ((before : List terms.Hold) → AreKeysOf keys.old before
+        → AreKeysOf keys.new (before ++ holds.now)) }
+{
+    for hold in holds {
+        keys.insert(key_of(hold))?;
+    }
+    Ok(())
+}
+
+// The holds of an item, which are internal.
+fn holds_of(item: &Item) -> &[Hold]
+    ensures { result.now ≡ holds_of item.now }
+{
+    match item {
+        Item::Sysmod(sysmod) => sysmod.holds.as_slice(),
+        Item::Assign(_) => &[],
+    }
+}
+
+// The keys of the holds that the items have.
+fn internal_keys(alloc: Global, items: &[Item]) -> Result<BTreeSet<HoldKey>, AllocError>
+    ensures { IfOk result (λ keys. AreKeysOf keys (flat_map holds_of items.now)) }
+{
+    let mut keys = BTreeSet::new(alloc);
+    for item in items {
+        add_keys(&mut keys, holds_of(item))?;
+    }
+    Ok(keys)
+}
+
+// Whether a hold has one of the keys.
+fn is_held(keys: &BTreeSet<HoldKey>, item: &HoldItem) -> bool
+    ensures { (items : List AnItem) → AreKeysOf keys.now (flat_map holds_of items) → result ≡ is_held items item.now }
+{
+    match item {
+        HoldItem::Hold(hold) => keys.contains(&key_of(hold)),
+        HoldItem::Release(_) => false,
+    }
+}
+
+// Whether it was an internal hold and has one of the keys.
+fn is_held_by_copy(keys: &BTreeSet<HoldKey>, placed: &PlacedItem) -> bool
+    ensures { (items : List AnItem) → AreKeysOf keys.now (flat_map holds_of items)
+        → result ≡ is_held_by_copy items placed.now }
+{
+    placed.was_internal && is_held(keys, &placed.item)
+}
+
+// The others.
+fn others(keys: &BTreeSet<HoldKey>, mut placed: Vec<PlacedItem>) -> Vec<PlacedItem>
+    ensures { (items : List AnItem) → AreKeysOf keys.now (flat_map holds_of items)
+        → result.items ≡ filter (λ p. not (is_held_by_copy items p)) placed.items }
+{
+    placed.retain(|one| !is_held_by_copy(keys, one));
+    placed
+}
+
+// Tells what becomes of a hold that was internal in a copy of a SYSMOD.
+fn tell_hold(
+    alloc: Global,
+    remarks: &mut Remarks,
+    keys: &BTreeSet<HoldKey>,
+    copies: &OtherCopies,
+    place: CardPlace,
+    hold: &Hold,
+) -> Result<(), AllocError> {
+    let subject = Subject {
+        place,
+        word: b"HOLD",
+        id: hold.id.as_bytes(),
+    };
+    if keys.contains(&key_of(hold)) {
+        let reason = hold.reason.as_bytes();
+        return remarks.tell_dropped(
+            alloc,
+            &subject,
+            b"REASON",
+            RemarkReason::HeldAlready,
+            reason,
+        );
+    }
+    if copies.are_of(hold.id.as_bytes()) {
+        return remarks.tell_carried(alloc, &subject, b"", RemarkReason::HeldOutside, b"");
+    }
+    Ok(())
+}
+
+// The same of each of them.
+fn tell_holds(
+    alloc: Global,
+    remarks: &mut Remarks,
+    keys: &BTreeSet<HoldKey>,
+    copies: &OtherCopies,
+    placed: &[PlacedItem],
+) -> Result<(), AllocError> {
+    for one in placed {
+        match &one.item {
+            HoldItem::Hold(hold) if one.was_internal => {
+                tell_hold(alloc, remarks, keys, copies, one.place, hold)?
+            }
+            HoldItem::Hold(_) | HoldItem::Release(_) => {}
+        }
+    }
+    Ok(())
+}
+
+/// The holds and releases without the internal holds of copies that are left out for which a SYSMOD of the items has
+/// one of the same key. What becomes of such holds is told.
+pub(crate) fn without_held(
+    alloc: Global,
+    remarks: &mut Remarks,
+    copies: &OtherCopies,
+    items: &[Item],
+    placed: Vec<PlacedItem>,
+) -> Result<Vec<PlacedItem>, AllocError>
+    ensures { IfOk result (λ kept. kept.items
+        ≡ filter (λ p. not (is_held_by_copy items.now p)) placed.items) }
+{
+    let keys = internal_keys(alloc, items)?;
+    tell_holds(alloc, remarks, &keys, copies, placed.as_slice())?;
+    Ok(others(&keys, placed))
+}
