@@ -1,12 +1,12 @@
 //! Command files, as text.
 
-use crate::spelled::Spelled;
+use crate::spelled::RowText;
 use cntl::{CntlError, Command, Install, read_cntl};
 use fields::spelling::command_code_text;
 use fields::{Bypass, Reasons, ReceiveWhat, RestoreList};
 use std::alloc::Global;
 
-fn put_receive(spelled: &mut Spelled, what: &ReceiveWhat) {
+fn put_receive(spelled: &mut RowText, what: &ReceiveWhat) {
     spelled.put(b"RECEIVE");
     spelled.put_flag(what.sysmods, b" SYSMODS");
     spelled.put_flag(what.holddata, b" HOLDDATA");
@@ -15,7 +15,7 @@ fn put_receive(spelled: &mut Spelled, what: &ReceiveWhat) {
     }
 }
 
-fn put_reasons(spelled: &mut Spelled, reasons: &Reasons, name: &[u8]) {
+fn put_reasons(spelled: &mut RowText, reasons: &Reasons, name: &[u8]) {
     spelled.put_flag(!matches!(reasons, Reasons::None), name);
     if let Reasons::These(list) = reasons {
         spelled.put(b"(");
@@ -27,7 +27,7 @@ fn put_reasons(spelled: &mut Spelled, reasons: &Reasons, name: &[u8]) {
     }
 }
 
-fn put_bypass(spelled: &mut Spelled, bypass: &Bypass) {
+fn put_bypass(spelled: &mut RowText, bypass: &Bypass) {
     spelled.put_flag(bypass.pre, b" PRE");
     spelled.put_flag(bypass.req, b" REQ");
     spelled.put_flag(bypass.ifreq, b" IFREQ");
@@ -46,7 +46,7 @@ fn put_bypass(spelled: &mut Spelled, bypass: &Bypass) {
     }
 }
 
-fn put_install(spelled: &mut Spelled, name: &[u8], install: &Install) {
+fn put_install(spelled: &mut RowText, name: &[u8], install: &Install) {
     spelled.put(name);
     spelled.put_flag(install.selection.ptfs, b" PTFS");
     spelled.put_flag(install.selection.groupextend, b" EXTEND");
@@ -55,7 +55,7 @@ fn put_install(spelled: &mut Spelled, name: &[u8], install: &Install) {
     put_bypass(spelled, &install.bypass);
 }
 
-fn put_command(spelled: &mut Spelled, command: &Command) {
+fn put_command(spelled: &mut RowText, command: &Command) {
     match command {
         Command::Set(zone) => {
             spelled.put(b"SET");
@@ -83,15 +83,15 @@ fn put_command(spelled: &mut Spelled, command: &Command) {
     spelled.put(b";");
 }
 
-fn put_commands(spelled: &mut Spelled, commands: &[Command]) {
+fn put_commands(spelled: &mut RowText, commands: &[Command]) {
     for command in commands {
         put_command(spelled, command);
     }
 }
 
 /// The commands of the file, or the record and the code of its first fault.
-pub(crate) fn commanded(alloc: Global, bytes: &[u8]) -> Spelled {
-    let mut spelled = Spelled::new();
+pub(crate) fn commanded(alloc: Global, bytes: &[u8]) -> RowText {
+    let mut spelled = RowText::new();
     match read_cntl(alloc, bytes) {
         Ok(commands) => put_commands(&mut spelled, commands.as_slice()),
         Err(CntlError::Memory) => spelled.put(b"memory"),

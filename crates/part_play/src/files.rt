@@ -3,7 +3,7 @@
 use crate::commands::commanded;
 use crate::holds::held;
 use crate::ptfin::received;
-use crate::spelled::Spelled;
+use crate::spelled::RowText;
 use crate::texts::{copied, text_read, update_read};
 use crate::words::{commands_in, grouped, lines_of_list, pieces_of, stated};
 use rec80::records;
@@ -11,7 +11,7 @@ use std::alloc::Global;
 use std::test::Fail;
 
 /// What this reader makes of the file.
-pub(crate) fn read_file(alloc: Global, name: &str, file: &[u8]) -> Result<Spelled, Fail> {
+pub(crate) fn read_file(alloc: Global, name: &str, file: &[u8]) -> Result<RowText, Fail> {
     match name.as_bytes() {
         b"COMMANDS" => Ok(commanded(alloc, file)),
         b"PTFIN" => Ok(received(alloc, file)),
@@ -24,7 +24,7 @@ pub(crate) fn read_file(alloc: Global, name: &str, file: &[u8]) -> Result<Spelle
 }
 
 // What this reader makes of the file's records.
-fn read_records(name: &str, file: &[u8]) -> Result<Spelled, Fail> {
+fn read_records(name: &str, file: &[u8]) -> Result<RowText, Fail> {
     let found = records(file)?;
     match name.as_bytes() {
         b"STATEMENT" => Ok(stated(found)),
@@ -43,7 +43,7 @@ pub(crate) fn read_cut(
     file: &[u8],
     printed: &mut Vec<u8>,
 ) -> Result<(), Fail> {
-    let mut before = Spelled::new();
+    let mut before = RowText::new();
     before.put(b"nothing");
     for len in 0..=file.len() {
         let now = read_file(alloc, name, &file[..len])?;

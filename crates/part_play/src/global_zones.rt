@@ -1,6 +1,6 @@
 //! A global zone: holds, sources, REJECT, the SYSMODs that name an id, and which SYSMOD is over which.
 
-use crate::spelled::Spelled;
+use crate::spelled::RowText;
 use fields::{Id, Reason, Source, Srel};
 use mcs::{Item, read_ptfin};
 use sorted::Table;
@@ -11,9 +11,9 @@ use sysmods_values::Hold;
 use terms::HoldKind;
 
 /// What each of the actions, with a comma between two, answers in the global zone that has received the file.
-pub(crate) fn read_global(alloc: Global, file: &[u8], actions: &str) -> Result<Spelled, Fail> {
+pub(crate) fn read_global(alloc: Global, file: &[u8], actions: &str) -> Result<RowText, Fail> {
     let mut global = received(alloc, file)?;
-    let mut spelled = Spelled::new();
+    let mut spelled = RowText::new();
     for action in actions.split(',') {
         let (word, ids) = action.split_once(' ').ok_or("an action has an id")?;
         spelled.put(b" ");
@@ -42,7 +42,7 @@ fn act(
     global: &mut GlobalZone,
     word: &str,
     ids: &str,
-    spelled: &mut Spelled,
+    spelled: &mut RowText,
 ) -> Result<(), Fail> {
     match word.as_bytes() {
         b"HOLD" => spelled.put(held(global, read_id(ids)?)?),
@@ -106,7 +106,7 @@ fn ask(
     global: &GlobalZone,
     word: &str,
     ids: &str,
-    spelled: &mut Spelled,
+    spelled: &mut RowText,
 ) -> Result<(), Fail> {
     let srel = Srel::read(b"Z038").ok_or("no SREL")?;
     let mut found = Vec::new(alloc);
@@ -125,7 +125,7 @@ fn ask(
     Ok(())
 }
 
-fn put_found(spelled: &mut Spelled, ids: &[Id]) {
+fn put_found(spelled: &mut RowText, ids: &[Id]) {
     for id in ids {
         spelled.put_words(&[id.as_bytes()]);
     }
@@ -137,7 +137,7 @@ fn put_superseded(
     global: &GlobalZone,
     srel: Srel,
     id: &str,
-    spelled: &mut Spelled,
+    spelled: &mut RowText,
 ) -> Result<(), Fail> {
     let vers = VerChoice::new(global, srel, Table::new(alloc), Table::new(alloc));
     let superseded = vers.sup_all(alloc, read_id(id)?)?;
@@ -158,7 +158,7 @@ fn put_over(
     global: &GlobalZone,
     srel: Srel,
     ids: &str,
-    spelled: &mut Spelled,
+    spelled: &mut RowText,
 ) -> Result<(), Fail> {
     let (x, z) = ids.split_once(' ').ok_or("two ids")?;
     let vers = VerChoice::new(global, srel, Table::new(alloc), Table::new(alloc));

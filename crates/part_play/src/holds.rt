@@ -1,6 +1,6 @@
 //! Hold files, as text.
 
-use crate::spelled::Spelled;
+use crate::spelled::RowText;
 use fields::spelling::{hold_text, statement_code_text};
 use fields::{Id, Reason};
 use mcs::{HoldItem, McsError, read_hold};
@@ -8,13 +8,13 @@ use std::alloc::Global;
 use sysmods_values::Hold;
 use terms::HoldKind;
 
-fn put_key(spelled: &mut Spelled, id: Id, kind: HoldKind, reason: Reason, fmid: Id) {
+fn put_key(spelled: &mut RowText, id: Id, kind: HoldKind, reason: Reason, fmid: Id) {
     spelled.put_words(&[id.as_bytes(), hold_text(kind)]);
     spelled.put_words(&[reason.as_bytes(), fmid.as_bytes()]);
 }
 
 /// A hold as text.
-pub(crate) fn put_hold(spelled: &mut Spelled, hold: &Hold) {
+pub(crate) fn put_hold(spelled: &mut RowText, hold: &Hold) {
     put_key(spelled, hold.id, hold.kind, hold.reason, hold.fmid);
     if let Some(class) = hold.class {
         spelled.put_words(&[class.as_bytes()]);
@@ -30,7 +30,7 @@ pub(crate) fn put_hold(spelled: &mut Spelled, hold: &Hold) {
     }
 }
 
-fn put_items(spelled: &mut Spelled, items: &[HoldItem]) {
+fn put_items(spelled: &mut RowText, items: &[HoldItem]) {
     for item in items {
         match item {
             HoldItem::Hold(hold) => {
@@ -47,7 +47,7 @@ fn put_items(spelled: &mut Spelled, items: &[HoldItem]) {
 }
 
 /// The record and the code of a fault.
-pub(crate) fn put_error(spelled: &mut Spelled, error: McsError) {
+pub(crate) fn put_error(spelled: &mut RowText, error: McsError) {
     match error {
         McsError::Memory => spelled.put(b"memory"),
         McsError::Fault { number, code } => {
@@ -58,8 +58,8 @@ pub(crate) fn put_error(spelled: &mut Spelled, error: McsError) {
 }
 
 /// The items of the hold file, or the record and the code of its fault.
-pub(crate) fn held(alloc: Global, bytes: &[u8]) -> Spelled {
-    let mut spelled = Spelled::new();
+pub(crate) fn held(alloc: Global, bytes: &[u8]) -> RowText {
+    let mut spelled = RowText::new();
     match read_hold(alloc, bytes) {
         Ok(items) => put_items(&mut spelled, items.as_slice()),
         Err(error) => put_error(&mut spelled, error),

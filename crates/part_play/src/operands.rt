@@ -1,6 +1,6 @@
 //! Operands of a command, as text.
 
-use crate::spelled::Spelled;
+use crate::spelled::RowText;
 use fields::{Source, ZoneName};
 use rec80::{Record, Records, Word, flag, ids, listed_ids, one, operand, records, rising};
 use std::alloc::Global;
@@ -16,8 +16,8 @@ fn operand_in<'a>(alloc: Global, cards: &'a [Record], name: &[u8]) -> Option<Wor
 
 // Whether there is such an operand, and its list as ids, as so many ids in any order, as sources and as the name of a
 // zone, if it is that.
-fn taken(alloc: Global, cards: &[Record], name: &[u8]) -> Spelled {
-    let mut spelled = Spelled::new();
+fn taken(alloc: Global, cards: &[Record], name: &[u8]) -> RowText {
+    let mut spelled = RowText::new();
     let found = operand_in(alloc, cards, name);
     spelled.put(match flag(&found) {
         Ok(true) => b"there",
@@ -34,7 +34,7 @@ fn taken(alloc: Global, cards: &[Record], name: &[u8]) -> Spelled {
     spelled
 }
 
-fn put_ids(alloc: Global, spelled: &mut Spelled, word: &Word<'_>) {
+fn put_ids(alloc: Global, spelled: &mut RowText, word: &Word<'_>) {
     if let Ok(list) = ids(alloc, word) {
         spelled.put_ids(b"ids", &list);
     }
@@ -44,7 +44,7 @@ fn put_ids(alloc: Global, spelled: &mut Spelled, word: &Word<'_>) {
     }
 }
 
-fn put_sources(alloc: Global, spelled: &mut Spelled, word: &Word<'_>) {
+fn put_sources(alloc: Global, spelled: &mut RowText, word: &Word<'_>) {
     if let Ok(list) = rising::<Source>(alloc, word) {
         for source in list.iter() {
             spelled.put_words(&[source.as_bytes()]);
@@ -53,6 +53,6 @@ fn put_sources(alloc: Global, spelled: &mut Spelled, word: &Word<'_>) {
 }
 
 /// How the operand of this name of the file's first command is taken.
-pub(crate) fn operand_taken(alloc: Global, file: &[u8], name: &[u8]) -> Result<Spelled, Fail> {
+pub(crate) fn operand_taken(alloc: Global, file: &[u8], name: &[u8]) -> Result<RowText, Fail> {
     Ok(taken(alloc, records(file)?.all, name))
 }

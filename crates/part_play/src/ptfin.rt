@@ -1,13 +1,13 @@
 //! Files of SYSMODs, as text.
 
 use crate::holds::{put_error, put_hold};
-use crate::spelled::Spelled;
+use crate::spelled::RowText;
 use fields::spelling::{kind_text, type_text};
 use mcs::{Assign, Item, read_ptfin};
 use std::alloc::Global;
 use sysmods_values::{Action, ElemChange, Sysmod, Ver};
 
-fn put_ver(spelled: &mut Spelled, ver: &Ver) {
+fn put_ver(spelled: &mut RowText, ver: &Ver) {
     spelled.put_words(&[ver.srel.as_bytes()]);
     if let Some(fmid) = ver.fmid {
         spelled.put_words(&[fmid.as_bytes()]);
@@ -21,7 +21,7 @@ fn put_ver(spelled: &mut Spelled, ver: &Ver) {
     }
 }
 
-fn put_change(spelled: &mut Spelled, change: &ElemChange) {
+fn put_change(spelled: &mut RowText, change: &ElemChange) {
     spelled.put_words(&[type_text(change.elem_type)]);
     spelled.put_words(&[change.name.as_bytes()]);
     let records = match &change.action {
@@ -43,7 +43,7 @@ fn put_change(spelled: &mut Spelled, change: &ElemChange) {
 }
 
 /// The SYSMOD with its `++VER`s, holds and element statements.
-pub(crate) fn put_sysmod(spelled: &mut Spelled, sysmod: &Sysmod) {
+pub(crate) fn put_sysmod(spelled: &mut RowText, sysmod: &Sysmod) {
     spelled.put(kind_text(sysmod.kind));
     spelled.put_words(&[sysmod.id.as_bytes()]);
     for ver in sysmod.vers.iter() {
@@ -57,7 +57,7 @@ pub(crate) fn put_sysmod(spelled: &mut Spelled, sysmod: &Sysmod) {
     }
 }
 
-fn put_assign(spelled: &mut Spelled, assign: &Assign) {
+fn put_assign(spelled: &mut RowText, assign: &Assign) {
     spelled.put(b"ASSIGN");
     spelled.put_words(&[assign.source.as_bytes()]);
     for id in assign.to.iter() {
@@ -65,7 +65,7 @@ fn put_assign(spelled: &mut Spelled, assign: &Assign) {
     }
 }
 
-fn put_items(spelled: &mut Spelled, items: &[Item]) {
+fn put_items(spelled: &mut RowText, items: &[Item]) {
     for item in items {
         match item {
             Item::Sysmod(sysmod) => put_sysmod(spelled, sysmod),
@@ -76,8 +76,8 @@ fn put_items(spelled: &mut Spelled, items: &[Item]) {
 }
 
 /// The items of the file, or the record and the code of its fault.
-pub(crate) fn received(alloc: Global, bytes: &[u8]) -> Spelled {
-    let mut spelled = Spelled::new();
+pub(crate) fn received(alloc: Global, bytes: &[u8]) -> RowText {
+    let mut spelled = RowText::new();
     match read_ptfin(alloc, bytes) {
         Ok(items) => put_items(&mut spelled, items.as_slice()),
         Err(error) => put_error(&mut spelled, error),

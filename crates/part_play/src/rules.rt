@@ -1,6 +1,6 @@
 //! Sets of numbers that grow by rules.
 
-use crate::spelled::Spelled;
+use crate::spelled::RowText;
 use crate::systems::{flags_of, numbers_of, put_flags};
 use solve::{Rule, Rules, least};
 use std::alloc::Global;
@@ -24,14 +24,14 @@ fn add_rule(rules: &mut Rules, rule: Rule) -> Result<(), Fail> {
 
 /// How many numbers there are, and the least set that has those of the start (`T`) and what its rules give. One number
 /// that is not in the start is added after the others.
-pub(crate) fn grown(alloc: Global, text: &str) -> Result<Spelled, Fail> {
+pub(crate) fn grown(alloc: Global, text: &str) -> Result<RowText, Fail> {
     let (letters, words) = text.split_once(' ').ok_or("no rules")?;
     let mut rules = Rules::new(alloc, flags_of(alloc, letters)?.as_slice())?;
     rules.add_number(false)?;
     for word in words.split_whitespace() {
         add_rule(&mut rules, rule_of(alloc, word)?)?;
     }
-    let mut spelled = Spelled::new();
+    let mut spelled = RowText::new();
     spelled.put_number(rules.size() as usize);
     spelled.put(b" ");
     put_flags(&mut spelled, least(alloc, &rules)?.as_slice());

@@ -5,14 +5,14 @@ use itoa::Buffer;
 
 /// A text of up to 480 bytes. It drops what does not fit.
 #[derive(Clone, Copy)]
-pub(crate) struct Spelled {
+pub(crate) struct RowText {
     bytes: [u8; 480],
     len: usize,
 }
 
-impl Spelled {
-    pub(crate) fn new() -> Spelled {
-        Spelled {
+impl RowText {
+    pub(crate) fn new() -> RowText {
+        RowText {
             bytes: [0; 480],
             len: 0,
         }

@@ -1,7 +1,7 @@
 //! What a SYSMOD names, and how it grows by the parts of another one.
 
 use crate::ptfin::put_sysmod;
-use crate::spelled::Spelled;
+use crate::spelled::RowText;
 use fields::spelling::read_type;
 use fields::{Id, Name, Source, Srel};
 use mcs::{Item, read_ptfin};
@@ -11,7 +11,7 @@ use sysmods_values::{Sysmod, Ver};
 
 /// The answer to a question about the first of the file's two SYSMODs, or what the first one is once it has got the
 /// named part of the second one.
-pub(crate) fn read_sysmod(alloc: Global, file: &[u8], text: &str) -> Result<Spelled, Fail> {
+pub(crate) fn read_sysmod(alloc: Global, file: &[u8], text: &str) -> Result<RowText, Fail> {
     let (mut fix, mut other) = two(alloc, file)?;
     spell_sysmod(alloc, &mut fix, &mut other, text)
 }
@@ -21,8 +21,8 @@ fn spell_sysmod(
     fix: &mut Sysmod,
     other: &mut Sysmod,
     text: &str,
-) -> Result<Spelled, Fail> {
-    let mut spelled = Spelled::new();
+) -> Result<RowText, Fail> {
+    let mut spelled = RowText::new();
     match text.split_once(' ') {
         Some((word, names)) => ask(alloc, fix, word, names, &mut spelled)?,
         None => {
@@ -68,7 +68,7 @@ fn grow(
     fix: &mut Sysmod,
     other: &mut Sysmod,
     part: &str,
-    spelled: &mut Spelled,
+    spelled: &mut RowText,
 ) -> Result<(), Fail> {
     match part.as_bytes() {
         b"VER" => spelled.put_number(fix.insert_ver(take_ver(other)?)?),
@@ -89,7 +89,7 @@ fn ask(
     fix: &Sysmod,
     word: &str,
     names: &str,
-    spelled: &mut Spelled,
+    spelled: &mut RowText,
 ) -> Result<(), Fail> {
     match word.as_bytes() {
         b"NAMES" => {
@@ -115,7 +115,7 @@ fn ask(
 }
 
 // The ids that it names for the SREL.
-fn put_named(alloc: Global, fix: &Sysmod, srel: &str, spelled: &mut Spelled) -> Result<(), Fail> {
+fn put_named(alloc: Global, fix: &Sysmod, srel: &str, spelled: &mut RowText) -> Result<(), Fail> {
     let srel = Srel::read(srel.as_bytes()).ok_or("no SREL")?;
     let mut found = Vec::new(alloc);
     fix.append_named(srel, &mut found)?;

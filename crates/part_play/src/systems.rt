@@ -2,14 +2,14 @@
 //! each candidate, which tells whether it is eligible (`T` or `F`), and its needs, as `0<1,2` if 0 needs 1 or 2.
 
 use crate::rules::grown;
-use crate::spelled::Spelled;
+use crate::spelled::RowText;
 use itoa::Buffer;
 use solve::{Kept, Need, Solver, Sweep, System, SystemError, Worklist, causers};
 use std::alloc::Global;
 use std::test::Fail;
 
 /// What this reader finds in the system.
-pub(crate) fn read_system(alloc: Global, name: &str, text: &str) -> Result<Spelled, Fail> {
+pub(crate) fn read_system(alloc: Global, name: &str, text: &str) -> Result<RowText, Fail> {
     match name.as_bytes() {
         b"SOLVE" => solved(alloc, text),
         b"CHAIN" => chained(alloc, text),
@@ -30,7 +30,7 @@ pub(crate) fn flags_of(alloc: Global, letters: &str) -> Result<Vec<bool>, Fail> 
 }
 
 /// A letter for each flag.
-pub(crate) fn put_flags(spelled: &mut Spelled, flags: &[bool]) {
+pub(crate) fn put_flags(spelled: &mut RowText, flags: &[bool]) {
     for flag in flags {
         spelled.put(if *flag { b"T" } else { b"F" });
     }
@@ -85,16 +85,16 @@ fn system(alloc: Global, text: &str) -> Result<System, Fail> {
 }
 
 // Which candidates stay, how many strikes that takes, and the causers of each.
-fn solved(alloc: Global, text: &str) -> Result<Spelled, Fail> {
+fn solved(alloc: Global, text: &str) -> Result<RowText, Fail> {
     let s = system(alloc, text)?;
-    let mut spelled = Spelled::new();
+    let mut spelled = RowText::new();
     let kept = put_kept(alloc, &s, &mut spelled)?;
     put_causers(alloc, &s, &kept, &mut spelled)?;
     Ok(spelled)
 }
 
 // Spells whom both solvers keep, and the strikes of the second one.
-fn put_kept(alloc: Global, s: &System, spelled: &mut Spelled) -> Result<Kept, Fail> {
+fn put_kept(alloc: Global, s: &System, spelled: &mut RowText) -> Result<Kept, Fail> {
     let swept = Sweep.greatest(alloc, s)?;
     let (kept, count) = Worklist::count(alloc, s)?;
     spelled.put_flag(swept.flags() != kept.flags(), b"SWEEP DIFFERS ");
@@ -104,7 +104,7 @@ fn put_kept(alloc: Global, s: &System, spelled: &mut Spelled) -> Result<Kept, Fa
     Ok(kept)
 }
 
-fn put_causers(alloc: Global, s: &System, kept: &Kept, spelled: &mut Spelled) -> Result<(), Fail> {
+fn put_causers(alloc: Global, s: &System, kept: &Kept, spelled: &mut RowText) -> Result<(), Fail> {
     for row in causers(alloc, s, kept)? {
         spelled.put(b" ");
         for causer in row.iter() {
@@ -118,10 +118,10 @@ fn put_causers(alloc: Global, s: &System, kept: &Kept, spelled: &mut Spelled) ->
 
 // The causers in the first system for what the second one keeps, behind the size of that, its members and whether a
 // number past its end is one.
-fn other_size(alloc: Global, text: &str) -> Result<Spelled, Fail> {
+fn other_size(alloc: Global, text: &str) -> Result<RowText, Fail> {
     let (first, second) = text.split_once('/').ok_or("two systems")?;
     let kept = Sweep.greatest(alloc, &system(alloc, second.trim())?)?;
-    let mut spelled = Spelled::new();
+    let mut spelled = RowText::new();
     spelled.put_number(kept.size() as usize);
     spelled.put(b" ");
     for number in 0..=kept.size() {
@@ -154,7 +154,7 @@ fn chain_with(alloc: Global, last: u32, more: &str) -> Result<Vec<Need>, Fail> {
 
 // How many candidates stay in a chain of so many, and how many strikes that takes. All are eligible, but the last one
 // perhaps not. It may have further needs.
-fn chained(alloc: Global, text: &str) -> Result<Spelled, Fail> {
+fn chained(alloc: Global, text: &str) -> Result<RowText, Fail> {
     let (last, more) = cut(text);
     let (letter, more) = cut(more);
     let last: u32 = last.parse()?;
@@ -163,7 +163,7 @@ fn chained(alloc: Global, text: &str) -> Result<Spelled, Fail> {
     let s = System::from_needs(eligible, chain_with(alloc, last, more)?)?;
     let (kept, count) = Worklist::count(alloc, &s)?;
     let swept = Sweep.greatest(alloc, &s)?;
-    let mut spelled = Spelled::new();
+    let mut spelled = RowText::new();
     spelled.put_flag(swept.flags() != kept.flags(), b"SWEEP DIFFERS ");
     spelled.put_number(kept.flags().iter().filter(|flag| **flag).count());
     spelled.put(b" ");
@@ -172,9 +172,9 @@ fn chained(alloc: Global, text: &str) -> Result<Spelled, Fail> {
 }
 
 // How many needs the system has that is made of them, or why it is not made.
-fn whole(alloc: Global, text: &str) -> Result<Spelled, Fail> {
+fn whole(alloc: Global, text: &str) -> Result<RowText, Fail> {
     let (letters, needs) = cut(text);
-    let mut spelled = Spelled::new();
+    let mut spelled = RowText::new();
     match System::from_needs(flags_of(alloc, letters)?, chain_with(alloc, 0, needs)?) {
         Ok(s) => spelled.put_number(s.needs().len()),
         Err(SystemError::BadNeed) => spelled.put(b"bad need"),

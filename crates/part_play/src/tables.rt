@@ -3,7 +3,7 @@
 use crate::files::{read_cut, read_file};
 use crate::global_zones::read_global;
 use crate::operands::operand_taken;
-use crate::spelled::Spelled;
+use crate::spelled::RowText;
 use crate::sysmod_values::read_sysmod;
 use crate::systems::read_system;
 use crate::texts::merged;
@@ -91,7 +91,7 @@ fn put_difference(
     Ok(())
 }
 
-fn read(alloc: Global, reader: Reader<'_>, text: &str) -> Result<Spelled, Fail> {
+fn read(alloc: Global, reader: Reader<'_>, text: &str) -> Result<RowText, Fail> {
     let Reader { kind, name, front } = reader;
     if kind == "VALUES" {
         return read_value(alloc, name, text);
@@ -109,7 +109,7 @@ fn read(alloc: Global, reader: Reader<'_>, text: &str) -> Result<Spelled, Fail> 
 }
 
 // What is found in the file that stands in front of the table.
-fn read_beside(alloc: Global, name: &str, file: &[u8], text: &str) -> Result<Spelled, Fail> {
+fn read_beside(alloc: Global, name: &str, file: &[u8], text: &str) -> Result<RowText, Fail> {
     match name.as_bytes() {
         b"OPERAND" => operand_taken(alloc, file, text.as_bytes()),
         b"MERGE" => merged(alloc, file, file_of(alloc, text)?.as_slice()),

@@ -1,6 +1,6 @@
 //! Numbered texts, updates and merges, as text.
 
-use crate::spelled::Spelled;
+use crate::spelled::RowText;
 use std::alloc::Global;
 use std::test::Fail;
 use terms::{TextCode, TextFault};
@@ -14,7 +14,7 @@ fn lines_in(alloc: Global, file: &[u8]) -> Result<Vec<Line>, Fail> {
     Err(Fail::from("no whole records"))
 }
 
-fn put_fault(spelled: &mut Spelled, fault: TextFault) {
+fn put_fault(spelled: &mut RowText, fault: TextFault) {
     spelled.put_number(fault.number);
     spelled.put(match fault.code {
         TextCode::NoNumber => b" no number",
@@ -27,8 +27,8 @@ fn put_fault(spelled: &mut Spelled, fault: TextFault) {
 }
 
 /// The number of records of the text, or its fault.
-pub(crate) fn text_read(alloc: Global, file: &[u8]) -> Result<Spelled, Fail> {
-    let mut spelled = Spelled::new();
+pub(crate) fn text_read(alloc: Global, file: &[u8]) -> Result<RowText, Fail> {
+    let mut spelled = RowText::new();
     match Numbered::read(lines_in(alloc, file)?) {
         Ok(text) => spelled.put_number(text.lines().len()),
         Err(fault) => put_fault(&mut spelled, fault),
@@ -37,8 +37,8 @@ pub(crate) fn text_read(alloc: Global, file: &[u8]) -> Result<Spelled, Fail> {
 }
 
 /// The number of records of the update of M1, or its fault.
-pub(crate) fn update_read(alloc: Global, file: &[u8]) -> Result<Spelled, Fail> {
-    let mut spelled = Spelled::new();
+pub(crate) fn update_read(alloc: Global, file: &[u8]) -> Result<RowText, Fail> {
+    let mut spelled = RowText::new();
     match Update::read(alloc, lines_in(alloc, file)?, b"M1") {
         Ok(update) => spelled.put_number(update.records().len()),
         Err(TextError::Fault(fault)) => put_fault(&mut spelled, fault),
@@ -53,9 +53,9 @@ fn update_copy(alloc: Global, file: &[u8]) -> Result<Update, Fail> {
 }
 
 /// How many records a copy of the update has, and how many of them it gives.
-pub(crate) fn copied(alloc: Global, file: &[u8]) -> Result<Spelled, Fail> {
+pub(crate) fn copied(alloc: Global, file: &[u8]) -> Result<RowText, Fail> {
     let update = update_copy(alloc, file)?;
-    let mut spelled = Spelled::new();
+    let mut spelled = RowText::new();
     spelled.put_number(update.records().len());
     spelled.put(b" ");
     spelled.put_number(update.given(alloc)?.lines().len());
@@ -71,10 +71,10 @@ fn merge_of(alloc: Global, text: &[u8], update: &[u8]) -> Result<Numbered, Fail>
 
 /// The columns of each record of what the update makes of the text, up to 72 without the blanks at their end and then
 /// its number.
-pub(crate) fn merged(alloc: Global, text: &[u8], update: &[u8]) -> Result<Spelled, Fail> {
+pub(crate) fn merged(alloc: Global, text: &[u8], update: &[u8]) -> Result<RowText, Fail> {
     let merged = merge_of(alloc, text, update)?;
     let bytes = bytes_of(alloc, merged.lines())?;
-    let mut spelled = Spelled::new();
+    let mut spelled = RowText::new();
     for record in bytes.chunks(80) {
         if let Some((columns, number)) = record.split_at_checked(72) {
             spelled.put_words(&[columns.trim_ascii_end(), number]);

@@ -1,6 +1,6 @@
 //! Fields, lists of ids, lists by keys, and files with bytes that no record may have.
 
-use crate::spelled::Spelled;
+use crate::spelled::RowText;
 use fields::{Class, HoldDate, Id, IdList, Name, Reason, Rising, Source, Srel, YyDdd, ZoneName};
 use rec80::{RecError, records};
 use sorted::lists::{Lists, add, add_to_all, listed};
@@ -9,7 +9,7 @@ use std::collections::BTreeMap;
 use std::test::Fail;
 
 /// What this reader makes of the text.
-pub(crate) fn read_value(alloc: Global, name: &str, text: &str) -> Result<Spelled, Fail> {
+pub(crate) fn read_value(alloc: Global, name: &str, text: &str) -> Result<RowText, Fail> {
     match name.as_bytes() {
         b"FIELD" => Ok(fields_of(text)),
         b"DATE" => Ok(date_of(text)),
@@ -36,8 +36,8 @@ fn is_field(letter: u8, text: &[u8]) -> bool {
     }
 }
 
-fn fields_of(text: &str) -> Spelled {
-    let mut spelled = Spelled::new();
+fn fields_of(text: &str) -> RowText {
+    let mut spelled = RowText::new();
     for letter in b"ISCRNZLHD" {
         if is_field(*letter, text.as_bytes()) {
             spelled.put(&[*letter]);
@@ -47,8 +47,8 @@ fn fields_of(text: &str) -> Spelled {
 }
 
 // The day of 2024 with this number.
-fn date_of(text: &str) -> Spelled {
-    let mut spelled = Spelled::new();
+fn date_of(text: &str) -> RowText {
+    let mut spelled = RowText::new();
     if let Ok(day) = text.parse::<u16>() {
         if day >= 1 && day <= 366 {
             spelled.put(YyDdd::new(2024, day).as_bytes());
@@ -70,9 +70,9 @@ fn rise(list: &mut IdList, word: &str) -> Result<bool, Fail> {
 }
 
 // A letter for what each of these calls returns, and then a copy of the list.
-fn rising(alloc: Global, text: &str) -> Result<Spelled, Fail> {
+fn rising(alloc: Global, text: &str) -> Result<RowText, Fail> {
     let mut list = IdList::new(alloc);
-    let mut spelled = Spelled::new();
+    let mut spelled = RowText::new();
     for word in text.split_whitespace() {
         let is_so = rise(&mut list, word)?;
         spelled.put(if is_so { b"T" } else { b"F" });
@@ -82,22 +82,22 @@ fn rising(alloc: Global, text: &str) -> Result<Spelled, Fail> {
 }
 
 // The list of ids in any order.
-fn sorted(alloc: Global, text: &str) -> Result<Spelled, Fail> {
+fn sorted(alloc: Global, text: &str) -> Result<RowText, Fail> {
     let mut ids: Vec<Id> = Vec::new(alloc);
     for word in text.split_whitespace() {
         ids.push(Id::read(word.as_bytes()).ok_or("no id")?)?;
     }
-    let mut spelled = Spelled::new();
+    let mut spelled = RowText::new();
     spelled.put_ids(b"", &Rising::from_vec(ids));
     Ok(spelled)
 }
 
 // The values under the keys 1, 2 and 3, once 7 is under 2, and 9 under 1 and 2.
-fn lists(alloc: Global) -> Result<Spelled, Fail> {
+fn lists(alloc: Global) -> Result<RowText, Fail> {
     let mut lists: Lists<u32, usize> = BTreeMap::new(alloc);
     add(alloc, &mut lists, 2, 7)?;
     add_to_all(alloc, &mut lists, &[1, 2], 9)?;
-    let mut spelled = Spelled::new();
+    let mut spelled = RowText::new();
     for key in 1..=3u32 {
         for value in listed(&lists, key) {
             spelled.put_number(*value);
@@ -109,7 +109,7 @@ fn lists(alloc: Global) -> Result<Spelled, Fail> {
 
 // How many records a file of so many bytes has, all blank but one, which is given by its place and its value, or why
 // it has none.
-fn bytes_read(text: &str) -> Result<Spelled, Fail> {
+fn bytes_read(text: &str) -> Result<RowText, Fail> {
     let mut numbers = text.split_whitespace();
     let size: usize = numbers.next().unwrap_or("").parse()?;
     let place: usize = numbers.next().unwrap_or("").parse()?;
@@ -118,7 +118,7 @@ fn bytes_read(text: &str) -> Result<Spelled, Fail> {
     if let Some(at) = bytes.get_mut(place) {
         *at = byte;
     }
-    let mut spelled = Spelled::new();
+    let mut spelled = RowText::new();
     match records(bytes.get(..size).ok_or("too many bytes")?) {
         Ok(found) => spelled.put_number(found.all.len()),
         Err(error) => put_record_error(&mut spelled, error),
@@ -126,7 +126,7 @@ fn bytes_read(text: &str) -> Result<Spelled, Fail> {
     Ok(spelled)
 }
 
-fn put_record_error(spelled: &mut Spelled, error: RecError) {
+fn put_record_error(spelled: &mut RowText, error: RecError) {
     spelled.put(b"record ");
     spelled.put_number(error.record());
     match error {

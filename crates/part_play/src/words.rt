@@ -1,10 +1,10 @@
 //! Statements, commands and their words, as text.
 
-use crate::spelled::Spelled;
+use crate::spelled::RowText;
 use rec80::{Commands, Group, Groups, Piece, Record, Records, StmtError, Text, Words, statement};
 
 // Each member with its own list in parentheses and a semicolon; a `?` for anything else.
-fn put_members(spelled: &mut Spelled, list: &Text<'_>) {
+fn put_members(spelled: &mut RowText, list: &Text<'_>) {
     let mut members = list.members();
     for _ in 0..9 {
         match members.next_member() {
@@ -24,7 +24,7 @@ fn put_members(spelled: &mut Spelled, list: &Text<'_>) {
 }
 
 // Each word with its members in parentheses and a blank; a `?` for anything else.
-fn put_words(spelled: &mut Spelled, mut words: Words<'_>) {
+fn put_words(spelled: &mut RowText, mut words: Words<'_>) {
     for _ in 0..9 {
         match words.next_word() {
             Ok(Some(word)) => {
@@ -42,7 +42,7 @@ fn put_words(spelled: &mut Spelled, mut words: Words<'_>) {
     }
 }
 
-fn put_fault(spelled: &mut Spelled, error: StmtError) {
+fn put_fault(spelled: &mut RowText, error: StmtError) {
     spelled.put(match error {
         StmtError::NoPeriod => b"St1",
         StmtError::OpenComment => b"St2",
@@ -52,8 +52,8 @@ fn put_fault(spelled: &mut Spelled, error: StmtError) {
 }
 
 /// The words of the statement that these records are, or its fault.
-pub(crate) fn stated(found: Records<'_>) -> Spelled {
-    let mut spelled = Spelled::new();
+pub(crate) fn stated(found: Records<'_>) -> RowText {
+    let mut spelled = RowText::new();
     let group = Group {
         number: 1,
         records: found.all,
@@ -65,7 +65,7 @@ pub(crate) fn stated(found: Records<'_>) -> Spelled {
     spelled
 }
 
-fn put_groups(spelled: &mut Spelled, mut groups: Groups<'_>) {
+fn put_groups(spelled: &mut RowText, mut groups: Groups<'_>) {
     for _ in 0..9 {
         if let Some(group) = groups.next_group() {
             spelled.put_number(group.records.len());
@@ -74,8 +74,8 @@ fn put_groups(spelled: &mut Spelled, mut groups: Groups<'_>) {
 }
 
 /// The number of records of each of a file's statements.
-pub(crate) fn grouped(found: Records<'_>) -> Spelled {
-    let mut spelled = Spelled::new();
+pub(crate) fn grouped(found: Records<'_>) -> RowText {
+    let mut spelled = RowText::new();
     match found.groups() {
         Ok(groups) => put_groups(&mut spelled, groups),
         Err(_) => spelled.put(b"outside"),
@@ -83,7 +83,7 @@ pub(crate) fn grouped(found: Records<'_>) -> Spelled {
     spelled
 }
 
-fn put_commands(spelled: &mut Spelled, mut commands: Commands<'_>) {
+fn put_commands(spelled: &mut RowText, mut commands: Commands<'_>) {
     for _ in 0..9 {
         match commands.next_command() {
             Ok(Some(command)) => {
@@ -102,14 +102,14 @@ fn put_commands(spelled: &mut Spelled, mut commands: Commands<'_>) {
 }
 
 /// The words of each command after the number of its record, or the first fault.
-pub(crate) fn commands_in(found: Records<'_>) -> Spelled {
-    let mut spelled = Spelled::new();
+pub(crate) fn commands_in(found: Records<'_>) -> RowText {
+    let mut spelled = RowText::new();
     put_commands(&mut spelled, found.commands());
     spelled
 }
 
 // A letter for each piece, and the characters that belong to no word.
-fn put_pieces(spelled: &mut Spelled, mut words: Words<'_>) {
+fn put_pieces(spelled: &mut RowText, mut words: Words<'_>) {
     for _ in 0..9 {
         match words.next_piece() {
             Some(Piece::Word(_)) => spelled.put(b"W"),
@@ -121,8 +121,8 @@ fn put_pieces(spelled: &mut Spelled, mut words: Words<'_>) {
 }
 
 /// The pieces of the first command.
-pub(crate) fn pieces_of(found: Records<'_>) -> Spelled {
-    let mut spelled = Spelled::new();
+pub(crate) fn pieces_of(found: Records<'_>) -> RowText {
+    let mut spelled = RowText::new();
     if let Ok(Some(command)) = found.commands().next_command() {
         put_pieces(&mut spelled, command.words);
     }
@@ -130,7 +130,7 @@ pub(crate) fn pieces_of(found: Records<'_>) -> Spelled {
 }
 
 // The lines of the list of the statement's first word, and the first byte of the last one, if there are any.
-fn put_lines(spelled: &mut Spelled, records: &[Record]) -> Option<()> {
+fn put_lines(spelled: &mut RowText, records: &[Record]) -> Option<()> {
     let mut words = statement(&Group { number: 1, records }).ok()?;
     let text = words.next_word().ok()??.list?;
     spelled.put(text.line().trim_ascii());
@@ -143,8 +143,8 @@ fn put_lines(spelled: &mut Spelled, records: &[Record]) -> Option<()> {
 }
 
 /// The lines of the list of the statement's first word.
-pub(crate) fn lines_of_list(found: Records<'_>) -> Spelled {
-    let mut spelled = Spelled::new();
+pub(crate) fn lines_of_list(found: Records<'_>) -> RowText {
+    let mut spelled = RowText::new();
     let _found = put_lines(&mut spelled, found.all);
     spelled
 }
