@@ -2,7 +2,7 @@
 ghost use Rattle.std.specs.Prelude.{◌≡◌, ◌↔◌, ◌<◌, ◌^◌, length, IsTrue, IfOk};
 ghost use Rattle.judge_faults.specs.Claims.{AreClaims, AreGrouped};
 
-use crate::own::{OwnFaults, changes_of, own_at};
+use crate::own::{OwnFaults, own_at};
 use fields::{Id, Name};
 use std::alloc::{AllocError, Global};
 use sysmods::GlobalZone;
@@ -43,7 +43,7 @@ pub(crate) fn claims_of(
             continue;
         }
         let id = ids[i];
-        let changes = changes_of(global, id);
+        let changes = global.changes_of(id);
         for change in changes {
             claims.push(Claim {
                 element: (change.elem_type, change.name),

@@ -9,7 +9,6 @@ ghost use Rattle.sysmods.specs.Choices.{choice};
 ghost use Rattle.judge_faults.specs.Views.{seen};
 ghost use Rattle.judge_faults.specs.Own.{is_foreign_at, IsLower, IsLowerAt, has_base, is_bare_at};
 
-use crate::own::changes_of;
 use crate::view::View;
 use fields::{Id, IdList, Name};
 use std::alloc::{AllocError, Global};
@@ -135,7 +134,7 @@ fn change_at(changes: &[ElemChange], elem_type: ElemType, name: Name) -> Option<
 fn has_replacement(global: &GlobalZone, id: Id, elem_type: ElemType, name: Name) -> bool
     ensures { result ≡ has_replacement global.now id elem_type name }
 {
-    match change_at(changes_of(global, id), elem_type, name) {
+    match change_at(global.changes_of(id), elem_type, name) {
         Some(change) => is_replacement(change),
         None => false,
     }

@@ -5,7 +5,6 @@ ghost use Rattle.std.specs.Ordering.{nat_cmp};
 ghost use Rattle.std.specs.Cmp.Lexicographic.{slice_cmp};
 ghost use Rattle.sorted.specs.Lists.{Gains};
 ghost use Rattle.terms.specs.Lookups.{is_applied};
-ghost use Rattle.terms.specs.Choice.{npre_of};
 ghost use Rattle.sysmods.specs.Choices.{choice};
 ghost use Rattle.judge_faults.specs.Forbidders.{ForbidsBy, AreForbidders, IsForbidden};
 ghost use Rattle.judge_faults.specs.Views.{seen};
@@ -21,16 +20,6 @@ use zones::{Entry, Zone};
 /// For each id the applied functions that name it in NPRE.
 pub(crate) type Forbidders = Lists<Id, Id>;
 
-/// The ids that it names in NPRE.
-pub(crate) fn npre<'a>(vers: &VerChoice<'a>, id: Id) -> &'a [Id]
-    ensures { result.now ≡ npre_of (choice vers.now) id }
-{
-    match vers.ver(id) {
-        Some(ver) => ver.npre.as_slice(),
-        None => &[],
-    }
-}
-
 // Adds the ids that the SYSMOD of the entry names, if it is an applied function.
 fn add_function(
     alloc: Global,
@@ -42,7 +31,7 @@ fn add_function(
         (ForbidsBy vers.now.global.now (choice vers.now) entry.now)) }
 {
     if entry.applied.is_some() && vers.global().is_function(entry.id) {
-        add_to_all(alloc, forbidders, npre(vers, entry.id), entry.id)?;
+        add_to_all(alloc, forbidders, vers.npre(entry.id), entry.id)?;
     }
     Ok(())
 }
@@ -76,5 +65,5 @@ pub(crate) fn is_forbidden(view: &View<'_, '_>, forbidders: &Forbidders, id: Id)
     ensures { IsTrue result ↔ IsForbidden view.now.vers.now.global.now (choice view.now.vers.now) (seen view.now) id }
 {
     view.zone.attest();
-    any_applied(view, npre(view.vers, id)) || any_applied(view, listed(forbidders, id))
+    any_applied(view, view.vers.npre(id)) || any_applied(view, listed(forbidders, id))
 }

@@ -5,7 +5,6 @@ ghost use Rattle.judge_faults.specs.Claims.{PassesAt};
 ghost use Rattle.judge_faults.specs.Forbidding.{AreCandidates, IsOfNamed, IsByNpre, AreClashing};
 ghost use Rattle.judge_faults.specs.Sharing.{Marks};
 
-use crate::forbidden::npre;
 use crate::own::{OwnFaults, own_at};
 use crate::sharing::shared_places;
 use fields::Id;
@@ -67,7 +66,7 @@ fn mark_by(
         return Ok(());
     }
     let id = ids[place];
-    let named = npre(vers, id);
+    let named = vers.npre(id);
     for other in named {
         mark_named(ids, faults, place as u32, id, *other, marked)?;
     }

@@ -1,11 +1,11 @@
 //! The tests that look at one candidate by itself.
 ghost use Rattle.std.specs.Prelude.{◌≡◌, ◌==◌, ◌<◌, ◌&&◌, ◌↔◌, Some, Any, not, IsTrue, IsFalse, IfOk};
-ghost use Rattle.std.specs.Prelude.{[], filter, length, slice_get, option_copied, false};
+ghost use Rattle.std.specs.Prelude.{filter, length, slice_get, option_copied, false};
 ghost use Rattle.std.specs.Str.{bytes_eq};
 ghost use Rattle.std.specs.List.{list_any};
 ghost use Rattle.std.specs.Option.{option_map_or};
 ghost use Rattle.terms.specs.Types.{is_distribution};
-ghost use Rattle.terms.specs.Lookups.{changes_of, holds_of, is_applied, is_in, sysmod_of};
+ghost use Rattle.terms.specs.Lookups.{holds_of, is_applied, is_in};
 ghost use Rattle.terms.specs.Choice.{fits};
 ghost use Rattle.terms.specs.Deleted.{deletions};
 ghost use Rattle.terms.specs.Tests.{HasSeveralFit, is_bypassed_hold};
@@ -66,16 +66,6 @@ impl OwnFaults {
     }
 }
 
-/// The element statements of a received SYSMOD.
-pub(crate) fn changes_of(global: &GlobalZone, id: Id) -> &[ElemChange]
-    ensures { result.now ≡ changes_of global.now id }
-{
-    match global.get(id) {
-        Some(sysmod) => sysmod.changes.as_slice(),
-        None => &[],
-    }
-}
-
 // Whether a hold of this kind keeps it off.
 fn has_standing_hold(global: &GlobalZone, bypass: &Bypass, kind: HoldKind, id: Id) -> bool
     ensures { result ≡ list_any (λ h. not (is_bypassed_hold bypass.now h)) (holds_of global.now kind id) }
@@ -133,21 +123,11 @@ fn fitting_count(zone: &Zone, cands: &IdList, vers: &[Ver]) -> usize
         .count()
 }
 
-// The `++VER`s of a received SYSMOD, for all SRELs.
-fn vers_of(global: &GlobalZone, id: Id) -> &[Ver]
-    ensures { result.now ≡ option_map_or (λ s. s.vers) (sysmod_of global.now id) [] }
-{
-    match global.get(id) {
-        Some(sysmod) => sysmod.vers.as_slice(),
-        None => &[],
-    }
-}
-
 // Whether two of its `++VER`s fit.
 fn is_ambiguous(scope: &Scope<'_, '_>, id: Id) -> bool
     ensures { IsTrue result ↔ HasSeveralFit (setting_of scope.now) id }
 {
-    fitting_count(scope.zone, scope.ids, vers_of(scope.global(), id)) >= 2
+    fitting_count(scope.zone, scope.ids, scope.global().vers_of(id)) >= 2
 }
 
 // The tests of its own that the candidate fails, in its view.
@@ -175,7 +155,7 @@ fn own_faults(
         zone: scope.zone,
     };
     let global = scope.global();
-    let changes = changes_of(global, id);
+    let changes = global.changes_of(id);
     let lower = is_lower(alloc, &view, overs, scope.bypass, id, changes)?;
     Ok(OwnFaults {
         system_held: has_standing_hold(global, scope.bypass, HoldKind::System, id),

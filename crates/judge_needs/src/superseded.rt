@@ -4,7 +4,6 @@
 ghost use Rattle.std.specs.Prelude.{◌≡◌, ◌↔◌, ◌∷◌, [], All, Contains, IfOk, OnOk, map, filter};
 ghost use Rattle.terms.specs.Types.{Id as AnId};
 ghost use Rattle.terms.specs.Lookups.{is_in};
-ghost use Rattle.terms.specs.Choice.{sup_of};
 ghost use Rattle.terms.specs.Needs.{takes_superseder};
 ghost use Rattle.judge_system.specs.declared.stated.RequisiteOf.{RequisiteOf as ANeed};
 ghost use Rattle.sysmods.specs.Choices.{choice};
@@ -32,16 +31,6 @@ impl Keyed for Closure {
 
     fn key(&self) -> Id {
         self.id
-    }
-}
-
-// What the SYSMOD names in SUP.
-fn sup<'a>(vers: &VerChoice<'a>, id: Id) -> &'a [Id]
-    ensures { result.now ≡ sup_of (choice vers.now) id }
-{
-    match vers.ver(id) {
-        Some(ver) => ver.sup.as_slice(),
-        None => &[],
     }
 }
 
@@ -118,7 +107,7 @@ fn superseded(
     requires { All (IsClosure (choice vers.now) needed.now) known.now }
     ensures { IfOk result (λ ids. (z : AnId) → Contains ids z ↔ SupersedesOne (choice vers.now) needed.now id z) }
 {
-    let named = sup(vers, id);
+    let named = vers.sup(id);
     let mut found = needed_among(alloc, needed, named)?;
     let enough = enough(alloc, vers, named)?;
     for other in enough.as_slice() {

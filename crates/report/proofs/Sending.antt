@@ -1,5 +1,5 @@
 -- Texts that go out piece by piece.
-use Rattle.std.proofs.Common.{◌≡◌, ℕ, List, ◌++◌, Option, Bool, true, false, sym, ◌∙◌, ap, subst, append_assoc}
+use Rattle.std.proofs.Common.{◌≡◌, ℕ, List, [], ◌++◌, Option, Some, Bool, true, false, sym, ◌∙◌, ap, subst, append_assoc}
 use Rattle.std.specs.Io.KnownBytes.{Appends, Keeps}
 use Rattle.std.proofs.KnownBytes.{Appends-trans, Appends-kept, Keeps-trans}
 use Rattle.report.specs.Sent.{WrotePart, Went, Sends}
@@ -55,3 +55,12 @@ sends_then a false b false c true xs ys s t = record {
 pub sends_as : (a : Option (List ℕ)) (f : Bool) (b : Option (List ℕ)) (g : Bool) (xs ys : List ℕ) → xs ≡ ys
     → Sends a f b g xs → Sends a f b g ys
 sends_as a f b g xs ys is s = subst (Sends a f b g) is s
+
+-- all of a text went to a sink that had taken nothing and has not failed
+pub sent_whole : (old : Option (List ℕ)) (f : Bool) (new : Option (List ℕ)) (g : Bool) (text bytes : List ℕ)
+    → old ≡ Some [] → f ≡ false → new ≡ Some bytes → g ≡ false → Sends old f new g text → bytes ≡ text
+sent_whole old f new g text bytes none before some after s =
+    let going : Sends old false new g text = subst (λ b. Sends old b new g text) before s in
+    let went : Appends old new text = subst (λ b. Went old new b text) after going in
+    let begun : Appends (Some []) new text = subst (λ o. Appends o new text) none went in
+    subst (λ o. Appends (Some []) o text) some begun

@@ -14,6 +14,19 @@ use Rattle.report.specs.WordTexts.{word_text}
 use Rattle.std.proofs.lemmas.List.{get_or_default}
 use Rattle.terms.proofs.Lists.{flat_next}
 
+-- what one item more adds, and its text
+pub grown_more : {X Y : Type 0} (f : X → List Y) (xs : List X) (i : ℕ) (x : X) (old mid new : List Y) → i < length xs
+    → x ≡ get_or xs i x → mid ≡ old ++ flat_map f (take i xs) → new ≡ mid ++ f x
+    → new ≡ old ++ flat_map f (take (i + 1) xs)
+grown_more f xs i x old mid new below at before more =
+    more ∙ ap (λ l. l ++ f x) before ∙ append_assoc old (flat_map f (take i xs)) (f x)
+    ∙ ap (λ l. old ++ l) (sym (flat_next f xs i x below at))
+
+pub flat_more : {X : Type 0} (f : X → List ℕ) (xs : List X) (i : ℕ) (x : X) (old mid new : List ℕ) → i < length xs
+    → x ≡ get_or xs i x → mid ≡ old ++ flat_map f (take i xs) → new ≡ mid ++ f x
+    → new ≡ old ++ flat_map f (take (i + 1) xs)
+flat_more f = grown_more f
+
 -- the texts of one element more
 pub flat_map_more : {X : Type 0} (f : X → List ℕ) (xs : List X) (i : ℕ) (d : X) → i < length xs
     → flat_map f (take i xs) ++ f (get_or xs i d) ≡ flat_map f (take (i + 1) xs)
@@ -28,7 +41,7 @@ words_put start words =
     ∙ ap (λ t. (start ++ t) ++ 10 ∷ []) (sym (flat_map-map (λ w. 32 ∷ w) word_text words))
     ∙ ap (λ t. t ++ 10 ∷ []) (joined 32 start (map word_text words))
 
-max_parts : (a b c : ℕ) → max (max a b) c ≡ max a (max b c)
+pub max_parts : (a b c : ℕ) → max (max a b) c ≡ max a (max b c)
 max_parts a b c = omega arith
 
 -- the codes of one line more

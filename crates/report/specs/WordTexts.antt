@@ -1,15 +1,24 @@
--- The texts of words.
-use Rattle.std.specs.Prelude.{decimal, option_map, if◌then◌else◌}
+-- The texts of words, and lines that belong to others.
+use Rattle.std.specs.Prelude.{List, ◌∷◌, ◌++◌, codes, decimal, option_map, if◌then◌else◌}
 use Rattle.terms.specs.Types.{Text}
-use Rattle.machine.specs.Report.{left_in, list_text, optional_text}
+use Rattle.machine.specs.Report.{detail_line, left_in, list_text, optional_text}
 use Rattle.report.specs.declared.line_words.LineWord.{LineWord}
 use Rattle.report.specs.declared.line_words.LineWord.TheVariants as word
 
+-- the word, followed by a colon
+abbrev pub named : Text → Text
+named text = text ++ codes ":"
+
 abbrev pub word_text : LineWord → Text
 word_text (word.Of text) = text.now
+word_text (word.Named text) = named text.now
 word_text (word.Optional text) = optional_text (option_map (λ t. t.now) text)
 word_text (word.If holds first second) = if holds then first.now else second.now
 word_text (word.Left places text) = left_in places text.now
 word_text (word.Number n) = decimal n
 word_text (word.Ids ids) = list_text ids.now
 word_text (word.Sources sources) = list_text sources.now
+
+-- a line after four blanks
+abbrev pub inner_line : List Text → Text
+inner_line words = 32 ∷ 32 ∷ detail_line words

@@ -2,15 +2,19 @@
 //! lines before they become text. Writing it hands the sink its text, or a beginning of it if the sink fails, and
 //! returns the highest code of the lines. That takes no memory from the heap: pieces of lines wait on a page of fixed
 //! size, and LIST's lines are made from the zone to which its outcome refers. The crate also finds what REPORT
-//! ERRSYSMODS prints: the ERROR holds that a zone leaves open, each with the received SYSMODs that resolve it. Every
-//! call that allocates returns `AllocError` if memory runs out.
+//! ERRSYSMODS prints: the ERROR holds that a zone leaves open, each with the received SYSMODs that resolve it. And it
+//! has what the lines about one id are made of: the facts about it as values (`Fact`), and the words of a line
+//! (`LineWord`), which `append_words` appends to a text. Every call that allocates returns `AllocError` if memory runs
+//! out.
 #![tactic(auto)]
 
 mod error_holds;
+mod fact;
 mod global_lines;
 mod held_for_error;
 mod line_words;
 mod lines;
+mod optional_texts;
 mod outcome;
 mod page;
 mod pieces;
@@ -20,9 +24,13 @@ mod sink;
 mod write;
 mod zone_lines;
 
+pub use fact::{Fact, Found, Maker, Rank, Requisite, Resolution, Standing};
 pub use held_for_error::errsysmods;
+pub use line_words::{LineWord, append_words};
+pub use optional_texts::{class_text, date_text, id_text};
 pub use outcome::{Header, Outcome, Place, Refusal, ReportLine, Status};
 pub use pieces::{put, write_all};
 pub use places::place_of;
 pub use sink::{Out, Sink, WriteFault};
 pub use write::write_report;
+pub use zone_lines::applied_word;

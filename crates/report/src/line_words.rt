@@ -1,18 +1,22 @@
-//! Words, and lines that consist of them.
-ghost use Rattle.std.specs.Prelude.{◌<◌, ◌∷◌, length, map};
+//! Words, and lines that consist of them, on a page or in a text.
+ghost use Rattle.std.specs.Prelude.{◌≡◌, ◌<◌, ◌∷◌, ◌++◌, length, map, is_err, OnOk};
 ghost use Rattle.machine.specs.Report.{words_line, list_text};
 ghost use Rattle.report.specs.Paged.{Paged};
+ghost use Rattle.report.specs.Sent.{Sent};
 ghost use Rattle.report.specs.WordTexts.{word_text};
 
 use crate::page::Page;
-use crate::sink::Sink;
+use crate::sink::{Out, Sink, WriteFault};
 use fields::{Id, Source};
 use itoa::Buffer;
+use std::alloc::AllocError;
 
 /// A word of a line.
 #[derive(Clone, Copy)]
-pub(crate) enum LineWord<'a> {
+pub enum LineWord<'a> {
     Of(&'a [u8]),
+    /// Followed by a colon.
+    Named(&'a [u8]),
     /// The word, or `-`.
     Optional(Option<&'a [u8]>),
     /// The first word if it is so, otherwise the second.
@@ -61,6 +65,10 @@ fn put_word<W: Sink>(word: LineWord<'_>, page: &mut Page<'_, W>)
 {
     match word {
         LineWord::Of(text) | LineWord::Optional(Some(text)) => page.put(text),
+        LineWord::Named(text) => {
+            page.put(text);
+            page.put(b":");
+        }
         LineWord::Optional(None) => page.put(b"-"),
         LineWord::If(true, text, _) | LineWord::If(false, _, text) => page.put(text),
         LineWord::Left(places, text) => {
@@ -89,4 +97,30 @@ pub(crate) fn put_words<W: Sink>(start: &[u8], words: &[LineWord<'_>], page: &mu
         put_word(*word, page);
     }
     page.put(b"\n");
+}
+
+// Writes such a line. After an error a beginning of it has gone out.
+fn write_words<W: Sink>(start: &[u8], words: &[LineWord<'_>], w: &mut W) -> Result<(), WriteFault>
+    ensures sends { Sent W.Sink w.old w.new (words_line (start.now ∷ map word_text words.now)) }
+    ensures fault { W.has_failed w.new ≡ is_err result }
+{
+    let mut page = Page::new(w);
+    put_words(start, words, &mut page);
+    page.empty()
+}
+
+/// Appends such a line to a text.
+pub fn append_words(
+    start: &[u8],
+    words: &[LineWord<'_>],
+    text: &mut Vec<u8>,
+) -> Result<(), AllocError>
+    ensures { OnOk result (text.new.items ≡ text.old.items ++ words_line (start.now ∷ map word_text words.now)) }
+{
+    let mut line = Out::new(Vec::new(*text.allocator()));
+    if write_words(start, words, &mut line).is_err() {
+        return Err(AllocError);
+    }
+    text.extend_from_slice(line.writer().as_slice())?;
+    Ok(())
 }

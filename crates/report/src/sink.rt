@@ -52,6 +52,13 @@ impl<W> Out<W> {
             failed: false,
         }
     }
+
+    /// The writer.
+    pub(crate) fn writer(&self) -> &W
+        ensures { result.now ≡ self.now.writer }
+    {
+        &self.writer
+    }
 }
 
 impl<W: Write> Sink for Out<W> {

@@ -13,7 +13,8 @@ use fields::spelling::type_text;
 use terms::ZoneKind;
 use zones::{Element, Entry, Zone};
 
-fn applied_word(kind: ZoneKind) -> &'static [u8]
+/// The word for an applied SYSMOD: in a distribution zone it is accepted.
+pub fn applied_word(kind: ZoneKind) -> &'static [u8]
     ensures { result.now ≡ applied_word kind }
 {
     match kind {

@@ -2,9 +2,9 @@
 use Rattle.std.proofs.Common.{◌≡◌, ◌∙◌, ◌<◌, ◌+◌, ℕ, List, ◌∷◌, length, map, drop, get_or, sym, ap, add-one, drop-cons}
 use Rattle.terms.specs.declared.codes.NeedKind.{NeedKind}
 use Rattle.terms.specs.Types.{Id}
-use Rattle.report_why.specs.declared.fact.Fact.{Fact}
+use Rattle.report.specs.declared.fact.Fact.{Fact}
 use Rattle.report_verdict.specs.Verdict.{answered, first_answer, or_other}
-use Rattle.report_why.specs.Views.{fact_view}
+use Rattle.report.specs.FactViews.{fact_view}
 
 -- that of those from a place on
 pub first_at : (kind : NeedKind) (z : Id) (facts : List Fact) (i : ℕ) (d : Fact) → i < length facts

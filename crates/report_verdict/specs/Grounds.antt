@@ -1,7 +1,7 @@
 -- What a verdict rests on, by the values of the code.
 use Rattle.std.specs.Prelude.{map}
 use Rattle.report.specs.Views.{line_view}
-use Rattle.report_why.specs.Views.{fact_view}
+use Rattle.report.specs.FactViews.{fact_view}
 use Rattle.report_verdict.specs.Verdict.{Basis}
 use Rattle.report_verdict.specs.declared.grounds.Grounds.{Grounds}
 

@@ -19,9 +19,9 @@ use Rattle.terms.specs.Spelling.{hold_text, type_text, need_text, test_text}
 use Rattle.machine.specs.Outcome.{Status, Applied, Accepted, Superseded, Failed}
 use Rattle.machine.specs.Outcome.{Failure, OpenNeed, Line, StatusLine}
 use Rattle.machine.specs.Report.{detail_line, optional_text, list_text, status_word}
-use Rattle.report_why.specs.Facts.{Resolution, Supplied, ByItself, Open, Rank, Over, Maker, Found, Fact}
-use Rattle.report_why.specs.Facts.{VerFact, RequisiteFact, HoldFact, ElementFact, DeleteFact, NpreFact, ForbiddenFact}
-use Rattle.report_why.specs.FactText.{inner_line, named}
+use Rattle.report.specs.Facts.{Resolution, Supplied, ByItself, Open, Rank, Over, Maker, Found, Fact}
+use Rattle.report.specs.Facts.{VerFact, RequisiteFact, HoldFact, ElementFact, DeleteFact, NpreFact, ForbiddenFact}
+use Rattle.report.specs.WordTexts.{inner_line, named}
 use Rattle.report_verdict.specs.declared.conflict.Apart.{Apart}
 use Rattle.report_verdict.specs.declared.conflict.Apart.TheVariants.{OtherOwner, Unordered}
 use Rattle.report_verdict.specs.declared.conflict.Conflict.{Conflict}

@@ -5,8 +5,8 @@ ghost use Rattle.std.specs.String.{string_bytes};
 ghost use Rattle.terms.specs.Needs.{is_bypassed};
 ghost use Rattle.machine.specs.Report.{optional_text};
 ghost use Rattle.report.specs.Views.{line_view, status_view};
-ghost use Rattle.report_why.specs.Facts.{RequisiteFact, HoldFact};
-ghost use Rattle.report_why.specs.Views.{answer_view, fact_view};
+ghost use Rattle.report.specs.Facts.{RequisiteFact, HoldFact};
+ghost use Rattle.report.specs.FactViews.{answer_view, fact_view};
 ghost use Rattle.report_verdict.specs.Verdict.{is_candidate, supply_by, supply_of, supply_told, is_lacking};
 ghost use Rattle.report_verdict.specs.Verdict.{bypassed_told, besides_told};
 ghost use Rattle.report_verdict.specs.Grounds.{basis_of};
@@ -15,8 +15,9 @@ use crate::grounds::Grounds;
 use crate::verdict::verdict_word;
 use fields::spelling::{hold_text, need_text};
 use fields::{Bypass, Id};
-use report::{ReportLine, Status};
-use report_why::{Fact, FactWord, Requisite, Resolution, class_text, date_text, put_words};
+use report::{
+    Fact, LineWord, ReportLine, Requisite, Resolution, Status, append_words, class_text, date_text,
+};
 use std::alloc::AllocError;
 use sysmods_values::Hold;
 use terms::NeedKind;
@@ -50,12 +51,12 @@ fn put_supply_by<'a>(
             if !is_it {
                 return Ok(());
             }
-            let supply = FactWord::Of(b"SUPPLY");
-            let kind = FactWord::Of(need_text(kind));
-            let id = FactWord::Named(id);
-            let by = FactWord::Of(by.as_bytes());
-            let word = FactWord::Of(verdict_word(status));
-            put_words(b"   ", &[supply, kind, id, by, word], text)
+            let supply = LineWord::Of(b"SUPPLY");
+            let kind = LineWord::Of(need_text(kind));
+            let id = LineWord::Named(id);
+            let by = LineWord::Of(by.as_bytes());
+            let word = LineWord::Of(verdict_word(status));
+            append_words(b"   ", &[supply, kind, id, by, word], text)
         }
         ReportLine::Nothing => Ok(()),
         ReportLine::Errsysmod { .. } => Ok(()),
@@ -171,10 +172,10 @@ fn put_bypassed_requisite(
     if !covered {
         return Ok(());
     }
-    let bypassed = FactWord::Of(b"BYPASSED");
-    let kind = FactWord::Of(need_text(requisite.kind));
-    let id = FactWord::Of(requisite.id.as_bytes());
-    put_words(b"   ", &[bypassed, kind, id], text)
+    let bypassed = LineWord::Of(b"BYPASSED");
+    let kind = LineWord::Of(need_text(requisite.kind));
+    let id = LineWord::Of(requisite.id.as_bytes());
+    append_words(b"   ", &[bypassed, kind, id], text)
 }
 
 fn comment_text(comment: &Option<String>) -> &[u8]
@@ -199,19 +200,19 @@ fn put_bypassed_hold(
     if !is_bypassed_hold(bypass, hold) {
         return Ok(());
     }
-    let bypassed = FactWord::Of(b"BYPASSED");
-    let kind = FactWord::Of(hold_text(hold.kind));
-    let hold_word = FactWord::Of(b"hold");
-    let reason = FactWord::Of(hold.reason.as_bytes());
-    let (of_class, of_date) = (FactWord::Of(b"CLASS"), FactWord::Of(b"DATE"));
-    let class = FactWord::Of(class_text(&hold.class));
-    let date = FactWord::Of(date_text(&hold.date));
-    let of_comment = FactWord::Of(b"COMMENT");
-    let comment = FactWord::Of(comment_text(&hold.comment));
+    let bypassed = LineWord::Of(b"BYPASSED");
+    let kind = LineWord::Of(hold_text(hold.kind));
+    let hold_word = LineWord::Of(b"hold");
+    let reason = LineWord::Of(hold.reason.as_bytes());
+    let (of_class, of_date) = (LineWord::Of(b"CLASS"), LineWord::Of(b"DATE"));
+    let class = LineWord::Of(class_text(&hold.class));
+    let date = LineWord::Of(date_text(&hold.date));
+    let of_comment = LineWord::Of(b"COMMENT");
+    let comment = LineWord::Of(comment_text(&hold.comment));
     let words = [
         bypassed, kind, hold_word, reason, of_class, class, of_date, date, of_comment, comment,
     ];
-    put_words(b"   ", &words, text)
+    append_words(b"   ", &words, text)
 }
 
 fn put_bypassed(bypass: &Bypass, fact: &Fact<'_>, text: &mut Vec<u8>) -> Result<(), AllocError>

@@ -8,7 +8,7 @@ use crate::conflict::{Apart, Conflict};
 use crate::statuses::{by_clash, by_delete};
 use fields::spelling::{test_text, type_text};
 use fields::{Id, Name};
-use report_why::{FactWord, put_words};
+use report::{LineWord, append_words};
 use std::alloc::AllocError;
 use terms::{ElemType, Test};
 
@@ -18,14 +18,14 @@ fn put_deletes<'a>(test: Test, by: &'a Id, id: &'a Id, text: &mut Vec<u8>) -> Re
     if !by_delete(test) {
         return Ok(());
     }
-    let code = FactWord::Of(test_text(test));
-    let delete = FactWord::Of(b"DELETE");
-    let id = FactWord::Of(id.as_bytes());
-    let of = FactWord::Of(b"of");
-    let by = FactWord::Of(by.as_bytes());
-    let chain = FactWord::Of(b"is in its chain");
+    let code = LineWord::Of(test_text(test));
+    let delete = LineWord::Of(b"DELETE");
+    let id = LineWord::Of(id.as_bytes());
+    let of = LineWord::Of(b"of");
+    let by = LineWord::Of(by.as_bytes());
+    let chain = LineWord::Of(b"is in its chain");
     let words = [code, delete, id, of, by, chain];
-    put_words(b"   ", &words, text)
+    append_words(b"   ", &words, text)
 }
 
 fn put_forbids(test: Test, id: &Id, text: &mut Vec<u8>) -> Result<(), AllocError>
@@ -34,12 +34,12 @@ fn put_forbids(test: Test, id: &Id, text: &mut Vec<u8>) -> Result<(), AllocError
     if !by_clash(test) {
         return Ok(());
     }
-    let code = FactWord::Of(test_text(test));
-    let npre = FactWord::Of(b"NPRE");
-    let id = FactWord::Of(id.as_bytes());
-    let selected = FactWord::Of(b"is selected too");
+    let code = LineWord::Of(test_text(test));
+    let npre = LineWord::Of(b"NPRE");
+    let id = LineWord::Of(id.as_bytes());
+    let selected = LineWord::Of(b"is selected too");
     let words = [code, npre, id, selected];
-    put_words(b"   ", &words, text)
+    append_words(b"   ", &words, text)
 }
 
 fn put_forbidden_by(test: Test, id: &Id, text: &mut Vec<u8>) -> Result<(), AllocError>
@@ -48,11 +48,11 @@ fn put_forbidden_by(test: Test, id: &Id, text: &mut Vec<u8>) -> Result<(), Alloc
     if !by_clash(test) {
         return Ok(());
     }
-    let code = FactWord::Of(test_text(test));
-    let id = FactWord::Of(id.as_bytes());
-    let forbids = FactWord::Of(b"is selected too and has it in NPRE");
+    let code = LineWord::Of(test_text(test));
+    let id = LineWord::Of(id.as_bytes());
+    let forbids = LineWord::Of(b"is selected too and has it in NPRE");
     let words = [code, id, forbids];
-    put_words(b"   ", &words, text)
+    append_words(b"   ", &words, text)
 }
 
 fn apart_text(apart: Apart) -> &'static [u8]
@@ -78,13 +78,13 @@ fn put_shares<'a>(
     if !by_clash(test) {
         return Ok(());
     }
-    let code = FactWord::Of(test_text(test));
-    let elem_type = FactWord::Of(type_text(elem_type));
-    let name = FactWord::Named(name.as_bytes());
-    let with = FactWord::Of(with.as_bytes());
-    let why = FactWord::Of(apart_text(apart));
+    let code = LineWord::Of(test_text(test));
+    let elem_type = LineWord::Of(type_text(elem_type));
+    let name = LineWord::Named(name.as_bytes());
+    let with = LineWord::Of(with.as_bytes());
+    let why = LineWord::Of(apart_text(apart));
     let words = [code, elem_type, name, with, why];
-    put_words(b"   ", &words, text)
+    append_words(b"   ", &words, text)
 }
 
 fn put_conflict(test: Test, conflict: &Conflict, text: &mut Vec<u8>) -> Result<(), AllocError>

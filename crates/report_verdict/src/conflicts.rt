@@ -6,7 +6,7 @@ ghost use Rattle.std.specs.Str.{bytes_eq};
 ghost use Rattle.terms.specs.Types.{type_number};
 ghost use Rattle.terms.specs.Beside.{Beside};
 ghost use Rattle.terms.specs.Lookups.{is_in, changes_of, has_change};
-ghost use Rattle.terms.specs.Choice.{npre_of, del_of};
+ghost use Rattle.terms.specs.Choice.{npre_of};
 ghost use Rattle.terms.specs.Over.{IsOver, owner, chain};
 ghost use Rattle.sysmods.specs.Choices.{choice};
 ghost use Rattle.zones.specs.Scopes.{setting_of};
@@ -25,26 +25,6 @@ use sysmods_values::ElemChange;
 use terms::ElemType;
 use zones::Scope;
 
-// What it names in DELETE.
-fn dels<'a>(vers: &VerChoice<'a>, id: Id) -> &'a [Id]
-    ensures { result.now ≡ del_of (choice vers.now) id }
-{
-    match vers.ver(id) {
-        Some(ver) => ver.del.as_slice(),
-        None => &[],
-    }
-}
-
-// What it names in NPRE.
-fn npre<'a>(vers: &VerChoice<'a>, id: Id) -> &'a [Id]
-    ensures { result.now ≡ npre_of (choice vers.now) id }
-{
-    match vers.ver(id) {
-        Some(ver) => ver.npre.as_slice(),
-        None => &[],
-    }
-}
-
 // Whether its chain contains this id.
 fn is_in_chain(vers: &VerChoice<'_>, id: Id, other: Id) -> bool
     ensures { result ≡ is_in (chain vers.now.global.now (choice vers.now) id) other }
@@ -56,17 +36,7 @@ fn is_in_chain(vers: &VerChoice<'_>, id: Id, other: Id) -> bool
 fn forbids(vers: &VerChoice<'_>, first: Id, second: Id) -> bool
     ensures { result ≡ is_in (npre_of (choice vers.now) first) second }
 {
-    npre(vers, first).contains(&second)
-}
-
-// The element statements of a received SYSMOD.
-fn changes_of(global: &GlobalZone, id: Id) -> &[ElemChange]
-    ensures { result.now ≡ changes_of global.now id }
-{
-    match global.get(id) {
-        Some(sysmod) => sysmod.changes.as_slice(),
-        None => &[],
-    }
+    vers.npre(first).contains(&second)
 }
 
 fn is_about(change: &ElemChange, elem_type: ElemType, name: Name) -> bool
@@ -89,7 +59,7 @@ fn change_at(changes: &[ElemChange], elem_type: ElemType, name: Name) -> Option<
 fn has_change(global: &GlobalZone, id: Id, elem_type: ElemType, name: Name) -> bool
     ensures { result ≡ has_change global.now id elem_type name }
 {
-    match change_at(changes_of(global, id), elem_type, name) {
+    match change_at(global.changes_of(id), elem_type, name) {
         Some(_) => true,
         None => false,
     }
@@ -131,7 +101,7 @@ fn push_deletions(
 ) -> Result<(), AllocError>
     ensures { OnOk result (found.new.items ≡ found.old.items ++ deletions_by (setting_of scope.now) id by) }
 {
-    let named = dels(scope.vers, by);
+    let named = scope.vers.del(by);
     for del in named {
         push_deletion(scope, id, by, *del, found)?;
     }
@@ -222,7 +192,7 @@ fn push_shares(
         ++ flat_map (share_of scope.now.vers.now.global.now with apart) (changes_of scope.now.vers.now.global.now id)) }
 {
     let global = scope.global();
-    let changes = changes_of(global, id);
+    let changes = global.changes_of(id);
     for change in changes {
         push_share(global, with, apart, change, found)?;
     }

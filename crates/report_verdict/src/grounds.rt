@@ -1,8 +1,7 @@
 //! What the words of a verdict rest on.
 use crate::conflict::Conflict;
 use fields::Bypass;
-use report::ReportLine;
-use report_why::Fact;
+use report::{Fact, ReportLine};
 
 /// BYPASS, the facts of an id, its conflicts with the other candidates, and the lines of the report.
 #[derive(Clone, Copy)]

@@ -2,8 +2,8 @@
 ghost use Rattle.std.specs.Prelude.{◌≡◌, ◌++◌, map, option_map, OnOk};
 ghost use Rattle.std.specs.List.{flat_map};
 ghost use Rattle.terms.specs.CommandForms.{no_bypass};
-ghost use Rattle.report_why.specs.Facts.{ElementFact, VerFact, DeleteFact, NpreFact, ForbiddenFact};
-ghost use Rattle.report_why.specs.Views.{rank_view, maker_view, found_view, fact_view};
+ghost use Rattle.report.specs.Facts.{ElementFact, VerFact, DeleteFact, NpreFact, ForbiddenFact};
+ghost use Rattle.report.specs.FactViews.{rank_view, maker_view, found_view, fact_view};
 ghost use Rattle.report_verdict.specs.Verdict.{by_hold, by_npre, by_owner, by_makers, by_update, by_target, by_vers};
 ghost use Rattle.report_verdict.specs.Verdict.{hold_reason, element_reason, is_over, maker_reason, owner_reason};
 ghost use Rattle.report_verdict.specs.Verdict.{makers_reason, there_reason, missing_reason, reason, test_told};
@@ -14,7 +14,7 @@ use crate::grounds::Grounds;
 use crate::statuses::by_delete;
 use fields::spelling::{hold_text, test_text, type_text};
 use fields::{Bypass, Id, Name};
-use report_why::{Fact, FactWord, Found, Maker, Rank, id_text, put_words};
+use report::{Fact, Found, LineWord, Maker, Rank, append_words, id_text};
 use std::alloc::AllocError;
 use sysmods_values::Hold;
 use terms::{ElemType, HoldKind, Test};
@@ -80,12 +80,12 @@ fn put_hold(bypass: &Bypass, test: Test, hold: &Hold, text: &mut Vec<u8>) -> Res
     if !stands {
         return Ok(());
     }
-    let code = FactWord::Of(test_text(test));
-    let kind = FactWord::Of(hold_text(hold.kind));
-    let hold_word = FactWord::Of(b"hold");
-    let reason = FactWord::Of(hold.reason.as_bytes());
+    let code = LineWord::Of(test_text(test));
+    let kind = LineWord::Of(hold_text(hold.kind));
+    let hold_word = LineWord::Of(b"hold");
+    let reason = LineWord::Of(hold.reason.as_bytes());
     let words = [code, kind, hold_word, reason];
-    put_words(b"   ", &words, text)
+    append_words(b"   ", &words, text)
 }
 
 // The line of a SYSMOD that made the element, unless the id is over it.
@@ -103,14 +103,14 @@ fn put_maker<'a>(
     if is_over(maker.rank) {
         return Ok(());
     }
-    let code = FactWord::Of(test_text(test));
-    let elem_type = FactWord::Of(type_text(elem_type));
-    let name = FactWord::Named(name.as_bytes());
-    let word = FactWord::Of(word);
-    let id = FactWord::Of(maker.id.as_bytes());
-    let not_over = FactWord::Of(b"is not required or superseded by it");
+    let code = LineWord::Of(test_text(test));
+    let elem_type = LineWord::Of(type_text(elem_type));
+    let name = LineWord::Named(name.as_bytes());
+    let word = LineWord::Of(word);
+    let id = LineWord::Of(maker.id.as_bytes());
+    let not_over = LineWord::Of(b"is not required or superseded by it");
     let words = [code, elem_type, name, word, id, not_over];
-    put_words(b"   ", &words, text)
+    append_words(b"   ", &words, text)
 }
 
 fn put_makers<'a>(
@@ -143,13 +143,13 @@ fn put_owner<'a>(
     if found.owned {
         return Ok(());
     }
-    let code = FactWord::Of(test_text(test));
-    let elem_type = FactWord::Of(type_text(elem_type));
-    let name = FactWord::Named(name.as_bytes());
-    let belongs = FactWord::Of(b"it belongs to");
-    let owner = FactWord::Of(found.fmid.as_bytes());
+    let code = LineWord::Of(test_text(test));
+    let elem_type = LineWord::Of(type_text(elem_type));
+    let name = LineWord::Named(name.as_bytes());
+    let belongs = LineWord::Of(b"it belongs to");
+    let owner = LineWord::Of(found.fmid.as_bytes());
     let words = [code, elem_type, name, belongs, owner];
-    put_words(b"   ", &words, text)
+    append_words(b"   ", &words, text)
 }
 
 // The lines of an element that exists.
@@ -187,12 +187,12 @@ fn put_missing(
     if !fails {
         return Ok(());
     }
-    let code = FactWord::Of(test_text(test));
-    let elem_type = FactWord::Of(type_text(elem_type));
-    let name = FactWord::Named(name.as_bytes());
-    let none = FactWord::Of(b"there is none to update");
+    let code = LineWord::Of(test_text(test));
+    let elem_type = LineWord::Of(type_text(elem_type));
+    let name = LineWord::Named(name.as_bytes());
+    let none = LineWord::Of(b"there is none to update");
     let words = [code, elem_type, name, none];
-    put_words(b"   ", &words, text)
+    append_words(b"   ", &words, text)
 }
 
 fn put_element<'a>(
@@ -227,14 +227,14 @@ fn put_ver(
     if !fails {
         return Ok(());
     }
-    let code = FactWord::Of(test_text(test));
-    let ver = FactWord::Of(b"VER");
-    let number = FactWord::Number(number);
-    let of_fmid = FactWord::Of(b"FMID");
-    let fmid = FactWord::Of(id_text(fmid));
-    let fits_word = FactWord::Of(b"fits");
+    let code = LineWord::Of(test_text(test));
+    let ver = LineWord::Of(b"VER");
+    let number = LineWord::Number(number);
+    let of_fmid = LineWord::Of(b"FMID");
+    let fmid = LineWord::Of(id_text(fmid));
+    let fits_word = LineWord::Of(b"fits");
     let words = [code, ver, number, of_fmid, fmid, fits_word];
-    put_words(b"   ", &words, text)
+    append_words(b"   ", &words, text)
 }
 
 fn put_delete(test: Test, id: &Id, own: bool, text: &mut Vec<u8>) -> Result<(), AllocError>
@@ -244,12 +244,12 @@ fn put_delete(test: Test, id: &Id, own: bool, text: &mut Vec<u8>) -> Result<(), 
     if !fails {
         return Ok(());
     }
-    let code = FactWord::Of(test_text(test));
-    let delete = FactWord::Of(b"DELETE");
-    let id = FactWord::Of(id.as_bytes());
-    let chain = FactWord::Of(b"is in its own chain");
+    let code = LineWord::Of(test_text(test));
+    let delete = LineWord::Of(b"DELETE");
+    let id = LineWord::Of(id.as_bytes());
+    let chain = LineWord::Of(b"is in its own chain");
     let words = [code, delete, id, chain];
-    put_words(b"   ", &words, text)
+    append_words(b"   ", &words, text)
 }
 
 fn put_npre(test: Test, id: &Id, applied: bool, text: &mut Vec<u8>) -> Result<(), AllocError>
@@ -259,12 +259,12 @@ fn put_npre(test: Test, id: &Id, applied: bool, text: &mut Vec<u8>) -> Result<()
     if !fails {
         return Ok(());
     }
-    let code = FactWord::Of(test_text(test));
-    let npre = FactWord::Of(b"NPRE");
-    let id = FactWord::Of(id.as_bytes());
-    let applied_word = FactWord::Of(b"is applied");
+    let code = LineWord::Of(test_text(test));
+    let npre = LineWord::Of(b"NPRE");
+    let id = LineWord::Of(id.as_bytes());
+    let applied_word = LineWord::Of(b"is applied");
     let words = [code, npre, id, applied_word];
-    put_words(b"   ", &words, text)
+    append_words(b"   ", &words, text)
 }
 
 fn put_forbidden(test: Test, id: &Id, text: &mut Vec<u8>) -> Result<(), AllocError>
@@ -273,11 +273,11 @@ fn put_forbidden(test: Test, id: &Id, text: &mut Vec<u8>) -> Result<(), AllocErr
     if !by_npre(test) {
         return Ok(());
     }
-    let code = FactWord::Of(test_text(test));
-    let id = FactWord::Of(id.as_bytes());
-    let forbids = FactWord::Of(b"is applied and has it in NPRE");
+    let code = LineWord::Of(test_text(test));
+    let id = LineWord::Of(id.as_bytes());
+    let forbids = LineWord::Of(b"is applied and has it in NPRE");
     let words = [code, id, forbids];
-    put_words(b"   ", &words, text)
+    append_words(b"   ", &words, text)
 }
 
 fn put_reason(
@@ -338,10 +338,10 @@ pub(crate) fn put_test(
     ensures { OnOk result (text.new.items ≡ text.old.items ++ test_told (basis_of grounds.now) test) }
 {
     if by_target(test) {
-        let code = FactWord::Of(test_text(test));
-        let none = FactWord::Of(b"no related target zone has applied it");
+        let code = LineWord::Of(test_text(test));
+        let none = LineWord::Of(b"no related target zone has applied it");
         let words = [code, none];
-        return put_words(b"   ", &words, text);
+        return append_words(b"   ", &words, text);
     }
     put_reasons(grounds.bypass, grounds.facts, test, text)?;
     put_conflicts(grounds.conflicts, test, text)

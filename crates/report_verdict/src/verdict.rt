@@ -5,8 +5,8 @@ ghost use Rattle.std.specs.Str.{bytes_eq};
 ghost use Rattle.terms.specs.Spelling.{need_text};
 ghost use Rattle.judge_system.specs.Views.{need_view, failure_view};
 ghost use Rattle.report.specs.Views.{status_view, line_view};
-ghost use Rattle.report_why.specs.Facts.{Open};
-ghost use Rattle.report_why.specs.Views.{answer_view, fact_view};
+ghost use Rattle.report.specs.Facts.{Open};
+ghost use Rattle.report.specs.FactViews.{answer_view, fact_view};
 ghost use Rattle.report_verdict.specs.Verdict.{answered, first_answer, supply_words, need_line, need_told, causer_told};
 ghost use Rattle.report_verdict.specs.Verdict.{test_told, failure_told, verdict_word, why_told, status_told};
 ghost use Rattle.report_verdict.specs.Verdict.{verdict_told, verdict_text};
@@ -18,8 +18,7 @@ use crate::reasons::put_test;
 use fields::Id;
 use fields::spelling::need_text;
 use judge_system::{Failure, OpenNeed};
-use report::{ReportLine, Status};
-use report_why::{Fact, FactWord, Resolution, put_words};
+use report::{Fact, LineWord, ReportLine, Resolution, Status, append_words};
 use std::alloc::AllocError;
 use terms::{NeedKind, Test};
 
@@ -73,13 +72,13 @@ fn put_open<'a>(need: &'a OpenNeed, ids: &'a [Id], text: &mut Vec<u8>) -> Result
     if ids.is_empty() {
         return put_need_line(need, b"no SYSMOD that supplies it is received", text);
     }
-    let need_word = FactWord::Of(b"NEED");
-    let kind = FactWord::Of(need_text(need.kind));
-    let id = FactWord::Named(need.id.as_bytes());
-    let ids = FactWord::Ids(ids);
-    let would = FactWord::Of(b"would supply it");
+    let need_word = LineWord::Of(b"NEED");
+    let kind = LineWord::Of(need_text(need.kind));
+    let id = LineWord::Named(need.id.as_bytes());
+    let ids = LineWord::Ids(ids);
+    let would = LineWord::Of(b"would supply it");
     let words = [need_word, kind, id, ids, would];
-    put_words(b"   ", &words, text)
+    append_words(b"   ", &words, text)
 }
 
 fn put_need_line<'a>(
@@ -89,12 +88,12 @@ fn put_need_line<'a>(
 ) -> Result<(), AllocError>
     ensures { OnOk result (text.new.items ≡ text.old.items ++ need_line (need_view need.now) (why.now ∷ [])) }
 {
-    let need_word = FactWord::Of(b"NEED");
-    let kind = FactWord::Of(need_text(need.kind));
-    let id = FactWord::Named(need.id.as_bytes());
-    let why = FactWord::Of(why);
+    let need_word = LineWord::Of(b"NEED");
+    let kind = LineWord::Of(need_text(need.kind));
+    let id = LineWord::Named(need.id.as_bytes());
+    let why = LineWord::Of(why);
     let words = [need_word, kind, id, why];
-    put_words(b"   ", &words, text)
+    append_words(b"   ", &words, text)
 }
 
 fn put_answer<'a>(
@@ -134,9 +133,9 @@ fn put_causer(id: Id, causer: &Id, text: &mut Vec<u8>) -> Result<(), AllocError>
     if id == *causer {
         return Ok(());
     }
-    let word = FactWord::Of(b"CAUSER");
-    let causer = FactWord::Of(causer.as_bytes());
-    put_words(b"   ", &[word, causer], text)
+    let word = LineWord::Of(b"CAUSER");
+    let causer = LineWord::Of(causer.as_bytes());
+    append_words(b"   ", &[word, causer], text)
 }
 
 fn put_tests(
@@ -241,7 +240,7 @@ fn put_status(
     ensures { OnOk result (text.new.items
         ≡ text.old.items ++ status_told id (basis_of grounds.now) (status_view status.now)) }
 {
-    put_words(b" ", &[FactWord::Of(verdict_word(status))], text)?;
+    append_words(b" ", &[LineWord::Of(verdict_word(status))], text)?;
     put_why(id, grounds, status, text)?;
     put_besides(grounds, status, text)
 }

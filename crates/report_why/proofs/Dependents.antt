@@ -6,7 +6,7 @@ use Rattle.terms.specs.Types.{Id, Global, Zone}
 use Rattle.terms.specs.Lookups.{is_in}
 use Rattle.terms.specs.Choice.{Choice, counting}
 use Rattle.terms.specs.Restore.{Restoring, NeedsInRestore}
-use Rattle.report_why.specs.Facts.{NeedsIt}
+use Rattle.report.specs.Facts.{NeedsIt}
 
 -- a RESTORE without a distribution zone of its own: no need as DEP looks at that
 abbrev alone : Global → Choice → Zone → Zone → Restoring

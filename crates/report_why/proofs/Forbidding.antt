@@ -5,7 +5,7 @@ use Rattle.terms.specs.Types.{Id}
 use Rattle.terms.specs.Lookups.{is_in, is_function}
 use Rattle.terms.specs.Choice.{npre_of}
 use Rattle.terms.specs.Tests.{Setting}
-use Rattle.report_why.specs.Facts.{forbids}
+use Rattle.report.specs.Facts.{forbids}
 
 -- of those that pass p, it is enough to ask for f those that pass q, if all that pass f do
 module _ {X : Type 0} (f p q : X → Bool) (only : (y : X) → f y ≡ true → q y ≡ true) where

@@ -4,9 +4,9 @@ use Rattle.std.specs.Str.{bytes_eq}
 use Rattle.terms.specs.Beside.{Beside}
 use Rattle.terms.specs.Types.{Id, Element}
 use Rattle.terms.specs.Tests.{Setting, owner_of}
-use Rattle.report_why.specs.Facts.{IsRank, IsFound}
-use Rattle.report_why.specs.declared.fact.Found.{Found}
-use Rattle.report_why.specs.Views.{maker_view, found_view}
+use Rattle.report.specs.Facts.{IsRank, IsFound}
+use Rattle.report.specs.declared.fact.Found.{Found}
+use Rattle.report.specs.FactViews.{maker_view, found_view}
 use Rattle.report_why.specs.Makers.{IsMaker}
 use Rattle.report_why.proofs.Besides.{beside_cons, beside_map}
 

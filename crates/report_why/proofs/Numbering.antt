@@ -7,7 +7,7 @@ use Rattle.std.proofs.lemmas.List.Elements.{filter-append}
 use Rattle.std.proofs.lemmas.List.{length-map, map-append}
 use Rattle.std.specs.Option.{option_map_or}
 use Rattle.terms.specs.Types.{Ver, Sysmod}
-use Rattle.report_why.specs.Facts.{Fact, VerFact, numbered_facts}
+use Rattle.report.specs.Facts.{Fact, VerFact, numbered_facts}
 
 -- one more at the end, seen through a function
 seen_push : {F G : Type 0} (view : F → G) (old new : List F) (f : F) (g : G) → new ≡ old ++ f ∷ [] → view f ≡ g

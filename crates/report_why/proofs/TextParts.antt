@@ -1,51 +1,24 @@
 -- Texts of facts, as the lines that are put one behind the other.
 use Rattle.std.proofs.Common.{◌≡◌, ◌∙◌, ◌<◌, ◌+◌, ℕ, Bool, true, false, List, [], ◌∷◌, ◌++◌, None, Some, length, map}
-use Rattle.std.proofs.Common.{take}
 use Rattle.std.proofs.Common.{drop, get_or, refl, sym, ap, arith, append_assoc, add-one, drop-cons}
 use Rattle.std.specs.Prelude.{codes, max, if◌then◌else◌}
 use Rattle.std.specs.List.{flat_map}
 use Rattle.std.proofs.lemmas.List.{append-nil}
-use Rattle.std.proofs.lemmas.List.Folds.{flat_map-map}
-use Rattle.terms.proofs.Lists.{joined, flat_next}
 use Rattle.terms.specs.declared.kinds.ZoneKind.{ZoneKind}
-use Rattle.terms.specs.declared.kinds.ZoneKind.TheVariants.{Target, Distribution}
 use Rattle.terms.specs.declared.kinds.ElemType.{ElemType}
 use Rattle.terms.specs.Types.{Hold, Entry, Applied}
 use Rattle.terms.specs.Spelling.{need_text, hold_text, type_text}
-use Rattle.report_why.specs.Facts.{Requisite, Resolution, Found, RequisiteFact, HoldFact, ElementFact, EntryFact, StandsApplied}
-use Rattle.machine.specs.Report.{words_line, left_in, list_text, mark_text, optional_text}
-use Rattle.report_why.specs.FactText.{inner_line, id_lines, answer_word, answer_lines, owned_text, change_text, word_if}
-use Rattle.report_why.specs.FactText.{maker_line, standing_text, comment_line, fact_text, fact_code, facts_code}
-use Rattle.report_why.specs.declared.line.FactWord.{FactWord}
-use Rattle.report_why.specs.declared.fact.Fact.{Fact}
-use Rattle.report_why.specs.LineWords.{word_text}
-use Rattle.report_why.specs.Views.{fact_view}
-
--- what one item more adds, and its text
-pub grown_more : {X Y : Type 0} (f : X → List Y) (xs : List X) (i : ℕ) (x : X) (old mid new : List Y) → i < length xs
-    → x ≡ get_or xs i x → mid ≡ old ++ flat_map f (take i xs) → new ≡ mid ++ f x
-    → new ≡ old ++ flat_map f (take (i + 1) xs)
-grown_more f xs i x old mid new below at before more =
-    more ∙ ap (λ l. l ++ f x) before ∙ append_assoc old (flat_map f (take i xs)) (f x)
-    ∙ ap (λ l. old ++ l) (sym (flat_next f xs i x below at))
-
-pub flat_more : {X : Type 0} (f : X → List ℕ) (xs : List X) (i : ℕ) (x : X) (old mid new : List ℕ) → i < length xs
-    → x ≡ get_or xs i x → mid ≡ old ++ flat_map f (take i xs) → new ≡ mid ++ f x
-    → new ≡ old ++ flat_map f (take (i + 1) xs)
-flat_more f = grown_more f
-
--- the first word, the others, each behind a blank, and the newline
-pub words_put : (words : List FactWord) (start old : List ℕ) {t1 t2 : List ℕ} → t1 ≡ old ++ start
-    → t2 ≡ t1 ++ flat_map (λ w. 32 ∷ word_text w) words
-    → t2 ++ 10 ∷ [] ≡ old ++ words_line (start ∷ map word_text words)
-words_put words start old e1 e2 =
-    ap (λ t. t ++ 10 ∷ []) (e2 ∙ ap (λ t. t ++ flat_map (λ w. 32 ∷ word_text w) words) e1)
-    ∙ regroup old start (flat_map (λ w. 32 ∷ word_text w) words) (10 ∷ [])
-    ∙ ap (λ t. old ++ (t ++ 10 ∷ []))
-    (ap (λ t. start ++ t) (sym (flat_map-map (λ w. 32 ∷ w) word_text words)) ∙ joined 32 start (map word_text words))
-  where
-    regroup : (a b c d : List ℕ) → ((a ++ b) ++ c) ++ d ≡ a ++ ((b ++ c) ++ d)
-    regroup a b c d = simp append_assoc
+use Rattle.machine.specs.Report.{words_line, left_in, list_text, optional_text}
+use Rattle.report.specs.Facts.{Requisite, Resolution, Found, RequisiteFact, HoldFact, ElementFact, EntryFact}
+use Rattle.report.specs.FactViews.{fact_view}
+use Rattle.report.specs.Views.{applied_word}
+use Rattle.report.specs.WordTexts.{inner_line}
+use Rattle.report.specs.declared.fact.Fact.{Fact}
+use Rattle.report.proofs.Listings as listings
+use Rattle.report.proofs.Listings.{mark_is}
+use Rattle.report.proofs.Texts.{max_parts}
+use Rattle.report_why.specs.FactText.{id_lines, answer_word, answer_lines, owned_text, change_text, word_if}
+use Rattle.report_why.specs.FactText.{maker_line, comment_line, fact_text, fact_code, facts_code}
 
 -- the lines of no ids, and of some
 pub id_lines_none : (word : List ℕ) (xs : List (List ℕ)) → length xs ≡ 0
@@ -62,10 +35,6 @@ id_lines_some word (x ∷ xs) some = refl
 pub flag_is : (b : Bool) (word : List ℕ) → (if b then word else codes "-") ≡ word_if b word
 flag_is true word = refl
 flag_is false word = refl
-
-mark_is : (b : Bool) → (if b then codes "INTERNAL" else codes "EXTERNAL") ≡ mark_text b
-mark_is true = refl
-mark_is false = refl
 
 owned_is : (b : Bool) → (if b then codes "OWNED" else codes "NOTOWNED") ≡ owned_text b
 owned_is true = refl
@@ -141,24 +110,20 @@ element_missing type name replaces old spelled text put =
 -- an entry that is applied, or is not
 pub entry_applied : (kind : ZoneKind) (e : Entry) (a : Applied) (old : List ℕ) {id word date delby : List ℕ}
     {supby waived : List (List ℕ)}
-    → e.applied ≡ Some a → id ≡ e.id → word ≡ standing_text (StandsApplied kind) → date ≡ a.date
+    → e.applied ≡ Some a → id ≡ e.id → word ≡ applied_word kind → date ≡ a.date
     → delby ≡ optional_text e.delby → supby ≡ e.supby → waived ≡ e.waived
     → old ++ words_line (codes "  ENTRY" ∷ id ∷ word ∷ date ∷ codes "SUPBY" ∷ list_text supby ∷ codes "DELBY" ∷ delby
     ∷ codes "WAIVED" ∷ list_text waived ∷ []) ≡ old ++ fact_text (EntryFact kind e)
-entry_applied Target e a old is id word date delby supby waived = rw (is, id, word, date, delby, supby, waived) refl
-entry_applied Distribution e a old is id word date delby supby waived = rw (is, id, word, date, delby, supby, waived)
-    refl
+entry_applied kind e a old is id word date delby supby waived =
+    ap (λ t. old ++ 32 ∷ 32 ∷ t) (listings.entry_applied kind e a is id word date delby supby waived)
 
 pub entry_bare : (kind : ZoneKind) (e : Entry) (old : List ℕ) {id delby : List ℕ} {supby waived : List (List ℕ)}
     → e.applied ≡ None → id ≡ e.id
     → delby ≡ optional_text e.delby → supby ≡ e.supby → waived ≡ e.waived
     → old ++ words_line (codes "  ENTRY" ∷ id ∷ codes "-" ∷ codes "SUPBY" ∷ list_text supby ∷ codes "DELBY" ∷ delby
     ∷ codes "WAIVED" ∷ list_text waived ∷ []) ≡ old ++ fact_text (EntryFact kind e)
-entry_bare Target e old is id delby supby waived = rw (is, id, delby, supby, waived) refl
-entry_bare Distribution e old is id delby supby waived = rw (is, id, delby, supby, waived) refl
-
-max_parts : (a b c : ℕ) → max (max a b) c ≡ max a (max b c)
-max_parts a b c = omega arith
+entry_bare kind e old is id delby supby waived =
+    ap (λ t. old ++ 32 ∷ 32 ∷ t) (listings.entry_bare kind e is id delby supby waived)
 
 -- the code of one fact more
 pub codes_more : (facts : List Fact) (i : ℕ) (d : Fact) (code : ℕ) → i < length facts

@@ -5,11 +5,11 @@ use Rattle.terms.specs.Beside.{Beside}
 use Rattle.terms.specs.Types.{Id}
 use Rattle.terms.specs.Lookups.{changes_of}
 use Rattle.terms.specs.Tests.{Setting}
-use Rattle.report_why.specs.Facts.{requisites as requisites_in, holds_on, standing_facts, ver_facts, delete_facts}
-use Rattle.report_why.specs.Facts.{npre_facts, IsRequisiteFact, IsHoldFact, IsElementFact, AreOrphans, AreAsked}
-use Rattle.report_why.specs.Facts.{AreOfChanges, AreFacts}
+use Rattle.report.specs.Facts.{requisites as requisites_in, holds_on, standing_facts, ver_facts, delete_facts}
+use Rattle.report.specs.Facts.{npre_facts, IsRequisiteFact, IsHoldFact, IsElementFact, AreOrphans, AreAsked}
+use Rattle.report.specs.Facts.{AreOfChanges, AreFacts}
 use Rattle.report_why.specs.declared.fact as code
-use Rattle.report_why.specs.Views.{fact_view}
+use Rattle.report.specs.FactViews.{fact_view}
 use Rattle.report_why.specs.Needed.{AreNeeded}
 use Rattle.report_why.proofs.Besides.{beside_map}
 

@@ -4,7 +4,7 @@ use Rattle.terms.specs.Types.{Id, Zone}
 use Rattle.terms.specs.Lookups.{is_in, is_applied}
 use Rattle.terms.specs.Deleted.{is_taken_out}
 use Rattle.terms.specs.Tests.{Setting, view_of}
-use Rattle.report_why.specs.Facts.{left_by}
+use Rattle.report.specs.Facts.{left_by}
 use Rattle.zones.specs.Scopes.{global_of, choice_of, setting_of}
 use Rattle.report_why.specs.declared.asking.Asking.{Asking}
 

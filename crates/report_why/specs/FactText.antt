@@ -2,22 +2,15 @@
 use Rattle.std.specs.Prelude.{ℕ, Bool, true, false, List, [], ◌∷◌, ◌++◌, Option, None, Some, codes, decimal, max}
 use Rattle.std.specs.List.{flat_map}
 use Rattle.terms.specs.declared.kinds.Kind.{Kind}
-use Rattle.terms.specs.declared.kinds.ZoneKind.TheVariants.{Target, Distribution}
 use Rattle.terms.specs.Types.{Text, Id, Hold}
 use Rattle.terms.specs.Spelling.{kind_text, hold_text, type_text, need_text}
-use Rattle.report_why.specs.Facts.{Standing, StandsApplied, StandsSuperseded, StandsDeleted, StandsReceived, StandsMissing}
-use Rattle.report_why.specs.Facts.{Requisite, Resolution, Supplied, Waived, ByItself, Open, Rank, Itself, Over, NotOver, Maker, Found, Fact}
-use Rattle.report_why.specs.Facts.{StandingFact, EntryFact, VerFact, RequisiteFact, HoldFact, ElementFact, DeleteFact}
-use Rattle.report_why.specs.Facts.{TakesFact, NpreFact, ForbiddenFact, NeededFact}
+use Rattle.report.specs.Facts.{Standing, StandsApplied, StandsSuperseded, StandsDeleted, StandsReceived, StandsMissing}
+use Rattle.report.specs.Facts.{Requisite, Resolution, Supplied, Waived, ByItself, Open, Rank, Itself, Over, NotOver, Maker, Found, Fact}
+use Rattle.report.specs.Facts.{StandingFact, EntryFact, VerFact, RequisiteFact, HoldFact, ElementFact, DeleteFact}
+use Rattle.report.specs.Facts.{TakesFact, NpreFact, ForbiddenFact, NeededFact}
+use Rattle.report.specs.Views.{applied_word}
+use Rattle.report.specs.WordTexts.{inner_line}
 use Rattle.machine.specs.Report.{words_line, detail_line, left_in, optional_text, mark_text, entry_text}
-
--- a line after four blanks
-abbrev pub inner_line : List Text → Text
-inner_line words = 32 ∷ 32 ∷ detail_line words
-
--- the word, followed by a colon
-abbrev pub named : Text → Text
-named text = text ++ codes ":"
 
 -- the word if it is so, otherwise -
 abbrev pub word_if : Bool → Text → Text
@@ -29,8 +22,7 @@ type_word None = codes "-"
 type_word (Some kind) = kind_text kind
 
 abbrev pub standing_text : Standing → Text
-standing_text (StandsApplied Target) = codes "APPLIED"
-standing_text (StandsApplied Distribution) = codes "ACCEPTED"
+standing_text (StandsApplied kind) = applied_word kind
 standing_text StandsSuperseded = codes "SUPERSEDED"
 standing_text StandsDeleted = codes "DELETED"
 standing_text StandsReceived = codes "RECEIVED"

@@ -1,9 +1,6 @@
-pub mod Facts
 pub mod FactText
-pub mod Views
 pub mod Asking
 pub mod Numbered
 pub mod Makers
 pub mod Needed
 pub mod Superseders
-pub mod LineWords

@@ -2,9 +2,9 @@
 use Rattle.std.specs.Prelude.{◌≡◌}
 use Rattle.terms.specs.Types.{Id}
 use Rattle.terms.specs.Choice.{Choice}
-use Rattle.report_why.specs.Facts.{IsRank}
-use Rattle.report_why.specs.Views.{rank_view}
-use Rattle.report_why.specs.declared.fact.Maker.{Maker}
+use Rattle.report.specs.Facts.{IsRank}
+use Rattle.report.specs.FactViews.{rank_view}
+use Rattle.report.specs.declared.fact.Maker.{Maker}
 
 -- it is z, and x is related to it in this way
 abbrev pub IsMaker : Choice → Id → Id → Maker → Type 0

@@ -6,7 +6,7 @@ use Rattle.terms.specs.Types.{Id, Global, Zone}
 use Rattle.terms.specs.Lookups.{IsRising, applied_ids}
 use Rattle.terms.specs.Restore.{Restoring}
 use Rattle.undo.specs.Dependences.{dependences_of}
-use Rattle.report_why.specs.Facts.{Fact, NeededFact, NeedsIt}
+use Rattle.report.specs.Facts.{Fact, NeededFact, NeedsIt}
 
 -- the one member of the group, if all its members are one
 abbrev pub sole : List Id → List Id

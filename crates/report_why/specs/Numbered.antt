@@ -5,7 +5,7 @@ use Rattle.terms.specs.Lookups.{is_in}
 use Rattle.terms.specs.Choice.{fits}
 use Rattle.sysmods.specs.Choices.{number_in}
 use Rattle.zones.specs.declared.scope.Scope.{Scope}
-use Rattle.report_why.specs.Facts.{Fact, numbered_facts}
+use Rattle.report.specs.Facts.{Fact, numbered_facts}
 
 -- the facts of these ++VERs, numbered from 1 on
 abbrev pub numbered : Scope → Id → List Ver → List Fact

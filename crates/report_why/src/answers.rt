@@ -5,15 +5,15 @@ ghost use Rattle.terms.specs.Types.{Id as AnId};
 ghost use Rattle.terms.specs.Lookups.{IsRising, is_in, is_applied, waived_of};
 ghost use Rattle.terms.specs.Candidates.{is_installable};
 ghost use Rattle.zones.specs.Scopes.{global_of};
-ghost use Rattle.report_why.specs.Facts.{suppliers, is_waivable, is_waived, MayServe, IsResolution};
+ghost use Rattle.report.specs.Facts.{suppliers, is_waivable, is_waived, MayServe, IsResolution};
 ghost use Rattle.report_why.specs.Asking.{setting_in, left_in};
-ghost use Rattle.report_why.specs.Views.{answer_view};
+ghost use Rattle.report.specs.FactViews.{answer_view};
 
 use crate::asking::Asking;
-use crate::fact::{Requisite, Resolution};
 use crate::standing::is_deleted;
 use crate::superseders::serving_ids;
 use fields::{Attest, Id, IdList};
+use report::{Requisite, Resolution};
 use std::alloc::{AllocError, Global};
 use terms::NeedKind;
 use zones::Zone;

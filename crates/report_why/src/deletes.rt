@@ -1,32 +1,21 @@
 //! What an id deletes.
 ghost use Rattle.std.specs.Prelude.{◌≡◌, [], filter, map, IfOk};
 ghost use Rattle.terms.specs.Lookups.{is_in};
-ghost use Rattle.terms.specs.Choice.{del_of};
 ghost use Rattle.terms.specs.Over.{chain};
 ghost use Rattle.terms.specs.Deleted.{is_taken_out};
 ghost use Rattle.sysmods.specs.Choices.{choice};
 ghost use Rattle.zones.specs.Scopes.{global_of, choice_of};
-ghost use Rattle.report_why.specs.Facts.{delete_facts};
+ghost use Rattle.report.specs.Facts.{delete_facts};
 ghost use Rattle.report_why.specs.Asking.{setting_in};
-ghost use Rattle.report_why.specs.Views.{fact_view};
+ghost use Rattle.report.specs.FactViews.{fact_view};
 
 use crate::asking::Asking;
-use crate::fact::Fact;
 use crate::looks::takes_out;
 use fields::Id;
+use report::Fact;
 use std::alloc::{AllocError, Global};
 use sysmods::VerChoice;
 use zones::Scope;
-
-// What it names in DELETE.
-fn dels<'a>(vers: &VerChoice<'a>, id: Id) -> &'a [Id]
-    ensures { result.now ≡ del_of (choice vers.now) id }
-{
-    match vers.ver(id) {
-        Some(ver) => ver.del.as_slice(),
-        None => &[],
-    }
-}
 
 // Whether its chain contains this id.
 fn is_in_chain(vers: &VerChoice<'_>, id: Id, other: Id) -> bool
@@ -62,7 +51,7 @@ pub(crate) fn delete_facts(
     ensures { IfOk result (λ facts. map fact_view facts.items ≡ delete_facts (setting_in asking.now) asking.now.id) }
 {
     let scope = &asking.scope;
-    let dels = dels(scope.vers, asking.id);
+    let dels = scope.vers.del(asking.id);
     let taken = taken_out(alloc, scope, dels, asking.applied)?;
     let mut facts = Vec::new(alloc);
     for del in dels {

@@ -5,16 +5,16 @@ ghost use Rattle.terms.specs.Changes.{is_replacement};
 ghost use Rattle.terms.specs.Lookups.{changes_of, element_of};
 ghost use Rattle.sysmods.specs.Choices.{choice};
 ghost use Rattle.zones.specs.Scopes.{global_of};
-ghost use Rattle.report_why.specs.Facts.{IsFound, HasFound, IsElementFact};
+ghost use Rattle.report.specs.Facts.{IsFound, HasFound, IsElementFact};
 ghost use Rattle.report_why.specs.Asking.{setting_in, view_in};
-ghost use Rattle.report_why.specs.Views.{found_view, fact_view};
+ghost use Rattle.report.specs.FactViews.{found_view, fact_view};
 ghost use Rattle.report_why.specs.Makers.{IsMaker};
 
 use crate::asking::Asking;
-use crate::fact::{Fact, Found, Maker, Rank};
 use fields::Id;
+use report::{Fact, Found, Maker, Rank};
 use std::alloc::{AllocError, Global};
-use sysmods::{GlobalZone, VerChoice};
+use sysmods::VerChoice;
 use sysmods_values::{Action, ElemChange};
 use zones::Element;
 
@@ -82,16 +82,6 @@ fn is_replacement(change: &ElemChange) -> bool
     }
 }
 
-// The element statements of a received SYSMOD.
-fn changes_of(global: &GlobalZone, id: Id) -> &[ElemChange]
-    ensures { result.now ≡ changes_of global.now id }
-{
-    match global.get(id) {
-        Some(sysmod) => sysmod.changes.as_slice(),
-        None => &[],
-    }
-}
-
 /// The elements that it changes.
 pub(crate) fn element_facts(
     alloc: Global,
@@ -101,7 +91,7 @@ pub(crate) fn element_facts(
         (fact_view fact)) (changes_of (global_of asking.now.scope) asking.now.id) facts.items) }
 {
     let mut facts = Vec::new(alloc);
-    for change in changes_of(asking.scope.global(), asking.id) {
+    for change in asking.scope.global().changes_of(asking.id) {
         let found = found_at(alloc, asking, change)?;
         facts.push(Fact::Element {
             elem_type: change.elem_type,

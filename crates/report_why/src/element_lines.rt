@@ -1,24 +1,23 @@
 //! The lines of an element.
 ghost use Rattle.std.specs.Prelude.{◌≡◌, ◌++◌, option_map, OnOk};
-ghost use Rattle.report_why.specs.Facts.{ElementFact};
+ghost use Rattle.report.specs.Facts.{ElementFact};
 ghost use Rattle.report_why.specs.FactText.{maker_line, fact_text};
-ghost use Rattle.report_why.specs.Views.{maker_view, found_view};
+ghost use Rattle.report.specs.FactViews.{maker_view, found_view};
 
-use crate::fact::{Found, Maker};
 use crate::fact_words::rank_text;
-use crate::line::{FactWord, put_words};
 use fields::Name;
 use fields::spelling::type_text;
+use report::{Found, LineWord, Maker, append_words};
 use std::alloc::AllocError;
 use terms::ElemType;
 
 fn put_maker(word: &[u8], maker: Maker, text: &mut Vec<u8>) -> Result<(), AllocError>
     ensures { OnOk result (text.new.items ≡ text.old.items ++ maker_line word.now (maker_view maker)) }
 {
-    let id = FactWord::Of(maker.id.as_bytes());
-    put_words(
+    let id = LineWord::Of(maker.id.as_bytes());
+    append_words(
         b"   ",
-        &[FactWord::Of(word), id, FactWord::Of(rank_text(maker.rank))],
+        &[LineWord::Of(word), id, LineWord::Of(rank_text(maker.rank))],
         text,
     )
 }
@@ -34,20 +33,20 @@ pub(crate) fn put_element<'a>(
     ensures { OnOk result (text.new.items ≡ text.old.items
         ++ fact_text (ElementFact elem_type name.now replaces (option_map found_view found.now))) }
 {
-    let elem_type = FactWord::Left(5, type_text(elem_type));
-    let name = FactWord::Left(8, name.as_bytes());
-    let change = FactWord::If(replaces, b"REPLACES", b"UPDATES");
-    let fmid = FactWord::Of(b"FMID");
+    let elem_type = LineWord::Left(5, type_text(elem_type));
+    let name = LineWord::Left(8, name.as_bytes());
+    let change = LineWord::If(replaces, b"REPLACES", b"UPDATES");
+    let fmid = LineWord::Of(b"FMID");
     let Some(found) = found else {
-        return put_words(
+        return append_words(
             b"  ELEM",
-            &[elem_type, name, change, fmid, FactWord::Of(b"-")],
+            &[elem_type, name, change, fmid, LineWord::Of(b"-")],
             text,
         );
     };
-    let owner = FactWord::Of(found.fmid.as_bytes());
-    let owned = FactWord::If(found.owned, b"OWNED", b"NOTOWNED");
-    put_words(
+    let owner = LineWord::Of(found.fmid.as_bytes());
+    let owned = LineWord::If(found.owned, b"OWNED", b"NOTOWNED");
+    append_words(
         b"  ELEM",
         &[elem_type, name, change, fmid, owner, owned],
         text,

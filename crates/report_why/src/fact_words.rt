@@ -1,44 +1,11 @@
 //! How single values of facts are spelled.
 ghost use Rattle.std.specs.Prelude.{◌≡◌};
-ghost use Rattle.machine.specs.Report.{optional_text};
-ghost use Rattle.report_why.specs.Facts.{StandsApplied};
 ghost use Rattle.report_why.specs.FactText.{type_word, standing_text, answer_word, rank_text};
-ghost use Rattle.report_why.specs.Views.{standing_view, answer_view, rank_view};
+ghost use Rattle.report.specs.FactViews.{standing_view, answer_view, rank_view};
 
-use crate::fact::{Rank, Resolution, Standing};
 use fields::spelling::kind_text;
-use fields::{Class, HoldDate, Id};
-use terms::{Kind, ZoneKind};
-
-/// The id, or `-`.
-pub fn id_text(id: &Option<Id>) -> &[u8]
-    ensures { result.now ≡ optional_text id.now }
-{
-    match id {
-        Some(id) => id.as_bytes(),
-        None => b"-",
-    }
-}
-
-/// The class, or `-`.
-pub fn class_text(class: &Option<Class>) -> &[u8]
-    ensures { result.now ≡ optional_text class.now }
-{
-    match class {
-        Some(class) => class.as_bytes(),
-        None => b"-",
-    }
-}
-
-/// The date, or `-`.
-pub fn date_text(date: &Option<HoldDate>) -> &[u8]
-    ensures { result.now ≡ optional_text date.now }
-{
-    match date {
-        Some(date) => date.as_bytes(),
-        None => b"-",
-    }
-}
+use report::{Rank, Resolution, Standing, applied_word};
+use terms::Kind;
 
 pub(crate) fn type_word(kind: Option<Kind>) -> &'static [u8]
     ensures { result.now ≡ type_word kind }
@@ -46,16 +13,6 @@ pub(crate) fn type_word(kind: Option<Kind>) -> &'static [u8]
     match kind {
         Some(kind) => kind_text(kind),
         None => b"-",
-    }
-}
-
-/// The word for an applied SYSMOD: in a distribution zone it is accepted.
-pub(crate) fn applied_word(kind: ZoneKind) -> &'static [u8]
-    ensures { result.now ≡ standing_text (StandsApplied kind) }
-{
-    match kind {
-        ZoneKind::Target => b"APPLIED",
-        ZoneKind::Distribution => b"ACCEPTED",
     }
 }
 

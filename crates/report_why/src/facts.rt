@@ -1,19 +1,20 @@
 //! All facts of an id in a zone.
 ghost use Rattle.std.specs.Prelude.{◌≡◌, ◌+◌, ◌++◌, filter, IfOk};
-ghost use Rattle.terms.specs.Lookups.{is_function, applied_ids};
+ghost use Rattle.terms.specs.Lookups.{is_function, is_in, applied_ids};
 ghost use Rattle.terms.specs.Choice.{place};
+ghost use Rattle.terms.specs.Over.{chain};
+ghost use Rattle.terms.specs.Deleted.{deletions};
 ghost use Rattle.sysmods.specs.Choices.{number_in};
 ghost use Rattle.undo.specs.Scopes.{restoring_from};
-ghost use Rattle.zones.specs.Scopes.{global_of, setting_of};
+ghost use Rattle.zones.specs.Scopes.{global_of, choice_of, setting_of};
 ghost use Rattle.report_why.specs.Asking.{setting_in};
-ghost use Rattle.report_why.specs.Facts.{standing_facts, ver_facts, AreAsked, AreOfChanges, AreFacts};
+ghost use Rattle.report.specs.Facts.{standing_facts, ver_facts, AreAsked, AreOfChanges, AreFacts};
 ghost use Rattle.report_why.specs.Needed.{needed_pairs};
-ghost use Rattle.report_why.specs.Views.{facts_view};
+ghost use Rattle.report.specs.FactViews.{facts_view};
 
 use crate::asking::Asking;
 use crate::deletes::delete_facts;
 use crate::element_facts::element_facts;
-use crate::fact::Fact;
 use crate::forbids::npre_facts;
 use crate::hold_facts::hold_facts;
 use crate::needed::{needed_facts, needed_pairs};
@@ -21,6 +22,7 @@ use crate::requisites::requisite_facts;
 use crate::standing::standing_facts;
 use crate::vers::ver_facts;
 use fields::{Attest, Id, IdList};
+use report::Fact;
 use std::alloc::{AllocError, Global};
 use sysmods::GlobalZone;
 use undo::applied_ids;
@@ -132,6 +134,15 @@ fn facts_by<'a>(
     Ok(facts)
 }
 
+// What its view lacks: the ids that the candidates in its chain name in DELETE.
+fn seen_deletions(alloc: Global, scope: &Scope<'_, '_>, id: Id) -> Result<Vec<Id>, AllocError>
+    ensures { IfOk result (λ dels. dels.items ≡ deletions (choice_of scope.now)
+        (filter (is_in scope.now.ids.now) (chain (global_of scope.now) (choice_of scope.now) id))) }
+{
+    let all = deletions(alloc, scope.vers, scope.ids.as_slice())?;
+    view_deletions(alloc, scope.vers, scope.ids, all.as_slice(), id)
+}
+
 /// The facts of the id, for an install with the candidates of this scope.
 pub fn facts_of<'a>(
     alloc: Global,
@@ -146,8 +157,7 @@ pub fn facts_of<'a>(
         ≡ place scope.now.vers.now.global.now scope.now.zone.now scope.now.ids.now id + 1 }
     ensures { IfOk result (λ facts. AreFacts (setting_of scope.now) id (facts_view facts.items)) }
 {
-    let all = deletions(alloc, scope.vers, scope.ids.as_slice())?;
-    let seen = view_deletions(alloc, scope.vers, scope.ids, all.as_slice(), id)?;
+    let seen = seen_deletions(alloc, scope, id)?;
     let dropped = deletions(alloc, scope.vers, &[id])?;
     let asking = Asking {
         scope: *scope,

@@ -1,33 +1,20 @@
 //! What an id forbids by NPRE, and which functions forbid it.
 ghost use Rattle.std.specs.Prelude.{◌≡◌, ◌&&◌, [], filter, map, IfOk};
 ghost use Rattle.terms.specs.Lookups.{is_applied};
-ghost use Rattle.terms.specs.Choice.{npre_of};
-ghost use Rattle.sysmods.specs.Choices.{choice};
-ghost use Rattle.report_why.specs.Facts.{forbids, npre_facts};
+ghost use Rattle.report.specs.Facts.{forbids, npre_facts};
 ghost use Rattle.report_why.specs.Asking.{setting_in, view_in};
-ghost use Rattle.report_why.specs.Views.{fact_view};
+ghost use Rattle.report.specs.FactViews.{fact_view};
 
 use crate::asking::Asking;
-use crate::fact::Fact;
 use fields::{Attest, Id};
+use report::Fact;
 use std::alloc::{AllocError, Global};
-use sysmods::VerChoice;
-
-// What it names in NPRE.
-fn npre<'a>(vers: &VerChoice<'a>, id: Id) -> &'a [Id]
-    ensures { result.now ≡ npre_of (choice vers.now) id }
-{
-    match vers.ver(id) {
-        Some(ver) => ver.npre.as_slice(),
-        None => &[],
-    }
-}
 
 // Whether it is a function whose NPRE has the id.
 fn forbids(asking: &Asking<'_, '_>, by: Id) -> bool
     ensures { result ≡ forbids (setting_in asking.now) asking.now.id by }
 {
-    asking.scope.global().is_function(by) && npre(asking.scope.vers, by).contains(&asking.id)
+    asking.scope.global().is_function(by) && asking.scope.vers.npre(by).contains(&asking.id)
 }
 
 // The SYSMODs that its view has applied and that forbid the id.
@@ -52,7 +39,7 @@ pub(crate) fn npre_facts(
     ensures { IfOk result (λ facts. map fact_view facts.items ≡ npre_facts (setting_in asking.now) asking.now.id) }
 {
     asking.scope.zone.attest();
-    let named = npre(asking.scope.vers, asking.id);
+    let named = asking.scope.vers.npre(asking.id);
     let forbidding = forbidding(alloc, asking)?;
     let mut facts = Vec::new(alloc);
     for id in named {

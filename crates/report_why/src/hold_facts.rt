@@ -4,14 +4,14 @@ ghost use Rattle.terms.specs.Beside.{Beside};
 ghost use Rattle.terms.specs.declared.kinds.HoldKind.TheVariants.{Error};
 ghost use Rattle.terms.specs.Lookups.{holds_of};
 ghost use Rattle.zones.specs.Scopes.{global_of};
-ghost use Rattle.report_why.specs.Facts.{holds_on, HasResolution, IsHoldFact};
+ghost use Rattle.report.specs.Facts.{holds_on, HasResolution, IsHoldFact};
 ghost use Rattle.report_why.specs.Asking.{setting_in};
-ghost use Rattle.report_why.specs.Views.{answer_view, fact_view};
+ghost use Rattle.report.specs.FactViews.{answer_view, fact_view};
 
 use crate::answers::answer;
 use crate::asking::Asking;
-use crate::fact::{Fact, Requisite, Resolution};
 use fields::Id;
+use report::{Fact, Requisite, Resolution};
 use std::alloc::{AllocError, Global};
 use sysmods_values::Hold;
 use terms::{HoldKind, NeedKind};

@@ -9,11 +9,11 @@ ghost use Rattle.terms.specs.Choice.{fmid_of};
 ghost use Rattle.sysmods.specs.Choices.{choice};
 ghost use Rattle.undo.specs.Dependences.{suppliers};
 ghost use Rattle.undo.specs.Scopes.{restoring};
-ghost use Rattle.report_why.specs.Views.{fact_view};
+ghost use Rattle.report.specs.FactViews.{fact_view};
 ghost use Rattle.report_why.specs.Needed.{sole, soles, needed_pairs, needing, AllNeeded, AreNeeded};
 
-use crate::fact::Fact;
 use fields::{Attest, Id, IdList};
+use report::Fact;
 use std::alloc::{AllocError, Global};
 use sysmods::VerChoice;
 use zones::{Zone, requisites_held};

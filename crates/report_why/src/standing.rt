@@ -1,11 +1,11 @@
 //! The state of an id, and its entry.
 ghost use Rattle.std.specs.Prelude.{◌≡◌, not, is_some, option_map, IfOk, map};
 ghost use Rattle.terms.specs.Lookups.{is_nil, sysmod_of, supby_of, delby_of};
-ghost use Rattle.report_why.specs.Facts.{standing, standing_facts};
-ghost use Rattle.report_why.specs.Views.{standing_view, fact_view};
+ghost use Rattle.report.specs.Facts.{standing, standing_facts};
+ghost use Rattle.report.specs.FactViews.{standing_view, fact_view};
 
-use crate::fact::{Fact, Standing};
 use fields::Id;
+use report::{Fact, Standing};
 use std::alloc::{AllocError, Global};
 use sysmods::GlobalZone;
 use terms::Kind;

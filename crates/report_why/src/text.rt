@@ -1,15 +1,14 @@
 //! The text of facts.
 ghost use Rattle.std.specs.Prelude.{◌≡◌, ◌++◌, map, OnOk};
-ghost use Rattle.report_why.specs.Facts.{EntryFact, VerFact};
+ghost use Rattle.report.specs.Facts.{EntryFact, VerFact};
 ghost use Rattle.report_why.specs.FactText.{fact_text, facts_text as text_of, fact_code, facts_code as code_of};
-ghost use Rattle.report_why.specs.Views.{fact_view};
+ghost use Rattle.report.specs.FactViews.{fact_view};
 
 use crate::asked_lines::{put_hold, put_requisite};
 use crate::element_lines::put_element;
-use crate::fact::{Fact, Standing};
-use crate::fact_words::{applied_word, id_text, standing_text, type_word};
-use crate::line::{FactWord, put_words};
+use crate::fact_words::{standing_text, type_word};
 use fields::Id;
+use report::{Fact, LineWord, Standing, append_words, applied_word, id_text};
 use std::alloc::AllocError;
 use terms::ZoneKind;
 use zones::Entry;
@@ -18,31 +17,31 @@ use zones::Entry;
 fn put_entry(kind: ZoneKind, entry: &Entry, text: &mut Vec<u8>) -> Result<(), AllocError>
     ensures { OnOk result (text.new.items ≡ text.old.items ++ fact_text (EntryFact kind entry.now)) }
 {
-    let id = FactWord::Of(entry.id.as_bytes());
+    let id = LineWord::Of(entry.id.as_bytes());
     let (of_supby, supby) = (
-        FactWord::Of(b"SUPBY"),
-        FactWord::Ids(entry.supby.as_slice()),
+        LineWord::Of(b"SUPBY"),
+        LineWord::Ids(entry.supby.as_slice()),
     );
-    let (of_delby, delby) = (FactWord::Of(b"DELBY"), FactWord::Of(id_text(&entry.delby)));
+    let (of_delby, delby) = (LineWord::Of(b"DELBY"), LineWord::Of(id_text(&entry.delby)));
     let (of_waived, waived) = (
-        FactWord::Of(b"WAIVED"),
-        FactWord::Ids(entry.waived.as_slice()),
+        LineWord::Of(b"WAIVED"),
+        LineWord::Ids(entry.waived.as_slice()),
     );
     match &entry.applied {
         Some(applied) => {
-            let word = FactWord::Of(applied_word(kind));
-            let date = FactWord::Of(applied.date.as_bytes());
+            let word = LineWord::Of(applied_word(kind));
+            let date = LineWord::Of(applied.date.as_bytes());
             let words = [
                 id, word, date, of_supby, supby, of_delby, delby, of_waived, waived,
             ];
-            put_words(b"  ENTRY", &words, text)
+            append_words(b"  ENTRY", &words, text)
         }
         None => {
-            let none = FactWord::Of(b"-");
+            let none = LineWord::Of(b"-");
             let words = [
                 id, none, of_supby, supby, of_delby, delby, of_waived, waived,
             ];
-            put_words(b"  ENTRY", &words, text)
+            append_words(b"  ENTRY", &words, text)
         }
     }
 }
@@ -57,13 +56,13 @@ fn put_ver(
     ensures { OnOk result (text.new.items ≡ text.old.items ++ fact_text (VerFact number fmid.now fits counts)) }
 {
     let words = [
-        FactWord::Number(number),
-        FactWord::Of(b"FMID"),
-        FactWord::Of(id_text(fmid)),
-        FactWord::If(fits, b"FITS", b"-"),
-        FactWord::If(counts, b"COUNTS", b"-"),
+        LineWord::Number(number),
+        LineWord::Of(b"FMID"),
+        LineWord::Of(id_text(fmid)),
+        LineWord::If(fits, b"FITS", b"-"),
+        LineWord::If(counts, b"COUNTS", b"-"),
     ];
-    put_words(b"  VER", &words, text)
+    append_words(b"  VER", &words, text)
 }
 
 fn put_fact(fact: &Fact<'_>, text: &mut Vec<u8>) -> Result<(), AllocError>
@@ -71,9 +70,9 @@ fn put_fact(fact: &Fact<'_>, text: &mut Vec<u8>) -> Result<(), AllocError>
 {
     match fact {
         Fact::Standing { id, kind, standing } => {
-            let kind = FactWord::Left(8, type_word(*kind));
-            let standing = FactWord::Of(standing_text(*standing));
-            put_words(id.as_bytes(), &[kind, standing], text)
+            let kind = LineWord::Left(8, type_word(*kind));
+            let standing = LineWord::Of(standing_text(*standing));
+            append_words(id.as_bytes(), &[kind, standing], text)
         }
         Fact::Entry { kind, entry } => put_entry(*kind, entry, text),
         Fact::Ver {
@@ -91,16 +90,16 @@ fn put_fact(fact: &Fact<'_>, text: &mut Vec<u8>) -> Result<(), AllocError>
             found,
         } => put_element(*elem_type, name, *replaces, found, text),
         Fact::Delete { id, own } => {
-            let chain = FactWord::If(*own, b"CHAIN", b"-");
-            put_words(b"  DELETE", &[FactWord::Of(id.as_bytes()), chain], text)
+            let chain = LineWord::If(*own, b"CHAIN", b"-");
+            append_words(b"  DELETE", &[LineWord::Of(id.as_bytes()), chain], text)
         }
-        Fact::Takes(id) => put_words(b"  TAKES", &[FactWord::Of(id.as_bytes())], text),
+        Fact::Takes(id) => append_words(b"  TAKES", &[LineWord::Of(id.as_bytes())], text),
         Fact::Npre { id, applied } => {
-            let applied = FactWord::If(*applied, b"APPLIED", b"-");
-            put_words(b"  NPRE", &[FactWord::Of(id.as_bytes()), applied], text)
+            let applied = LineWord::If(*applied, b"APPLIED", b"-");
+            append_words(b"  NPRE", &[LineWord::Of(id.as_bytes()), applied], text)
         }
-        Fact::Forbidden(id) => put_words(b"  FORBIDDEN", &[FactWord::Of(id.as_bytes())], text),
-        Fact::Needed(id) => put_words(b"  NEEDED", &[FactWord::Of(id.as_bytes())], text),
+        Fact::Forbidden(id) => append_words(b"  FORBIDDEN", &[LineWord::Of(id.as_bytes())], text),
+        Fact::Needed(id) => append_words(b"  NEEDED", &[LineWord::Of(id.as_bytes())], text),
     }
 }
 

@@ -5,14 +5,14 @@ ghost use Rattle.std.specs.Str.{bytes_eq};
 ghost use Rattle.terms.specs.Types.{Ver as AVer};
 ghost use Rattle.terms.specs.Lookups.{is_in, sysmod_of};
 ghost use Rattle.terms.specs.Choice.{vers_of, fits};
-ghost use Rattle.report_why.specs.Facts.{VerFact};
+ghost use Rattle.report.specs.Facts.{VerFact};
 ghost use Rattle.sysmods.specs.Choices.{number_in};
 ghost use Rattle.zones.specs.Scopes.{global_of};
 ghost use Rattle.report_why.specs.Numbered.{numbered};
-ghost use Rattle.report_why.specs.Views.{fact_view};
+ghost use Rattle.report.specs.FactViews.{fact_view};
 
-use crate::fact::Fact;
 use fields::Id;
+use report::Fact;
 use std::alloc::{AllocError, Global};
 use sysmods::GlobalZone;
 use sysmods_values::Ver;

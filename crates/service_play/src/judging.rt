@@ -1,7 +1,7 @@
 //! What a command would decide: its candidates, their tests and needs, and which of them are kept.
 ghost use Rattle.judge_system.specs.Judged.{HasParts};
 
-use crate::printed::{put_bypassed, put_candidates, put_failures, put_ids, put_needs, put_numbers};
+use crate::printed::{put_bypassed, put_candidates, put_failures, put_ids, put_needs, put_failed_tests};
 use crate::shop::Shop;
 use cntl::{Command, Install};
 use fields::RestoreList;
@@ -62,11 +62,11 @@ fn judge_restore(
     put_judged(alloc, &judged, printed)
 }
 
-// The numbered system by its ids, which candidates are kept, and why the others are not.
+// What was judged, which candidates are kept, and why the others are not.
 fn put_judged(alloc: Global, judged: &Judged<'_>, printed: &mut Vec<u8>) -> Result<(), AllocError>
     requires { HasParts judged.now }
 {
-    put_numbers(judged, printed)?;
+    put_failed_tests(judged, printed)?;
     put_needs(judged.needs.as_slice(), printed)?;
     put_bypassed(judged.bypassed.as_slice(), printed)?;
     let Decided { kept, failed } = decided(alloc, judged)?;

@@ -69,8 +69,8 @@ pub(crate) fn put_needs(needs: &[RequisiteOf], text: &mut Vec<u8>) -> Result<(),
     Ok(())
 }
 
-/// A line for each candidate that fails tests, in the order of their numbers.
-pub(crate) fn put_numbers(judged: &Judged<'_>, text: &mut Vec<u8>) -> Result<(), AllocError> {
+/// A line for each test that a candidate fails, in the order of the candidates' numbers.
+pub(crate) fn put_failed_tests(judged: &Judged<'_>, text: &mut Vec<u8>) -> Result<(), AllocError> {
     for (id, tests) in judged.ids.iter().zip(judged.tests.iter()) {
         put_tests(*id, tests.as_slice(), text)?;
     }

@@ -27,8 +27,8 @@ fn told(ended: Result<Outcome<'static>, StoreError>) -> Result<Performed, StoreE
 /// fails, and `NoState` if it loads a zone whose rows stand for none. After an error no command of the job may follow:
 /// the session's global zone may be ahead of the tables.
 pub fn perform<S: Alter>(
-    session: &mut Session,
     alloc: Global,
+    session: &mut Session,
     store: &mut Store<S>,
     date: YyDdd,
     files: &Files<'_>,
@@ -47,19 +47,19 @@ pub fn perform<S: Alter>(
         Command::Receive(what) => told(session.receive(alloc, store, files, what)),
         Command::Reject(ids) => told(session.reject(alloc, store, ids)),
         Command::Apply(operands) => {
-            told(install(session, alloc, store, date, ZoneKind::Target, operands))
+            told(install(alloc, session, store, date, ZoneKind::Target, operands))
         }
         Command::Accept(operands) => {
             told(install(
-                session,
                 alloc,
+                session,
                 store,
                 date,
                 ZoneKind::Distribution,
                 operands,
             ))
         }
-        Command::Restore { list, check } => told(restore(session, alloc, store, list, *check)),
+        Command::Restore { list, check } => told(restore(alloc, session, store, list, *check)),
         Command::List { text } => Ok(Performed::Lists { text: *text }),
         Command::Report => Ok(Performed::Told(session.report(alloc)?)),
     }

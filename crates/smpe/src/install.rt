@@ -40,8 +40,8 @@ fn header(kind: ZoneKind, boundary: Option<ZoneName>, check: bool) -> Header
 
 /// APPLY into a target zone, ACCEPT into a distribution zone.
 pub(crate) fn install<S: Alter>(
-    session: &mut Session,
     alloc: Global,
+    session: &mut Session,
     store: &mut Store<S>,
     date: YyDdd,
     kind: ZoneKind,

@@ -42,7 +42,7 @@ fn run_command<S: Alter, W: Sink>(
         (W.taken w.old) (W.taken w.new) result }
     ensures fault { TellsOfSink (W.has_failed w.old) (W.has_failed w.new) result }
 {
-    let performed = perform(session, alloc, store, date, files, command)?;
+    let performed = perform(alloc, session, store, date, files, command)?;
     match performed {
         Performed::Told(outcome) => Ok(write_report(&outcome, w)?),
         Performed::Lists { text } => Ok(write_report(&session.list(text), w)?),

@@ -19,8 +19,8 @@ use terms::{CommandWord, ZoneKind};
 
 /// RESTORE of a list from the target zone of the boundary.
 pub(crate) fn restore<S: Alter>(
-    session: &mut Session,
     alloc: Global,
+    session: &mut Session,
     store: &mut Store<S>,
     list: &RestoreList,
     check: bool,

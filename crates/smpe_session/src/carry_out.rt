@@ -21,9 +21,10 @@ use store::{Change, Store, StoreError};
 use zones::ZoneDelta;
 
 impl Session {
-    /// The header names the zone. Under CHECK nothing changes. Otherwise the change is made ready and committed, and
-    /// then the session's zone changes, which takes no memory. So the session is never ahead of the tables. A job whose
-    /// commit fails ends there, and its session with it.
+    /// Carries out what an APPLY, ACCEPT or RESTORE has decided for the zone of the boundary. Under CHECK nothing
+    /// changes. Otherwise the change is prepared and committed, and then the session's zone changes, which takes no
+    /// memory. So the session is never ahead of the tables. A job whose commit fails ends there, and its session with
+    /// it. Returns `Memory` if memory runs out, and `Fault` if the database fails.
     pub fn carry_out<S: Alter>(
         &mut self,
         alloc: Global,

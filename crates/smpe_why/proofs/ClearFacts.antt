@@ -32,15 +32,15 @@ use Rattle.terms.specs.Changes.{is_replacement, has_update}
 use Rattle.terms.specs.Deleted.{is_deleted}
 use Rattle.terms.specs.Tests.{Setting, view_of, owner_of, standing_holds, is_bypassed_hold}
 use Rattle.terms.specs.Needs.{asked, is_met}
-use Rattle.report_why.specs.Facts.{AreFacts, alone, standing_facts, ver_facts, numbered_facts, Requisite, requisites}
-use Rattle.report_why.specs.Facts.{requisites_of, a_requisite, stated_by, conditions_of, conditions}
-use Rattle.report_why.specs.Facts.{left_by, IsResolution, Resolution}
-use Rattle.report_why.specs.Facts.{Supplied, Waived, ByItself, Open, Rank, Itself, Over, NotOver, IsRank, Maker}
-use Rattle.report_why.specs.Facts.{Found, IsFound, HasFound}
-use Rattle.report_why.specs.Facts.{Fact, EntryFact, VerFact, DeleteFact}
-use Rattle.report_why.specs.Facts.{TakesFact, NpreFact, ForbiddenFact, NeededFact, HasResolution}
-use Rattle.report_why.specs.Facts.{StandsApplied, StandsSuperseded, StandsDeleted, StandsReceived, StandsMissing, holds_on}
-use Rattle.report_why.specs.Facts.{delete_facts, npre_facts, forbids}
+use Rattle.report.specs.Facts.{AreFacts, alone, standing_facts, ver_facts, numbered_facts, Requisite, requisites}
+use Rattle.report.specs.Facts.{requisites_of, a_requisite, stated_by, conditions_of, conditions}
+use Rattle.report.specs.Facts.{left_by, IsResolution, Resolution}
+use Rattle.report.specs.Facts.{Supplied, Waived, ByItself, Open, Rank, Itself, Over, NotOver, IsRank, Maker}
+use Rattle.report.specs.Facts.{Found, IsFound, HasFound}
+use Rattle.report.specs.Facts.{Fact, EntryFact, VerFact, DeleteFact}
+use Rattle.report.specs.Facts.{TakesFact, NpreFact, ForbiddenFact, NeededFact, HasResolution}
+use Rattle.report.specs.Facts.{StandsApplied, StandsSuperseded, StandsDeleted, StandsReceived, StandsMissing, holds_on}
+use Rattle.report.specs.Facts.{delete_facts, npre_facts, forbids}
 use Rattle.terms.proofs.Applied.{in_applied_ids}
 use Rattle.terms.proofs.ChangedElements.{change_there, change_found}
 use Rattle.terms.proofs.Ids.{is_in_from_Contains, Contains_from_is_in}

@@ -25,7 +25,7 @@ use Rattle.terms.specs.Needs.{Needs, Serves, asked, is_met, zone_left}
 use Rattle.terms.specs.Kept.{SupportsItself}
 use Rattle.terms.specs.Judged.{setting, Stays, IsKeptSet}
 use Rattle.terms.specs.Install.{TakesEffect}
-use Rattle.report_why.specs.Facts.{Fact, AreFacts, alone}
+use Rattle.report.specs.Facts.{Fact, AreFacts, alone}
 use Rattle.terms.proofs.Ids.{Contains_from_is_in, is_in_from_Contains}
 use Rattle.machine.specs.Outcome.{Status, Applied, Line, StatusLine}
 use Rattle.machine.specs.Receiving.{place_of}

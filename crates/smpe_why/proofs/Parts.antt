@@ -19,7 +19,7 @@ use Rattle.terms.proofs.IdPlaces.{stands_at}
 use Rattle.terms.proofs.RisingLists.{Stands_at, with_item_same}
 use Rattle.terms.specs.Choice.{Choice, counting}
 use Rattle.terms.specs.Tests.{Setting}
-use Rattle.report_why.specs.Facts.{among, with_id}
+use Rattle.report.specs.Facts.{among, with_id}
 use Rattle.smpe_why.specs.declared.told.Told.{Told}
 use Rattle.smpe_why.specs.Telling.{greatest, Inquiry, AreToldBy, IsTold}
 

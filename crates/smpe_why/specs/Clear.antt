@@ -5,11 +5,11 @@ use Rattle.std.specs.List.{list_all}
 use Rattle.terms.specs.declared.kinds.ZoneKind.TheVariants.{Target}
 use Rattle.terms.specs.Types.{Text, Id, Global, Zone, Selection}
 use Rattle.terms.specs.CommandForms.{no_bypass}
-use Rattle.report_why.specs.Facts.{Standing, StandsReceived}
-use Rattle.report_why.specs.Facts.{Resolution, Supplied, Found, Fact}
+use Rattle.report.specs.Facts.{Standing, StandsReceived}
+use Rattle.report.specs.Facts.{Resolution, Supplied, Found, Fact}
 use Rattle.report_verdict.specs.Verdict.{is_over}
-use Rattle.report_why.specs.Facts.{StandingFact, EntryFact, VerFact, RequisiteFact, HoldFact, ElementFact, DeleteFact}
-use Rattle.report_why.specs.Facts.{TakesFact, NpreFact, ForbiddenFact, NeededFact, AreFacts, alone}
+use Rattle.report.specs.Facts.{StandingFact, EntryFact, VerFact, RequisiteFact, HoldFact, ElementFact, DeleteFact}
+use Rattle.report.specs.Facts.{TakesFact, NpreFact, ForbiddenFact, NeededFact, AreFacts, alone}
 use Rattle.machine.specs.Outcome.{Line, StatusLine, Applied}
 use Rattle.machine.specs.Receiving.{place_of}
 use Rattle.machine.specs.Installing.{InstallsSelected}

@@ -14,7 +14,7 @@ use Rattle.terms.specs.Types.{Text, Id, Global, Zone, Bypass, Selection}
 use Rattle.machine.specs.Installing.{InstallsSelected}
 use Rattle.machine.specs.Outcome.{NoZone, Line}
 use Rattle.machine.specs.Report.{refused_text}
-use Rattle.report_why.specs.Facts.{Fact, AreFacts, among}
+use Rattle.report.specs.Facts.{Fact, AreFacts, among}
 use Rattle.report_why.specs.FactText.{facts_text, facts_code}
 use Rattle.report_verdict.specs.Conflicts.{AreConflicts}
 use Rattle.report_verdict.specs.Verdict.{verdict_text}

@@ -8,7 +8,7 @@ ghost use Rattle.machine.specs.Installing.{InstallsSelected};
 ghost use Rattle.machine.specs.Outcome.{NoZone};
 ghost use Rattle.machine.specs.Report.{refused_text};
 ghost use Rattle.report.specs.Views.{line_view};
-ghost use Rattle.report_why.specs.Facts.{among};
+ghost use Rattle.report.specs.Facts.{among};
 ghost use Rattle.smpe_why.specs.Scopes.{IsScopeOf};
 ghost use Rattle.smpe_why.specs.Telling.{IsTold, AreToldBy, AreToldInTurn, IsToldOf, Selects};
 

@@ -165,7 +165,7 @@ fn take_sysmod(
     built(alloc, head, found, changes)
 }
 
-/// The SYSMODs whose rows these are. It takes the rows by reference, so that none of its exits lets go of them.
+/// The SYSMODs whose rows these are. The caller keeps the lists: to drop them would have to be proved at each exit.
 pub(crate) fn assemble(
     alloc: Global,
     heads: &mut VecDeque<HeadRow>,

@@ -3,6 +3,11 @@ use Rattle.std.proofs.lemmas.List.{replicate_more}
 use Rattle.report.proofs.Paging.{paged_then, paged_as}
 use Rattle.report.proofs.line_words.put_word.Goals as goal
 
+pub returns-in-Named : goal.returns-in-Named
+returns-in-Named g c =
+    rw c.in-Named.is
+    (paged_then _ _ _ _ _ _ _ _ c.put-in-Named.ensures.paged c.put-in-Named-2.ensures.paged)
+
 pub loop-place-preserved : goal.loop-place-preserved
 loop-place-preserved g c =
     paged_as _ _ _ _ _ _ (replicate_more c.loop-place._place 32)

@@ -2,8 +2,8 @@ use Rattle.std.proofs.Common.{◌++◌, ◌∙◌, ap, arith, sym, take_all}
 use Rattle.std.specs.List.{flat_map}
 use Rattle.std.proofs.lemmas.List.Folds.{flat_map-map}
 use Rattle.report_verdict.specs.Verdict.{bypassed_told}
-use Rattle.report_why.specs.Views.{fact_view}
-use Rattle.report_why.proofs.TextParts.{flat_more}
+use Rattle.report.specs.FactViews.{fact_view}
+use Rattle.report.proofs.Texts.{flat_more}
 use Rattle.report_verdict.proofs.besides.put_all_bypassed.Goals as goal
 
 pub loop-fact-preserved : goal.loop-fact-preserved

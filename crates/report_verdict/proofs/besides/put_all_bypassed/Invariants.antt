@@ -1,7 +1,7 @@
 use Rattle.std.proofs.Common.{◌≡◌, ◌++◌, take}
 use Rattle.std.specs.List.{flat_map}
 use Rattle.report_verdict.specs.Verdict.{bypassed_told}
-use Rattle.report_why.specs.Views.{fact_view}
+use Rattle.report.specs.FactViews.{fact_view}
 use Rattle.report_verdict.proofs.besides.put_all_bypassed.Given as goal
 
 abbrev pub invariant-loop-fact : goal.invariant-loop-fact

@@ -2,7 +2,7 @@ use Rattle.std.proofs.Common.{◌++◌, ◌∙◌, ap, arith, map, take_all}
 use Rattle.std.specs.List.{flat_map}
 use Rattle.report_verdict.specs.Verdict.{supply_by}
 use Rattle.report.specs.Views.{line_view}
-use Rattle.report_why.proofs.TextParts.{flat_more}
+use Rattle.report.proofs.Texts.{flat_more}
 use Rattle.report_verdict.proofs.besides.put_supplies.Goals as goal
 
 pub loop-by-preserved : goal.loop-by-preserved

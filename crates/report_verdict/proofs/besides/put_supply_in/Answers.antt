@@ -3,7 +3,7 @@ use Rattle.std.specs.List.{flat_map}
 use Rattle.std.proofs.lemmas.List.Folds.{flat_map-map}
 use Rattle.report_verdict.specs.Verdict.{supply_by}
 use Rattle.report.specs.Views.{line_view}
-use Rattle.report_why.proofs.TextParts.{flat_more}
+use Rattle.report.proofs.Texts.{flat_more}
 use Rattle.report_verdict.proofs.besides.put_supply_in.Goals as goal
 
 pub loop-line-preserved : goal.loop-line-preserved

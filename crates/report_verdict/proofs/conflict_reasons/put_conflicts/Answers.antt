@@ -1,7 +1,7 @@
 use Rattle.std.proofs.Common.{◌++◌, ◌∙◌, ap, arith, take_all}
 use Rattle.std.specs.List.{flat_map}
 use Rattle.report_verdict.specs.Verdict.{conflict_reason}
-use Rattle.report_why.proofs.TextParts.{flat_more}
+use Rattle.report.proofs.Texts.{flat_more}
 use Rattle.report_verdict.proofs.conflict_reasons.put_conflicts.Goals as goal
 
 pub loop-conflict-preserved : goal.loop-conflict-preserved

@@ -2,7 +2,7 @@ use Rattle.std.proofs.Common.{◌++◌, ◌∙◌, [], ap, ap₂, arith, take_al
 use Rattle.std.specs.List.{flat_map}
 use Rattle.zones.specs.Scopes.{setting_of}
 use Rattle.report_verdict.specs.Conflicts.{deletions_by, clashes_with}
-use Rattle.report_why.proofs.TextParts.{grown_more}
+use Rattle.report.proofs.Texts.{grown_more}
 use Rattle.report_verdict.proofs.conflicts.conflicts_of.Goals as goal
 
 pub loop-by-preserved : goal.loop-by-preserved

@@ -3,7 +3,7 @@ use Rattle.std.specs.List.{flat_map}
 use Rattle.terms.specs.Lookups.{changes_of}
 use Rattle.zones.specs.Scopes.{global_of}
 use Rattle.report_verdict.specs.Conflicts.{share_of}
-use Rattle.report_why.proofs.TextParts.{grown_more}
+use Rattle.report.proofs.Texts.{grown_more}
 use Rattle.report_verdict.proofs.conflicts.push_shares.Goals as goal
 
 pub loop-change-preserved : goal.loop-change-preserved

@@ -2,10 +2,10 @@ use Rattle.std.proofs.Common.{List, ℕ, ◌++◌, ◌∙◌, ap, arith, map, sy
 use Rattle.std.specs.Prelude.{codes}
 use Rattle.std.specs.List.{flat_map}
 use Rattle.std.proofs.lemmas.List.Folds.{flat_map-map}
-use Rattle.report_why.specs.Facts.{Maker}
+use Rattle.report.specs.Facts.{Maker}
 use Rattle.report_verdict.specs.Verdict.{maker_reason}
-use Rattle.report_why.specs.Views.{maker_view}
-use Rattle.report_why.proofs.TextParts.{flat_more}
+use Rattle.report.specs.FactViews.{maker_view}
+use Rattle.report.proofs.Texts.{flat_more}
 use Rattle.report_verdict.proofs.reasons.put_makers.Goals as goal
 
 pub loop-umid-preserved : goal.loop-umid-preserved

@@ -3,7 +3,7 @@ use Rattle.std.specs.List.{flat_map}
 use Rattle.std.proofs.lemmas.List.Folds.{flat_map-map}
 use Rattle.report_verdict.specs.Conflicts.{is_chain_deleted, id_where}
 use Rattle.report.specs.Views.{line_view}
-use Rattle.report_why.proofs.TextParts.{grown_more}
+use Rattle.report.proofs.Texts.{grown_more}
 use Rattle.report_verdict.proofs.statuses.all_chain_deleted.Goals as goal
 
 pub loop-line-preserved : goal.loop-line-preserved

@@ -3,7 +3,7 @@ use Rattle.std.specs.List.{flat_map}
 use Rattle.std.proofs.lemmas.List.Folds.{flat_map-map}
 use Rattle.report_verdict.specs.Conflicts.{passes_alone, id_where}
 use Rattle.report.specs.Views.{line_view}
-use Rattle.report_why.proofs.TextParts.{grown_more}
+use Rattle.report.proofs.Texts.{grown_more}
 use Rattle.report_verdict.proofs.statuses.all_passing.Goals as goal
 
 pub loop-line-preserved : goal.loop-line-preserved

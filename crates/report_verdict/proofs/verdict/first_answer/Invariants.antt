@@ -1,6 +1,6 @@
 use Rattle.std.proofs.Common.{◌≡◌, map, drop}
 use Rattle.report_verdict.specs.Verdict.{first_answer}
-use Rattle.report_why.specs.Views.{fact_view}
+use Rattle.report.specs.FactViews.{fact_view}
 use Rattle.report_verdict.proofs.verdict.first_answer.Given as goal
 
 abbrev pub invariant-loop-fact : goal.invariant-loop-fact

@@ -1,7 +1,7 @@
 use Rattle.std.proofs.Common.{◌++◌, ◌∙◌, ap, arith, take_all}
 use Rattle.std.specs.List.{flat_map}
 use Rattle.report_verdict.specs.Verdict.{causer_told}
-use Rattle.report_why.proofs.TextParts.{flat_more}
+use Rattle.report.proofs.Texts.{flat_more}
 use Rattle.report_verdict.proofs.verdict.put_causers.Goals as goal
 
 pub loop-causer-preserved : goal.loop-causer-preserved

@@ -4,7 +4,7 @@ use Rattle.std.proofs.lemmas.List.Folds.{flat_map-map}
 use Rattle.report_verdict.specs.Verdict.{verdict_told}
 use Rattle.report_verdict.specs.Grounds.{basis_of}
 use Rattle.report.specs.Views.{line_view}
-use Rattle.report_why.proofs.TextParts.{flat_more}
+use Rattle.report.proofs.Texts.{flat_more}
 use Rattle.report_verdict.proofs.verdict.put_lines.Goals as goal
 
 pub loop-line-preserved : goal.loop-line-preserved

@@ -2,9 +2,9 @@ use Rattle.std.proofs.Common.{◌++◌, ◌∙◌, ap, arith, map, sym, take_all
 use Rattle.std.specs.List.{flat_map}
 use Rattle.std.proofs.lemmas.List.Folds.{flat_map-map}
 use Rattle.report_verdict.specs.Verdict.{need_told}
-use Rattle.report_why.specs.Views.{fact_view}
+use Rattle.report.specs.FactViews.{fact_view}
 use Rattle.judge_system.specs.Views.{need_view}
-use Rattle.report_why.proofs.TextParts.{flat_more}
+use Rattle.report.proofs.Texts.{flat_more}
 use Rattle.report_verdict.proofs.verdict.put_needs.Goals as goal
 
 pub loop-need-preserved : goal.loop-need-preserved

@@ -3,7 +3,7 @@ use Rattle.std.specs.Prelude.{◌↔◌, IsFalse}
 use Rattle.terms.specs.Types.{Id}
 use Rattle.terms.proofs.Ids.{Contains_from_is_in, is_in_from_Contains}
 use Rattle.terms.specs.Needs.{is_met}
-use Rattle.report_why.specs.Facts.{Requisite, MayServe}
+use Rattle.report.specs.Facts.{Requisite, MayServe}
 use Rattle.report_why.specs.Asking.{setting_in, left_in}
 use Rattle.report_why.proofs.answers.answer.Goals as goal
 

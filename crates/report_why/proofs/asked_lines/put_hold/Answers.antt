@@ -2,10 +2,10 @@ use Rattle.std.proofs.Common.{◌≡◌, ◌++◌, None, Some, subst}
 use Rattle.std.specs.Prelude.{OnOk}
 use Rattle.std.proofs.lemmas.Result.{IfOk-equal}
 use Rattle.terms.specs.Types.{Hold}
-use Rattle.report_why.specs.Facts.{HoldFact}
+use Rattle.report.specs.Facts.{HoldFact}
 use Rattle.sysmods_values.specs.contracts.hold.Hold.{the_view}
 use Rattle.report_why.specs.FactText.{fact_text}
-use Rattle.report_why.specs.Views.{answer_view}
+use Rattle.report.specs.FactViews.{answer_view}
 use Rattle.report_why.proofs.TextParts.{hold_answered, hold_unanswered}
 use Rattle.report_why.proofs.asked_lines.put_hold.Goals as goal
 
@@ -16,13 +16,13 @@ returns-in_ok-put_comment-in-Some c =
     (c.put_answer.new.text.items ≡ c.args.text.now.items ++ fact_text (HoldFact h (Some a)))) c.hold.view_is
     (IfOk-equal c.put_answer.result c.put_answer.new.text.items _ _ c.put_answer.ensures
     (hold_answered (the_view c.hold.inside) a c.args.text.now.items c.hold_text.ensures c.as_bytes.ensures.same
-    c.class_text.ensures c.date_text.ensures c.answer_word.ensures c.in_ok-put_words-in-Some.ensures
+    c.class_text.ensures c.date_text.ensures c.answer_word.ensures c.in_ok-append_words-in-Some.ensures
     c.in_ok-put_comment-in-Some.ensures)))
 
-pub returns-in_ok-put_words-in-None : goal.returns-in_ok-put_words-in-None
-returns-in_ok-put_words-in-None c =
+pub returns-in_ok-append_words-in-None : goal.returns-in_ok-append_words-in-None
+returns-in_ok-append_words-in-None c =
     rw c.in-None.is (subst (λ (h : Hold). OnOk c.put_comment-in-None.result
     (c.put_comment-in-None.new.text.items ≡ c.args.text.now.items ++ fact_text (HoldFact h None))) c.hold.view_is
     (IfOk-equal c.put_comment-in-None.result c.put_comment-in-None.new.text.items _ _ c.put_comment-in-None.ensures
     (hold_unanswered (the_view c.hold.inside) c.args.text.now.items c.hold_text.ensures c.as_bytes.ensures.same
-    c.class_text.ensures c.date_text.ensures c.in_ok-put_words-in-None.ensures)))
+    c.class_text.ensures c.date_text.ensures c.in_ok-append_words-in-None.ensures)))

@@ -1,6 +1,6 @@
 use Rattle.std.proofs.Common.{◌≡◌, [], ◌∷◌, ◌++◌, take}
 use Rattle.std.specs.List.{flat_map}
-use Rattle.report_why.specs.FactText.{inner_line}
+use Rattle.report.specs.WordTexts.{inner_line}
 use Rattle.report_why.proofs.asked_lines.put_id_lines.Given as goal
 
 abbrev pub invariant-loop-id : goal.invariant-loop-id

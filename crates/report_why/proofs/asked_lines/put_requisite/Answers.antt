@@ -1,14 +1,14 @@
 use Rattle.std.proofs.Common.{◌≡◌, ◌++◌, subst}
 use Rattle.std.specs.Prelude.{OnOk}
 use Rattle.std.proofs.lemmas.Result.{IfOk-equal}
-use Rattle.report_why.specs.Facts.{Requisite, RequisiteFact, a_requisite}
+use Rattle.report.specs.Facts.{Requisite, RequisiteFact, a_requisite}
 use Rattle.report_why.specs.FactText.{fact_text}
-use Rattle.report_why.specs.Views.{answer_view}
+use Rattle.report.specs.FactViews.{answer_view}
 use Rattle.report_why.proofs.TextParts.{requisite_by_if, requisite_by_itself}
 use Rattle.report_why.proofs.asked_lines.put_requisite.Goals as goal
 
-pub returns-in_ok-put_words-in-Some : goal.returns-in_ok-put_words-in-Some
-returns-in_ok-put_words-in-Some c =
+pub returns-in_ok-append_words-in-Some : goal.returns-in_ok-append_words-in-Some
+returns-in_ok-append_words-in-Some c =
     let i = c.requisite.inside in
     let a = answer_view c.args.answer.now in
     subst (λ (r : Requisite). OnOk c.put_answer.result
@@ -16,14 +16,14 @@ returns-in_ok-put_words-in-Some c =
     (IfOk-equal c.put_answer.result c.put_answer.new.text.items _ _ c.put_answer.ensures
     (requisite_by_if (a_requisite i.kind i.by i.function i.id) a c.in-Some.function c.args.text.now.items
     c.in-Some.is c.need_text.ensures c.as_bytes.ensures.same c.as_bytes-in-Some.ensures.same c.as_bytes-2.ensures.same
-    c.answer_word.ensures c.in_ok-put_words-in-Some.ensures))
+    c.answer_word.ensures c.in_ok-append_words-in-Some.ensures))
 
-pub returns-in_ok-put_words-in-None : goal.returns-in_ok-put_words-in-None
-returns-in_ok-put_words-in-None c =
+pub returns-in_ok-append_words-in-None : goal.returns-in_ok-append_words-in-None
+returns-in_ok-append_words-in-None c =
     let i = c.requisite.inside in
     let a = answer_view c.args.answer.now in
     subst (λ (r : Requisite). OnOk c.put_answer-in-None.result
     (c.put_answer-in-None.new.text.items ≡ c.args.text.now.items ++ fact_text (RequisiteFact r a))) c.requisite.view_is
     (IfOk-equal c.put_answer-in-None.result c.put_answer-in-None.new.text.items _ _ c.put_answer-in-None.ensures
     (requisite_by_itself (a_requisite i.kind i.by i.function i.id) a c.args.text.now.items
-    c.in-None.is c.need_text.ensures c.as_bytes.ensures.same c.answer_word.ensures c.in_ok-put_words-in-None.ensures))
+    c.in-None.is c.need_text.ensures c.as_bytes.ensures.same c.answer_word.ensures c.in_ok-append_words-in-None.ensures))

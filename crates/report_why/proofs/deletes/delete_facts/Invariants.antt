@@ -2,8 +2,8 @@ use Rattle.std.proofs.Common.{◌≡◌, ◌++◌, map, take}
 use Rattle.terms.specs.Lookups.{is_in}
 use Rattle.terms.specs.Over.{chain}
 use Rattle.zones.specs.Scopes.{global_of, choice_of}
-use Rattle.report_why.specs.Facts.{DeleteFact, TakesFact}
-use Rattle.report_why.specs.Views.{fact_view}
+use Rattle.report.specs.Facts.{DeleteFact, TakesFact}
+use Rattle.report.specs.FactViews.{fact_view}
 use Rattle.report_why.proofs.deletes.delete_facts.Given as goal
 
 abbrev pub invariant-loop-del : goal.invariant-loop-del

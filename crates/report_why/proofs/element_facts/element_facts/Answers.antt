@@ -2,12 +2,12 @@ use Rattle.std.proofs.Common.{◌≡◌, ◌∙◌, arith, ap, length}
 use Rattle.terms.proofs.BesideLists.{beside_next, beside_through}
 use Rattle.terms.specs.Lookups.{changes_of}
 use Rattle.zones.specs.Scopes.{global_of}
-use Rattle.report_why.specs.Facts.{ElementFact, IsElementFact}
+use Rattle.report.specs.Facts.{ElementFact, IsElementFact}
 use Rattle.terms.specs.Types.{Change}
 use Rattle.terms.specs.Changes.{is_replacement}
 use Rattle.std.specs.Prelude.{option_map}
 use Rattle.report_why.specs.Asking.{setting_in}
-use Rattle.report_why.specs.Views.{found_view, fact_view}
+use Rattle.report.specs.FactViews.{found_view, fact_view}
 use Rattle.report_why.proofs.element_facts.element_facts.Goals as goal
 
 pub loop-change-preserved : goal.loop-change-preserved

@@ -2,9 +2,9 @@ use Rattle.std.proofs.Common.{take}
 use Rattle.terms.specs.Beside.{Beside}
 use Rattle.terms.specs.Lookups.{changes_of}
 use Rattle.zones.specs.Scopes.{global_of}
-use Rattle.report_why.specs.Facts.{IsElementFact}
+use Rattle.report.specs.Facts.{IsElementFact}
 use Rattle.report_why.specs.Asking.{setting_in}
-use Rattle.report_why.specs.Views.{fact_view}
+use Rattle.report.specs.FactViews.{fact_view}
 use Rattle.report_why.proofs.element_facts.element_facts.Given as goal
 
 abbrev pub invariant-loop-change : goal.invariant-loop-change

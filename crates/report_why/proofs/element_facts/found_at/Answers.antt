@@ -1,9 +1,9 @@
 use Rattle.std.proofs.Common.{None, Some, refl, subst}
 use Rattle.terms.specs.Types.{Change}
 use Rattle.terms.specs.Lookups.{element_of}
-use Rattle.report_why.specs.Facts.{HasFound}
+use Rattle.report.specs.Facts.{HasFound}
 use Rattle.report_why.specs.Asking.{setting_in, view_in}
-use Rattle.report_why.specs.Views.{found_view}
+use Rattle.report.specs.FactViews.{found_view}
 use Rattle.report_why.proofs.element_facts.found_at.Goals as goal
 
 pub returns-in_ok-found-in-Some : goal.returns-in_ok-found-in-Some

@@ -4,16 +4,17 @@ use Rattle.std.specs.List.{flat_map}
 use Rattle.std.proofs.lemmas.List.Folds.{flat_map-map}
 use Rattle.std.proofs.lemmas.Result.{IfOk-weaker}
 use Rattle.report_why.specs.FactText.{maker_line}
-use Rattle.report_why.specs.Views.{maker_view, found_view}
-use Rattle.report_why.proofs.TextParts.{flat_more, element_there, element_missing}
+use Rattle.report.specs.FactViews.{maker_view, found_view}
+use Rattle.report.proofs.Texts.{flat_more}
+use Rattle.report_why.proofs.TextParts.{element_there, element_missing}
 use Rattle.report_why.proofs.element_lines.put_element.Goals as goal
 
 pub returns-in_default : goal.returns-in_default
 returns-in_default c =
-    rw c.in_default.is (IfOk-weaker c.put_words.result _ _
+    rw c.in_default.is (IfOk-weaker c.append_words.result _ _
     (λ done put. element_missing c.args.elem_type c.args.name.now c.args.replaces c.args.text.now.items
     c.type_text.ensures
-    c.as_bytes.ensures.same put) c.put_words.ensures)
+    c.as_bytes.ensures.same put) c.append_words.ensures)
 
 pub loop-umid-preserved : goal.loop-umid-preserved
 loop-umid-preserved c =
@@ -32,4 +33,4 @@ returns c =
     ∙ ap (λ l. c.put_maker.new.text.items ++ l)
     (sym (flat_map-map (maker_line (codes "UMID")) maker_view found.umids.items))
     ∙ element_there c.args.elem_type c.args.name.now c.args.replaces f c.args.text.now.items c.type_text.ensures
-    c.as_bytes.ensures.same c.as_bytes-2.ensures.same c.in_ok-put_words.ensures c.in_ok-put_maker.ensures)
+    c.as_bytes.ensures.same c.as_bytes-2.ensures.same c.in_ok-append_words.ensures c.in_ok-put_maker.ensures)

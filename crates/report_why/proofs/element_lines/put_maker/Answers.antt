@@ -4,5 +4,5 @@ use Rattle.report_why.proofs.element_lines.put_maker.Goals as goal
 
 pub returns : goal.returns
 returns c =
-    IfOk-equal c.put_words.result c.put_words.new.text.items _ _ c.put_words.ensures
+    IfOk-equal c.append_words.result c.append_words.new.text.items _ _ c.append_words.ensures
     (rw (c.as_bytes.ensures.same, c.rank_text.ensures) refl)

@@ -2,9 +2,9 @@ use Rattle.std.proofs.Common.{◌∙◌, ◌++◌, [], ap, map, refl, sym, subst
 use Rattle.terms.specs.Types.{Zone}
 use Rattle.terms.specs.Choice.{counting}
 use Rattle.report_why.specs.Asking.{setting_in}
-use Rattle.report_why.specs.Facts.{standing_facts, ver_facts}
+use Rattle.report.specs.Facts.{standing_facts, ver_facts}
 use Rattle.report_why.specs.Needed.{AreNeeded}
-use Rattle.report_why.specs.Views.{fact_view}
+use Rattle.report.specs.FactViews.{fact_view}
 use Rattle.report_why.proofs.NeededPairs.{all_needed}
 use Rattle.report_why.proofs.Together.{are_facts}
 use Rattle.report_why.proofs.facts.facts_by.Goals as goal

@@ -2,8 +2,8 @@ use Rattle.std.proofs.Common.{◌∙◌, ap}
 use Rattle.terms.specs.Lookups.{is_in}
 use Rattle.terms.specs.Choice.{vers_of, fits}
 use Rattle.zones.specs.Scopes.{setting_of}
-use Rattle.report_why.specs.Facts.{numbered_facts, standing_facts, ver_facts}
-use Rattle.report_why.specs.Views.{fact_view}
+use Rattle.report.specs.Facts.{numbered_facts, standing_facts, ver_facts}
+use Rattle.report.specs.FactViews.{fact_view}
 use Rattle.report_why.proofs.Together.{seen_behind}
 use Rattle.report_why.proofs.facts.own_facts.Goals as goal
 

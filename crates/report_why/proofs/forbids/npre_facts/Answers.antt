@@ -4,7 +4,7 @@ use Rattle.terms.specs.Choice.{npre_of}
 use Rattle.terms.specs.Over.{chain}
 use Rattle.terms.specs.Deleted.{deletions}
 use Rattle.terms.specs.Tests.{view_of}
-use Rattle.report_why.specs.Facts.{NpreFact, ForbiddenFact, forbids}
+use Rattle.report.specs.Facts.{NpreFact, ForbiddenFact, forbids}
 use Rattle.judge_needs.proofs.Stating.{applied_left}
 use Rattle.report_why.specs.Asking.{setting_in}
 use Rattle.report_why.proofs.Forbidding.{functions_forbid}

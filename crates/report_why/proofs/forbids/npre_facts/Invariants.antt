@@ -1,8 +1,8 @@
 use Rattle.std.proofs.Common.{◌≡◌, ◌++◌, map, take}
 use Rattle.terms.specs.Lookups.{is_applied}
-use Rattle.report_why.specs.Facts.{NpreFact, ForbiddenFact}
+use Rattle.report.specs.Facts.{NpreFact, ForbiddenFact}
 use Rattle.report_why.specs.Asking.{view_in}
-use Rattle.report_why.specs.Views.{fact_view}
+use Rattle.report.specs.FactViews.{fact_view}
 use Rattle.report_why.proofs.forbids.npre_facts.Given as goal
 
 abbrev pub invariant-loop-id : goal.invariant-loop-id

@@ -1,9 +1,9 @@
 use Rattle.std.proofs.Common.{◌∙◌, None, refl, ap, subst}
 use Rattle.terms.specs.declared.codes.NeedKind.TheVariants.{HoldError}
 use Rattle.terms.specs.Types.{Hold}
-use Rattle.report_why.specs.Facts.{a_requisite, IsResolution}
+use Rattle.report.specs.Facts.{a_requisite, IsResolution}
 use Rattle.report_why.specs.Asking.{setting_in}
-use Rattle.report_why.specs.Views.{answer_view}
+use Rattle.report.specs.FactViews.{answer_view}
 use Rattle.report_why.proofs.hold_facts.error_resolution.Goals as goal
 
 pub returns-in_ok-answer-in-Some : goal.returns-in_ok-answer-in-Some

@@ -2,9 +2,9 @@ use Rattle.std.proofs.Common.{◌≡◌, ◌∙◌, [], ap, refl, subst, sym}
 use Rattle.std.specs.Prelude.{option_map}
 use Rattle.terms.specs.Lookups.{holds_of}
 use Rattle.zones.specs.Scopes.{global_of}
-use Rattle.report_why.specs.Facts.{IsHoldFact}
+use Rattle.report.specs.Facts.{IsHoldFact}
 use Rattle.report_why.specs.Asking.{setting_in}
-use Rattle.report_why.specs.Views.{answer_view, fact_view}
+use Rattle.report.specs.FactViews.{answer_view, fact_view}
 use Rattle.report_why.proofs.Besides.{BesideFront, front_nil, front_next, front_all}
 use Rattle.report_why.proofs.hold_facts.facts_of_kind.Goals as goal
 

@@ -1,8 +1,8 @@
 use Rattle.terms.specs.Lookups.{holds_of}
 use Rattle.zones.specs.Scopes.{global_of}
-use Rattle.report_why.specs.Facts.{IsHoldFact}
+use Rattle.report.specs.Facts.{IsHoldFact}
 use Rattle.report_why.specs.Asking.{setting_in}
-use Rattle.report_why.specs.Views.{fact_view}
+use Rattle.report.specs.FactViews.{fact_view}
 use Rattle.report_why.proofs.Besides.{BesideFront}
 use Rattle.report_why.proofs.hold_facts.facts_of_kind.Given as goal
 

@@ -3,9 +3,9 @@ use Rattle.terms.specs.Beside.{Beside}
 use Rattle.terms.specs.declared.kinds.HoldKind.TheVariants.{Error, System, User}
 use Rattle.terms.specs.Lookups.{holds_of}
 use Rattle.zones.specs.Scopes.{global_of}
-use Rattle.report_why.specs.Facts.{IsHoldFact, holds_on}
+use Rattle.report.specs.Facts.{IsHoldFact, holds_on}
 use Rattle.report_why.specs.Asking.{setting_in}
-use Rattle.report_why.specs.Views.{fact_view}
+use Rattle.report.specs.FactViews.{fact_view}
 use Rattle.report_why.proofs.Besides.{beside_append}
 use Rattle.report_why.proofs.hold_facts.hold_facts.Goals as goal
 

@@ -1,8 +1,8 @@
 use Rattle.std.proofs.Common.{◌∙◌, [], ap, arith, map, subst, sym, take_all, Contains}
 use Rattle.std.specs.List.{flat_map}
-use Rattle.report_why.specs.Facts.{NeededFact}
+use Rattle.report.specs.Facts.{NeededFact}
 use Rattle.report_why.specs.Needed.{needing}
-use Rattle.report_why.proofs.TextParts.{grown_more}
+use Rattle.report.proofs.Texts.{grown_more}
 use Rattle.report_why.proofs.needed.needed_facts.Goals as goal
 
 pub loop-pair-preserved : goal.loop-pair-preserved

@@ -1,8 +1,8 @@
 use Rattle.std.proofs.Common.{◌≡◌, map, take}
 use Rattle.std.specs.List.{flat_map}
-use Rattle.report_why.specs.Facts.{NeededFact}
+use Rattle.report.specs.Facts.{NeededFact}
 use Rattle.report_why.specs.Needed.{needing}
-use Rattle.report_why.specs.Views.{fact_view}
+use Rattle.report.specs.FactViews.{fact_view}
 use Rattle.report_why.proofs.needed.needed_facts.Given as goal
 
 abbrev pub invariant-loop-pair : goal.invariant-loop-pair

@@ -2,7 +2,7 @@ use Rattle.std.proofs.Common.{◌++◌, ◌∙◌, ap, arith, take_all}
 use Rattle.std.specs.List.{flat_map}
 use Rattle.undo.specs.Dependences.{suppliers}
 use Rattle.report_why.specs.Needed.{sole}
-use Rattle.report_why.proofs.TextParts.{grown_more}
+use Rattle.report.proofs.Texts.{grown_more}
 use Rattle.report_why.proofs.needed.push_suppliers.Goals as goal
 
 pub loop-requisite-preserved : goal.loop-requisite-preserved

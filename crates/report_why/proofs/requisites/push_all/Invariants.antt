@@ -1,5 +1,5 @@
 use Rattle.std.proofs.Common.{◌≡◌, ◌++◌, None, map, take}
-use Rattle.report_why.specs.Facts.{a_requisite}
+use Rattle.report.specs.Facts.{a_requisite}
 use Rattle.report_why.proofs.requisites.push_all.Given as goal
 
 abbrev pub invariant-loop-id : goal.invariant-loop-id

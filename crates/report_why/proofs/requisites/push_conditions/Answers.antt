@@ -8,7 +8,7 @@ use Rattle.terms.specs.Over.{chain}
 use Rattle.terms.specs.Deleted.{deletions}
 use Rattle.zones.specs.Scopes.{global_of, choice_of}
 use Rattle.terms.proofs.Searches.{filter_twice}
-use Rattle.report_why.specs.Facts.{stated_by, conditions_of, others_applied}
+use Rattle.report.specs.Facts.{stated_by, conditions_of, others_applied}
 use Rattle.judge_needs.proofs.Stating.{applied_left}
 use Rattle.report_why.specs.Asking.{setting_in, view_in, is_there}
 use Rattle.report_why.proofs.requisites.push_conditions.Goals as goal

@@ -1,7 +1,7 @@
 use Rattle.std.proofs.Common.{◌≡◌, ◌∙◌, ap, arith, refl, sym}
 use Rattle.std.specs.Str.{bytes_eq}
 use Rattle.terms.specs.Types.{IfReq}
-use Rattle.report_why.specs.Facts.{stated_by}
+use Rattle.report.specs.Facts.{stated_by}
 use Rattle.report_why.proofs.Growing.{kept_more, grown_then, grown_else}
 use Rattle.report_why.proofs.requisites.push_for.Goals.{then-eq+in_ok-push_stated, else-eq}
 use Rattle.report_why.proofs.requisites.push_for.Goals as goal

@@ -1,7 +1,7 @@
 use Rattle.std.proofs.Common.{◌≡◌, ◌++◌, filter, take}
 use Rattle.std.specs.List.{flat_map}
 use Rattle.std.specs.Str.{bytes_eq}
-use Rattle.report_why.specs.Facts.{stated_by}
+use Rattle.report.specs.Facts.{stated_by}
 use Rattle.report_why.proofs.requisites.push_for.Given as goal
 
 abbrev pub invariant-loop-condition : goal.invariant-loop-condition

@@ -3,7 +3,7 @@ use Rattle.std.specs.List.{flat_map}
 use Rattle.std.specs.Str.{bytes_eq}
 use Rattle.terms.specs.Lookups.{is_applied}
 use Rattle.zones.specs.Scopes.{choice_of}
-use Rattle.report_why.specs.Facts.{conditions_of}
+use Rattle.report.specs.Facts.{conditions_of}
 use Rattle.report_why.specs.Asking.{view_in}
 use Rattle.report_why.proofs.requisites.push_of_others.Given as goal
 

@@ -1,6 +1,6 @@
 use Rattle.std.proofs.Common.{◌≡◌, ◌∙◌, ap, arith, refl, sym}
 use Rattle.terms.specs.Types.{IfReq}
-use Rattle.report_why.specs.Facts.{stated_by}
+use Rattle.report.specs.Facts.{stated_by}
 use Rattle.report_why.specs.Asking.{is_there}
 use Rattle.report_why.proofs.Growing.{kept_more, grown_then, grown_else}
 use Rattle.report_why.proofs.requisites.push_own.Goals.{then-has_function+in_ok-push_stated, else-has_function}

@@ -1,6 +1,6 @@
 use Rattle.std.proofs.Common.{◌≡◌, ◌++◌, filter, take}
 use Rattle.std.specs.List.{flat_map}
-use Rattle.report_why.specs.Facts.{stated_by}
+use Rattle.report.specs.Facts.{stated_by}
 use Rattle.report_why.specs.Asking.{is_there}
 use Rattle.report_why.proofs.requisites.push_own.Given as goal
 

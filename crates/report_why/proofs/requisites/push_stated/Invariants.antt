@@ -1,6 +1,6 @@
 use Rattle.std.proofs.Common.{◌≡◌, ◌++◌, Some, map, take}
 use Rattle.terms.specs.declared.codes.NeedKind.TheVariants.{Ifreq}
-use Rattle.report_why.specs.Facts.{a_requisite}
+use Rattle.report.specs.Facts.{a_requisite}
 use Rattle.report_why.proofs.requisites.push_stated.Given as goal
 
 abbrev pub invariant-loop-id : goal.invariant-loop-id

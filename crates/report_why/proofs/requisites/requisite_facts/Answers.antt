@@ -1,9 +1,9 @@
 use Rattle.std.proofs.Common.{◌∙◌, arith, refl, subst}
 use Rattle.terms.specs.Beside.{Beside}
 use Rattle.terms.proofs.BesideLists.{beside_next, beside_through}
-use Rattle.report_why.specs.Facts.{IsRequisiteFact}
+use Rattle.report.specs.Facts.{IsRequisiteFact}
 use Rattle.report_why.specs.Asking.{setting_in}
-use Rattle.report_why.specs.Views.{answer_view, fact_view}
+use Rattle.report.specs.FactViews.{answer_view, fact_view}
 use Rattle.report_why.proofs.requisites.requisite_facts.Goals as goal
 
 pub loop-requisite-preserved : goal.loop-requisite-preserved

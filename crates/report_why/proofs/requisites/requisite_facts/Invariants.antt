@@ -1,8 +1,8 @@
 use Rattle.std.proofs.Common.{take}
 use Rattle.terms.specs.Beside.{Beside}
-use Rattle.report_why.specs.Facts.{IsRequisiteFact}
+use Rattle.report.specs.Facts.{IsRequisiteFact}
 use Rattle.report_why.specs.Asking.{setting_in}
-use Rattle.report_why.specs.Views.{fact_view}
+use Rattle.report.specs.FactViews.{fact_view}
 use Rattle.report_why.proofs.requisites.requisite_facts.Given as goal
 
 abbrev pub invariant-loop-requisite : goal.invariant-loop-requisite

@@ -2,7 +2,7 @@ use Rattle.std.proofs.Common.{◌≡◌, ◌∙◌, [], ◌∷◌, List, Option,
 use Rattle.std.specs.Prelude.{◌↔◌, MatchOption}
 use Rattle.terms.specs.declared.codes.NeedKind.TheVariants.{Fmid, Pre, Req, Orphan}
 use Rattle.terms.specs.Lookups.{at_most_one}
-use Rattle.report_why.specs.Facts.{a_requisite}
+use Rattle.report.specs.Facts.{a_requisite}
 use Rattle.terms.proofs.TextOrder.{same_itself}
 use Rattle.report_why.specs.Asking.{setting_in}
 use Rattle.report_why.proofs.Growing.{five_parts}

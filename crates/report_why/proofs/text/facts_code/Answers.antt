@@ -1,7 +1,7 @@
 use Rattle.std.proofs.Common.{◌+◌, ◌∙◌, ap, map, drop, arith}
 use Rattle.std.specs.Prelude.{max}
 use Rattle.report_why.specs.FactText.{fact_code, facts_code}
-use Rattle.report_why.specs.Views.{fact_view}
+use Rattle.report.specs.FactViews.{fact_view}
 use Rattle.report_why.proofs.TextParts.{codes_more}
 use Rattle.report_why.proofs.text.facts_code.Goals as goal
 

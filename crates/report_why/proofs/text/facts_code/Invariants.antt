@@ -1,7 +1,7 @@
 use Rattle.std.proofs.Common.{◌≡◌, map, drop}
 use Rattle.std.specs.Prelude.{max}
 use Rattle.report_why.specs.FactText.{facts_code}
-use Rattle.report_why.specs.Views.{fact_view}
+use Rattle.report.specs.FactViews.{fact_view}
 use Rattle.report_why.proofs.text.facts_code.Given as goal
 
 abbrev pub invariant-loop-fact : goal.invariant-loop-fact

@@ -6,7 +6,7 @@ use Rattle.report_why.proofs.text.put_fact.Goals as goal
 
 pub returns-in-Standing : goal.returns-in-Standing
 returns-in-Standing c =
-    rw c.in-Standing.is (IfOk-equal c.put_words.result c.put_words.new.text.items _ _ c.put_words.ensures
+    rw c.in-Standing.is (IfOk-equal c.append_words.result c.append_words.new.text.items _ _ c.append_words.ensures
     (rw (c.as_bytes.ensures.same, c.type_word.ensures, c.standing_text.ensures) refl))
 
 pub returns-in-Entry : goal.returns-in-Entry
@@ -26,27 +26,27 @@ returns-in-Element c = rw c.in-Element.is c.put_element.ensures
 
 pub returns-in-Delete : goal.returns-in-Delete
 returns-in-Delete c =
-    rw c.in-Delete.is (IfOk-equal c.put_words-in-Delete.result c.put_words-in-Delete.new.text.items _ _
-    c.put_words-in-Delete.ensures
+    rw c.in-Delete.is (IfOk-equal c.append_words-in-Delete.result c.append_words-in-Delete.new.text.items _ _
+    c.append_words-in-Delete.ensures
     (rw (c.as_bytes-in-Delete.ensures.same, flag_is c.in-Delete.own (codes "CHAIN")) refl))
 
 pub returns-in-Takes : goal.returns-in-Takes
 returns-in-Takes c =
-    rw c.in-Takes.is (IfOk-equal c.put_words-in-Takes.result c.put_words-in-Takes.new.text.items _ _
-    c.put_words-in-Takes.ensures (rw c.as_bytes-in-Takes.ensures.same refl))
+    rw c.in-Takes.is (IfOk-equal c.append_words-in-Takes.result c.append_words-in-Takes.new.text.items _ _
+    c.append_words-in-Takes.ensures (rw c.as_bytes-in-Takes.ensures.same refl))
 
 pub returns-in-Npre : goal.returns-in-Npre
 returns-in-Npre c =
-    rw c.in-Npre.is (IfOk-equal c.put_words-in-Npre.result c.put_words-in-Npre.new.text.items _ _
-    c.put_words-in-Npre.ensures
+    rw c.in-Npre.is (IfOk-equal c.append_words-in-Npre.result c.append_words-in-Npre.new.text.items _ _
+    c.append_words-in-Npre.ensures
     (rw (c.as_bytes-in-Npre.ensures.same, flag_is c.in-Npre.applied (codes "APPLIED")) refl))
 
 pub returns-in-Forbidden : goal.returns-in-Forbidden
 returns-in-Forbidden c =
-    rw c.in-Forbidden.is (IfOk-equal c.put_words-in-Forbidden.result c.put_words-in-Forbidden.new.text.items _ _
-    c.put_words-in-Forbidden.ensures (rw c.as_bytes-in-Forbidden.ensures.same refl))
+    rw c.in-Forbidden.is (IfOk-equal c.append_words-in-Forbidden.result c.append_words-in-Forbidden.new.text.items _ _
+    c.append_words-in-Forbidden.ensures (rw c.as_bytes-in-Forbidden.ensures.same refl))
 
 pub returns-in-Needed : goal.returns-in-Needed
 returns-in-Needed c =
-    rw c.in-Needed.is (IfOk-equal c.put_words-in-Needed.result c.put_words-in-Needed.new.text.items _ _
-    c.put_words-in-Needed.ensures (rw c.as_bytes-in-Needed.ensures.same refl))
+    rw c.in-Needed.is (IfOk-equal c.append_words-in-Needed.result c.append_words-in-Needed.new.text.items _ _
+    c.append_words-in-Needed.ensures (rw c.as_bytes-in-Needed.ensures.same refl))

@@ -5,7 +5,7 @@ use Rattle.terms.specs.Types.{Ver}
 use Rattle.terms.specs.Lookups.{is_in}
 use Rattle.terms.specs.Choice.{fits}
 use Rattle.sysmods.specs.Choices.{number_in}
-use Rattle.report_why.specs.Views.{fact_view}
+use Rattle.report.specs.FactViews.{fact_view}
 use Rattle.report_why.proofs.Numbering.{numbered_push}
 use Rattle.report_why.proofs.vers.push_ver.Goals as goal
 

@@ -1,7 +1,7 @@
 use Rattle.std.proofs.Common.{◌≡◌, filter, map, take}
 use Rattle.std.specs.Str.{bytes_eq}
 use Rattle.report_why.specs.Numbered.{numbered}
-use Rattle.report_why.specs.Views.{fact_view}
+use Rattle.report.specs.FactViews.{fact_view}
 use Rattle.report_why.proofs.vers.ver_facts.Given as goal
 
 abbrev pub invariant-loop-ver : goal.invariant-loop-ver

@@ -2,7 +2,7 @@ use Rattle.std.proofs.Common.{◌≡◌, ◌∙◌, ◌++◌, ap, ap₂, map, re
 use Rattle.std.specs.Prelude.{max}
 use Rattle.std.proofs.lemmas.Result.{IfOk-weaker}
 use Rattle.report.specs.Views.{line_view}
-use Rattle.report_why.specs.Views.{fact_view, facts_view}
+use Rattle.report.specs.FactViews.{fact_view, facts_view}
 use Rattle.report_why.specs.FactText.{facts_text, facts_code}
 use Rattle.report_verdict.specs.Verdict.{verdict_text}
 use Rattle.smpe_why.proofs.told.tell_in.Goals as goal

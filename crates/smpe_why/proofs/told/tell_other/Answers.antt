@@ -4,7 +4,7 @@ use Rattle.terms.specs.Choice.{place}
 use Rattle.terms.specs.Tests.{Setting}
 use Rattle.sysmods.specs.Choices.{choice}
 use Rattle.report.specs.Views.{line_view}
-use Rattle.report_why.specs.Facts.{with_id}
+use Rattle.report.specs.Facts.{with_id}
 use Rattle.smpe_why.specs.Telling.{IsToldOf}
 use Rattle.smpe_why.proofs.Parts.{setting_is}
 use Rattle.smpe_why.proofs.told.tell_other.Goals as goal

@@ -1,6 +1,6 @@
 use Rattle.std.proofs.Common.{take, map}
 use Rattle.report.specs.Views.{line_view}
-use Rattle.report_why.specs.Facts.{among}
+use Rattle.report.specs.Facts.{among}
 use Rattle.smpe_why.specs.Telling.{IsToldOf}
 use Rattle.smpe_why.proofs.Parts.{AreTold}
 use Rattle.smpe_why.proofs.told.told_in_turn.Given as goal

@@ -1,16 +1,16 @@
 -- What the code's facts stand for.
 use Rattle.std.specs.Prelude.{List, map, option_map}
-use Rattle.report_why.specs.Facts as facts
-use Rattle.report_why.specs.declared.fact.Standing.{Standing}
-use Rattle.report_why.specs.declared.fact.Standing.TheVariants as standing
-use Rattle.report_why.specs.declared.fact.Resolution.{Resolution}
-use Rattle.report_why.specs.declared.fact.Resolution.TheVariants as answer
-use Rattle.report_why.specs.declared.fact.Rank.{Rank}
-use Rattle.report_why.specs.declared.fact.Rank.TheVariants as rank
-use Rattle.report_why.specs.declared.fact.Maker.{Maker}
-use Rattle.report_why.specs.declared.fact.Found.{Found}
-use Rattle.report_why.specs.declared.fact.Fact.{Fact}
-use Rattle.report_why.specs.declared.fact.Fact.TheVariants as fact
+use Rattle.report.specs.Facts as facts
+use Rattle.report.specs.declared.fact.Standing.{Standing}
+use Rattle.report.specs.declared.fact.Standing.TheVariants as standing
+use Rattle.report.specs.declared.fact.Resolution.{Resolution}
+use Rattle.report.specs.declared.fact.Resolution.TheVariants as answer
+use Rattle.report.specs.declared.fact.Rank.{Rank}
+use Rattle.report.specs.declared.fact.Rank.TheVariants as rank
+use Rattle.report.specs.declared.fact.Maker.{Maker}
+use Rattle.report.specs.declared.fact.Found.{Found}
+use Rattle.report.specs.declared.fact.Fact.{Fact}
+use Rattle.report.specs.declared.fact.Fact.TheVariants as fact
 
 abbrev pub standing_view : Standing → facts.Standing
 standing_view (standing.Applied kind) = facts.StandsApplied kind

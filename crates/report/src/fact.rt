@@ -27,7 +27,7 @@ pub struct Requisite {
 }
 
 impl Model for Requisite {
-    ghost use Rattle.report_why.specs.Facts as terms;
+    ghost use Rattle.report.specs.Facts as terms;
 
     ghost Value = { terms.Requisite };
 
