@@ -55,8 +55,15 @@ pub(crate) fn read_cut(
     Ok(())
 }
 
+// The number of bytes, with the number of items that are read, or the fault.
 fn put_change(alloc: Global, len: usize, text: &str, printed: &mut Vec<u8>) -> Result<(), Fail> {
-    let line = format!(in alloc; "{len}: {text}\n")?;
+    let line = match text.split(';').count() {
+        1 => format!(in alloc; "{len}: {text}\n")?,
+        parts => {
+            let items = parts.saturating_sub(1);
+            format!(in alloc; "{len}: {items} items\n")?
+        }
+    };
     printed.extend_from_slice(line.as_bytes())?;
     Ok(())
 }
