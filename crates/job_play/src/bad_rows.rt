@@ -2,8 +2,8 @@
 //! other row is as it was.
 
 use crate::checked::Checked;
-use crate::disks::opened;
-use crate::running::{new_installed, run_files, srel_of, zone_name};
+use crate::disks::{in_memory, opened};
+use crate::running::{installed, run_files, srel_of, zone_name};
 use scripts::{ScriptStep, compare, first_difference};
 use smpe::{JobError, ZoneError, define_zone};
 use sqlite::{Alter, Connection, MemStore};
@@ -16,7 +16,7 @@ use terms::ZoneKind;
 
 // A database in which the function is installed and then one row is damaged.
 fn spoilt(alloc: Global, bad: &str) -> Result<Connection<MemStore>, Fail> {
-    let mut conn = new_installed::<MemStore>(alloc, false)?.close();
+    let mut conn = installed(alloc, in_memory(alloc)?)?.close();
     run(&mut conn, bad, &[])?;
     Ok(conn)
 }

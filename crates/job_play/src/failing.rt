@@ -4,10 +4,10 @@ ghost use Rattle.std.specs.Prelude.{IsTrue};
 
 use crate::checked::{Checked, Ended};
 use crate::disks::connected;
-use crate::running::new_installed;
+use crate::running::installed_files;
 use smpe::reopened;
 use sqlite::{Connection, FileStore, Files, Options};
-use sqlite_disk::{Crash, Disk, Fuse, Memory};
+use sqlite_disk::{Crash, Disk, Fuse};
 use std::alloc::Global;
 use std::test::Fail;
 
@@ -86,8 +86,7 @@ fn check_over<D: Crash + Drop>(
 /// none fails.
 pub(crate) fn check_each(alloc: Global, checked: &Checked, fused: Fused) -> Result<(), Fail> {
     for calls in 0..10_000u64 {
-        let conn = new_installed::<FileStore<Memory>>(alloc, true)?.close();
-        if check_over(alloc, checked, conn, fused, calls)? == Ended::Well {
+        if check_over(alloc, checked, installed_files(alloc)?, fused, calls)? == Ended::Well {
             return Ok(());
         }
     }

@@ -1,16 +1,20 @@
 //! A connection with a limit on the steps of a query: what was reported is stored, and no command is stored in part.
 
 use crate::checked::{Checked, Ended};
-use crate::disks::Place;
-use crate::running::new_installed;
-use sqlite::{FileStore, MemStore};
-use sqlite_disk::Memory;
+use crate::disks::{in_memory, new_files};
+use crate::running::installed;
+use sqlite::{Alter, Connection};
 use std::alloc::Global;
 use std::test::Fail;
 
 // Runs the job over a new database with so many steps for each query.
-fn run_limited<S: Place>(alloc: Global, checked: &Checked, steps: u64) -> Result<Ended, Fail> {
-    let mut conn = new_installed::<S>(alloc, false)?.close();
+fn run_limited<S: Alter + Drop>(
+    alloc: Global,
+    checked: &Checked,
+    conn: Connection<S>,
+    steps: u64,
+) -> Result<Ended, Fail> {
+    let mut conn = installed(alloc, conn)?.close();
     conn.set_step_limit(Some(steps));
     let mut report = Vec::new(alloc);
     let (mut conn, how) = checked.run_over(alloc, conn, &mut report)?;
@@ -21,8 +25,8 @@ fn run_limited<S: Place>(alloc: Global, checked: &Checked, steps: u64) -> Result
 
 // The same in memory and over files: whether both succeed.
 fn run_both(alloc: Global, checked: &Checked, steps: u64) -> Result<Ended, Fail> {
-    let how = run_limited::<MemStore>(alloc, checked, steps)?;
-    let on_disks = run_limited::<FileStore<Memory>>(alloc, checked, steps)?;
+    let how = run_limited(alloc, checked, in_memory(alloc)?, steps)?;
+    let on_disks = run_limited(alloc, checked, new_files(alloc)?, steps)?;
     Ok(if how == Ended::Well { on_disks } else { how })
 }
 

@@ -17,23 +17,19 @@ mod running;
 mod words;
 mod writers;
 
-use disks::Place;
-use performing::Player;
+use performing::{Player, Way};
 use scripts::{Played, play};
-use sqlite::{FileStore, MemStore};
-use sqlite_disk::Memory;
 use std::alloc::Global;
 use std::io::Read;
 use std::test::Fail;
 
 // Plays the script in one of the four ways.
-fn played<S: Place>(
-    alloc: Global,
-    script: &str,
-    opens_each: bool,
-    is_first: bool,
-) -> Result<Played, Fail> {
-    play(alloc, script, &mut Player::<S>::new(opens_each, is_first))
+fn played(alloc: Global, script: &str, in_files: bool, opens_each: bool) -> Result<Played, Fail> {
+    let way = Way {
+        in_files,
+        opens_each,
+    };
+    play(alloc, script, &mut Player::new(way))
 }
 
 fn main(rt: HostRuntime) -> Result<(), Fail> {
@@ -41,13 +37,18 @@ fn main(rt: HostRuntime) -> Result<(), Fail> {
     let mut script = Vec::new(alloc);
     rt.reader().read_to_end(&mut script)?;
     let script = std::str::from_utf8(script.as_slice())?;
-    let Played { steps, differences } = played::<MemStore>(alloc, script, false, true)?;
-    println!(rt; "{differences}{steps} steps in memory")?;
-    let Played { steps, differences } = played::<MemStore>(alloc, script, true, false)?;
-    println!(rt; "{differences}{steps} steps in memory, opened for each")?;
-    let Played { steps, differences } = played::<FileStore<Memory>>(alloc, script, false, false)?;
-    println!(rt; "{differences}{steps} steps on disks")?;
-    let Played { steps, differences } = played::<FileStore<Memory>>(alloc, script, true, false)?;
-    println!(rt; "{differences}{steps} steps on disks that are closed and opened before each")?;
+    for (in_files, opens_each, name) in [
+        (false, false, "in memory"),
+        (false, true, "in memory, opened for each"),
+        (true, false, "on disks"),
+        (
+            true,
+            true,
+            "on disks that are closed and opened before each",
+        ),
+    ] {
+        let Played { steps, differences } = played(alloc, script, in_files, opens_each)?;
+        println!(rt; "{differences}{steps} steps {name}")?;
+    }
     Ok(())
 }

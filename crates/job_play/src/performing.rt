@@ -2,74 +2,79 @@
 
 use crate::bad_rows::spoil;
 use crate::checked::Checked;
-use crate::disks::{Place, next, opened};
+use crate::disks::Database;
 use crate::expanded::expanded;
 use crate::failing::{Fused, check_each};
 use crate::job_files::JobFiles;
 use crate::job_lists::{run_alone, run_list};
 use crate::limited::check_limits;
 use crate::messages::{put_commands, put_messages};
-use crate::running::{begun, installed, run_files};
+use crate::running::{begun, install};
 use crate::words::{put_clap, put_words};
 use crate::writers::{check_again, cut_at_each};
 use scripts::{Performs, ScriptStep, first_difference};
 use smpe::Answer;
-use sqlite::{Alter, Connection};
 use std::alloc::Global;
 use std::test::Fail;
-use store::Store;
-use store_play::put_lines;
 
-/// A store, and the job that faults disturb.
+/// A database, and the job that faults disturb.
 #[derive(Drop)]
-pub(crate) struct Player<S: Place> {
-    store: Option<Store<S>>,
+pub(crate) struct Player {
+    database: Option<Database>,
     checked: Option<Checked>,
-    opens_each: bool,
-    is_first: bool,
+    way: Way,
 }
 
-impl<S: Place> Player<S> {
-    /// No store. With `opens_each` each job has a store that is opened for it. Only the first player performs steps
-    /// that make their own databases, or none.
-    pub(crate) fn new(opens_each: bool, is_first: bool) -> Player<S> {
+/// Where and how the script is played.
+#[derive(Clone, Copy)]
+pub(crate) struct Way {
+    pub(crate) in_files: bool,
+    /// Each job has a store that is opened for it.
+    pub(crate) opens_each: bool,
+}
+
+impl Player {
+    /// No database. Only in memory, over one store for all, steps are performed that make their own databases, or none.
+    pub(crate) fn new(way: Way) -> Player {
         Player {
-            store: None,
+            database: None,
             checked: None,
-            opens_each,
-            is_first,
+            way,
         }
     }
 
-    // Performs a step over the store.
+    fn is_first(&self) -> bool {
+        !self.way.in_files && !self.way.opens_each
+    }
+
+    // Performs a step over the database.
     fn perform_over(
         &mut self,
         alloc: Global,
         step: ScriptStep<'_>,
         printed: &mut Vec<u8>,
     ) -> Result<(), Fail> {
-        let store = self.store.take().ok_or("no store")?;
+        let database = self.database.take().ok_or("ROWS ends a case")?;
         if step.head() == "INSTALLED" {
-            self.store = Some(installed(alloc, store, self.opens_each)?);
+            self.database = Some(install(alloc, database, self.way.opens_each)?);
             return Ok(());
         }
-        let mut store = next(alloc, store, self.opens_each)?;
+        let mut database = database.next(alloc, self.way.opens_each)?;
         if step.head() == "ROWS" {
-            let mut conn = store.close();
-            let rows = rows_of(alloc, &mut conn, step)?;
-            self.store = Some(opened(alloc, conn)?);
+            let queries = step.cards().replace(alloc, "\\\n", "")?;
+            let rows = database.rows(alloc, queries.as_str())?;
             return put_answer(alloc, step, rows.as_str(), printed);
         }
-        let text = run_step(alloc, &mut store, step)?;
-        put_answer(alloc, step, std::str::from_utf8(text.as_slice())?, printed)?;
-        self.store = Some(store);
-        Ok(())
+        let text = run_step(alloc, &mut database, step)?;
+        self.database = Some(database);
+        put_answer(alloc, step, std::str::from_utf8(text.as_slice())?, printed)
     }
 }
 
-impl<S: Place> Performs for Player<S> {
+impl Performs for Player {
     fn begin(&mut self, alloc: Global) -> Result<(), Fail> {
-        self.store = Some(begun(alloc, S::new_database(alloc)?)?);
+        self.database = Some(begun(alloc, self.way.in_files)?);
+        self.checked = None;
         Ok(())
     }
 
@@ -84,13 +89,14 @@ impl<S: Place> Performs for Player<S> {
             return self.perform_over(alloc, step, printed);
         }
         if head == "LIST" {
-            return run_list::<S>(alloc, step, self.opens_each, printed);
+            let database = Database::new(alloc, self.way.in_files)?;
+            return run_list(alloc, step, database, self.way.opens_each, printed);
         }
         if head == "CHECKED" {
             self.checked = Some(Checked::of(alloc, step)?);
             return Ok(());
         }
-        if !self.is_first {
+        if !self.is_first() {
             return Ok(());
         }
         match &self.checked {
@@ -131,34 +137,16 @@ fn disturb(
 }
 
 // Runs the step's job: its report, and a line that says how it ended.
-fn run_step<S: Alter>(
-    alloc: Global,
-    store: &mut Store<S>,
-    step: ScriptStep<'_>,
-) -> Result<Vec<u8>, Fail> {
+fn run_step(alloc: Global, database: &mut Database, step: ScriptStep<'_>) -> Result<Vec<u8>, Fail> {
     let files = JobFiles::of(alloc, step)?;
     let mut report = Vec::new(alloc);
-    let answers = run_files(alloc, store, &files, &mut report)?;
+    let answers = database.run(alloc, &[files.job()], &mut report)?;
     let line = match answers.as_slice() {
         [Answer::Code(code)] => format!(in alloc; "ENDS {code}")?,
         other => format!(in alloc; "ENDS {other:?}")?,
     };
     report.extend_from_slice(line.as_bytes())?;
     Ok(report)
-}
-
-// What the queries of the step's cards find.
-fn rows_of<S: Alter>(
-    alloc: Global,
-    conn: &mut Connection<S>,
-    step: ScriptStep<'_>,
-) -> Result<String, Fail> {
-    let queries = step.cards().replace(alloc, "\\\n", "")?;
-    let mut rows = String::new(alloc);
-    for sql in queries.lines() {
-        put_lines(conn, sql, &mut rows)?;
-    }
-    Ok(rows)
 }
 
 // Prints the text, or, if the step has the part REPORT, how the text differs from that.

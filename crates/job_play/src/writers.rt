@@ -2,14 +2,14 @@
 //! the one in which it was cut is stored.
 
 use crate::checked::{Checked, commits_of};
-use crate::running::new_installed;
+use crate::disks::in_memory;
+use crate::running::installed;
 use report::Out;
 use scripts::compare;
 use smpe::{Answer, JobError, run_jobs};
-use sqlite::{Alter, MemStore};
+use sqlite::Alter;
 use std::alloc::Global;
 use std::io::{self, ErrorKind, Write};
-use std::slice;
 use std::test::Fail;
 use store::Store;
 
@@ -44,8 +44,7 @@ fn run_cut<S: Alter>(
     store: &mut Store<S>,
     writer: &mut Cut,
 ) -> Result<Vec<Answer>, JobError> {
-    let job = checked.files.job();
-    run_jobs(alloc, store, slice::from_ref(&job), &mut Out::new(writer))
+    run_jobs(alloc, store, &[checked.files.job()], &mut Out::new(writer))
 }
 
 // What went out is the first bytes of the report, and the job ended as it must.
@@ -94,7 +93,7 @@ fn cut_at<S: Alter>(
 /// Runs the job with a writer that takes no byte, one byte, and so on up to the whole report.
 pub(crate) fn cut_at_each(alloc: Global, checked: &Checked, has_error: bool) -> Result<(), Fail> {
     for left in 0..=checked.whole.len() {
-        let mut store = new_installed::<MemStore>(alloc, false)?;
+        let mut store = installed(alloc, in_memory(alloc)?)?;
         cut_at(alloc, checked, &mut store, left, has_error)?;
     }
     Ok(())
@@ -121,7 +120,7 @@ fn run_again<S: Alter>(alloc: Global, checked: &Checked, store: &mut Store<S>) -
 
 /// The job runs again after it was cut: the reports of four commands went out, and the fifth command was performed.
 pub(crate) fn check_again(alloc: Global, checked: &Checked) -> Result<(), Fail> {
-    let mut store = new_installed::<MemStore>(alloc, false)?;
+    let mut store = installed(alloc, in_memory(alloc)?)?;
     cut_at(alloc, checked, &mut store, 127, false)?;
     run_again(alloc, checked, &mut store)
 }

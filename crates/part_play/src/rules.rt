@@ -6,15 +6,20 @@ use solve::{Rule, Rules, least};
 use std::alloc::Global;
 use std::test::Fail;
 
-// Adds the rule, as `1,2>3`, which must be about numbers of the set.
-fn add_rule(alloc: Global, rules: &mut Rules, word: &str) -> Result<(), Fail> {
+// The rule, as `1,2>3`.
+fn rule_of(alloc: Global, word: &str) -> Result<Rule, Fail> {
     let (these, that) = word.split_once('>').ok_or("no rule")?;
-    let (these, that) = (numbers_of(alloc, these)?, that.parse::<u32>()?);
-    if !rules.admits(these.as_slice(), that) {
+    let that: u32 = that.parse()?;
+    let these = numbers_of(alloc, these)?;
+    Ok(Rule { these, that })
+}
+
+// Adds the rule, which must be about numbers of the set.
+fn add_rule(rules: &mut Rules, rule: Rule) -> Result<(), Fail> {
+    if !rules.admits(rule.these.as_slice(), rule.that) {
         return Err(Fail::from("a rule that is not admitted"));
     }
-    rules.add_rule(Rule { these, that })?;
-    Ok(())
+    Ok(rules.add_rule(rule)?)
 }
 
 /// How many numbers there are, and the least set that has those of the start (`T`) and what its rules give. One number
@@ -24,7 +29,7 @@ pub(crate) fn grown(alloc: Global, text: &str) -> Result<Spelled, Fail> {
     let mut rules = Rules::new(alloc, flags_of(alloc, letters)?.as_slice())?;
     rules.add_number(false)?;
     for word in words.split_whitespace() {
-        add_rule(alloc, &mut rules, word)?;
+        add_rule(&mut rules, rule_of(alloc, word)?)?;
     }
     let mut spelled = Spelled::new();
     spelled.put_number(rules.size() as usize);

@@ -7,18 +7,27 @@ use fields::{Id, Name, Source, Srel};
 use mcs::{Item, read_ptfin};
 use std::alloc::Global;
 use std::test::Fail;
-use sysmods_values::Sysmod;
+use sysmods_values::{Sysmod, Ver};
 
 /// The answer to a question about the first of the file's two SYSMODs, or what the first one is once it has got the
 /// named part of the second one.
 pub(crate) fn read_sysmod(alloc: Global, file: &[u8], text: &str) -> Result<Spelled, Fail> {
-    let (mut fix, other) = two(alloc, file)?;
+    let (mut fix, mut other) = two(alloc, file)?;
+    spell_sysmod(alloc, &mut fix, &mut other, text)
+}
+
+fn spell_sysmod(
+    alloc: Global,
+    fix: &mut Sysmod,
+    other: &mut Sysmod,
+    text: &str,
+) -> Result<Spelled, Fail> {
     let mut spelled = Spelled::new();
     match text.split_once(' ') {
-        Some((word, names)) => ask(alloc, &fix, word, names, &mut spelled)?,
+        Some((word, names)) => ask(alloc, fix, word, names, &mut spelled)?,
         None => {
-            grow(alloc, &mut fix, other, text, &mut spelled)?;
-            put_sysmod(&mut spelled, &fix);
+            grow(alloc, fix, other, text, &mut spelled)?;
+            put_sysmod(&mut spelled, fix);
         }
     }
     Ok(spelled)
@@ -34,30 +43,42 @@ fn two(alloc: Global, file: &[u8]) -> Result<(Sysmod, Sysmod), Fail> {
     }
 }
 
+// The last `++VER` of the SYSMOD, which loses it.
+fn take_ver(other: &mut Sysmod) -> Result<Ver, &'static str> {
+    other.vers.pop().ok_or("no ++VER")
+}
+
+fn put_if(fix: &mut Sysmod, mut ver: Ver) -> Result<(), Fail> {
+    match ver.ifs.pop() {
+        Some(condition) => Ok(fix.push_if(0, condition)?),
+        None => Err(Fail::from("no ++IF")),
+    }
+}
+
+fn put_element(fix: &mut Sysmod, other: &mut Sysmod) -> Result<(), Fail> {
+    match other.changes.pop() {
+        Some(change) => Ok(fix.insert_change(change)?),
+        None => Err(Fail::from("no element")),
+    }
+}
+
 // Puts a part of the other SYSMOD into this one, and spells what the call returns.
 fn grow(
     alloc: Global,
     fix: &mut Sysmod,
-    mut other: Sysmod,
+    other: &mut Sysmod,
     part: &str,
     spelled: &mut Spelled,
 ) -> Result<(), Fail> {
     match part.as_bytes() {
-        b"VER" => {
-            let ver = other.vers.pop().ok_or("no ++VER")?;
-            spelled.put_number(fix.insert_ver(ver)?);
-        }
-        b"IF" => {
-            let mut ver = other.vers.pop().ok_or("no ++VER")?;
-            fix.push_if(0, ver.ifs.pop().ok_or("no ++IF")?)?;
-        }
-        b"ELEMENT" => fix.insert_change(other.changes.pop().ok_or("no element")?)?,
+        b"VER" => spelled.put_number(fix.insert_ver(take_ver(other)?)?),
+        b"IF" => put_if(fix, take_ver(other)?)?,
+        b"ELEMENT" => put_element(fix, other)?,
         b"SOURCE" => {
             fix.insert_source(Source::read(b"RSU2404").ok_or("no source")?)?;
             spelled.put_number(fix.sources.len());
         }
-        b"HOLDS" => spelled.put_number(fix.take_holds(alloc).len()),
-        _ => return Err(Fail::from("no part of a SYSMOD")),
+        _ => spelled.put_number(fix.take_holds(alloc).len()),
     }
     spelled.put(b" ");
     Ok(())

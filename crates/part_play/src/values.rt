@@ -57,20 +57,24 @@ fn date_of(text: &str) -> Spelled {
     spelled
 }
 
-// Puts ids in (`+`), at the end (`>`), and takes them out (`-`), or asks for them (`?`): a letter for what each
-// returns, and then a copy of the list.
+// Puts an id in (`+`), at the end (`>`), or takes it out (`-`), or asks for it (`?`).
+fn rise(list: &mut IdList, word: &str) -> Result<bool, Fail> {
+    let (sign, id) = word.split_at_checked(1).ok_or("no sign")?;
+    let id = Id::read(id.as_bytes()).ok_or("no id")?;
+    Ok(match sign.as_bytes() {
+        b"+" => list.insert(id)?,
+        b">" => list.push_last(id)?,
+        b"-" => list.remove(id),
+        _ => list.contains(id),
+    })
+}
+
+// A letter for what each of these calls returns, and then a copy of the list.
 fn rising(alloc: Global, text: &str) -> Result<Spelled, Fail> {
     let mut list = IdList::new(alloc);
     let mut spelled = Spelled::new();
     for word in text.split_whitespace() {
-        let (sign, id) = word.split_at_checked(1).ok_or("no sign")?;
-        let id = Id::read(id.as_bytes()).ok_or("no id")?;
-        let is_so = match sign.as_bytes() {
-            b"+" => list.insert(id)?,
-            b">" => list.push_last(id)?,
-            b"-" => list.remove(id),
-            _ => list.contains(id),
-        };
+        let is_so = rise(&mut list, word)?;
         spelled.put(if is_so { b"T" } else { b"F" });
     }
     spelled.put_ids(b" ", &list.try_clone(alloc)?);

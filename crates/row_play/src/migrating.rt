@@ -132,15 +132,27 @@ fn put_told(
     let queries = joined(alloc, step.part("STAYS"))?;
     for sql in lines.lines() {
         let conn = earlier.fill(alloc, in_memory(alloc)?)?;
-        let (told, is_same) = told_of(alloc, conn, sql, queries.as_str())?;
-        let got = match told {
-            Some(error) => format!(in alloc; "{error:?}")?,
-            None => String::from_str(alloc, "Migrated")?,
-        };
-        if got.as_str() != words_of(step) || !is_same {
-            let line = format!(in alloc; "{sql}: {got}, and the same rows: {is_same}\n")?;
-            printed.extend_from_slice(line.as_bytes())?;
-        }
+        let answer = told_of(alloc, conn, sql, queries.as_str())?;
+        put_answer(alloc, answer, words_of(step), sql, printed)?;
+    }
+    Ok(())
+}
+
+fn put_answer(
+    alloc: Global,
+    answer: (Option<StoreError>, bool),
+    wanted: &str,
+    sql: &str,
+    printed: &mut Vec<u8>,
+) -> Result<(), Fail> {
+    let (told, is_same) = answer;
+    let got = match told {
+        Some(error) => format!(in alloc; "{error:?}")?,
+        None => String::from_str(alloc, "Migrated")?,
+    };
+    if got.as_str() != wanted || !is_same {
+        let line = format!(in alloc; "{sql}: {got}, and the same rows: {is_same}\n")?;
+        printed.extend_from_slice(line.as_bytes())?;
     }
     Ok(())
 }
@@ -183,26 +195,27 @@ fn over_fused(
     Ok((rows_behind(alloc, files)?, went_well))
 }
 
+// Whether it succeeded. Prints how the rows after it differ from these.
+fn put_fused_at(
+    alloc: Global,
+    earlier: &Earlier,
+    in_log: u64,
+    in_db: u64,
+    wanted: &str,
+    printed: &mut Vec<u8>,
+) -> Result<bool, Fail> {
+    let (rows, went_well) = over_fused(alloc, earlier, in_log, in_db)?;
+    put_difference(alloc, "a disk fails", rows.as_str(), wanted, printed)?;
+    Ok(went_well)
+}
+
 // Migrates over disks that fail after more and more calls, until none fails, and prints how rows differ.
 fn put_fused(alloc: Global, earlier: &Earlier, printed: &mut Vec<u8>) -> Result<(), Fail> {
-    let wanted = own_rows(alloc)?;
+    let own = own_rows(alloc)?;
+    let wanted = own.as_str();
     for calls in 0..10_000u64 {
-        let (rows, is_log_well) = over_fused(alloc, earlier, calls, u64::MAX)?;
-        put_difference(
-            alloc,
-            "the log fails",
-            rows.as_str(),
-            wanted.as_str(),
-            printed,
-        )?;
-        let (rows, is_db_well) = over_fused(alloc, earlier, u64::MAX, calls)?;
-        put_difference(
-            alloc,
-            "the database fails",
-            rows.as_str(),
-            wanted.as_str(),
-            printed,
-        )?;
+        let is_log_well = put_fused_at(alloc, earlier, calls, u64::MAX, wanted, printed)?;
+        let is_db_well = put_fused_at(alloc, earlier, u64::MAX, calls, wanted, printed)?;
         if is_log_well && is_db_well {
             return Ok(());
         }

@@ -32,6 +32,41 @@ impl Stores {
             },
         }
     }
+
+    // The known rows, and those of these statements.
+    fn begin_with(&mut self, alloc: Global, lines: String) -> Result<(), Fail> {
+        self.conn = Some(known_with(alloc, lines.as_str())?);
+        self.more = lines;
+        Ok(())
+    }
+
+    fn set_earlier(
+        &mut self,
+        alloc: Global,
+        tables: String,
+        step: ScriptStep<'_>,
+    ) -> Result<(), Fail> {
+        let sources = joined(alloc, step.part("SOURCES"))?;
+        self.earlier = Earlier { tables, sources };
+        Ok(())
+    }
+
+    // Performs a step over the database.
+    fn use_up(
+        &mut self,
+        alloc: Global,
+        step: ScriptStep<'_>,
+        lines: &str,
+        printed: &mut Vec<u8>,
+    ) -> Result<(), Fail> {
+        match self.conn.take() {
+            Some(conn) => {
+                self.conn = used(alloc, conn, step, lines, printed)?;
+                Ok(())
+            }
+            None => Err(Fail::from("a case begins with KNOWN")),
+        }
+    }
 }
 
 impl Performs for Stores {
@@ -65,11 +100,7 @@ impl Performs for Stores {
             b"VALUES" => load_with_values(alloc, self.more.as_str(), step, lines.as_str(), printed),
             b"MIGRATE" => migrate_by(alloc, &self.earlier, step, lines.as_str(), printed),
             b"SPOIL" => spoil(alloc, step, lines.as_str(), printed),
-            _ => {
-                let conn = self.conn.take().ok_or("a case begins with KNOWN")?;
-                self.conn = used(alloc, conn, step, lines.as_str(), printed)?;
-                Ok(())
-            }
+            _ => self.use_up(alloc, step, lines.as_str(), printed),
         }
     }
 }
