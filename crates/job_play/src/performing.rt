@@ -34,7 +34,7 @@ pub(crate) struct Way {
 }
 
 impl Player {
-    /// No database. Only in memory, over one store for all, steps are performed that make their own databases, or none.
+    /// No database. The job is disturbed only in memory, over one store for all.
     pub(crate) fn new(way: Way) -> Player {
         Player {
             database: None,
@@ -96,11 +96,9 @@ impl Performs for Player {
             self.checked = Some(Checked::of(alloc, step)?);
             return Ok(());
         }
-        if !self.is_first() {
-            return Ok(());
-        }
         match &self.checked {
-            Some(checked) => disturb(alloc, checked, step, printed),
+            Some(checked) if self.is_first() => disturb(alloc, checked, step, printed),
+            Some(_) => Ok(()),
             None => perform_once(alloc, step, printed),
         }
     }
