@@ -1,0 +1,69 @@
+//! Files: what is read from them, as a whole and cut at each byte.
+
+use crate::commands::commanded;
+use crate::holds::held;
+use crate::ptfin::received;
+use crate::spelled::Spelled;
+use crate::texts::{copied, text_read, update_read};
+use crate::words::{commands_in, grouped, lines_of_list, pieces_of, stated};
+use rec80::records;
+use std::alloc::Global;
+use std::test::Fail;
+
+/// What this reader makes of the file.
+pub(crate) fn read_file(alloc: Global, name: &str, file: &[u8]) -> Result<Spelled, Fail> {
+    match name.as_bytes() {
+        b"COMMANDS" => Ok(commanded(alloc, file)),
+        b"PTFIN" => Ok(received(alloc, file)),
+        b"HOLD" => Ok(held(alloc, file)),
+        b"TEXT" => text_read(alloc, file),
+        b"UPDATE" => update_read(alloc, file),
+        b"COPY" => copied(alloc, file),
+        _ => read_records(name, file),
+    }
+}
+
+// What this reader makes of the file's records.
+fn read_records(name: &str, file: &[u8]) -> Result<Spelled, Fail> {
+    let found = records(file)?;
+    match name.as_bytes() {
+        b"STATEMENT" => Ok(stated(found)),
+        b"GROUPS" => Ok(grouped(found)),
+        b"WORDS" => Ok(commands_in(found)),
+        b"PIECES" => Ok(pieces_of(found)),
+        b"LINES" => Ok(lines_of_list(found)),
+        _ => Err(Fail::from("no reader has this name")),
+    }
+}
+
+/// A line for each number of bytes at which the file, cut there, is read otherwise than cut before it.
+pub(crate) fn read_cut(
+    alloc: Global,
+    name: &str,
+    file: &[u8],
+    printed: &mut Vec<u8>,
+) -> Result<(), Fail> {
+    let mut before = Spelled::new();
+    before.put(b"nothing");
+    for len in 0..=file.len() {
+        let now = read_file(alloc, name, &file[..len])?;
+        if now.text() != before.text() {
+            put_change(alloc, len, now.text(), printed)?;
+        }
+        before = now;
+    }
+    Ok(())
+}
+
+// The number of bytes, with the number of items that are read, or the fault.
+fn put_change(alloc: Global, len: usize, text: &str, printed: &mut Vec<u8>) -> Result<(), Fail> {
+    let line = match text.split(';').count() {
+        1 => format!(in alloc; "{len}: {text}\n")?,
+        parts => {
+            let items = parts.saturating_sub(1);
+            format!(in alloc; "{len}: {items} items\n")?
+        }
+    };
+    printed.extend_from_slice(line.as_bytes())?;
+    Ok(())
+}

@@ -1,0 +1,169 @@
+//! A global zone: holds, sources, REJECT, the SYSMODs that name an id, and which SYSMOD is over which.
+
+use crate::spelled::Spelled;
+use fields::{Id, Reason, Source, Srel};
+use mcs::{Item, read_ptfin};
+use sorted::Table;
+use std::alloc::{AllocError, Global};
+use std::test::Fail;
+use sysmods::{GlobalZone, Overs, Placed, RejectError, ReleaseError, VerChoice};
+use sysmods_values::Hold;
+use terms::HoldKind;
+
+/// What each of the actions, with a comma between two, answers in the global zone that has received the file.
+pub(crate) fn read_global(alloc: Global, file: &[u8], actions: &str) -> Result<Spelled, Fail> {
+    let mut global = received(alloc, file)?;
+    let mut spelled = Spelled::new();
+    for action in actions.split(',') {
+        let (word, ids) = action.split_once(' ').ok_or("an action has an id")?;
+        spelled.put(b" ");
+        act(alloc, &mut global, word, ids, &mut spelled)?;
+    }
+    Ok(spelled)
+}
+
+// The global zone that has received the file.
+fn received(alloc: Global, file: &[u8]) -> Result<GlobalZone, Fail> {
+    let mut global = GlobalZone::new(alloc);
+    for item in read_ptfin(alloc, file)? {
+        if let Item::Sysmod(sysmod) = item {
+            global.receive(alloc, sysmod)?;
+        }
+    }
+    Ok(global)
+}
+
+fn read_id(text: &str) -> Result<Id, &'static str> {
+    Id::read(text.as_bytes()).ok_or("no id")
+}
+
+fn act(
+    alloc: Global,
+    global: &mut GlobalZone,
+    word: &str,
+    ids: &str,
+    spelled: &mut Spelled,
+) -> Result<(), Fail> {
+    match word.as_bytes() {
+        b"HOLD" => spelled.put(held(global, read_id(ids)?)?),
+        b"RELEASE" => spelled.put(released(global, read_id(ids)?)?),
+        b"ASSIGN" => spelled.put(assigned(global, read_id(ids)?)?),
+        b"REJECT" => spelled.put(rejected(global, read_id(ids)?)),
+        _ => return ask(alloc, global, word, ids, spelled),
+    }
+    Ok(())
+}
+
+fn reason() -> Result<Reason, &'static str> {
+    Reason::read(b"WAIT").ok_or("no reason")
+}
+
+// Puts an external hold.
+fn held(global: &mut GlobalZone, id: Id) -> Result<&'static [u8], Fail> {
+    let hold = Hold {
+        id,
+        kind: HoldKind::User,
+        reason: reason()?,
+        fmid: id,
+        class: None,
+        date: None,
+        comment: None,
+        internal: false,
+    };
+    Ok(match global.hold(hold)? {
+        Placed::New => b"new",
+        Placed::Replaced => b"replaced",
+    })
+}
+
+fn released(global: &mut GlobalZone, id: Id) -> Result<&'static [u8], &'static str> {
+    Ok(match global.release(id, HoldKind::User, reason()?) {
+        Ok(()) => b"released",
+        Err(ReleaseError::NoHold) => b"no hold",
+        Err(ReleaseError::Internal) => b"internal",
+    })
+}
+
+fn assigned(global: &mut GlobalZone, id: Id) -> Result<&'static [u8], Fail> {
+    let source = Source::read(b"SRC1").ok_or("no source")?;
+    Ok(if global.assign(source, id)? {
+        b"assigned"
+    } else {
+        b"unknown"
+    })
+}
+
+fn rejected(global: &mut GlobalZone, id: Id) -> &'static [u8] {
+    match global.reject(id) {
+        Ok(()) => b"rejected",
+        Err(RejectError::NotReceived) => b"not received",
+    }
+}
+
+// How many SYSMODs and sources there are, which SYSMODs name an id, and which one is over which.
+fn ask(
+    alloc: Global,
+    global: &GlobalZone,
+    word: &str,
+    ids: &str,
+    spelled: &mut Spelled,
+) -> Result<(), Fail> {
+    let srel = Srel::read(b"Z038").ok_or("no SREL")?;
+    let mut found = Vec::new(alloc);
+    match word.as_bytes() {
+        b"SIZE" => spelled.put_number(global.len()),
+        b"SOURCES" => {
+            let sysmod = global.get(read_id(ids)?).ok_or("no SYSMOD")?;
+            spelled.put_number(sysmod.sources.len());
+        }
+        b"NAMERS" => global.append_namers(srel, read_id(ids)?, &mut found)?,
+        b"SERVICE" => global.append_function_namers(read_id(ids)?, &mut found)?,
+        b"OVER" => return put_over(alloc, global, srel, ids, spelled),
+        _ => return put_superseded(alloc, global, srel, ids, spelled),
+    }
+    put_found(spelled, found.as_slice());
+    Ok(())
+}
+
+fn put_found(spelled: &mut Spelled, ids: &[Id]) {
+    for id in ids {
+        spelled.put_words(&[id.as_bytes()]);
+    }
+}
+
+// All ids that the SYSMOD supersedes.
+fn put_superseded(
+    alloc: Global,
+    global: &GlobalZone,
+    srel: Srel,
+    id: &str,
+    spelled: &mut Spelled,
+) -> Result<(), Fail> {
+    let vers = VerChoice::new(global, srel, Table::new(alloc), Table::new(alloc));
+    let superseded = vers.sup_all(alloc, read_id(id)?)?;
+    put_found(spelled, superseded.as_slice());
+    Ok(())
+}
+
+// Whether x is over z, as both ways of asking say.
+fn is_over(alloc: Global, vers: &VerChoice<'_>, x: Id, z: Id) -> Result<[bool; 3], AllocError> {
+    let mut overs = Overs::new(alloc, vers);
+    let asked = overs.over(alloc, x, z)?;
+    Ok([vers.over(alloc, x, z)?, asked, overs.over(alloc, x, z)?])
+}
+
+// A letter for each way of asking whether the first SYSMOD is over the second one.
+fn put_over(
+    alloc: Global,
+    global: &GlobalZone,
+    srel: Srel,
+    ids: &str,
+    spelled: &mut Spelled,
+) -> Result<(), Fail> {
+    let (x, z) = ids.split_once(' ').ok_or("two ids")?;
+    let vers = VerChoice::new(global, srel, Table::new(alloc), Table::new(alloc));
+    for flag in is_over(alloc, &vers, read_id(x)?, read_id(z)?)? {
+        spelled.put(if flag { b"T" } else { b"F" });
+    }
+    Ok(())
+}

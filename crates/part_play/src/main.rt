@@ -1,0 +1,34 @@
+//! Plays tables of what the lower floors read and find: fields, texts, records, commands, statements, the global zone,
+//! and systems of numbers. Standard input is a script, which says above its cases what its steps mean. It prints each
+//! row of a table that gives another answer.
+#![tactic(auto)]
+
+mod commands;
+mod files;
+mod global_zones;
+mod holds;
+mod operands;
+mod ptfin;
+mod rules;
+mod spelled;
+mod sysmod_values;
+mod systems;
+mod tables;
+mod texts;
+mod values;
+mod words;
+
+use scripts::{Played, play};
+use std::io::Read;
+use std::test::Fail;
+use tables::Tables;
+
+fn main(rt: HostRuntime) -> Result<(), Fail> {
+    let alloc = rt.alloc();
+    let mut script = Vec::new(alloc);
+    rt.reader().read_to_end(&mut script)?;
+    let script = std::str::from_utf8(script.as_slice())?;
+    let Played { steps, differences } = play(alloc, script, &mut Tables)?;
+    println!(rt; "{differences}{steps} steps")?;
+    Ok(())
+}

@@ -1,0 +1,58 @@
+//! Operands of a command, as text.
+
+use crate::spelled::Spelled;
+use fields::{Source, ZoneName};
+use rec80::{Record, Records, Word, flag, ids, listed_ids, one, operand, records, rising};
+use std::alloc::Global;
+use std::test::Fail;
+
+// The operand of this name in the first command.
+fn operand_in<'a>(alloc: Global, cards: &'a [Record], name: &[u8]) -> Option<Word<'a>> {
+    let mut commands = Records { all: cards }.commands();
+    let command = commands.next_command().ok()??;
+    let operands = command.words.operands(alloc).ok()?;
+    operand(operands.only()?, name)
+}
+
+// Whether there is such an operand, and its list as ids, as so many ids in any order, as sources and as the name of a
+// zone, if it is that.
+fn taken(alloc: Global, cards: &[Record], name: &[u8]) -> Spelled {
+    let mut spelled = Spelled::new();
+    let found = operand_in(alloc, cards, name);
+    spelled.put(match flag(&found) {
+        Ok(true) => b"there",
+        Ok(false) => b"none ",
+        Err(_) => b"list ",
+    });
+    if let Some(word) = found {
+        put_ids(alloc, &mut spelled, &word);
+        put_sources(alloc, &mut spelled, &word);
+        if let Some(zone) = one::<ZoneName>(&word) {
+            spelled.put_words(&[b"zone", zone.as_bytes()]);
+        }
+    }
+    spelled
+}
+
+fn put_ids(alloc: Global, spelled: &mut Spelled, word: &Word<'_>) {
+    if let Ok(list) = ids(alloc, word) {
+        spelled.put_ids(b"ids", &list);
+    }
+    if let Ok(list) = listed_ids(alloc, word) {
+        spelled.put(b" listed ");
+        spelled.put_number(list.len());
+    }
+}
+
+fn put_sources(alloc: Global, spelled: &mut Spelled, word: &Word<'_>) {
+    if let Ok(list) = rising::<Source>(alloc, word) {
+        for source in list.iter() {
+            spelled.put_words(&[source.as_bytes()]);
+        }
+    }
+}
+
+/// How the operand of this name of the file's first command is taken.
+pub(crate) fn operand_taken(alloc: Global, file: &[u8], name: &[u8]) -> Result<Spelled, Fail> {
+    Ok(taken(alloc, records(file)?.all, name))
+}

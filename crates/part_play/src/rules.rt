@@ -1,0 +1,39 @@
+//! Sets of numbers that grow by rules.
+
+use crate::spelled::Spelled;
+use crate::systems::{flags_of, numbers_of, put_flags};
+use solve::{Rule, Rules, least};
+use std::alloc::Global;
+use std::test::Fail;
+
+// The rule, as `1,2>3`.
+fn rule_of(alloc: Global, word: &str) -> Result<Rule, Fail> {
+    let (these, that) = word.split_once('>').ok_or("no rule")?;
+    let that: u32 = that.parse()?;
+    let these = numbers_of(alloc, these)?;
+    Ok(Rule { these, that })
+}
+
+// Adds the rule, which must be about numbers of the set.
+fn add_rule(rules: &mut Rules, rule: Rule) -> Result<(), Fail> {
+    if !rules.admits(rule.these.as_slice(), rule.that) {
+        return Err(Fail::from("a rule that is not admitted"));
+    }
+    Ok(rules.add_rule(rule)?)
+}
+
+/// How many numbers there are, and the least set that has those of the start (`T`) and what its rules give. One number
+/// that is not in the start is added after the others.
+pub(crate) fn grown(alloc: Global, text: &str) -> Result<Spelled, Fail> {
+    let (letters, words) = text.split_once(' ').ok_or("no rules")?;
+    let mut rules = Rules::new(alloc, flags_of(alloc, letters)?.as_slice())?;
+    rules.add_number(false)?;
+    for word in words.split_whitespace() {
+        add_rule(&mut rules, rule_of(alloc, word)?)?;
+    }
+    let mut spelled = Spelled::new();
+    spelled.put_number(rules.size() as usize);
+    spelled.put(b" ");
+    put_flags(&mut spelled, least(alloc, &rules)?.as_slice());
+    Ok(spelled)
+}

@@ -1,0 +1,126 @@
+//! What a SYSMOD names, and how it grows by the parts of another one.
+
+use crate::ptfin::put_sysmod;
+use crate::spelled::Spelled;
+use fields::spelling::read_type;
+use fields::{Id, Name, Source, Srel};
+use mcs::{Item, read_ptfin};
+use std::alloc::Global;
+use std::test::Fail;
+use sysmods_values::{Sysmod, Ver};
+
+/// The answer to a question about the first of the file's two SYSMODs, or what the first one is once it has got the
+/// named part of the second one.
+pub(crate) fn read_sysmod(alloc: Global, file: &[u8], text: &str) -> Result<Spelled, Fail> {
+    let (mut fix, mut other) = two(alloc, file)?;
+    spell_sysmod(alloc, &mut fix, &mut other, text)
+}
+
+fn spell_sysmod(
+    alloc: Global,
+    fix: &mut Sysmod,
+    other: &mut Sysmod,
+    text: &str,
+) -> Result<Spelled, Fail> {
+    let mut spelled = Spelled::new();
+    match text.split_once(' ') {
+        Some((word, names)) => ask(alloc, fix, word, names, &mut spelled)?,
+        None => {
+            grow(alloc, fix, other, text, &mut spelled)?;
+            put_sysmod(&mut spelled, fix);
+        }
+    }
+    Ok(spelled)
+}
+
+// The last two items of the file.
+fn two(alloc: Global, file: &[u8]) -> Result<(Sysmod, Sysmod), Fail> {
+    let mut items = read_ptfin(alloc, file)?;
+    let second = items.pop();
+    match (items.pop(), second) {
+        (Some(Item::Sysmod(first)), Some(Item::Sysmod(second))) => Ok((first, second)),
+        _ => Err(Fail::from("not two SYSMODs")),
+    }
+}
+
+// The last `++VER` of the SYSMOD, which loses it.
+fn take_ver(other: &mut Sysmod) -> Result<Ver, &'static str> {
+    other.vers.pop().ok_or("no ++VER")
+}
+
+fn put_if(fix: &mut Sysmod, mut ver: Ver) -> Result<(), Fail> {
+    match ver.ifs.pop() {
+        Some(condition) => Ok(fix.push_if(0, condition)?),
+        None => Err(Fail::from("no ++IF")),
+    }
+}
+
+fn put_element(fix: &mut Sysmod, other: &mut Sysmod) -> Result<(), Fail> {
+    match other.changes.pop() {
+        Some(change) => Ok(fix.insert_change(change)?),
+        None => Err(Fail::from("no element")),
+    }
+}
+
+// Puts a part of the other SYSMOD into this one, and spells what the call returns.
+fn grow(
+    alloc: Global,
+    fix: &mut Sysmod,
+    other: &mut Sysmod,
+    part: &str,
+    spelled: &mut Spelled,
+) -> Result<(), Fail> {
+    match part.as_bytes() {
+        b"VER" => spelled.put_number(fix.insert_ver(take_ver(other)?)?),
+        b"IF" => put_if(fix, take_ver(other)?)?,
+        b"ELEMENT" => put_element(fix, other)?,
+        b"SOURCE" => {
+            fix.insert_source(Source::read(b"RSU2404").ok_or("no source")?)?;
+            spelled.put_number(fix.sources.len());
+        }
+        _ => spelled.put_number(fix.take_holds(alloc).len()),
+    }
+    spelled.put(b" ");
+    Ok(())
+}
+
+fn ask(
+    alloc: Global,
+    fix: &Sysmod,
+    word: &str,
+    names: &str,
+    spelled: &mut Spelled,
+) -> Result<(), Fail> {
+    match word.as_bytes() {
+        b"NAMES" => {
+            let id = Id::read(names.as_bytes()).ok_or("no id")?;
+            spelled.put_flag(fix.names(id), b" names");
+            spelled.put_flag(fix.names_function(id), b" as function");
+            spelled.put_flag(fix.supersedes(id), b" supersedes");
+        }
+        b"NAMED" => return put_named(alloc, fix, names, spelled),
+        b"FOR" => {
+            let (srel, id) = names.split_once(' ').ok_or("no id")?;
+            let srel = Srel::read(srel.as_bytes()).ok_or("no SREL")?;
+            let id = Id::read(id.as_bytes()).ok_or("no id")?;
+            spelled.put_flag(fix.names_for(srel, id), b"names");
+        }
+        _ => {
+            let elem_type = read_type(word.as_bytes()).ok_or("no type")?;
+            let name = Name::read(names.as_bytes()).ok_or("no name")?;
+            spelled.put_flag(fix.has_change(elem_type, name), b"has");
+        }
+    }
+    Ok(())
+}
+
+// The ids that it names for the SREL.
+fn put_named(alloc: Global, fix: &Sysmod, srel: &str, spelled: &mut Spelled) -> Result<(), Fail> {
+    let srel = Srel::read(srel.as_bytes()).ok_or("no SREL")?;
+    let mut found = Vec::new(alloc);
+    fix.append_named(srel, &mut found)?;
+    for id in found.iter() {
+        spelled.put_words(&[id.as_bytes()]);
+    }
+    Ok(())
+}

@@ -1,0 +1,84 @@
+//! Numbered texts, updates and merges, as text.
+
+use crate::spelled::Spelled;
+use std::alloc::Global;
+use std::test::Fail;
+use terms::{TextCode, TextFault};
+use text80::{Line, Numbered, TextError, Update, bytes_of, lines_of, merge};
+
+// The records of the file.
+fn lines_in(alloc: Global, file: &[u8]) -> Result<Vec<Line>, Fail> {
+    if file.len() % 80 == 0 {
+        return Ok(lines_of(alloc, file)?);
+    }
+    Err(Fail::from("no whole records"))
+}
+
+fn put_fault(spelled: &mut Spelled, fault: TextFault) {
+    spelled.put_number(fault.number);
+    spelled.put(match fault.code {
+        TextCode::NoNumber => b" no number",
+        TextCode::NumberOutOfOrder => b" number out of order",
+        TextCode::NoChangeRecord => b" no CHANGE",
+        TextCode::OtherElement => b" other element",
+        TextCode::BadDelete => b" bad DELETE",
+        TextCode::UpdateOutOfOrder => b" update out of order",
+    });
+}
+
+/// The number of records of the text, or its fault.
+pub(crate) fn text_read(alloc: Global, file: &[u8]) -> Result<Spelled, Fail> {
+    let mut spelled = Spelled::new();
+    match Numbered::read(lines_in(alloc, file)?) {
+        Ok(text) => spelled.put_number(text.lines().len()),
+        Err(fault) => put_fault(&mut spelled, fault),
+    }
+    Ok(spelled)
+}
+
+/// The number of records of the update of M1, or its fault.
+pub(crate) fn update_read(alloc: Global, file: &[u8]) -> Result<Spelled, Fail> {
+    let mut spelled = Spelled::new();
+    match Update::read(alloc, lines_in(alloc, file)?, b"M1") {
+        Ok(update) => spelled.put_number(update.records().len()),
+        Err(TextError::Fault(fault)) => put_fault(&mut spelled, fault),
+        Err(TextError::Memory) => return Err(Fail::from("out of memory")),
+    }
+    Ok(spelled)
+}
+
+fn update_copy(alloc: Global, file: &[u8]) -> Result<Update, Fail> {
+    let update = Update::read(alloc, lines_in(alloc, file)?, b"M1")?;
+    Ok(update.clone()?)
+}
+
+/// How many records a copy of the update has, and how many of them it gives.
+pub(crate) fn copied(alloc: Global, file: &[u8]) -> Result<Spelled, Fail> {
+    let update = update_copy(alloc, file)?;
+    let mut spelled = Spelled::new();
+    spelled.put_number(update.records().len());
+    spelled.put(b" ");
+    spelled.put_number(update.given(alloc)?.lines().len());
+    Ok(spelled)
+}
+
+// What the update makes of the text.
+fn merge_of(alloc: Global, text: &[u8], update: &[u8]) -> Result<Numbered, Fail> {
+    let old = Numbered::read(lines_in(alloc, text)?)?;
+    let update = Update::read(alloc, lines_in(alloc, update)?, b"M1")?;
+    Ok(merge(alloc, &old, &update)?)
+}
+
+/// The columns of each record of what the update makes of the text, up to 72 without the blanks at their end and then
+/// its number.
+pub(crate) fn merged(alloc: Global, text: &[u8], update: &[u8]) -> Result<Spelled, Fail> {
+    let merged = merge_of(alloc, text, update)?;
+    let bytes = bytes_of(alloc, merged.lines())?;
+    let mut spelled = Spelled::new();
+    for record in bytes.chunks(80) {
+        if let Some((columns, number)) = record.split_at_checked(72) {
+            spelled.put_words(&[columns.trim_ascii_end(), number]);
+        }
+    }
+    Ok(spelled)
+}

@@ -1,0 +1,139 @@
+//! Fields, lists of ids, lists by keys, and files with bytes that no record may have.
+
+use crate::spelled::Spelled;
+use fields::{Class, HoldDate, Id, IdList, Name, Reason, Rising, Source, Srel, YyDdd, ZoneName};
+use rec80::{RecError, records};
+use sorted::lists::{Lists, add, add_to_all, listed};
+use std::alloc::Global;
+use std::collections::BTreeMap;
+use std::test::Fail;
+
+/// What this reader makes of the text.
+pub(crate) fn read_value(alloc: Global, name: &str, text: &str) -> Result<Spelled, Fail> {
+    match name.as_bytes() {
+        b"FIELD" => Ok(fields_of(text)),
+        b"DATE" => Ok(date_of(text)),
+        b"RISING" => rising(alloc, text),
+        b"SORTED" => sorted(alloc, text),
+        b"LISTS" => lists(alloc),
+        b"BYTES" => bytes_read(text),
+        _ => Err(Fail::from("no value has this name")),
+    }
+}
+
+// Whether the letter's field has this text.
+fn is_field(letter: u8, text: &[u8]) -> bool {
+    match letter {
+        b'I' => Id::read(text).is_some(),
+        b'S' => Source::read(text).is_some(),
+        b'C' => Class::read(text).is_some(),
+        b'R' => Reason::read(text).is_some(),
+        b'N' => Name::read(text).is_some(),
+        b'Z' => ZoneName::read(text).is_some(),
+        b'L' => Srel::read(text).is_some(),
+        b'H' => HoldDate::read(text).is_some(),
+        _ => YyDdd::read(text).is_some(),
+    }
+}
+
+fn fields_of(text: &str) -> Spelled {
+    let mut spelled = Spelled::new();
+    for letter in b"ISCRNZLHD" {
+        if is_field(*letter, text.as_bytes()) {
+            spelled.put(&[*letter]);
+        }
+    }
+    spelled
+}
+
+// The day of 2024 with this number.
+fn date_of(text: &str) -> Spelled {
+    let mut spelled = Spelled::new();
+    if let Ok(day) = text.parse::<u16>() {
+        if day >= 1 && day <= 366 {
+            spelled.put(YyDdd::new(2024, day).as_bytes());
+        }
+    }
+    spelled
+}
+
+// Puts an id in (`+`), at the end (`>`), or takes it out (`-`), or asks for it (`?`).
+fn rise(list: &mut IdList, word: &str) -> Result<bool, Fail> {
+    let (sign, id) = word.split_at_checked(1).ok_or("no sign")?;
+    let id = Id::read(id.as_bytes()).ok_or("no id")?;
+    Ok(match sign.as_bytes() {
+        b"+" => list.insert(id)?,
+        b">" => list.push_last(id)?,
+        b"-" => list.remove(id),
+        _ => list.contains(id),
+    })
+}
+
+// A letter for what each of these calls returns, and then a copy of the list.
+fn rising(alloc: Global, text: &str) -> Result<Spelled, Fail> {
+    let mut list = IdList::new(alloc);
+    let mut spelled = Spelled::new();
+    for word in text.split_whitespace() {
+        let is_so = rise(&mut list, word)?;
+        spelled.put(if is_so { b"T" } else { b"F" });
+    }
+    spelled.put_ids(b" ", &list.try_clone(alloc)?);
+    Ok(spelled)
+}
+
+// The list of ids in any order.
+fn sorted(alloc: Global, text: &str) -> Result<Spelled, Fail> {
+    let mut ids: Vec<Id> = Vec::new(alloc);
+    for word in text.split_whitespace() {
+        ids.push(Id::read(word.as_bytes()).ok_or("no id")?)?;
+    }
+    let mut spelled = Spelled::new();
+    spelled.put_ids(b"", &Rising::from_vec(ids));
+    Ok(spelled)
+}
+
+// The values under the keys 1, 2 and 3, once 7 is under 2, and 9 under 1 and 2.
+fn lists(alloc: Global) -> Result<Spelled, Fail> {
+    let mut lists: Lists<u32, usize> = BTreeMap::new(alloc);
+    add(alloc, &mut lists, 2, 7)?;
+    add_to_all(alloc, &mut lists, &[1, 2], 9)?;
+    let mut spelled = Spelled::new();
+    for key in 1..=3u32 {
+        for value in listed(&lists, key) {
+            spelled.put_number(*value);
+        }
+        spelled.put(b"/");
+    }
+    Ok(spelled)
+}
+
+// How many records a file of so many bytes has, all blank but one, which is given by its place and its value, or why
+// it has none.
+fn bytes_read(text: &str) -> Result<Spelled, Fail> {
+    let mut numbers = text.split_whitespace();
+    let size: usize = numbers.next().unwrap_or("").parse()?;
+    let place: usize = numbers.next().unwrap_or("").parse()?;
+    let byte: u8 = numbers.next().unwrap_or("").parse()?;
+    let mut bytes = [b' '; 161];
+    if let Some(at) = bytes.get_mut(place) {
+        *at = byte;
+    }
+    let mut spelled = Spelled::new();
+    match records(bytes.get(..size).ok_or("too many bytes")?) {
+        Ok(found) => spelled.put_number(found.all.len()),
+        Err(error) => put_record_error(&mut spelled, error),
+    }
+    Ok(spelled)
+}
+
+fn put_record_error(spelled: &mut Spelled, error: RecError) {
+    spelled.put(b"record ");
+    spelled.put_number(error.record());
+    match error {
+        RecError::ShortRecord { .. } => spelled.put(b" is short"),
+        RecError::BadByte { column, .. } => {
+            spelled.put(b" has a bad byte in column ");
+            spelled.put_number(column);
+        }
+    }
+}

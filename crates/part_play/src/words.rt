@@ -1,0 +1,150 @@
+//! Statements, commands and their words, as text.
+
+use crate::spelled::Spelled;
+use rec80::{Commands, Group, Groups, Piece, Record, Records, StmtError, Text, Words, statement};
+
+// Each member with its own list in parentheses and a semicolon; a `?` for anything else.
+fn put_members(spelled: &mut Spelled, list: &Text<'_>) {
+    let mut members = list.members();
+    for _ in 0..9 {
+        match members.next_member() {
+            Ok(Some(member)) => {
+                spelled.put(member.word);
+                if let Some(inner) = member.list {
+                    spelled.put(b"(");
+                    spelled.put(inner.line());
+                    spelled.put(b")");
+                }
+                spelled.put(b";");
+            }
+            Ok(None) => return,
+            Err(_) => return spelled.put(b"?"),
+        }
+    }
+}
+
+// Each word with its members in parentheses and a blank; a `?` for anything else.
+fn put_words(spelled: &mut Spelled, mut words: Words<'_>) {
+    for _ in 0..9 {
+        match words.next_word() {
+            Ok(Some(word)) => {
+                spelled.put(word.word);
+                if let Some(list) = word.list {
+                    spelled.put(b"(");
+                    put_members(spelled, &list);
+                    spelled.put(b")");
+                }
+                spelled.put(b" ");
+            }
+            Ok(None) => return,
+            Err(_) => return spelled.put(b"?"),
+        }
+    }
+}
+
+fn put_fault(spelled: &mut Spelled, error: StmtError) {
+    spelled.put(match error {
+        StmtError::NoPeriod => b"St1",
+        StmtError::OpenComment => b"St2",
+        StmtError::BadParens => b"St3",
+        StmtError::TextAfterPeriod => b"St4",
+    });
+}
+
+/// The words of the statement that these records are, or its fault.
+pub(crate) fn stated(found: Records<'_>) -> Spelled {
+    let mut spelled = Spelled::new();
+    let group = Group {
+        number: 1,
+        records: found.all,
+    };
+    match statement(&group) {
+        Ok(words) => put_words(&mut spelled, words),
+        Err(error) => put_fault(&mut spelled, error),
+    }
+    spelled
+}
+
+fn put_groups(spelled: &mut Spelled, mut groups: Groups<'_>) {
+    for _ in 0..9 {
+        if let Some(group) = groups.next_group() {
+            spelled.put_number(group.records.len());
+        }
+    }
+}
+
+/// The number of records of each of a file's statements.
+pub(crate) fn grouped(found: Records<'_>) -> Spelled {
+    let mut spelled = Spelled::new();
+    match found.groups() {
+        Ok(groups) => put_groups(&mut spelled, groups),
+        Err(_) => spelled.put(b"outside"),
+    }
+    spelled
+}
+
+fn put_commands(spelled: &mut Spelled, mut commands: Commands<'_>) {
+    for _ in 0..9 {
+        match commands.next_command() {
+            Ok(Some(command)) => {
+                spelled.put_number(command.number);
+                spelled.put(b" ");
+                put_words(spelled, command.words);
+            }
+            Ok(None) => return,
+            Err(error) => {
+                spelled.put_number(error.number);
+                spelled.put(b" ");
+                return put_fault(spelled, error.why);
+            }
+        }
+    }
+}
+
+/// The words of each command after the number of its record, or the first fault.
+pub(crate) fn commands_in(found: Records<'_>) -> Spelled {
+    let mut spelled = Spelled::new();
+    put_commands(&mut spelled, found.commands());
+    spelled
+}
+
+// A letter for each piece, and the characters that belong to no word.
+fn put_pieces(spelled: &mut Spelled, mut words: Words<'_>) {
+    for _ in 0..9 {
+        match words.next_piece() {
+            Some(Piece::Word(_)) => spelled.put(b"W"),
+            Some(Piece::List(_)) => spelled.put(b"L"),
+            Some(Piece::Stray(byte)) => spelled.put(&[byte]),
+            None => {}
+        }
+    }
+}
+
+/// The pieces of the first command.
+pub(crate) fn pieces_of(found: Records<'_>) -> Spelled {
+    let mut spelled = Spelled::new();
+    if let Ok(Some(command)) = found.commands().next_command() {
+        put_pieces(&mut spelled, command.words);
+    }
+    spelled
+}
+
+// The lines of the list of the statement's first word, and the first byte of the last one, if there are any.
+fn put_lines(spelled: &mut Spelled, records: &[Record]) -> Option<()> {
+    let mut words = statement(&Group { number: 1, records }).ok()?;
+    let text = words.next_word().ok()??.list?;
+    spelled.put(text.line().trim_ascii());
+    let next = text.next_line()?;
+    spelled.put(b"/");
+    spelled.put(next.line());
+    let (byte, _) = next.next_byte()?;
+    spelled.put(&[b'/', byte]);
+    Some(())
+}
+
+/// The lines of the list of the statement's first word.
+pub(crate) fn lines_of_list(found: Records<'_>) -> Spelled {
+    let mut spelled = Spelled::new();
+    let _found = put_lines(&mut spelled, found.all);
+    spelled
+}
