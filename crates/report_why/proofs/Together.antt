@@ -8,7 +8,7 @@ use Rattle.terms.specs.Tests.{Setting}
 use Rattle.report.specs.Facts.{requisites as requisites_in, holds_on, standing_facts, ver_facts, delete_facts}
 use Rattle.report.specs.Facts.{npre_facts, IsRequisiteFact, IsHoldFact, IsElementFact, AreOrphans, AreAsked}
 use Rattle.report.specs.Facts.{AreOfChanges, AreFacts}
-use Rattle.report_why.specs.declared.fact as code
+use Rattle.report.specs.declared.fact as code
 use Rattle.report.specs.FactViews.{fact_view}
 use Rattle.report_why.specs.Needed.{AreNeeded}
 use Rattle.report_why.proofs.Besides.{beside_map}

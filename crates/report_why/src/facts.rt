@@ -17,6 +17,7 @@ use crate::deletes::delete_facts;
 use crate::element_facts::element_facts;
 use crate::forbids::npre_facts;
 use crate::hold_facts::hold_facts;
+use crate::joining::joined;
 use crate::needed::{needed_facts, needed_pairs};
 use crate::requisites::requisite_facts;
 use crate::standing::standing_facts;
@@ -83,32 +84,29 @@ fn own_facts<'a>(
     ensures { IfOk result (λ facts. facts_view facts.items
         ≡ standing_facts lookups.now.global.now lookups.now.zone.now id ++ ver_facts (setting_of scope.now) id) }
 {
-    let mut facts = standing_facts(alloc, lookups.global, lookups.zone, id)?;
-    let mut vers = ver_facts(alloc, scope, id)?;
-    facts.append(&mut vers)?;
-    Ok(facts)
+    let facts = standing_facts(alloc, lookups.global, lookups.zone, id)?;
+    let vers = ver_facts(alloc, scope, id)?;
+    joined(facts, vers)
 }
 
 // What it asks for, and its holds.
 fn asked_facts<'a>(alloc: Global, asking: &Asking<'_, 'a>) -> Result<Vec<Fact<'a>>, AllocError>
     ensures { IfOk result (λ facts. AreAsked (setting_in asking.now) asking.now.id (facts_view facts.items)) }
 {
-    let mut facts = requisite_facts(alloc, asking)?;
-    let mut holds = hold_facts(alloc, asking)?;
-    facts.append(&mut holds)?;
-    Ok(facts)
+    let facts = requisite_facts(alloc, asking)?;
+    let holds = hold_facts(alloc, asking)?;
+    joined(facts, holds)
 }
 
 // Its elements, and what it deletes and forbids.
 fn change_facts(alloc: Global, asking: &Asking<'_, '_>) -> Result<Vec<Fact<'static>>, AllocError>
     ensures { IfOk result (λ facts. AreOfChanges (setting_in asking.now) asking.now.id (facts_view facts.items)) }
 {
-    let mut facts = element_facts(alloc, asking)?;
-    let mut deletes = delete_facts(alloc, asking)?;
-    let mut forbids = npre_facts(alloc, asking)?;
-    facts.append(&mut deletes)?;
-    facts.append(&mut forbids)?;
-    Ok(facts)
+    let elements = element_facts(alloc, asking)?;
+    let deletes = delete_facts(alloc, asking)?;
+    let facts = joined(elements, deletes)?;
+    let forbids = npre_facts(alloc, asking)?;
+    joined(facts, forbids)
 }
 
 // All of them, by what an install with these candidates looks at.
@@ -124,14 +122,13 @@ fn facts_by<'a>(
     ensures { IfOk result (λ facts. AreFacts (setting_in asking.now) asking.now.id (facts_view facts.items)) }
 {
     lookups.zone.attest();
-    let mut facts = own_facts(alloc, lookups, &asking.scope, asking.id)?;
-    let mut asked = asked_facts(alloc, asking)?;
-    let mut changes = change_facts(alloc, asking)?;
-    let mut needed = needed_facts(alloc, lookups.needed.as_slice(), asking.id)?;
-    facts.append(&mut asked)?;
-    facts.append(&mut changes)?;
-    facts.append(&mut needed)?;
-    Ok(facts)
+    let own = own_facts(alloc, lookups, &asking.scope, asking.id)?;
+    let asked = asked_facts(alloc, asking)?;
+    let facts = joined(own, asked)?;
+    let changes = change_facts(alloc, asking)?;
+    let changed = joined(facts, changes)?;
+    let needed = needed_facts(alloc, lookups.needed.as_slice(), asking.id)?;
+    joined(changed, needed)
 }
 
 // What its view lacks: the ids that the candidates in its chain name in DELETE.

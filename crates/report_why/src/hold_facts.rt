@@ -10,6 +10,7 @@ ghost use Rattle.report.specs.FactViews.{answer_view, fact_view};
 
 use crate::answers::answer;
 use crate::asking::Asking;
+use crate::joining::joined;
 use fields::Id;
 use report::{Fact, Requisite, Resolution};
 use std::alloc::{AllocError, Global};
@@ -80,10 +81,9 @@ pub(crate) fn hold_facts<'a>(
     ensures { IfOk result (λ facts. Beside (λ n h fact. IsHoldFact (setting_in asking.now) asking.now.id h
         (fact_view fact)) (holds_on (global_of asking.now.scope) asking.now.id) facts.items) }
 {
-    let mut facts = facts_of_kind(alloc, asking, HoldKind::Error)?;
-    let mut system = facts_of_kind(alloc, asking, HoldKind::System)?;
-    let mut user = facts_of_kind(alloc, asking, HoldKind::User)?;
-    facts.append(&mut system)?;
-    facts.append(&mut user)?;
-    Ok(facts)
+    let errors = facts_of_kind(alloc, asking, HoldKind::Error)?;
+    let systems = facts_of_kind(alloc, asking, HoldKind::System)?;
+    let facts = joined(errors, systems)?;
+    let users = facts_of_kind(alloc, asking, HoldKind::User)?;
+    joined(facts, users)
 }

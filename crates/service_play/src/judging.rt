@@ -1,7 +1,9 @@
 //! What a command would decide: its candidates, their tests and needs, and which of them are kept.
 ghost use Rattle.judge_system.specs.Judged.{HasParts};
 
-use crate::printed::{put_bypassed, put_candidates, put_failures, put_ids, put_needs, put_failed_tests};
+use crate::printed::{
+    put_bypassed, put_candidates, put_failed_tests, put_failures, put_ids, put_needs,
+};
 use crate::shop::Shop;
 use cntl::{Command, Install};
 use fields::RestoreList;

@@ -1,4 +1,5 @@
 use Rattle.std.proofs.Common.{◌∙◌, ◌++◌, [], ap, map, refl, sym, subst₂}
+use Rattle.std.proofs.lemmas.Result.{IfOk-weaker}
 use Rattle.terms.specs.Types.{Zone}
 use Rattle.terms.specs.Choice.{counting}
 use Rattle.report_why.specs.Asking.{setting_in}
@@ -17,10 +18,10 @@ returns c =
     let x = c.args.asking.now.id in
     let changes = c.in_ok-changes.changes.items in
     let needed = c.in_ok-needed.needed.items in
-    are_facts s x c.append-3.new.self.items c.in_ok-facts.facts.items c.in_ok-asked.asked.items changes needed
-    (c.in_ok-append-3.ensures.items
-    ∙ ap (λ l. l ++ needed) (c.in_ok-append-2.ensures.items ∙ ap (λ l. l ++ changes) c.in_ok-append.ensures.items))
-    (c.in_ok-facts.ensures
+    IfOk-weaker c.joined-3.result _ _
+    (λ all is. are_facts s x all.items c.in_ok-own.own.items c.in_ok-asked.asked.items changes needed
+    (is ∙ ap (λ l. l ++ needed) (c.in_ok-changed.ensures ∙ ap (λ l. l ++ changes) c.in_ok-facts.ensures))
+    (c.in_ok-own.ensures
     ∙ ap (λ g. standing_facts g zone x ++ ver_facts s x) (sym c.requires.global)
     ∙ ap (λ (zone : Zone). standing_facts s.global zone x ++ ver_facts s x) (sym c.requires.zone))
     c.in_ok-asked.ensures
@@ -28,4 +29,4 @@ returns c =
     (subst₂ (λ g zone. AreNeeded g zone x (map fact_view needed)) (sym c.requires.global) (sym c.requires.zone)
     (c.in_ok-needed.ensures g zone
     (all_needed g (counting g zone []) zone c.as_slice.result.now c.attest.ensures refl
-    (c.as_slice.ensures.value ∙ c.args.lookups.now.needed_is))))
+    (c.as_slice.ensures.value ∙ c.args.lookups.now.needed_is))))) c.joined-3.ensures

@@ -1,4 +1,5 @@
 use Rattle.std.proofs.Common.{◌∙◌, ap}
+use Rattle.std.proofs.lemmas.Result.{IfOk-weaker}
 use Rattle.terms.specs.Lookups.{is_in}
 use Rattle.terms.specs.Choice.{vers_of, fits}
 use Rattle.zones.specs.Scopes.{setting_of}
@@ -11,8 +12,9 @@ pub returns : goal.returns
 returns c =
     let s = setting_of c.args.scope.now in
     let x = c.args.id in
-    seen_behind fact_view c.append.new.self.items c.in_ok-facts.facts.items c.in_ok-vers.vers.items
-    (standing_facts c.args.lookups.now.global.now c.args.lookups.now.zone.now x) (ver_facts s x)
-    c.in_ok-append.ensures.items c.in_ok-facts.ensures
+    IfOk-weaker c.joined.result _ _
+    (λ all is. seen_behind fact_view all.items c.in_ok-facts.facts.items c.in_ok-vers.vers.items
+    (standing_facts c.args.lookups.now.global.now c.args.lookups.now.zone.now x) (ver_facts s x) is c.in_ok-facts.ensures
     (c.in_ok-vers.ensures
-    ∙ ap (λ n. numbered_facts (fits s.zone (is_in s.cands)) n 1 (vers_of s.global s.zone.srel x)) c.requires)
+    ∙ ap (λ n. numbered_facts (fits s.zone (is_in s.cands)) n 1 (vers_of s.global s.zone.srel x)) c.requires))
+    c.joined.ensures

@@ -1,5 +1,4 @@
-use Rattle.std.proofs.Common.{◌-◌, ◌^◌, take}
-use Rattle.sysmods.specs.Seen.{AddsAll}
+use Rattle.std.proofs.Common.{◌-◌, ◌^◌}
 use Rattle.report_why.proofs.SearchBack.{IsSearching}
 use Rattle.report_why.proofs.superseders.with_superseders.Given as goal
 
@@ -8,6 +7,3 @@ invariant-loop-gone l = IsSearching l.fn.vers l.fn.id l.seen.keys l.gone
 
 abbrev pub decreases-loop-gone : goal.decreases-loop-gone
 decreases-loop-gone l = 2 ^ 63 - l.gone
-
-abbrev pub invariant-loop-by : goal.invariant-loop-by
-invariant-loop-by l = AddsAll l.initial.seen.keys (take l.by-index l.by-items) l.seen.keys
