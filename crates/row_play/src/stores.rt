@@ -1,0 +1,92 @@
+//! Stores over the known rows, in memory and over files on disks in memory.
+
+ghost use Rattle.std.specs.Prelude.{IsTrue, IfOk};
+ghost use Rattle.sqlite_disk.specs.Memory.{memory_is_usable};
+
+use crate::rows::{fill_first, fill_sources, run_all};
+use fields::ZoneName;
+use sqlite::{Alter, Connection, Error, FileStore, Files, MemStore, Options};
+use sqlite_disk::Memory;
+use std::alloc::Global;
+use std::test::Fail;
+use store::Store;
+use zones_maps::Zone;
+
+/// The zone of this name, as it is loaded.
+pub(crate) fn loaded<S: Alter>(store: &mut Store<S>, name: ZoneName) -> Result<Zone, Fail> {
+    Ok(store.load_zone(name)?.ok_or("no such zone")?)
+}
+
+/// The store over the connection.
+pub(crate) fn opened<S: Alter + Drop>(
+    alloc: Global,
+    conn: Connection<S>,
+) -> Result<Store<S>, Fail> {
+    if !conn.is_autocommit() {
+        return Err(Fail::from("a transaction is under way"));
+    }
+    match Store::open(alloc, conn) {
+        Ok(store) => Ok(store),
+        Err((_conn, error)) => Err(Fail::from(error)),
+    }
+}
+
+/// A connection to a new database in memory.
+pub(crate) fn in_memory(alloc: Global) -> Result<Connection<MemStore>, Fail> {
+    Ok(Connection::open_in_memory(alloc)?)
+}
+
+// The database without tables, once its tables have the known rows and those of these statements, a line each.
+fn filled<S: Alter + Drop>(
+    alloc: Global,
+    conn: Connection<S>,
+    more: &str,
+) -> Result<Connection<S>, Fail> {
+    let mut conn = opened(alloc, conn)?.close();
+    fill_first(alloc, &mut conn)?;
+    fill_sources(&mut conn)?;
+    run_all(&mut conn, more)?;
+    Ok(conn)
+}
+
+/// The known rows in memory, and those of these statements.
+pub(crate) fn known_with(alloc: Global, more: &str) -> Result<Connection<MemStore>, Fail> {
+    filled(alloc, in_memory(alloc)?, more)
+}
+
+pub(crate) fn zone_name(text: &str) -> Result<ZoneName, Fail> {
+    Ok(ZoneName::read(text.as_bytes()).ok_or("no name of a zone")?)
+}
+
+// A connection to a database in these files.
+fn files(alloc: Global, log: Memory, db: Memory) -> Result<Connection<FileStore<Memory>>, Error>
+    requires { IsTrue (memory_is_usable log) × IsTrue (memory_is_usable db) }
+{
+    match Connection::open_files(alloc, Files { log, db }, Options::new(1)) {
+        Ok(conn) => Ok(conn),
+        Err((error, _)) => Err(error),
+    }
+}
+
+/// A connection to a new database in files.
+pub(crate) fn new_files(alloc: Global) -> Result<Connection<FileStore<Memory>>, Error> {
+    files(alloc, Memory::new(alloc), Memory::new(alloc))
+}
+
+pub(crate) fn close(conn: Connection<FileStore<Memory>>) -> Result<Files<Memory>, Error>
+    ensures { IfOk result (λ files. IsTrue (memory_is_usable files.log) × IsTrue (memory_is_usable files.db)) }
+{
+    match conn.close_files() {
+        Ok(files) => Ok(files),
+        Err(failed) => Err(failed.0),
+    }
+}
+
+/// A connection to the files that this one has written.
+pub(crate) fn again(
+    alloc: Global,
+    conn: Connection<FileStore<Memory>>,
+) -> Result<Connection<FileStore<Memory>>, Error> {
+    let closed = close(conn)?;
+    files(alloc, closed.log, closed.db)
+}
