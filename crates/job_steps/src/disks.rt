@@ -1,66 +1,13 @@
-//! Databases in memory and in files on disks in memory, and stores over them.
-
-ghost use Rattle.std.specs.Prelude.{IsTrue};
+//! Stores in memory and in files on disks in memory.
 
 use report::Out;
+use row_steps::{in_memory, new_files, opened, put_lines, reopened};
 use smpe::{Answer, Job, JobError, run_jobs};
-use sqlite::{Alter, Connection, FileStore, Files, MemStore, Options};
-use sqlite_disk::{Disk, Memory};
+use sqlite::{Alter, Connection, FileStore, MemStore};
+use sqlite_disk::Memory;
 use std::alloc::Global;
 use std::test::Fail;
 use store::Store;
-use store_play::put_lines;
-
-/// A connection to the database in the files.
-pub(crate) fn connected<D: Disk + Drop>(
-    alloc: Global,
-    files: Files<D>,
-) -> Result<Connection<FileStore<D>>, Fail>
-    requires log { IsTrue (D.Disk.is_usable files.log) }
-    requires db { IsTrue (D.Disk.is_usable files.db) }
-{
-    match Connection::open_files(alloc, files, Options::new(1)) {
-        Ok(conn) => Ok(conn),
-        Err((error, _left)) => Err(Fail::from(error)),
-    }
-}
-
-/// A connection to new files.
-pub(crate) fn new_files(alloc: Global) -> Result<Connection<FileStore<Memory>>, Fail> {
-    let log = Memory::new(alloc);
-    let db = Memory::new(alloc);
-    connected(alloc, Files { log, db })
-}
-
-/// A connection to a new database in memory.
-pub(crate) fn in_memory(alloc: Global) -> Result<Connection<MemStore>, Fail> {
-    Ok(Connection::open_in_memory(alloc)?)
-}
-
-/// Closes the files and opens them again.
-pub(crate) fn reopened(
-    alloc: Global,
-    conn: Connection<FileStore<Memory>>,
-) -> Result<Connection<FileStore<Memory>>, Fail> {
-    match conn.close_files() {
-        Ok(files) => connected(alloc, files),
-        Err((error, _store)) => Err(Fail::from(error)),
-    }
-}
-
-/// A store over the connection.
-pub(crate) fn opened<S: Alter + Drop>(
-    alloc: Global,
-    conn: Connection<S>,
-) -> Result<Store<S>, Fail> {
-    if !conn.is_autocommit() {
-        return Err(Fail::from("a transaction is under way"));
-    }
-    match Store::open(alloc, conn) {
-        Ok(store) => Ok(store),
-        Err((_conn, error)) => Err(Fail::from(error)),
-    }
-}
 
 /// A store in memory or in files.
 #[derive(Drop)]

@@ -6,7 +6,7 @@ ghost use Rattle.sqlite_disk.specs.Memory.{memory_is_usable};
 use crate::rows::{fill_first, fill_sources, run_all};
 use fields::ZoneName;
 use sqlite::{Alter, Connection, Error, FileStore, Files, MemStore, Options};
-use sqlite_disk::Memory;
+use sqlite_disk::{Disk, Memory};
 use std::alloc::Global;
 use std::test::Fail;
 use store::Store;
@@ -18,10 +18,7 @@ pub(crate) fn loaded<S: Alter>(store: &mut Store<S>, name: ZoneName) -> Result<Z
 }
 
 /// The store over the connection.
-pub(crate) fn opened<S: Alter + Drop>(
-    alloc: Global,
-    conn: Connection<S>,
-) -> Result<Store<S>, Fail> {
+pub fn opened<S: Alter + Drop>(alloc: Global, conn: Connection<S>) -> Result<Store<S>, Fail> {
     if !conn.is_autocommit() {
         return Err(Fail::from("a transaction is under way"));
     }
@@ -32,7 +29,7 @@ pub(crate) fn opened<S: Alter + Drop>(
 }
 
 /// A connection to a new database in memory.
-pub(crate) fn in_memory(alloc: Global) -> Result<Connection<MemStore>, Fail> {
+pub fn in_memory(alloc: Global) -> Result<Connection<MemStore>, Fail> {
     Ok(Connection::open_in_memory(alloc)?)
 }
 
@@ -54,25 +51,33 @@ pub(crate) fn known_with(alloc: Global, more: &str) -> Result<Connection<MemStor
     filled(alloc, in_memory(alloc)?, more)
 }
 
-pub(crate) fn zone_name(text: &str) -> Result<ZoneName, Fail> {
+/// The name of a zone that has this text.
+pub fn zone_name(text: &str) -> Result<ZoneName, Fail> {
     Ok(ZoneName::read(text.as_bytes()).ok_or("no name of a zone")?)
 }
 
-// A connection to a database in these files.
-fn files(alloc: Global, log: Memory, db: Memory) -> Result<Connection<FileStore<Memory>>, Error>
-    requires { IsTrue (memory_is_usable log) × IsTrue (memory_is_usable db) }
+/// A connection to the database in the files.
+pub fn connected<D: Disk + Drop>(
+    alloc: Global,
+    files: Files<D>,
+) -> Result<Connection<FileStore<D>>, Fail>
+    requires log { IsTrue (D.Disk.is_usable files.log) }
+    requires db { IsTrue (D.Disk.is_usable files.db) }
 {
-    match Connection::open_files(alloc, Files { log, db }, Options::new(1)) {
+    match Connection::open_files(alloc, files, Options::new(1)) {
         Ok(conn) => Ok(conn),
-        Err((error, _)) => Err(error),
+        Err((error, _left)) => Err(Fail::from(error)),
     }
 }
 
-/// A connection to a new database in files.
-pub(crate) fn new_files(alloc: Global) -> Result<Connection<FileStore<Memory>>, Error> {
-    files(alloc, Memory::new(alloc), Memory::new(alloc))
+/// A connection to new files.
+pub fn new_files(alloc: Global) -> Result<Connection<FileStore<Memory>>, Fail> {
+    let log = Memory::new(alloc);
+    let db = Memory::new(alloc);
+    connected(alloc, Files { log, db })
 }
 
+/// Closes the files, and fails if that fails.
 pub(crate) fn close(conn: Connection<FileStore<Memory>>) -> Result<Files<Memory>, Error>
     ensures { IfOk result (λ files. IsTrue (memory_is_usable files.log) × IsTrue (memory_is_usable files.db)) }
 {
@@ -82,11 +87,13 @@ pub(crate) fn close(conn: Connection<FileStore<Memory>>) -> Result<Files<Memory>
     }
 }
 
-/// A connection to the files that this one has written.
-pub(crate) fn again(
+/// Closes the files and opens them again.
+pub fn reopened(
     alloc: Global,
     conn: Connection<FileStore<Memory>>,
-) -> Result<Connection<FileStore<Memory>>, Error> {
-    let closed = close(conn)?;
-    files(alloc, closed.log, closed.db)
+) -> Result<Connection<FileStore<Memory>>, Fail> {
+    match conn.close_files() {
+        Ok(files) => connected(alloc, files),
+        Err((error, _store)) => Err(Fail::from(error)),
+    }
 }

@@ -27,10 +27,10 @@ pub(crate) struct Player {
 
 /// Where and how the script is played.
 #[derive(Clone, Copy)]
-pub(crate) struct Way {
-    pub(crate) in_files: bool,
+pub struct Way {
+    pub in_files: bool,
     /// Each job has a store that is opened for it.
-    pub(crate) opens_each: bool,
+    pub opens_each: bool,
 }
 
 impl Player {

@@ -1,11 +1,11 @@
 //! Rows that use every column, and rows as lines.
 
+use crate::tables::{put_lines, run};
 use scripts::{card_file, first_difference};
 use sqlite::{Alter, Connection};
 use sqlite_value::value::ValueRef;
 use std::alloc::Global;
 use std::test::Fail;
-use store_play::{put_lines, run};
 
 /// The sources of the SYSMODs; each has a row.
 const SOURCES: &str = "INSERT INTO source (id, name) VALUES \

@@ -1,8 +1,9 @@
 //! Running jobs over a store.
 
-use crate::disks::{Database, opened, run_printing};
+use crate::disks::{Database, run_printing};
 use crate::job_files::JobFiles;
-use fields::{Srel, ZoneName};
+use fields::Srel;
+use row_steps::{opened, zone_name};
 use smpe::{Answer, Job, JobError};
 use sqlite::{Alter, Connection, FileStore};
 use sqlite_disk::Memory;
@@ -19,10 +20,6 @@ pub(crate) fn run_files<S: Alter>(
     report: &mut Vec<u8>,
 ) -> Result<Vec<Answer>, JobError> {
     run_printing(alloc, store, &[files.job()], report)
-}
-
-pub(crate) fn zone_name(text: &str) -> Result<ZoneName, Fail> {
-    Ok(ZoneName::read(text.as_bytes()).ok_or("no name of a zone")?)
 }
 
 pub(crate) fn srel_of(text: &str) -> Result<Srel, Fail> {

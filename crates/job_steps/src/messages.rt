@@ -1,7 +1,7 @@
 //! The program's own lines, and the commands of a listing.
 
-use crate::running::zone_name;
 use report::Out;
+use row_steps::zone_name;
 use scripts::{ScriptStep, card_file, compare};
 use smpe::{
     Answer, ArgFault, Fault, JobError, ZoneFault, fault_line, list_commands, migrated_line,

@@ -2,9 +2,9 @@
 //! the one in which it was cut is stored.
 
 use crate::checked::{Checked, commits_of};
-use crate::disks::in_memory;
 use crate::running::installed;
 use report::Out;
+use row_steps::in_memory;
 use scripts::compare;
 use smpe::{Answer, JobError, run_jobs};
 use sqlite::Alter;

@@ -1,12 +1,13 @@
 //! Lists of jobs over new databases in which no zone is defined, and a job alone.
 
-use crate::disks::{Database, in_memory, opened};
+use crate::disks::Database;
 use crate::expanded::expanded;
 use crate::job_files::JobFiles;
-use crate::running::{srel_of, zone_name};
+use crate::running::srel_of;
 use fields::spelling::read_zone_kind;
 use fields::{Srel, YyDdd, ZoneName};
 use report::Out;
+use row_steps::{in_memory, opened, zone_name};
 use scripts::{ScriptStep, card_file};
 use smpe::{Job, run_job};
 use sqlite::Alter;

@@ -1,8 +1,8 @@
 //! A connection with a limit on the steps of a query: what was reported is stored, and no command is stored in part.
 
 use crate::checked::{Checked, Ended};
-use crate::disks::{in_memory, new_files};
 use crate::running::installed;
+use row_steps::{in_memory, new_files};
 use sqlite::{Alter, Connection};
 use std::alloc::Global;
 use std::test::Fail;

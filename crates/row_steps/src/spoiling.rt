@@ -4,13 +4,13 @@ use crate::changing::{commit_edits, delta_of};
 use crate::performing::joined;
 use crate::rows::{put_difference, run_all};
 use crate::stores::{known_with, loaded, opened, zone_name};
+use crate::tables::{all_lines, run};
 use fields::ZoneName;
 use scripts::ScriptStep;
 use sqlite::{Alter, Connection};
 use std::alloc::Global;
 use std::test::Fail;
 use store::{Change, Store};
-use store_play::{all_lines, run};
 use zones_maps::Zone;
 
 /// After each of these edits the parts ZONE and GLOBAL are committed, edits of TGT1 as it was before and of the global

@@ -1,8 +1,8 @@
 //! A job that commits twice, and after how many of the two commits the zones are as they are found.
 
-use crate::disks::opened;
 use crate::job_files::JobFiles;
 use crate::running::run_files;
+use row_steps::opened;
 use scripts::{ScriptStep, compare};
 use smpe::{Answer, JobError};
 use sqlite::{Alter, Connection};

@@ -1,7 +1,8 @@
 //! All that one store holds, committed to another one.
 
 use crate::rows::put_difference;
-use crate::stores::{again, in_memory, loaded, new_files, opened};
+use crate::stores::{in_memory, loaded, new_files, opened, reopened};
+use crate::tables::all_lines;
 use fields::ZoneName;
 use sorted::TryClone;
 use sqlite::{Alter, Connection, FileStore, MemStore};
@@ -9,7 +10,6 @@ use sqlite_disk::Memory;
 use std::alloc::Global;
 use std::test::Fail;
 use store::{Change, Store};
-use store_play::all_lines;
 use sysmods::{GlobalEdit, GlobalZone};
 use sysmods_values::Hold;
 use zones_maps::{Zone, ZoneDelta, ZoneEdits};
@@ -131,7 +131,7 @@ fn in_files<S: Alter + Drop>(
     alloc: Global,
     from: Connection<S>,
 ) -> Result<Connection<FileStore<Memory>>, Fail> {
-    Ok(again(alloc, copied(alloc, from, new_files(alloc)?)?)?)
+    reopened(alloc, copied(alloc, from, new_files(alloc)?)?)
 }
 
 // The rows of the copy in memory.

@@ -4,14 +4,14 @@ ghost use Rattle.std.specs.Prelude.{IsTrue};
 
 use crate::performing::{joined, words_of};
 use crate::rows::{fill_first, lines_of, put_difference, run_all};
-use crate::stores::{again, close, in_memory, known_with, new_files};
+use crate::stores::{close, in_memory, known_with, new_files, reopened};
+use crate::tables::all_lines;
 use scripts::ScriptStep;
 use sqlite::{Alter, Connection, Files, Options};
 use sqlite_disk::{Crash, Disk, Fuse};
 use std::alloc::Global;
 use std::test::Fail;
 use store_migration::migrate;
-use store_play::all_lines;
 use store_schema::StoreError;
 
 /// How the known rows get under an earlier schema: the statements that make its tables, and those that write sources.
@@ -98,10 +98,10 @@ fn put_taken<S: Alter + Drop>(
 
 // The same over files that are closed and opened before the migration, and for a second one.
 fn put_taken_twice(alloc: Global, earlier: &Earlier, printed: &mut Vec<u8>) -> Result<(), Fail> {
-    let conn = again(alloc, earlier.fill(alloc, new_files(alloc)?)?)?;
+    let conn = reopened(alloc, earlier.fill(alloc, new_files(alloc)?)?)?;
     let (conn, fault) = migrated(alloc, conn)?;
     match fault {
-        None => put_taken(alloc, again(alloc, conn)?, printed),
+        None => put_taken(alloc, reopened(alloc, conn)?, printed),
         Some(error) => Err(Fail::from(error)),
     }
 }

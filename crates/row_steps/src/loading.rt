@@ -3,6 +3,7 @@
 use crate::performing::words_of;
 use crate::rows::run_with_records;
 use crate::stores::{known_with, loaded, opened, zone_name};
+use crate::tables::run;
 use fields::Id;
 use scripts::ScriptStep;
 use sqlite::{Alter, Connection, MemStore};
@@ -10,7 +11,6 @@ use sqlite_value::value::ValueRef;
 use std::alloc::Global;
 use std::test::Fail;
 use store::Store;
-use store_play::run;
 use store_schema::StoreError;
 
 // Why the part of this name is not loaded, if it is not.

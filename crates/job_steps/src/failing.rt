@@ -3,8 +3,8 @@
 ghost use Rattle.std.specs.Prelude.{IsTrue};
 
 use crate::checked::{Checked, Ended};
-use crate::disks::connected;
 use crate::running::installed_files;
+use row_steps::connected;
 use smpe::reopened;
 use sqlite::{Connection, FileStore, Files, Options};
 use sqlite_disk::{Crash, Disk, Fuse};

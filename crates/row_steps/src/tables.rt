@@ -17,14 +17,6 @@ pub fn run<S: Alter>(
     Ok(())
 }
 
-/// Runs the statements, each of which must change some row.
-pub fn run_all<S: Alter>(conn: &mut Connection<S>, all: &[&str]) -> Result<(), Fail> {
-    for sql in all {
-        run(conn, sql, &[])?;
-    }
-    Ok(())
-}
-
 /// Appends the texts that the query finds, each as a line.
 pub fn put_lines<S: Alter>(
     conn: &mut Connection<S>,

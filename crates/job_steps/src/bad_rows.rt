@@ -2,15 +2,14 @@
 //! other row is as it was.
 
 use crate::checked::Checked;
-use crate::disks::{in_memory, opened};
-use crate::running::{installed, run_files, srel_of, zone_name};
+use crate::running::{installed, run_files, srel_of};
+use row_steps::{all_lines, in_memory, opened, run, zone_name};
 use scripts::{ScriptStep, compare, first_difference};
 use smpe::{JobError, ZoneError, define_zone};
 use sqlite::{Alter, Connection, MemStore};
 use std::alloc::Global;
 use std::test::Fail;
 use store::Store;
-use store_play::{all_lines, run};
 use store_schema::StoreError;
 use terms::ZoneKind;
 
