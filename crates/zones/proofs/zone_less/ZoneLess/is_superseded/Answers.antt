@@ -14,4 +14,4 @@ returns-in-Some c =
     ∙ ap (λ ids. not (is_nil (filter stays ids)))
     (c.as_slice.ensures.items
     ∙ ap (λ (e : Entry). e.supby) c.entry-in-Some.view_is
-    ∙ ap (λ o. option_map_or (λ e. e.supby) o []) c.in-Some.ensures)
+    ∙ ap (λ o. option_map_or (λ e. e.supby) o []) c.in-Some.ensures.found)
