@@ -21,8 +21,8 @@ fn superseders(zone: &Zone, id: Id) -> &[Id]
     }
 }
 
-// The applied SYSMODs that supply the id.
-fn suppliers(alloc: Global, zone: &Zone, id: Id) -> Result<Vec<Id>, AllocError>
+/// The applied SYSMODs that supply the id.
+pub fn suppliers(alloc: Global, zone: &Zone, id: Id) -> Result<Vec<Id>, AllocError>
     ensures { IfOk result (λ found. found.items ≡ suppliers zone.now id) }
 {
     let mut ids = vec![in alloc; id]?;
