@@ -1,13 +1,14 @@
 //! Lists of ids and of records, as columns and as values.
 
-ghost use Rattle.std.specs.Prelude.{◌≡◌, ◌≢◌, ◌==◌, ℕ, List, map, IfOk, IsErrOf};
+ghost use Rattle.std.specs.Prelude.{◌≡◌, ◌≢◌, ◌==◌, ◌∷◌, ℕ, List, map, IfOk, IsErrOf};
 ghost use Rattle.std.specs.List.{concat, join_with_byte};
 ghost use Rattle.store_schema.specs.Parts.{parts_of};
-ghost use Rattle.sqlite.specs.Order.{column};
+ghost use Rattle.sqlite.specs.Order.{Row as SqlRow, column};
 ghost use Rattle.store_schema.specs.Forms.{AreSorted, AreRecords};
 ghost use Rattle.store_schema.specs.Rows.{ids, records};
 ghost use Rattle.terms.specs.Forms.{IsId, IsSource};
 
+use crate::columns::Columns;
 use fields::{Id, IdList, Source, SourceList};
 use sqlite::Row;
 use std::alloc::{AllocError, Global};
@@ -127,4 +128,38 @@ pub fn records_in(alloc: Global, row: &Row, at: usize) -> Result<Vec<Line>, Read
         return Err(ReadError::BadRow);
     };
     lines_in(alloc, bytes)
+}
+
+impl Columns<'_> {
+    /// A rising list of ids.
+    pub fn ids(&mut self, alloc: Global) -> Result<IdList, ReadError>
+        ensures read { IfOk result (λ list. (self.old ≡ ids list ∷ self.new) × AreSorted IsId list) }
+        ensures none { IsErrOf result ReadError.BadRow → (list : List (List ℕ)) (rest : SqlRow) → AreSorted IsId list
+            → self.old ≢ ids list ∷ rest }
+        ensures fault { IsErrOf result ReadError.Fault → ⊥ }
+    {
+        let parts = parts(alloc, self.text()?)?;
+        id_list(alloc, &parts)
+    }
+
+    /// A rising list of sources.
+    pub fn sources(&mut self, alloc: Global) -> Result<SourceList, ReadError>
+        ensures read { IfOk result (λ list. (self.old ≡ ids list ∷ self.new) × AreSorted IsSource list) }
+        ensures none { IsErrOf result ReadError.BadRow → (list : List (List ℕ)) (rest : SqlRow) → AreSorted IsSource list
+            → self.old ≢ ids list ∷ rest }
+        ensures fault { IsErrOf result ReadError.Fault → ⊥ }
+    {
+        let parts = parts(alloc, self.text()?)?;
+        source_list(alloc, &parts)
+    }
+
+    /// The records of a text, one after the other in a blob.
+    pub fn records(&mut self, alloc: Global) -> Result<Vec<Line>, ReadError>
+        ensures read { IfOk result (λ lines. (self.old ≡ records lines.items ∷ self.new) × AreRecords lines.items) }
+        ensures none { IsErrOf result ReadError.BadRow → (lines : List (List ℕ)) (rest : SqlRow) → AreRecords lines
+            → self.old ≢ records lines ∷ rest }
+        ensures fault { IsErrOf result ReadError.Fault → ⊥ }
+    {
+        lines_in(alloc, self.blob()?)
+    }
 }

@@ -9,6 +9,7 @@
 #![tactic(auto)]
 
 mod column_lists;
+mod columns;
 mod creating;
 mod element_texts;
 mod error;
@@ -25,6 +26,7 @@ mod tables;
 mod texts;
 
 pub use column_lists::{ids_in, joined_ids, records_in, sources_in};
+pub use columns::Columns;
 pub use creating::add_tables;
 pub use element_texts::{element_text_in, is_updated};
 pub use error::StoreError;

@@ -1,15 +1,16 @@
 //! Columns whose value is a text or NULL.
 
-ghost use Rattle.std.specs.Prelude.{◌≡◌, ◌≢◌, ℕ, List, Option, IfSome, IfNone};
+ghost use Rattle.std.specs.Prelude.{◌≡◌, ◌≢◌, ◌∷◌, ℕ, List, Option, IfOk, IfSome, IfNone, IsErrOf};
 ghost use Rattle.sqlite.specs.declared.types.Value.TheVariants.{Text};
-ghost use Rattle.sqlite.specs.Order.{column};
+ghost use Rattle.sqlite.specs.Order.{Row as SqlRow, column};
 ghost use Rattle.sqlite.specs.Values.{or_null};
 ghost use Rattle.sqlite_value.specs.Value.{owned};
 
+use crate::columns::Columns;
 use fields::{Class, HoldDate, Id, Name, YyDdd, ZoneName};
 use sqlite::Row;
 use sqlite_value::value::ValueRef;
-use store_rows::optional_text;
+use store_rows::{ReadError, optional_text};
 
 /// A value that a column stores as its text.
 pub trait TextValue: Sized {
@@ -122,6 +123,25 @@ impl TextValue for HoldDate {
 
     fn as_text(&self) -> &[u8] {
         self.as_bytes()
+    }
+}
+
+impl Columns<'_> {
+    /// A value, or none if the column is NULL.
+    pub fn optional<T: TextValue>(&mut self) -> Result<Option<T>, ReadError>
+        ensures read { IfOk result (λ value. (self.old ≡ or_null (λ v. Text (T.text v)) value ∷ self.new)
+            × IfSome value (λ v. T.form (T.text v))) }
+        ensures none { IsErrOf result ReadError.BadRow → (value : Option (List ℕ)) (rest : SqlRow)
+            → IfSome value T.form → self.old ≢ or_null Text value ∷ rest }
+        ensures fault { IsErrOf result ReadError.Fault → ⊥ }
+    {
+        let Some(text) = self.optional_text()? else {
+            return Ok(None);
+        };
+        match T::read(text) {
+            Some(value) => Ok(Some(value)),
+            None => Err(ReadError::BadRow),
+        }
     }
 }
 
