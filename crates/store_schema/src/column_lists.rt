@@ -75,6 +75,17 @@ fn source_list(alloc: Global, parts: &[&[u8]]) -> Result<SourceList, ReadError>
     Ok(list)
 }
 
+// The ids of a rising list, which are joined by commas.
+fn ids_of(alloc: Global, text: &[u8]) -> Result<IdList, ReadError>
+    ensures read { IfOk result (λ list. (text.now ≡ join_with_byte 44 list) × AreSorted IsId list) }
+    ensures none { IsErrOf result ReadError.BadRow → (list : List (List ℕ)) → AreSorted IsId list
+        → text.now ≢ join_with_byte 44 list }
+    ensures fault { IsErrOf result ReadError.Fault → ⊥ }
+{
+    let parts = parts(alloc, text)?;
+    id_list(alloc, &parts)
+}
+
 /// The ids of a rising list. Returns `Memory` if memory runs out, and `BadRow` if the column has no such list.
 pub fn ids_in(alloc: Global, row: &Row, at: usize) -> Result<IdList, ReadError>
     ensures some { IfOk result (λ list. (column row.now at ≡ ids list) × AreSorted IsId list) }
@@ -85,8 +96,18 @@ pub fn ids_in(alloc: Global, row: &Row, at: usize) -> Result<IdList, ReadError>
     let Some(text) = text(row, at) else {
         return Err(ReadError::BadRow);
     };
+    ids_of(alloc, text)
+}
+
+// The sources of a rising list, which are joined by commas.
+fn sources_of(alloc: Global, text: &[u8]) -> Result<SourceList, ReadError>
+    ensures read { IfOk result (λ list. (text.now ≡ join_with_byte 44 list) × AreSorted IsSource list) }
+    ensures none { IsErrOf result ReadError.BadRow → (list : List (List ℕ)) → AreSorted IsSource list
+        → text.now ≢ join_with_byte 44 list }
+    ensures fault { IsErrOf result ReadError.Fault → ⊥ }
+{
     let parts = parts(alloc, text)?;
-    id_list(alloc, &parts)
+    source_list(alloc, &parts)
 }
 
 /// The sources of a rising list. Returns `Memory` if memory runs out, and `BadRow` if the column has no such list.
@@ -99,8 +120,7 @@ pub fn sources_in(alloc: Global, row: &Row, at: usize) -> Result<SourceList, Rea
     let Some(text) = text(row, at) else {
         return Err(ReadError::BadRow);
     };
-    let parts = parts(alloc, text)?;
-    source_list(alloc, &parts)
+    sources_of(alloc, text)
 }
 
 // The records of the bytes, if these end with a whole record.
@@ -138,8 +158,7 @@ impl Columns<'_> {
             → self.old ≢ ids list ∷ rest }
         ensures fault { IsErrOf result ReadError.Fault → ⊥ }
     {
-        let parts = parts(alloc, self.text()?)?;
-        id_list(alloc, &parts)
+        ids_of(alloc, self.text()?)
     }
 
     /// A rising list of sources.
@@ -149,8 +168,7 @@ impl Columns<'_> {
             → self.old ≢ ids list ∷ rest }
         ensures fault { IsErrOf result ReadError.Fault → ⊥ }
     {
-        let parts = parts(alloc, self.text()?)?;
-        source_list(alloc, &parts)
+        sources_of(alloc, self.text()?)
     }
 
     /// The records of a text, one after the other in a blob.
