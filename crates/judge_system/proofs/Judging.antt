@@ -48,7 +48,10 @@ module _ (F : Id → Test → Type 0) (E : Id → Type 0) (N : Id → NeedKind �
       let flags = map (λ tests. is_nil (tests_of tests)) said.tests.items in
       let flagged = sym (map-map is_nil tests_of said.tests.items) in
       let system = said_problem s flags j.system rising are.once (eligible_is s rows are.tests_are flags flagged)
-      numbered.valid numbered.system in
+      (length-map said.tests.items (λ tests. is_nil (tests_of tests))
+      ∙ sym (length-map said.tests.items tests_of)
+      ∙ rows_of rows said.needs.items said.superseded.items are)
+      numbered.system in
       record {
         ids_are = numbered.ids_are;
         rising = rising;

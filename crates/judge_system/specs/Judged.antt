@@ -4,7 +4,6 @@ use Rattle.terms.specs.declared.codes.NeedKind.{NeedKind}
 use Rattle.terms.specs.declared.codes.Test.{Test}
 use Rattle.terms.specs.Types.{Id}
 use Rattle.terms.specs.Lookups.{IsRising, is_nil}
-use Rattle.solve.specs.System.{IsSystem}
 use Rattle.judge_system.specs.declared.judged.Judged.{Judged}
 use Rattle.judge_system.specs.declared.stated.Assessment.{Assessment}
 use Rattle.judge_system.specs.declared.stated.RequisiteOf.{RequisiteOf}
@@ -47,7 +46,6 @@ pub record IsNumberedAs (cands : List Id) (said : Assessment) (j : Judged) : Typ
   pub tests_are : j.tests ≡ said.tests
   pub needs_are : j.needs ≡ said.needs
   pub bypassed_are : j.bypassed ≡ said.bypassed
-  pub valid : IsSystem j.system
   pub system : HasSystem cands said.superseded.items (map (λ tests. is_nil (tests_of tests)) said.tests.items)
       said.needs.items j.system
 

@@ -30,8 +30,10 @@ fn failure_at(
     requires within { place < length ids.now }
     ensures { IfOk result (λ f. IsFailureAt ids.now found.now place (failure_view f)) }
 {
-    let needs = needs_of(alloc, &found.unserved[place])?;
-    let causers = ids_at(alloc, ids, &found.causers[place])?;
+    let unserved = found.unserved[place].as_slice();
+    let places = found.causers[place].as_slice();
+    let needs = needs_of(alloc, unserved)?;
+    let causers = ids_at(alloc, ids, places)?;
     Ok(Failure {
         tests: found.tests[place],
         needs,

@@ -1,7 +1,6 @@
 //! The numbered system: which candidates are eligible, and what each one needs.
 ghost use Rattle.std.specs.Prelude.{◌≡◌, ◌<◌, ◌^◌, length, map, All, Contains, OnOk, IfOk};
 ghost use Rattle.terms.specs.Lookups.{IsRising, is_nil};
-ghost use Rattle.solve.specs.System.{IsSystem};
 ghost use Rattle.judge_system.specs.Numbered.{AddsNeed, HasNeeds, HasSystem};
 ghost use Rattle.judge_system.specs.TestSets.{tests_of};
 
@@ -72,8 +71,7 @@ fn with_needs(
     requires rising { IsRising ids.now.keys }
     requires within { All (λ w. Contains ids.now.keys w.of) stated.now }
     requires flags { length eligible.items ≡ length ids.now.keys }
-    ensures valid { IfOk result (λ system. IsSystem system) }
-    ensures needs { IfOk result (λ system. HasNeeds ids.now.keys served.now.keys eligible.items stated.now
+    ensures { IfOk result (λ system. HasNeeds ids.now.keys served.now.keys eligible.items stated.now
         system) }
 {
     let mut system = System::new(alloc, eligible)?;
@@ -81,7 +79,6 @@ fn with_needs(
         let need = need_at(stated, i);
         number_need(alloc, ids, served, need, &mut system)?;
     }
-    let _ = system.size();
     Ok(system)
 }
 
@@ -98,8 +95,7 @@ pub(crate) fn numbered(
     requires by { All (λ p. Contains ids.now.keys p.0) superseded.now }
     requires within { All (λ w. Contains ids.now.keys w.of) stated.now }
     requires flags { length eligible.items ≡ length ids.now.keys }
-    ensures valid { IfOk result (λ system. IsSystem system) }
-    ensures system { IfOk result (λ system. HasSystem ids.now.keys superseded.now eligible.items stated.now system) }
+    ensures { IfOk result (λ system. HasSystem ids.now.keys superseded.now eligible.items stated.now system) }
 {
     let served = served(alloc, ids, superseded)?;
     let system = with_needs(alloc, ids, &served, stated, eligible)?;
