@@ -1,6 +1,6 @@
 use Rattle.std.proofs.Common.{◌≡◌, ◌++◌, filter, length, map}
 use Rattle.judge_system.specs.Serving.{is_between}
-use Rattle.judge_system.proofs.serving.places_in.Given as goal
+use Rattle.judge_system.proofs.serving.served_places.Given as goal
 
 abbrev pub invariant-loop-pair : goal.invariant-loop-pair
 invariant-loop-pair l =
