@@ -1,5 +1,5 @@
 //! ORPHAN: what SYSMODs that stay applied lose by a DELETE.
-ghost use Rattle.std.specs.Prelude.{◌≡◌, ◌++◌, ◌&&◌, [], ◌∷◌, not, is_some, IfOk, OnOk, filter, if◌then◌else◌};
+ghost use Rattle.std.specs.Prelude.{◌≡◌, ◌++◌, ◌&&◌, [], not, is_some, IfOk, OnOk, filter, if◌then◌else◌};
 ghost use Rattle.terms.specs.Needs.{orphans};
 ghost use Rattle.terms.specs.Tests.{Setting};
 ghost use Rattle.sysmods.specs.Choices.{choice};
@@ -52,27 +52,17 @@ fn push_lost_of(
         then filter (loses left.now) (binding_of left.now entry.now.id) else [])) }
 {
     if entry.applied.is_some() && !left.takes_out(entry.id) {
-        let ids = binding_ids(alloc, left, entry.id)?;
-        push_lost(left, ids.as_slice(), found)?;
+        let lost = lost_of(alloc, left, entry.id)?;
+        found.extend_from_slice(lost.as_slice())?;
     }
     Ok(())
 }
 
-// Adds the requisites that are lost.
-fn push_lost(left: &ZoneLess, ids: &[Id], found: &mut Vec<Id>) -> Result<(), AllocError>
-    ensures { OnOk result (found.new.items ≡ found.old.items ++ filter (loses left.now) ids.now) }
+// The requisites that the SYSMOD loses.
+fn lost_of(alloc: Global, left: &ZoneLess, id: Id) -> Result<Vec<Id>, AllocError>
+    ensures { IfOk result (λ lost. lost.items ≡ filter (loses left.now) (binding_of left.now id)) }
 {
-    for id in ids {
-        push_if_lost(left, *id, found)?;
-    }
-    Ok(())
-}
-
-fn push_if_lost(left: &ZoneLess, id: Id, found: &mut Vec<Id>) -> Result<(), AllocError>
-    ensures { OnOk result (found.new.items ≡ found.old.items ++ filter (loses left.now) (id ∷ [])) }
-{
-    if left.loses(id) {
-        found.push(id)?;
-    }
-    Ok(())
+    let mut ids = binding_ids(alloc, left, id)?;
+    ids.retain(|id| left.loses(*id));
+    Ok(ids)
 }

@@ -1,5 +1,5 @@
 //! Where the needs of an APPLY are looked up.
-ghost use Rattle.std.specs.Prelude.{◌≡◌, ◌||◌, IfOk, filter, option_copied};
+ghost use Rattle.std.specs.Prelude.{◌≡◌, ◌||◌, IfOk, filter};
 ghost use Rattle.terms.specs.Lookups.{IsRising, is_in};
 ghost use Rattle.terms.specs.Over.{chain};
 ghost use Rattle.terms.specs.Deleted.{deletions};
@@ -12,7 +12,7 @@ use crate::deleting::chain_deletions;
 use fields::{Bypass, Id, IdList};
 use std::alloc::{AllocError, Global};
 use sysmods::{GlobalZone, VerChoice};
-use sysmods_values::{IfReq, Ver};
+use sysmods_values::IfReq;
 use terms::NeedKind;
 use zones_maps::Zone;
 
@@ -39,13 +39,7 @@ impl<'a, 'b> Scope<'a, 'b> {
     pub fn fmid(&self, id: Id) -> Option<Id>
         ensures { result ≡ fmid_of (choice self.now.vers.now) id }
     {
-        self.ver(id)?.fmid
-    }
-
-    fn ver(&self, id: Id) -> Option<&'b Ver>
-        ensures { option_copied result ≡ choice self.now.vers.now id }
-    {
-        self.vers.ver(id)
+        self.vers.fmid(id)
     }
 
     /// Its PRE.
@@ -53,7 +47,7 @@ impl<'a, 'b> Scope<'a, 'b> {
         ensures items { result.now ≡ pre_of (choice self.now.vers.now) id }
         ensures rising { IsRising result.now }
     {
-        match self.ver(id) {
+        match self.vers.ver(id) {
             Some(ver) => ver.pre.as_slice(),
             None => &[],
         }
@@ -64,7 +58,7 @@ impl<'a, 'b> Scope<'a, 'b> {
         ensures items { result.now ≡ req_of (choice self.now.vers.now) id }
         ensures rising { IsRising result.now }
     {
-        match self.ver(id) {
+        match self.vers.ver(id) {
             Some(ver) => ver.req.as_slice(),
             None => &[],
         }
@@ -74,7 +68,7 @@ impl<'a, 'b> Scope<'a, 'b> {
     pub fn ifs(&self, id: Id) -> &'b [IfReq]
         ensures { result.now ≡ ifs_of (choice self.now.vers.now) id }
     {
-        match self.ver(id) {
+        match self.vers.ver(id) {
             Some(ver) => ver.ifs.as_slice(),
             None => &[],
         }

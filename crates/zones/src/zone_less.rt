@@ -1,12 +1,12 @@
 //! A zone less what some DELETEs take out, without a copy of it.
-ghost use Rattle.std.specs.Prelude.{◌≡◌, not, filter, option_copied};
+ghost use Rattle.std.specs.Prelude.{◌≡◌, not, option_copied};
 ghost use Rattle.std.specs.List.{list_any};
 ghost use Rattle.terms.specs.Lookups.{is_nil, is_applied, is_supplied, supby_of, element_of};
 ghost use Rattle.terms.specs.Needs.{is_met};
 ghost use Rattle.zones.specs.Gone.{left_of, is_cut, is_gone, loses};
 
 use crate::entry::TakesOut;
-use fields::{Attest, Id, Name};
+use fields::{Id, Name};
 use sysmods::VerChoice;
 use terms::{ElemType, NeedKind};
 use zones_maps::{Element, Zone};
@@ -24,7 +24,6 @@ impl<'a, 'b> ZoneLess<'a, 'b> {
     pub fn has(&self, id: Id) -> bool
         ensures { result ≡ is_applied (left_of self.now) id }
     {
-        self.zone.attest();
         self.zone.is_applied(id) && !self.deletes(id)
     }
 
@@ -32,7 +31,6 @@ impl<'a, 'b> ZoneLess<'a, 'b> {
     pub fn supplies(&self, id: Id) -> bool
         ensures { result ≡ is_supplied (left_of self.now) id }
     {
-        self.zone.attest();
         self.has(id) || self.is_superseded(id)
     }
 
@@ -50,7 +48,6 @@ impl<'a, 'b> ZoneLess<'a, 'b> {
     pub fn element(&self, elem_type: ElemType, name: Name) -> Option<&'a Element>
         ensures { option_copied result ≡ element_of (left_of self.now) elem_type name }
     {
-        self.zone.attest();
         let element = self.zone.element(elem_type, name)?;
         if self.deletes(element.fmid) {
             return None;
@@ -74,7 +71,7 @@ impl<'a, 'b> ZoneLess<'a, 'b> {
 
     // Whether one of the SYSMODs that supersede it stays.
     fn is_superseded(&self, id: Id) -> bool
-        ensures { result ≡ not (is_nil (filter (λ y. not (is_gone self.now y)) (supby_of self.now.zone.now id))) }
+        ensures { result ≡ not (is_nil (supby_of (left_of self.now) id)) }
     {
         match self.zone.entry(id) {
             Some(entry) => self.any_stays(entry.supby.as_slice()),

@@ -10,11 +10,13 @@ returns-then-is_applied c =
     let l = c.args.self.now in
     ap not c.deletes.ensures
     ∙ ap (λ b. b && not (is_cut l c.args.id)) c.if-is_applied.ensures.same
-    ∙ sym (is_applied_less l.vers.now.global.now (choice l.vers.now) l.dels.now l.zone.now c.attest.ensures c.args.id)
+    ∙ sym (is_applied_less l.vers.now.global.now (choice l.vers.now) l.dels.now l.zone.now c.if-is_applied.ensures.form
+    c.args.id)
 
 pub returns-else-is_applied : goal.returns-else-is_applied
 returns-else-is_applied c =
     let l = c.args.self.now in
     c.if-is_applied.false
     ∙ ap (λ b. b && not (is_cut l c.args.id)) c.if-is_applied.ensures.same
-    ∙ sym (is_applied_less l.vers.now.global.now (choice l.vers.now) l.dels.now l.zone.now c.attest.ensures c.args.id)
+    ∙ sym (is_applied_less l.vers.now.global.now (choice l.vers.now) l.dels.now l.zone.now c.if-is_applied.ensures.form
+    c.args.id)
