@@ -83,10 +83,11 @@ impl<'a, 'b> Conditions<'a, 'b> {
     {
         let scope = &self.scope;
         scope.zone.attest();
-        let dels = scope.view_deletions(alloc, id)?;
+        let deleted = scope.view_deletions(alloc, id)?;
+        let dels = deleted.as_slice();
         let left = ZoneLess {
             vers: scope.vers,
-            dels: dels.as_slice(),
+            dels,
             zone: scope.zone,
         };
         let mut found = self.own_requisites(alloc, &left, id)?;

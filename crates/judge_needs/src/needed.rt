@@ -102,10 +102,11 @@ pub fn needs_of(
     ensures { IfOk result (λ needs. AreNeeds (setting_of conditions.now.scope) survivors.now needs.items) }
 {
     let scope = &conditions.scope;
-    let dels = deletions(alloc, scope.vers, survivors.as_slice())?;
+    let deleted = deletions(alloc, scope.vers, survivors.as_slice())?;
+    let dels = deleted.as_slice();
     let left = ZoneLess {
         vers: scope.vers,
-        dels: dels.as_slice(),
+        dels,
         zone: scope.zone,
     };
     let mut needs = Vec::new(alloc);
