@@ -2,10 +2,10 @@
 ghost use Rattle.std.specs.Prelude.{◌≡◌, ◌++◌, map, option_map, OnOk};
 ghost use Rattle.std.specs.List.{flat_map};
 ghost use Rattle.terms.specs.CommandForms.{no_bypass};
-ghost use Rattle.report.specs.Facts.{ElementFact, VerFact, DeleteFact, NpreFact, ForbiddenFact};
+ghost use Rattle.report.specs.Facts.{is_over, ElementFact, VerFact, DeleteFact, NpreFact, ForbiddenFact};
 ghost use Rattle.report.specs.FactViews.{rank_view, maker_view, found_view, fact_view};
 ghost use Rattle.report_verdict.specs.Verdict.{by_hold, by_npre, by_owner, by_makers, by_update, by_target, by_vers};
-ghost use Rattle.report_verdict.specs.Verdict.{hold_reason, element_reason, is_over, maker_reason, owner_reason};
+ghost use Rattle.report_verdict.specs.Verdict.{hold_reason, element_reason, maker_reason, owner_reason};
 ghost use Rattle.report_verdict.specs.Verdict.{makers_reason, there_reason, missing_reason, reason, test_told};
 ghost use Rattle.report_verdict.specs.Grounds.{basis_of};
 
@@ -14,7 +14,7 @@ use crate::grounds::Grounds;
 use crate::statuses::by_delete;
 use fields::spelling::{hold_text, test_text, type_text};
 use fields::{Bypass, Id, Name};
-use report::{Fact, Found, LineWord, Maker, Rank, append_words, id_text};
+use report::{Fact, Found, LineWord, Maker, Rank, append_words};
 use std::alloc::AllocError;
 use sysmods_values::Hold;
 use terms::{ElemType, HoldKind, Test};
@@ -231,7 +231,7 @@ fn put_ver(
     let ver = LineWord::Of(b"VER");
     let number = LineWord::Number(number);
     let of_fmid = LineWord::Of(b"FMID");
-    let fmid = LineWord::Of(id_text(fmid));
+    let fmid = LineWord::Optional(fmid.as_ref().map(|id| id.as_bytes()));
     let fits_word = LineWord::Of(b"fits");
     let words = [code, ver, number, of_fmid, fmid, fits_word];
     append_words(b"   ", &words, text)
