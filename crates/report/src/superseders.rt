@@ -1,13 +1,12 @@
 //! The received SYSMODs that serve a need for an id, or resolve the reason of a hold: the one of this id, and those that
 //! supersede it.
-ghost use Rattle.std.specs.Prelude.{◌≡◌, ◌↔◌, ◌⊎◌, filter, Contains, IfOk, IsTrue, OnOk};
+ghost use Rattle.std.specs.Prelude.{◌≡◌, ◌↔◌, ◌⊎◌, filter, Contains, IfOk, IsTrue};
 ghost use Rattle.terms.specs.Types.{Id as AnId};
 ghost use Rattle.terms.specs.Lookups.{is_in};
 ghost use Rattle.terms.specs.Choice.{sup_of};
 ghost use Rattle.terms.specs.Needs.{Serves};
 ghost use Rattle.terms.specs.Over.{Supersedes};
 ghost use Rattle.sysmods.specs.Choices.{has_ver, choice};
-ghost use Rattle.sysmods.specs.Seen.{AddsAll};
 ghost use Rattle.report.specs.Superseders.{direct_superseders};
 
 use fields::{Id, IdList, Srel};
@@ -42,24 +41,6 @@ fn direct_superseders(
     among(alloc, vers, id, namers.as_slice())
 }
 
-// Adds the received SYSMODs that name the id in SUP.
-fn see_superseders(
-    alloc: Global,
-    vers: &VerChoice<'_>,
-    srel: Srel,
-    id: Id,
-    seen: &mut IndexSet<Id>,
-) -> Result<(), AllocError>
-    requires { vers.now.srel ≡ srel }
-    ensures { OnOk result (AddsAll seen.old.keys (direct_superseders vers.now id) seen.new.keys) }
-{
-    let above = direct_superseders(alloc, vers, srel, id)?;
-    for by in above.as_slice() {
-        seen.insert(*by)?;
-    }
-    Ok(())
-}
-
 // The id, and all received SYSMODs that supersede it. It goes through each once.
 fn with_superseders(
     alloc: Global,
@@ -75,8 +56,10 @@ fn with_superseders(
     seen.insert(id)?;
     let mut gone = 0;
     while gone < seen.len() {
-        let reached = seen.as_slice()[gone];
-        see_superseders(alloc, vers, srel, reached, &mut seen)?;
+        let above = direct_superseders(alloc, vers, srel, seen.as_slice()[gone])?;
+        for by in above.as_slice() {
+            seen.insert(*by)?;
+        }
         gone += 1;
     }
     let ids = Vec::from_slice(alloc, seen.as_slice())?;
