@@ -1,7 +1,9 @@
 //! Which other candidates serve what an id asks for, and what BYPASS covers.
 ghost use Rattle.std.specs.Prelude.{◌≡◌, ◌++◌, ◌∷◌, [], map, option_map, OnOk};
 ghost use Rattle.std.specs.List.{flat_map};
+ghost use Rattle.std.specs.String.{string_bytes};
 ghost use Rattle.terms.specs.Needs.{is_bypassed};
+ghost use Rattle.machine.specs.Report.{optional_text};
 ghost use Rattle.report.specs.Views.{line_view, status_view};
 ghost use Rattle.report.specs.Facts.{RequisiteFact, HoldFact};
 ghost use Rattle.report.specs.FactViews.{answer_view, fact_view};
@@ -13,7 +15,9 @@ use crate::grounds::Grounds;
 use crate::verdict::verdict_word;
 use fields::spelling::{hold_text, need_text};
 use fields::{Bypass, Id};
-use report::{Fact, LineWord, ReportLine, Requisite, Resolution, Status, append_words};
+use report::{
+    Fact, LineWord, ReportLine, Requisite, Resolution, Status, append_words, class_text, date_text,
+};
 use std::alloc::AllocError;
 use sysmods_values::Hold;
 use terms::NeedKind;
@@ -174,6 +178,15 @@ fn put_bypassed_requisite(
     append_words(b"   ", &[bypassed, kind, id], text)
 }
 
+fn comment_text(comment: &Option<String>) -> &[u8]
+    ensures { result.now ≡ optional_text (option_map string_bytes comment.now) }
+{
+    match comment {
+        Some(comment) => comment.as_bytes(),
+        None => b"-",
+    }
+}
+
 // Appends a hold that BYPASS covers.
 fn put_bypassed_hold(
     bypass: &Bypass,
@@ -192,10 +205,10 @@ fn put_bypassed_hold(
     let hold_word = LineWord::Of(b"hold");
     let reason = LineWord::Of(hold.reason.as_bytes());
     let (of_class, of_date) = (LineWord::Of(b"CLASS"), LineWord::Of(b"DATE"));
-    let class = LineWord::Optional(hold.class.as_ref().map(|class| class.as_bytes()));
-    let date = LineWord::Optional(hold.date.as_ref().map(|date| date.as_bytes()));
+    let class = LineWord::Of(class_text(&hold.class));
+    let date = LineWord::Of(date_text(&hold.date));
     let of_comment = LineWord::Of(b"COMMENT");
-    let comment = LineWord::Optional(hold.comment.as_ref().map(|comment| comment.as_bytes()));
+    let comment = LineWord::Of(comment_text(&hold.comment));
     let words = [
         bypassed, kind, hold_word, reason, of_class, class, of_date, date, of_comment, comment,
     ];

@@ -14,7 +14,7 @@ use crate::grounds::Grounds;
 use crate::statuses::by_delete;
 use fields::spelling::{hold_text, test_text, type_text};
 use fields::{Bypass, Id, Name};
-use report::{Fact, Found, LineWord, Maker, Rank, append_words};
+use report::{Fact, Found, LineWord, Maker, Rank, append_words, id_text};
 use std::alloc::AllocError;
 use sysmods_values::Hold;
 use terms::{ElemType, HoldKind, Test};
@@ -231,7 +231,7 @@ fn put_ver(
     let ver = LineWord::Of(b"VER");
     let number = LineWord::Number(number);
     let of_fmid = LineWord::Of(b"FMID");
-    let fmid = LineWord::Optional(fmid.as_ref().map(|id| id.as_bytes()));
+    let fmid = LineWord::Of(id_text(fmid));
     let fits_word = LineWord::Of(b"fits");
     let words = [code, ver, number, of_fmid, fmid, fits_word];
     append_words(b"   ", &words, text)

@@ -8,7 +8,7 @@ ghost use Rattle.report.specs.FactViews.{answer_view};
 use crate::fact_words::answer_word;
 use fields::Id;
 use fields::spelling::{hold_text, need_text};
-use report::{LineWord, Requisite, Resolution, append_words};
+use report::{LineWord, Requisite, Resolution, append_words, class_text, date_text};
 use std::alloc::AllocError;
 use sysmods_values::Hold;
 
@@ -99,8 +99,8 @@ pub(crate) fn put_hold(
     let reason = LineWord::Of(hold.reason.as_bytes());
     let mark = LineWord::If(hold.internal, b"INTERNAL", b"EXTERNAL");
     let (of_class, of_date) = (LineWord::Of(b"CLASS"), LineWord::Of(b"DATE"));
-    let class = LineWord::Optional(hold.class.as_ref().map(|class| class.as_bytes()));
-    let date = LineWord::Optional(hold.date.as_ref().map(|date| date.as_bytes()));
+    let class = LineWord::Of(class_text(&hold.class));
+    let date = LineWord::Of(date_text(&hold.date));
     match resolution {
         Some(answer) => {
             let answered = LineWord::Of(answer_word(answer));

@@ -8,7 +8,7 @@ use crate::asked_lines::{put_hold, put_requisite};
 use crate::element_lines::put_element;
 use crate::fact_words::{standing_text, type_word};
 use fields::Id;
-use report::{Fact, LineWord, Standing, append_words, entry_words};
+use report::{Fact, LineWord, Standing, append_words, entry_words, id_text};
 use std::alloc::AllocError;
 
 fn put_ver(
@@ -23,7 +23,7 @@ fn put_ver(
     let words = [
         LineWord::Number(number),
         LineWord::Of(b"FMID"),
-        LineWord::Optional(fmid.as_ref().map(|id| id.as_bytes())),
+        LineWord::Of(id_text(fmid)),
         LineWord::If(fits, b"FITS", b"-"),
         LineWord::If(counts, b"COUNTS", b"-"),
     ];

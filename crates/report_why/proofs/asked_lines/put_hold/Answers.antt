@@ -1,8 +1,7 @@
-use Rattle.std.proofs.Common.{◌≡◌, ◌++◌, None, Some, ap, rules, subst}
-use Rattle.std.specs.Prelude.{OnOk, option_map}
+use Rattle.std.proofs.Common.{◌≡◌, ◌++◌, None, Some, subst}
+use Rattle.std.specs.Prelude.{OnOk}
 use Rattle.std.proofs.lemmas.Result.{IfOk-equal}
 use Rattle.terms.specs.Types.{Hold}
-use Rattle.machine.specs.Report.{optional_text}
 use Rattle.report.specs.Facts.{HoldFact}
 use Rattle.sysmods_values.specs.contracts.hold.Hold.{the_view}
 use Rattle.report_why.specs.FactText.{fact_text}
@@ -12,22 +11,18 @@ use Rattle.report_why.proofs.asked_lines.put_hold.Goals as goal
 
 pub returns-in_ok-put_comment-in-Some : goal.returns-in_ok-put_comment-in-Some
 returns-in_ok-put_comment-in-Some c =
-    let class : option_map (λ t. t.now) c.map.result ≡ c.hold.inside.class = search rules in
-    let date : option_map (λ t. t.now) c.map-2.result ≡ c.hold.inside.date = search rules in
     let a = answer_view c.in-Some.answer in
     rw c.in-Some.is (subst (λ (h : Hold). OnOk c.put_answer.result
     (c.put_answer.new.text.items ≡ c.args.text.now.items ++ fact_text (HoldFact h (Some a)))) c.hold.view_is
     (IfOk-equal c.put_answer.result c.put_answer.new.text.items _ _ c.put_answer.ensures
     (hold_answered (the_view c.hold.inside) a c.args.text.now.items c.hold_text.ensures c.as_bytes.ensures.same
-    (ap optional_text class) (ap optional_text date) c.answer_word.ensures c.in_ok-append_words-in-Some.ensures
+    c.class_text.ensures c.date_text.ensures c.answer_word.ensures c.in_ok-append_words-in-Some.ensures
     c.in_ok-put_comment-in-Some.ensures)))
 
 pub returns-in_ok-append_words-in-None : goal.returns-in_ok-append_words-in-None
 returns-in_ok-append_words-in-None c =
-    let class : option_map (λ t. t.now) c.map.result ≡ c.hold.inside.class = search rules in
-    let date : option_map (λ t. t.now) c.map-2.result ≡ c.hold.inside.date = search rules in
     rw c.in-None.is (subst (λ (h : Hold). OnOk c.put_comment-in-None.result
     (c.put_comment-in-None.new.text.items ≡ c.args.text.now.items ++ fact_text (HoldFact h None))) c.hold.view_is
     (IfOk-equal c.put_comment-in-None.result c.put_comment-in-None.new.text.items _ _ c.put_comment-in-None.ensures
     (hold_unanswered (the_view c.hold.inside) c.args.text.now.items c.hold_text.ensures c.as_bytes.ensures.same
-    (ap optional_text class) (ap optional_text date) c.in_ok-append_words-in-None.ensures)))
+    c.class_text.ensures c.date_text.ensures c.in_ok-append_words-in-None.ensures)))
