@@ -4,5 +4,3 @@ pub mod Singles
 pub mod Answers
 pub mod Causers
 pub mod Greatest
-pub mod Clear
-pub mod AnyDate

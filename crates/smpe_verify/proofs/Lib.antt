@@ -1,5 +1,7 @@
 mod FirstOf
+mod Joining
 mod Judging
 mod LawLemmas
+mod Loading
 mod Rules
 mod ZoneByZone

@@ -1,4 +1,8 @@
 mod Alone
+mod Behind
+mod ClearFacts
+mod ClearInstall
 mod Cards
 pub mod Parts
 pub mod Related
+pub mod AnyDate

@@ -10,13 +10,12 @@ ghost use Rattle.machine.specs.Report.{refused_text};
 ghost use Rattle.report.specs.Views.{line_view};
 ghost use Rattle.report.specs.Facts.{among};
 ghost use Rattle.smpe_why.specs.Scopes.{IsScopeOf};
-ghost use Rattle.machine_laws.specs.AnyDate.{Selects};
-ghost use Rattle.smpe_why.specs.Telling.{IsTold, AreToldBy, AreToldInTurn, IsToldOf};
+ghost use Rattle.smpe_why.specs.Telling.{IsTold, AreToldBy, AreToldInTurn, IsToldOf, Selects};
 
 use crate::found::LoadedZones;
 use crate::question::Question;
 use fields::{Attest, Bypass, Id, IdList, Selection, SourceList, YyDdd};
-use report::{LineWord, ReportLine, append_words};
+use report::ReportLine;
 use report_verdict::{Grounds, conflicts_of, put_verdict};
 use report_why::{Lookups, facts_code, facts_of, put_facts};
 use select::candidates;
@@ -132,6 +131,7 @@ fn tell_of<'a>(
         (map line_view lines.now) id text code
         × (told.new.text.items ≡ told.old.text.items ++ text) × (told.new.status ≡ max told.old.status code)) }
 {
+    scope.ids.attest();
     if scope.ids.contains(id) {
         return tell_in(alloc, lookups, scope, lines, id, told);
     }
@@ -250,6 +250,6 @@ fn unknown(alloc: Global) -> Result<Told, AllocError>
     ensures { IfOk result (λ told. (told.text.items ≡ refused_text NoZone) × (told.status ≡ 12)) }
 {
     let mut text = Vec::new(alloc);
-    append_words(b"REFUSED", &[LineWord::Of(b"Cm2")], &mut text)?;
+    text.extend_from_slice(b"REFUSED Cm2\n")?;
     Ok(Told { text, status: 12 })
 }
