@@ -12,7 +12,7 @@ ghost use Rattle.undo.specs.Scopes.{restoring};
 ghost use Rattle.report.specs.FactViews.{fact_view};
 ghost use Rattle.report_why.specs.Needed.{sole, soles, needed_pairs, needing, AllNeeded, AreNeeded};
 
-use fields::{Attest, Id, IdList};
+use fields::{Id, IdList};
 use report::Fact;
 use std::alloc::{AllocError, Global};
 use sysmods::VerChoice;
@@ -178,7 +178,6 @@ pub(crate) fn needed_facts(
         push_needing(pair, id, &mut found)?;
     }
     let needing = IdList::from_vec(found);
-    needing.attest();
     let mut facts = Vec::new(alloc);
     for by in needing.as_slice() {
         facts.push(Fact::Needed(*by))?;

@@ -142,7 +142,6 @@ fn requisites(alloc: Global, asking: &Asking<'_, '_>) -> Result<Vec<Requisite>, 
     push_conditions(asking, &mut found)?;
     let losses = orphans(alloc, scope.vers, scope.zone, id)?;
     let lost = IdList::from_vec(losses);
-    lost.attest();
     push_all(NeedKind::Orphan, id, lost.as_slice(), &mut found)?;
     Ok(found)
 }

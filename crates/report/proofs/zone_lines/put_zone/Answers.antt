@@ -20,7 +20,8 @@ loop-entry-preserved g c =
     ++ line_text (EntryLine kind e)) c.entry-item.is
     ∙ flat_map_more (λ e. line_text (EntryLine kind e)) entries c.loop-entry.entry-index c.entry-item.result
     c.loop-entry-test.true)
-    (paged_then _ _ _ _ _ _ _ _ c.loop-entry.invariant c.put_entry.ensures)
+    (paged_then _ _ _ _ _ _ _ _ c.loop-entry.invariant
+    (paged_as _ _ _ _ _ _ c.entry_words.ensures c.put_words.ensures.paged))
 
 pub loop-element-preserved : goal.loop-element-preserved
 loop-element-preserved g c =

@@ -1,37 +1,27 @@
-//! The received SYSMODs that serve a need for an id: the one of this id, and those that supersede it.
-ghost use Rattle.std.specs.Prelude.{◌≡◌, ◌↔◌, ◌⊎◌, filter, Contains, IfOk, OnOk};
+//! The received SYSMODs that serve a need for an id, or resolve the reason of a hold: the one of this id, and those that
+//! supersede it.
+ghost use Rattle.std.specs.Prelude.{◌≡◌, ◌↔◌, ◌⊎◌, filter, Contains, IfOk, IsTrue};
 ghost use Rattle.terms.specs.Types.{Id as AnId};
 ghost use Rattle.terms.specs.Lookups.{is_in};
 ghost use Rattle.terms.specs.Choice.{sup_of};
 ghost use Rattle.terms.specs.Needs.{Serves};
 ghost use Rattle.terms.specs.Over.{Supersedes};
-ghost use Rattle.sysmods.specs.Choices.{choice};
-ghost use Rattle.sysmods.specs.Seen.{AddsAll};
-ghost use Rattle.report_why.specs.Superseders.{direct_superseders};
+ghost use Rattle.sysmods.specs.Choices.{has_ver, choice};
+ghost use Rattle.report.specs.Superseders.{direct_superseders};
 
-use fields::{Id, Srel};
+use fields::{Id, IdList, Srel};
 use indexmap::IndexSet;
 use judge_system::takes_superseder;
 use std::alloc::{AllocError, Global};
 use sysmods::VerChoice;
 use terms::NeedKind;
 
-// Whether its `++VER` that counts names the id in SUP.
-fn supersedes(vers: &VerChoice<'_>, by: Id, id: Id) -> bool
-    ensures { result ≡ is_in (sup_of (choice vers.now) by) id }
-{
-    match vers.ver(by) {
-        Some(ver) => ver.sup.contains(id),
-        None => false,
-    }
-}
-
 fn among(alloc: Global, vers: &VerChoice<'_>, id: Id, namers: &[Id]) -> Result<Vec<Id>, AllocError>
     ensures { IfOk result (λ ids. ids.items ≡ filter (λ y. is_in (sup_of (choice vers.now) y) id) namers.now) }
 {
     namers
         .iter()
-        .filter(|by| supersedes(vers, **by, id))
+        .filter(|by| vers.sup(**by).contains(&id))
         .copied()
         .collect(alloc)
 }
@@ -51,24 +41,6 @@ fn direct_superseders(
     among(alloc, vers, id, namers.as_slice())
 }
 
-// Adds the received SYSMODs that name the id in SUP.
-fn see_superseders(
-    alloc: Global,
-    vers: &VerChoice<'_>,
-    srel: Srel,
-    id: Id,
-    seen: &mut IndexSet<Id>,
-) -> Result<(), AllocError>
-    requires { vers.now.srel ≡ srel }
-    ensures { OnOk result (AddsAll seen.old.keys (direct_superseders vers.now id) seen.new.keys) }
-{
-    let above = direct_superseders(alloc, vers, srel, id)?;
-    for by in above.as_slice() {
-        seen.insert(*by)?;
-    }
-    Ok(())
-}
-
 // The id, and all received SYSMODs that supersede it. It goes through each once.
 fn with_superseders(
     alloc: Global,
@@ -84,8 +56,10 @@ fn with_superseders(
     seen.insert(id)?;
     let mut gone = 0;
     while gone < seen.len() {
-        let reached = seen.as_slice()[gone];
-        see_superseders(alloc, vers, srel, reached, &mut seen)?;
+        let above = direct_superseders(alloc, vers, srel, seen.as_slice()[gone])?;
+        for by in above.as_slice() {
+            seen.insert(*by)?;
+        }
         gone += 1;
     }
     let ids = Vec::from_slice(alloc, seen.as_slice())?;
@@ -93,7 +67,7 @@ fn with_superseders(
 }
 
 /// The ids that serve a need for the id, received or not.
-pub(crate) fn serving_ids(
+pub fn serving_ids(
     alloc: Global,
     vers: &VerChoice<'_>,
     srel: Srel,
@@ -107,4 +81,21 @@ pub(crate) fn serving_ids(
         return with_superseders(alloc, vers, srel, id);
     }
     Ok(vec![in alloc; id]?)
+}
+
+/// The received SYSMODs with a `++VER` for the SREL that are the reason or supersede it.
+pub(crate) fn resolvers(
+    alloc: Global,
+    vers: &VerChoice<'_>,
+    srel: Srel,
+    reason: Id,
+) -> Result<IdList, AllocError>
+    requires { vers.now.srel ≡ srel }
+    ensures { IfOk result (λ ids. (y : AnId) → Contains ids y
+        ↔ (IsTrue (has_ver vers.now.global.now vers.now.srel y)
+        × ((y ≡ reason) ⊎ Supersedes (choice vers.now) y reason))) }
+{
+    let mut ids = with_superseders(alloc, vers, srel, reason)?;
+    ids.retain(|id| vers.has_ver(*id));
+    Ok(IdList::from_vec(ids))
 }

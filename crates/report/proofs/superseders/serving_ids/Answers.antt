@@ -1,8 +1,8 @@
 use Rattle.std.proofs.Common.{◌∙◌, sym}
 use Rattle.std.proofs.lemmas.Result.{IfOk-weaker}
 use Rattle.sysmods.specs.Choices.{choice}
-use Rattle.report_why.proofs.SearchBack.{serves_above}
-use Rattle.report_why.proofs.superseders.serving_ids.Goals as goal
+use Rattle.report.proofs.Superseding.{serves_above}
+use Rattle.report.proofs.superseders.serving_ids.Goals as goal
 
 pub returns-then-takes_superseder : goal.returns-then-takes_superseder
 returns-then-takes_superseder c =
