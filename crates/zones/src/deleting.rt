@@ -40,7 +40,7 @@ pub fn view_deletions(
 }
 
 // What the candidates in the chain name there.
-fn chain_deletions(
+pub(crate) fn chain_deletions(
     alloc: Global,
     vers: &VerChoice<'_>,
     cands: &IdList,

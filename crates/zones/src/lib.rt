@@ -17,7 +17,7 @@ mod entry;
 mod left;
 mod orphaned;
 mod scope;
-mod taking;
+mod zone_less;
 
 pub use binding::requisites_held;
 pub use bypassing::is_bypassed_hold;
@@ -30,6 +30,7 @@ pub use orphaned::orphans;
 pub use scope::Scope;
 pub use sysmods::{Chain, VerChoice};
 pub use terms::ZoneKind;
+pub use zone_less::ZoneLess;
 pub use zones_maps::{
     Applied, Element, Entry, PreparedZone, Zone, ZoneDelta, ZoneEdits, are_same, is_element,
     is_same_entry,

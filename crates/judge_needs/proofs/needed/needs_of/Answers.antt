@@ -8,7 +8,7 @@ use Rattle.judge_needs.proofs.needed.needs_of.Goals as goal
 
 pub loop-id-preserved : goal.loop-id-preserved
 loop-id-preserved c =
-    let scope = c.args.scope.now in
+    let scope = c.args.conditions.now.scope in
     needs_next (setting_of scope) c.args.survivors.now
     (zone_less (global_of scope) (choice_of scope) c.as_slice-2.result.now scope.zone.now)
     c.as_slice-id-items.result.now c.loop-id.id-index c.id-item.result c.loop-id.needs.items
@@ -17,7 +17,7 @@ loop-id-preserved c =
 
 pub returns : goal.returns
 returns c =
-    let scope = c.args.scope.now in
+    let scope = c.args.conditions.now.scope in
     let needs = AreNeedsOf (setting_of scope) c.args.survivors.now in
     let left = λ (ds : List Id). zone_less (global_of scope) (choice_of scope) ds scope.zone.now in
     let dels : c.as_slice-2.result.now ≡ deletions (choice_of scope) c.args.survivors.now =

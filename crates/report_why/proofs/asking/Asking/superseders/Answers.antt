@@ -20,7 +20,7 @@ returns-in-Some c =
     let zone = a.scope.zone.now in
     IfOk-weaker c.kept.result _ _ (λ ids is.
     is ∙ ap (filter (λ y. not (is_dropped a y)))
-    (c.as_slice.ensures.items ∙ ap (λ (e : Entry). e.supby) c.found.view_is ∙ ap supby_in c.in-Some.ensures)
+    (c.as_slice.ensures.items ∙ ap (λ (e : Entry). e.supby) c.found.view_is ∙ ap supby_in c.in-Some.ensures.found)
     ∙ ap (λ dels. filter (λ y. not (is_taken_out g ch dels zone y)) (supby_of zone c.args.id)) a.dropped_is
     ∙ sym (supby_of_less g ch (deletions ch (a.id ∷ [])) zone c.attest.ensures c.args.id)) c.kept.ensures
 
@@ -31,5 +31,6 @@ returns-in-None c =
     let ch = choice_of a.scope in
     let zone = a.scope.zone.now in
     c.new.ensures.items
-    ∙ ap (λ o. filter (λ y. not (is_taken_out g ch (deletions ch (a.id ∷ [])) zone y)) (supby_in o)) c.in-None.ensures
+    ∙ ap (λ o. filter (λ y. not (is_taken_out g ch (deletions ch (a.id ∷ [])) zone y)) (supby_in o))
+    c.in-None.ensures.found
     ∙ sym (supby_of_less g ch (deletions ch (a.id ∷ [])) zone c.attest.ensures c.args.id)
