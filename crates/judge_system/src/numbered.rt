@@ -3,15 +3,16 @@ ghost use Rattle.std.specs.Prelude.{◌≡◌, ◌<◌, ◌^◌, length, map, Al
 ghost use Rattle.terms.specs.Lookups.{IsRising, is_nil};
 ghost use Rattle.solve.specs.System.{IsSystem};
 ghost use Rattle.judge_system.specs.Numbered.{AddsNeed, HasNeeds, HasSystem};
+ghost use Rattle.judge_system.specs.TestSets.{tests_of};
 
 use crate::serving::{own_place, places_of, served};
 use crate::stated::{RequisiteOf, need_at};
+use crate::test_set::TestSet;
 use fields::{Id, IdList};
 use indexmap::IndexSet;
 use solve::{Need, System};
 use std::alloc::{AllocError, Global};
 use std::collections::BTreeSet;
-use terms::Test;
 
 /// The greatest number of candidates whose count fits into 32 bits.
 const MOST: usize = u32::MAX as usize;
@@ -33,14 +34,10 @@ pub(crate) fn with_numbers(alloc: Global, ids: &IdList) -> Result<IndexSet<Id>, 
 }
 
 /// Whether each candidate fails no test.
-pub(crate) fn all_eligible(alloc: Global, rows: &[Vec<Test>]) -> Result<Vec<bool>, AllocError>
-    ensures { IfOk result (λ flags. flags.items ≡ map (λ row. is_nil row.items) rows.now) }
+pub(crate) fn all_eligible(alloc: Global, sets: &[TestSet]) -> Result<Vec<bool>, AllocError>
+    ensures { IfOk result (λ flags. flags.items ≡ map (λ tests. is_nil (tests_of tests)) sets.now) }
 {
-    let mut flags = Vec::new(alloc);
-    for row in rows {
-        flags.push(row.is_empty())?;
-    }
-    Ok(flags)
+    sets.iter().map(|tests| tests.is_empty()).collect(alloc)
 }
 
 // Adds one need.
