@@ -13,7 +13,7 @@ ghost use Rattle.report.specs.FactViews.{fact_view};
 
 use crate::answers::answer;
 use crate::asking::Asking;
-use fields::{Attest, Id, IdList};
+use fields::{Id, IdList};
 use report::{Fact, Requisite};
 use std::alloc::{AllocError, Global};
 use sysmods_values::IfReq;

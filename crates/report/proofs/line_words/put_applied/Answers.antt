@@ -1,4 +1,4 @@
-use Rattle.std.proofs.Common.{◌≡◌, ◌∙◌, ap}
+use Rattle.std.proofs.Common.{◌∙◌, ap}
 use Rattle.terms.specs.Types.{Applied}
 use Rattle.report.proofs.Paging.{paged_then, paged_as}
 use Rattle.report.proofs.Listings.{applied_put}
