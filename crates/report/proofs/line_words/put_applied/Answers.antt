@@ -9,5 +9,5 @@ returns-in-Some g c =
     paged_as _ _ _ _ _ _
     (applied_put c.args.kind c.args.applied.now c.in-Some.applied c.in-Some.is c.applied_word.ensures
     (c.as_bytes.ensures.same ∙ ap (λ (a : Applied). a.date) c.applied.view_is))
-    (paged_then _ _ _ _ _ _ _ _ (paged_then _ _ _ _ _ _ _ _ c.put.ensures.paged c.put-2.ensures.paged)
-    c.put-3.ensures.paged)
+    (paged_then _ _ _ _ _ _ _ _ (paged_then _ _ _ _ _ _ _ _ c.put.ensures.paged c.put-in-Some.ensures.paged)
+    c.put-in-Some-2.ensures.paged)
