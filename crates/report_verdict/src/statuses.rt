@@ -2,11 +2,13 @@
 ghost use Rattle.std.specs.Prelude.{◌≡◌, ◌++◌, map, IfOk, OnOk};
 ghost use Rattle.std.specs.List.{list_any, list_all};
 ghost use Rattle.terms.specs.Lookups.{is_in};
+ghost use Rattle.judge_system.specs.TestSets.{tests_of};
 ghost use Rattle.report.specs.Views.{status_view, line_view};
 ghost use Rattle.report_verdict.specs.Conflicts.{by_delete, by_clash, by_others, is_chain_deleted, is_in_clash};
 ghost use Rattle.report_verdict.specs.Conflicts.{passes_alone, says, id_where, ids_where, others, deleters, clashing};
 
 use fields::Id;
+use judge_system::TestSet;
 use report::{ReportLine, Status};
 use std::alloc::{AllocError, Global};
 use terms::Test;
@@ -29,29 +31,29 @@ fn by_others(test: Test) -> bool
     by_delete(test) || by_clash(test)
 }
 
-fn any_by_delete(tests: &[Test]) -> bool
-    ensures { result ≡ list_any by_delete tests.now }
+fn any_by_delete(tests: TestSet) -> bool
+    ensures { result ≡ list_any by_delete (tests_of tests) }
 {
-    tests.iter().any(|test| by_delete(*test))
+    tests.chain_deleted
 }
 
-fn any_by_clash(tests: &[Test]) -> bool
-    ensures { result ≡ list_any by_clash tests.now }
+fn any_by_clash(tests: TestSet) -> bool
+    ensures { result ≡ list_any by_clash (tests_of tests) }
 {
-    tests.iter().any(|test| by_clash(*test))
+    tests.in_clash
 }
 
-fn all_by_others(tests: &[Test]) -> bool
-    ensures { result ≡ list_all by_others tests.now }
+fn all_by_others(tests: TestSet) -> bool
+    ensures { result ≡ list_all by_others (tests_of tests) }
 {
-    tests.iter().all(|test| by_others(*test))
+    tests.iter().all(|test| by_others(test))
 }
 
 fn is_chain_deleted(status: &Status) -> bool
     ensures { result ≡ is_chain_deleted (status_view status.now) }
 {
     match status {
-        Status::Failed(failure) => any_by_delete(failure.tests.as_slice()),
+        Status::Failed(failure) => any_by_delete(failure.tests),
         _ => false,
     }
 }
@@ -60,7 +62,7 @@ fn is_in_clash(status: &Status) -> bool
     ensures { result ≡ is_in_clash (status_view status.now) }
 {
     match status {
-        Status::Failed(failure) => any_by_clash(failure.tests.as_slice()),
+        Status::Failed(failure) => any_by_clash(failure.tests),
         _ => false,
     }
 }
@@ -72,7 +74,7 @@ fn passes_alone(status: &Status) -> bool
         Status::Applied => true,
         Status::Accepted => true,
         Status::Superseded => true,
-        Status::Failed(failure) => all_by_others(failure.tests.as_slice()),
+        Status::Failed(failure) => all_by_others(failure.tests),
         _ => false,
     }
 }

@@ -211,7 +211,6 @@ fn lines_of(
     ensures { IfOk result (λ lines. (date : AText) × (new : AZone) × InstallsSelected lookups.now.global.now
         lookups.now.zone.now (option_copied related.entry) selection.now bypass.now date new (map line_view lines.items)) }
 {
-    lookups.zone.attest();
     let date = YyDdd::new(2000, 1);
     let InstallChange { delta, lines } = apply(
         alloc,
