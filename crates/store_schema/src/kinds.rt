@@ -1,8 +1,8 @@
 //! Kinds, types and flags.
 
-ghost use Rattle.std.specs.Prelude.{◌≡◌, ◌≢◌, ◌∷◌, ℕ, Bool, pos, IfOk, IfSome, IfNone, IsErrOf};
+ghost use Rattle.std.specs.Prelude.{◌≡◌, ◌≢◌, ◌∷◌, ℕ, Bool, pos, IfOk, IsErrOf};
 ghost use Rattle.sqlite.specs.declared.types.Value.TheVariants.{Int, Text};
-ghost use Rattle.sqlite.specs.Order.{Row as SqlRow, column};
+ghost use Rattle.sqlite.specs.Order.{Row as SqlRow};
 ghost use Rattle.store_schema.specs.Rows.{flag};
 ghost use Rattle.terms.specs.declared.kinds.Kind.{Kind as KindTerm};
 ghost use Rattle.terms.specs.declared.kinds.HoldKind.{HoldKind as HoldTerm};
@@ -12,8 +12,7 @@ ghost use Rattle.terms.specs.Spelling.{kind_text, hold_text, type_text, zone_kin
 
 use crate::columns::Columns;
 use fields::spelling::{read_hold, read_kind, read_type, read_zone_kind};
-use sqlite::Row;
-use store_rows::{ReadError, text, whole};
+use store_rows::ReadError;
 use terms::{ElemType, HoldKind, Kind, ZoneKind};
 
 impl Columns<'_> {
@@ -81,49 +80,5 @@ impl Columns<'_> {
             return Err(ReadError::BadRow);
         }
         Ok(number as u64)
-    }
-}
-
-/// The type of a SYSMOD, as the column spells it.
-pub fn kind_in(row: &Row, at: usize) -> Option<Kind>
-    ensures some { IfSome result (λ kind. column row.now at ≡ Text (kind_text kind)) }
-    ensures none { IfNone result ((kind : KindTerm) → column row.now at ≢ Text (kind_text kind)) }
-{
-    read_kind(text(row, at)?)
-}
-
-/// The kind of a hold, as the column spells it.
-pub fn hold_kind_in(row: &Row, at: usize) -> Option<HoldKind>
-    ensures some { IfSome result (λ kind. column row.now at ≡ Text (hold_text kind)) }
-    ensures none { IfNone result ((kind : HoldTerm) → column row.now at ≢ Text (hold_text kind)) }
-{
-    read_hold(text(row, at)?)
-}
-
-/// The type of an element, as the column spells it.
-pub fn elem_type_in(row: &Row, at: usize) -> Option<ElemType>
-    ensures some { IfSome result (λ type. column row.now at ≡ Text (type_text type)) }
-    ensures none { IfNone result ((type : TypeTerm) → column row.now at ≢ Text (type_text type)) }
-{
-    read_type(text(row, at)?)
-}
-
-/// The kind of a zone, as the column spells it.
-pub fn zone_kind_in(row: &Row, at: usize) -> Option<ZoneKind>
-    ensures some { IfSome result (λ kind. column row.now at ≡ Text (zone_kind_text kind)) }
-    ensures none { IfNone result ((kind : ZoneTerm) → column row.now at ≢ Text (zone_kind_text kind)) }
-{
-    read_zone_kind(text(row, at)?)
-}
-
-/// A yes or no, as the column has it: 1 or 0.
-pub fn flag_in(row: &Row, at: usize) -> Option<bool>
-    ensures some { IfSome result (λ b. column row.now at ≡ flag b) }
-    ensures none { IfNone result ((b : Bool) → column row.now at ≢ flag b) }
-{
-    match whole(row, at)? {
-        0 => Some(false),
-        1 => Some(true),
-        _ => None,
     }
 }

@@ -1,16 +1,15 @@
 //! Columns whose value is a text or NULL.
 
-ghost use Rattle.std.specs.Prelude.{◌≡◌, ◌≢◌, ◌∷◌, ℕ, List, Option, IfOk, IfSome, IfNone, IsErrOf};
+ghost use Rattle.std.specs.Prelude.{◌≡◌, ◌≢◌, ◌∷◌, ℕ, List, Option, IfOk, IfSome, IsErrOf};
 ghost use Rattle.sqlite.specs.declared.types.Value.TheVariants.{Text};
-ghost use Rattle.sqlite.specs.Order.{Row as SqlRow, column};
+ghost use Rattle.sqlite.specs.Order.{Row as SqlRow};
 ghost use Rattle.sqlite.specs.Values.{or_null};
 ghost use Rattle.sqlite_value.specs.Value.{owned};
 
 use crate::columns::Columns;
 use fields::{Class, HoldDate, Id, Name, YyDdd, ZoneName};
-use sqlite::Row;
 use sqlite_value::value::ValueRef;
-use store_rows::{ReadError, optional_text};
+use store_rows::ReadError;
 
 /// A value that a column stores as its text.
 pub trait TextValue: Sized {
@@ -142,19 +141,6 @@ impl Columns<'_> {
             Some(value) => Ok(Some(value)),
             None => Err(ReadError::BadRow),
         }
-    }
-}
-
-/// The value in a column, or none if it is NULL.
-pub fn optional_in<T: TextValue>(row: &Row, at: usize) -> Option<Option<T>>
-    ensures some { IfSome result (λ value. (column row.now at ≡ or_null (λ v. Text (T.text v)) value)
-        × IfSome value (λ v. T.form (T.text v))) }
-    ensures none { IfNone result ((value : Option (List ℕ)) → IfSome value T.form
-        → column row.now at ≢ or_null Text value) }
-{
-    match optional_text(row, at)? {
-        Some(text) => Some(Some(T::read(text)?)),
-        None => Some(None),
     }
 }
 
