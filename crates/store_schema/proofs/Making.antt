@@ -62,23 +62,6 @@ pub record Makes (text : List ℕ) (made : List Table) (next : Table) : Type 0 w
   pub place : next_tree (schema_of made) ≡ next.tree
   pub uncounted : lacks_sequence (schema_of (made ++ next ∷ [])) ≡ false
 
-pub makes_next : {text : List ℕ} {made : List Table} {next : Table}
-    → command_of (understood (schema_of made) text) ≡ CreateTable → IsPlain (understood (schema_of made) text)
-    → statement_of text (understood (schema_of made) text) ≡ text
-    → table_defined_by text ≡ Ok (record next { tree = 0 })
-    → created (schema_of made) (record next { tree = 0 }) ≡ schema_of (made ++ next ∷ [])
-    → next_tree (schema_of made) ≡ next.tree → lacks_sequence (schema_of (made ++ next ∷ [])) ≡ false
-    → Makes text made next
-makes_next is plain whole defines makes place uncounted = record {
-  is = is;
-  plain = plain;
-  whole = whole;
-  defines = defines;
-  makes = makes;
-  place = place;
-  uncounted = uncounted;
-}
-
 pub no_rows : (table : Table) (rows : List Row) → rows ≡ [] → AreRows table [] rows
 no_rows table rows none = record { same = rw none (IsPermutation-refl []); numbered = rw none none_numbered }
 

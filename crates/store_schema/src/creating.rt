@@ -14,65 +14,6 @@ ghost use Rattle.store_schema.specs.Tables.{chosen, schema_of, store_schema};
 use crate::schema::Schema;
 use sqlite::{Alter, Error, Transaction};
 
-const SYSMOD: &str =
-    "CREATE TABLE sysmod (id TEXT NOT NULL, kind TEXT NOT NULL, sources TEXT NOT NULL, \
-    PRIMARY KEY (id)) STRICT";
-
-const VER: &str =
-    "CREATE TABLE ver (id TEXT NOT NULL, srel TEXT NOT NULL, fmid TEXT, pre TEXT NOT NULL, \
-    req TEXT NOT NULL, sup TEXT NOT NULL, npre TEXT NOT NULL, del TEXT NOT NULL, PRIMARY KEY (id, srel), \
-    FOREIGN KEY (id) REFERENCES sysmod (id) ON DELETE CASCADE) STRICT";
-
-const IFREQ: &str =
-    "CREATE TABLE ifreq (id TEXT NOT NULL, srel TEXT NOT NULL, n INTEGER NOT NULL, fmid TEXT NOT NULL, \
-    req TEXT NOT NULL, PRIMARY KEY (id, srel, n), \
-    FOREIGN KEY (id) REFERENCES sysmod (id) ON DELETE CASCADE) STRICT";
-
-const HOLD: &str =
-    "CREATE TABLE hold (id TEXT NOT NULL, kind TEXT NOT NULL, reason TEXT NOT NULL, fmid TEXT NOT NULL, \
-    class TEXT, date TEXT, comment TEXT, internal INTEGER NOT NULL, \
-    PRIMARY KEY (id, kind, reason)) STRICT";
-
-const ELEM: &str =
-    "CREATE TABLE elem (id TEXT NOT NULL, type TEXT NOT NULL, name TEXT NOT NULL, upd INTEGER NOT NULL, \
-    distlib TEXT, syslib TEXT, text BLOB NOT NULL, PRIMARY KEY (id, type, name), \
-    FOREIGN KEY (id) REFERENCES sysmod (id) ON DELETE CASCADE) STRICT";
-
-const ZONE: &str =
-    "CREATE TABLE zone (name TEXT NOT NULL, kind TEXT NOT NULL, srel TEXT NOT NULL, related TEXT, \
-    PRIMARY KEY (name)) STRICT";
-
-const ENTRY: &str =
-    "CREATE TABLE entry (zone TEXT NOT NULL, id TEXT NOT NULL, date TEXT, supby TEXT NOT NULL, delby TEXT, \
-    waived TEXT NOT NULL, PRIMARY KEY (zone, id), FOREIGN KEY (zone) REFERENCES zone (name)) STRICT";
-
-const ZELEM: &str =
-    "CREATE TABLE zelem (zone TEXT NOT NULL, type TEXT NOT NULL, name TEXT NOT NULL, fmid TEXT NOT NULL, \
-    rmid TEXT NOT NULL, umid TEXT NOT NULL, distlib TEXT NOT NULL, syslib TEXT NOT NULL, \
-    text BLOB NOT NULL, PRIMARY KEY (zone, type, name), \
-    FOREIGN KEY (zone) REFERENCES zone (name)) STRICT";
-
-const META: &str =
-    "CREATE TABLE meta (k TEXT NOT NULL, v INTEGER NOT NULL, PRIMARY KEY (k)) STRICT";
-
-const SOURCE: &str =
-    "CREATE TABLE source (id TEXT NOT NULL, name TEXT NOT NULL, PRIMARY KEY (id, name), \
-    FOREIGN KEY (id) REFERENCES sysmod (id) ON DELETE CASCADE) STRICT";
-
-const MOREVER: &str =
-    "CREATE TABLE morever (id TEXT NOT NULL, srel TEXT NOT NULL, n INTEGER NOT NULL, fmid TEXT, \
-    pre TEXT NOT NULL, req TEXT NOT NULL, sup TEXT NOT NULL, PRIMARY KEY (id, srel, n), \
-    FOREIGN KEY (id) REFERENCES sysmod (id) ON DELETE CASCADE) STRICT";
-
-const MOREIF: &str =
-    "CREATE TABLE moreif (id TEXT NOT NULL, srel TEXT NOT NULL, v INTEGER NOT NULL, n INTEGER NOT NULL, \
-    fmid TEXT NOT NULL, req TEXT NOT NULL, PRIMARY KEY (id, srel, v, n), \
-    FOREIGN KEY (id) REFERENCES sysmod (id) ON DELETE CASCADE) STRICT";
-
-const CHOSEN: &str =
-    "CREATE TABLE chosen (zone TEXT NOT NULL, id TEXT NOT NULL, n INTEGER NOT NULL, \
-    PRIMARY KEY (zone, id), FOREIGN KEY (zone) REFERENCES zone (name)) STRICT";
-
 pub(crate) fn run<S: Alter>(tx: &mut Transaction<'_, S>, sql: &str) -> Result<(), Error>
     ensures continues { Continues S.Store tx.old tx.new }
     ensures ran { HasCleanDisk (state S.Store tx.new.conn.now)
@@ -88,11 +29,35 @@ fn make_global<S: Alter>(tx: &mut Transaction<'_, S>) -> Result<(), Error>
     ensures ok { OnOk result (Leads S.Store tx.old.conn.now tx.new.conn.now (HasTables (meta ∷ []))
         (HasTables (meta ∷ global_tables))) }
 {
-    run(tx, SYSMOD)?;
-    run(tx, VER)?;
-    run(tx, IFREQ)?;
-    run(tx, HOLD)?;
-    run(tx, ELEM)
+    run(
+        tx,
+        "CREATE TABLE sysmod (id TEXT NOT NULL, kind TEXT NOT NULL, sources TEXT NOT NULL, \
+        PRIMARY KEY (id)) STRICT",
+    )?;
+    run(
+        tx,
+        "CREATE TABLE ver (id TEXT NOT NULL, srel TEXT NOT NULL, fmid TEXT, pre TEXT NOT NULL, \
+        req TEXT NOT NULL, sup TEXT NOT NULL, npre TEXT NOT NULL, del TEXT NOT NULL, PRIMARY KEY (id, srel), \
+        FOREIGN KEY (id) REFERENCES sysmod (id) ON DELETE CASCADE) STRICT",
+    )?;
+    run(
+        tx,
+        "CREATE TABLE ifreq (id TEXT NOT NULL, srel TEXT NOT NULL, n INTEGER NOT NULL, fmid TEXT NOT NULL, \
+        req TEXT NOT NULL, PRIMARY KEY (id, srel, n), \
+        FOREIGN KEY (id) REFERENCES sysmod (id) ON DELETE CASCADE) STRICT",
+    )?;
+    run(
+        tx,
+        "CREATE TABLE hold (id TEXT NOT NULL, kind TEXT NOT NULL, reason TEXT NOT NULL, fmid TEXT NOT NULL, \
+        class TEXT, date TEXT, comment TEXT, internal INTEGER NOT NULL, \
+        PRIMARY KEY (id, kind, reason)) STRICT",
+    )?;
+    run(
+        tx,
+        "CREATE TABLE elem (id TEXT NOT NULL, type TEXT NOT NULL, name TEXT NOT NULL, upd INTEGER NOT NULL, \
+        distlib TEXT, syslib TEXT, text BLOB NOT NULL, PRIMARY KEY (id, type, name), \
+        FOREIGN KEY (id) REFERENCES sysmod (id) ON DELETE CASCADE) STRICT",
+    )
 }
 
 // Zones with their entries.
@@ -101,9 +66,23 @@ fn make_zones<S: Alter>(tx: &mut Transaction<'_, S>) -> Result<(), Error>
     ensures ok { OnOk result (Leads S.Store tx.old.conn.now tx.new.conn.now (HasTables (meta ∷ global_tables))
         (HasTables first_tables)) }
 {
-    run(tx, ZONE)?;
-    run(tx, ENTRY)?;
-    run(tx, ZELEM)
+    run(
+        tx,
+        "CREATE TABLE zone (name TEXT NOT NULL, kind TEXT NOT NULL, srel TEXT NOT NULL, related TEXT, \
+        PRIMARY KEY (name)) STRICT",
+    )?;
+    run(
+        tx,
+        "CREATE TABLE entry (zone TEXT NOT NULL, id TEXT NOT NULL, date TEXT, supby TEXT NOT NULL, delby TEXT, \
+        waived TEXT NOT NULL, PRIMARY KEY (zone, id), FOREIGN KEY (zone) REFERENCES zone (name)) STRICT",
+    )?;
+    run(
+        tx,
+        "CREATE TABLE zelem (zone TEXT NOT NULL, type TEXT NOT NULL, name TEXT NOT NULL, fmid TEXT NOT NULL, \
+        rmid TEXT NOT NULL, umid TEXT NOT NULL, distlib TEXT NOT NULL, syslib TEXT NOT NULL, \
+        text BLOB NOT NULL, PRIMARY KEY (zone, type, name), \
+        FOREIGN KEY (zone) REFERENCES zone (name)) STRICT",
+    )
 }
 
 /// The tables that every schema has.
@@ -111,7 +90,10 @@ pub(crate) fn make_first<S: Alter>(tx: &mut Transaction<'_, S>) -> Result<(), Er
     ensures continues { Continues S.Store tx.old tx.new }
     ensures ok { OnOk result (Leads S.Store tx.old.conn.now tx.new.conn.now IsBlank (HasTables first_tables)) }
 {
-    run(tx, META)?;
+    run(
+        tx,
+        "CREATE TABLE meta (k TEXT NOT NULL, v INTEGER NOT NULL, PRIMARY KEY (k)) STRICT",
+    )?;
     make_global(tx)?;
     make_zones(tx)
 }
@@ -123,7 +105,11 @@ pub(crate) fn add_source<S: Alter>(tx: &mut Transaction<'_, S>) -> Result<(), Er
         (HasContents (schema_of first_tables) contents)
         (HasContents (schema_of second_tables) (with_new (source ∷ []) contents))) }
 {
-    run(tx, SOURCE)
+    run(
+        tx,
+        "CREATE TABLE source (id TEXT NOT NULL, name TEXT NOT NULL, PRIMARY KEY (id, name), \
+        FOREIGN KEY (id) REFERENCES sysmod (id) ON DELETE CASCADE) STRICT",
+    )
 }
 
 // Further `++VER`s of one SREL with their `++IF`s, and which of them installed an entry.
@@ -133,9 +119,23 @@ fn add_more<S: Alter>(tx: &mut Transaction<'_, S>) -> Result<(), Error>
         (HasContents (schema_of second_tables) contents)
         (HasContents store_schema (with_new (morever ∷ moreif ∷ chosen ∷ []) contents))) }
 {
-    run(tx, MOREVER)?;
-    run(tx, MOREIF)?;
-    run(tx, CHOSEN)
+    run(
+        tx,
+        "CREATE TABLE morever (id TEXT NOT NULL, srel TEXT NOT NULL, n INTEGER NOT NULL, fmid TEXT, \
+        pre TEXT NOT NULL, req TEXT NOT NULL, sup TEXT NOT NULL, PRIMARY KEY (id, srel, n), \
+        FOREIGN KEY (id) REFERENCES sysmod (id) ON DELETE CASCADE) STRICT",
+    )?;
+    run(
+        tx,
+        "CREATE TABLE moreif (id TEXT NOT NULL, srel TEXT NOT NULL, v INTEGER NOT NULL, n INTEGER NOT NULL, \
+        fmid TEXT NOT NULL, req TEXT NOT NULL, PRIMARY KEY (id, srel, v, n), \
+        FOREIGN KEY (id) REFERENCES sysmod (id) ON DELETE CASCADE) STRICT",
+    )?;
+    run(
+        tx,
+        "CREATE TABLE chosen (zone TEXT NOT NULL, id TEXT NOT NULL, n INTEGER NOT NULL, \
+        PRIMARY KEY (zone, id), FOREIGN KEY (zone) REFERENCES zone (name)) STRICT",
+    )
 }
 
 /// Creates the tables of the store that the schema lacks, in an open transaction. The rows of the others stay. Returns

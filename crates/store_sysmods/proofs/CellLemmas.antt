@@ -4,23 +4,20 @@ use Rattle.std.proofs.Common.{arith, refl, sym, ap, ◌∙◌}
 use Rattle.std.specs.Prelude.{IfSome}
 use Rattle.sqlite.specs.declared.types.Value.{Value}
 use Rattle.sqlite.specs.declared.types.Value.TheVariants as value
-use Rattle.sqlite.specs.Order.{Row, column}
+use Rattle.sqlite.specs.Order.{Row}
 use Rattle.sqlite.specs.Values.{or_null}
-use Rattle.store_rows.proofs.ContentsLemmas.{columns_from}
 use Rattle.terms.specs.declared.kinds.Kind.TheVariants.{Ptf}
 use Rattle.terms.specs.declared.kinds.ElemType.{ElemType}
 use Rattle.terms.specs.declared.kinds.ElemType.TheVariants.{Mac, Src}
 use Rattle.terms.specs.Types.{Text, Id, Lines, Action, Replaces, Updates}
 use Rattle.terms.specs.Forms.{IsName}
 use Rattle.terms.specs.Lookups.{is_in}
-use Rattle.terms.specs.Spelling.{type_text}
 use Rattle.terms.specs.Texts.{IsActionOf}
 use Rattle.terms.proofs.ListMembers.{none_in_nil}
 use Rattle.terms.proofs.Ids.{Contains_from_is_in}
-use Rattle.store_schema.specs.Forms.{AreSorted, AreOthers, AreRecords, HasActionForms}
-use Rattle.store_schema.specs.Rows.{ids, flag, records, ifreq_row, moreif_row, action_cells, elem_row}
+use Rattle.store_schema.specs.Forms.{AreSorted, AreOthers, HasActionForms}
+use Rattle.store_schema.specs.Rows.{ids, flag, records, action_cells}
 use Rattle.store_schema.proofs.OneState.{same_ids}
-use Rattle.store_schema.proofs.Spelled.{text_same}
 use Rattle.terms.specs.Forms.{IsId}
 
 -- the SYSMOD's own id is not among others
