@@ -20,6 +20,22 @@ use Rattle.store_schema.specs.Rows.{ids, flag, records, action_cells}
 use Rattle.store_schema.proofs.OneState.{same_ids}
 use Rattle.terms.specs.Forms.{IsId}
 
+-- ---- columns that are read one after the other
+
+pub next : {row rest cells : Row} {v : Value} → row ≡ v ∷ rest → rest ≡ cells → row ≡ v ∷ cells
+next {v = v} read behind = read ∙ ap (λ r. v ∷ r) behind
+
+pub rest_is : {row a b : Row} {v w : Value} → row ≡ v ∷ a → row ≡ w ∷ b → a ≡ b
+rest_is read same = cc
+
+pub text_is : {row a b : Row} {x y : Text} → row ≡ value.Text x ∷ a → row ≡ value.Text y ∷ b → y ≡ x
+text_is read same = cc
+
+-- another id is an id
+pub ids_of_others : (x : Id) (other : Option Text) → IfSome other (λ o. IsId o × (o ≢ x)) → IfSome other IsId
+ids_of_others x None forms = tt
+ids_of_others x (Some o) forms = forms.0
+
 -- the SYSMOD's own id is not among others
 pub own_id : (x : Id) (xs ys : List Id) (v : Value) → v ≡ ids xs → AreSorted IsId xs → is_in xs x ≡ true
     → AreOthers x ys → v ≡ ids ys → ⊥

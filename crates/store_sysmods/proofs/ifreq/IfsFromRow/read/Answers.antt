@@ -1,18 +1,18 @@
-use Rattle.std.proofs.Common.{refl}
+use Rattle.std.proofs.Common.{refl, rules, sym, ◌∙◌}
+use Rattle.store_sysmods.proofs.CellLemmas.{next}
 use Rattle.store_sysmods.proofs.Exact.{formed_if}
 use Rattle.store_sysmods.proofs.ifreq.IfsFromRow.read.Goals as goal
+
+pub returns-in_err-id-clause-none : goal.returns-in_err-id-clause-none
+returns-in_err-id-clause-none c bad item forms same =
+    c.id.ensures.none (search rules) item.id _ forms.0.0 (c.of-columns.ensures ∙ same)
 
 pub returns-clause-read : goal.returns-clause-read
 returns-clause-read c =
     let requisites = c.in_ok-req.ensures.read in (
-      let first = c.of-columns.ensures in
-          let id = c.in_ok-id.ensures.read.0 in
-          let srel = c.in_ok-srel.ensures.read.0 in
-          let number = c.in_ok-number.ensures.read in
-          let function = c.in_ok-function.ensures.read.0 in
-          let req = requisites.0 in
-          let last = c.in_ok-end.ensures.read in
-          cc,
+      sym c.of-columns.ensures ∙ next c.in_ok-id.ensures.read.0 (next c.in_ok-srel.ensures.read.0
+          (next c.in_ok-number.ensures.read (next c.in_ok-function.ensures.read.0
+          (next requisites.0 c.in_ok-end.ensures.read)))),
       (
         (
           c.in_ok-id.ensures.read.1,
