@@ -1,7 +1,6 @@
 -- The row of a hold.
-use Rattle.std.proofs.Common.{◌≡◌, [], ◌∷◌, length, refl, sym, ap, ◌∙◌}
+use Rattle.std.proofs.Common.{◌≡◌, [], ◌∷◌, refl, ap, ◌∙◌}
 use Rattle.sqlite.specs.declared.types.Value.TheVariants as value
-use Rattle.sqlite.specs.Order.{Row, column}
 use Rattle.sqlite.specs.Values.{or_null, bound_value}
 use Rattle.sqlite_value.specs.declared.value.ValueRef.{ValueRef}
 use Rattle.sqlite_value.specs.Value.{owned}
@@ -9,7 +8,6 @@ use Rattle.terms.specs.Spelling.{hold_text}
 use Rattle.terms.specs.Types.{Text, Hold}
 use Rattle.store_rows.specs.Texts.{SuitColumns}
 use Rattle.store_rows.proofs.Values.{kept_optional, kept_whole, bound_optional}
-use Rattle.store_rows.proofs.ContentsLemmas.{columns_from}
 use Rattle.store_schema.specs.Rows.{hold_row, flag}
 use Rattle.store_schema.specs.Tables.{hold}
 
@@ -49,8 +47,3 @@ hold_bound id kind reason fmid class date comment internal h is_id is_kind is_re
     ap bound_value is_comment ∙ bound_optional h.comment in
     let on_internal : bound_value (owned internal) ≡ flag h.internal = ap bound_value is_internal in
     cc
-
--- a row of eight columns is these columns
-pub eight : (row : Row) → length row ≡ 8 → row ≡ column row 0 ∷ column row 1 ∷ column row 2 ∷ column row 3 ∷ column row
-    4 ∷ column row 5 ∷ column row 6 ∷ column row 7 ∷ []
-eight row e = sym (columns_from row 0 8 (sym e))

@@ -2,7 +2,7 @@
 
 ghost use Rattle.std.specs.Prelude.{◌≡◌, ◌≢◌, ℕ, List, [], ◌∷◌, IfOk, IsErrOf};
 ghost use Rattle.std.specs.List.{concat};
-ghost use Rattle.sqlite.specs.Order.{column};
+ghost use Rattle.sqlite.specs.Order.{Row as SqlRow};
 ghost use Rattle.sqlite.specs.Values.{or_null};
 ghost use Rattle.sqlite.specs.declared.types.Value.TheVariants.{Int, Text};
 ghost use Rattle.sqlite_value.specs.Value.{owned};
@@ -29,10 +29,7 @@ use sqlite_value::row::Row as Cells;
 use sqlite_value::value::ValueRef;
 use std::alloc::{AllocError, Global};
 use store_rows::{FromRow, ReadError, cells_of, remove};
-use store_schema::{
-    Query, elem_type_in, element_text_in, flag_in, id_in, is_updated, name_in, optional_in,
-    records_in,
-};
+use store_schema::{Columns, Query, is_updated};
 use sysmods_values::{Action, ElemChange};
 use terms::ElemType;
 use text80::{Line, TextError, Update, bytes_of};
@@ -65,17 +62,16 @@ pub struct ElemRow {
 // The records of a replacement, at least one.
 fn replacement_in(
     alloc: Global,
-    row: &Row,
-    at: usize,
+    columns: &mut Columns<'_>,
     elem_type: ElemType,
 ) -> Result<Vec<Line>, ReadError>
-    ensures some { IfOk result (λ text. (column row.now at ≡ records text.items) × IsTextOf elem_type text.items
-        × (text.items ≢ [])) }
-    ensures none { IsErrOf result ReadError.BadRow → (text : List (List ℕ)) → IsTextOf elem_type text → text ≢ []
-        → column row.now at ≢ records text }
+    ensures read { IfOk result (λ text. (columns.old ≡ records text.items ∷ columns.new)
+        × IsTextOf elem_type text.items × (text.items ≢ [])) }
+    ensures none { IsErrOf result ReadError.BadRow → (text : List (List ℕ)) (rest : SqlRow) → IsTextOf elem_type text
+        → text ≢ [] → columns.old ≢ records text ∷ rest }
     ensures fault { IsErrOf result ReadError.Fault → ⊥ }
 {
-    let text = element_text_in(alloc, row, at, elem_type)?;
+    let text = columns.element_text(alloc, elem_type)?;
     if text.is_empty() {
         return Err(ReadError::BadRow);
     }
@@ -98,50 +94,54 @@ fn checked_update(alloc: Global, records: Vec<Line>, name: &[u8]) -> Result<Upda
 // An update of the element of this type and name.
 fn update_in(
     alloc: Global,
-    row: &Row,
-    at: usize,
+    columns: &mut Columns<'_>,
     elem_type: ElemType,
     name: Name,
 ) -> Result<Update, ReadError>
-    ensures some { IfOk result (λ update. (column row.now at ≡ records update) × TakesUpdates elem_type
+    ensures read { IfOk result (λ update. (columns.old ≡ records update ∷ columns.new) × TakesUpdates elem_type
         × AreRecords update × IsUpdate name update) }
-    ensures none { IsErrOf result ReadError.BadRow → (text : List (List ℕ)) → TakesUpdates elem_type → AreRecords text
-        → IsUpdate name text → column row.now at ≢ records text }
+    ensures none { IsErrOf result ReadError.BadRow → (text : List (List ℕ)) (rest : SqlRow) → TakesUpdates elem_type
+        → AreRecords text → IsUpdate name text → columns.old ≢ records text ∷ rest }
     ensures fault { IsErrOf result ReadError.Fault → ⊥ }
 {
     if !is_updated(elem_type) {
         return Err(ReadError::BadRow);
     }
-    let lines = records_in(alloc, row, at)?;
+    let lines = columns.records(alloc)?;
     checked_update(alloc, lines, name.as_bytes())
 }
 
-// What the statement does to the element of this type and name, from the column on.
-fn action_in(alloc: Global, row: &Row, elem_type: ElemType, name: Name) -> Result<Action, ReadError>
-    ensures some { IfOk result (λ action. (column row.now 3 ∷ column row.now 4 ∷ column row.now 5 ∷ column row.now 6 ∷
-        [] ≡ action_cells (action_of action)) × HasActionForms Ptf elem_type name (action_of action)) }
+// What the statement does to the element of this type and name, as all columns that are left.
+fn action_in(
+    alloc: Global,
+    columns: &mut Columns<'_>,
+    elem_type: ElemType,
+    name: Name,
+) -> Result<Action, ReadError>
+    ensures read { IfOk result (λ action. (columns.old ≡ action_cells (action_of action))
+        × HasActionForms Ptf elem_type name (action_of action)) }
     ensures none { IsErrOf result ReadError.BadRow → (action : ActionTerm) → HasActionForms Ptf elem_type name action
-        → column row.now 3 ∷ column row.now 4 ∷ column row.now 5 ∷ column row.now 6 ∷ [] ≢ action_cells action }
+        → columns.old ≢ action_cells action }
     ensures fault { IsErrOf result ReadError.Fault → ⊥ }
 {
-    let Some(updates) = flag_in(row, 3) else {
-        return Err(ReadError::BadRow);
-    };
-    let Some(distlib) = optional_in(row, 4) else {
-        return Err(ReadError::BadRow);
-    };
-    let Some(syslib) = optional_in(row, 5) else {
-        return Err(ReadError::BadRow);
-    };
+    let updates = columns.flag()?;
+    let distlib = columns.optional()?;
+    let syslib = columns.optional()?;
     match (updates, distlib, syslib) {
-        (false, Some(distlib), Some(syslib)) => Ok(Action::Replaces {
-            distlib,
-            syslib,
-            lines: replacement_in(alloc, row, 6, elem_type)?,
-        }),
-        (true, None, None) => Ok(Action::Updates {
-            update: update_in(alloc, row, 6, elem_type, name)?,
-        }),
+        (false, Some(distlib), Some(syslib)) => {
+            let lines = replacement_in(alloc, columns, elem_type)?;
+            columns.end()?;
+            Ok(Action::Replaces {
+                distlib,
+                syslib,
+                lines,
+            })
+        }
+        (true, None, None) => {
+            let update = update_in(alloc, columns, elem_type, name)?;
+            columns.end()?;
+            Ok(Action::Updates { update })
+        }
         _ => Err(ReadError::BadRow),
     }
 }
@@ -164,19 +164,11 @@ impl FromRow for Elems {
             → row.now ≢ row_of_elem item }
         ensures fault { IsErrOf result ReadError.Fault → ⊥ }
     {
-        if row.column_count() != 7 {
-            return Err(ReadError::BadRow);
-        }
-        let Some(id) = id_in(row, 0) else {
-            return Err(ReadError::BadRow);
-        };
-        let Some(elem_type) = elem_type_in(row, 1) else {
-            return Err(ReadError::BadRow);
-        };
-        let Some(name) = name_in(row, 2) else {
-            return Err(ReadError::BadRow);
-        };
-        let action = action_in(alloc, row, elem_type, name)?;
+        let mut columns = Columns::of(row);
+        let id = columns.id()?;
+        let elem_type = columns.elem_type()?;
+        let name = columns.name()?;
+        let action = action_in(alloc, &mut columns, elem_type, name)?;
         let change = ElemChange {
             elem_type,
             name,

@@ -2,7 +2,7 @@
 
 ghost use Rattle.std.specs.Prelude.{◌≡◌, ◌≢◌, ◌≤◌, ◌↔◌, ℕ, List, [], ◌∷◌, length, IsTrue, IfOk, IsErrOf, OnOk};
 ghost use Rattle.sqlite.specs.Held.{state};
-ghost use Rattle.sqlite.specs.Order.{column};
+ghost use Rattle.sqlite.specs.Order.{Row as SqlRow};
 ghost use Rattle.sqlite.specs.State.{HasCleanDisk};
 ghost use Rattle.store_rows.specs.Calls.{RunsInside};
 ghost use Rattle.store_rows.specs.Inside.{Continues};
@@ -24,8 +24,8 @@ use sqlite::{Alter, Error, Row, Transaction};
 use sqlite_value::row::Row as Cells;
 use sqlite_value::value::ValueRef;
 use std::alloc::{AllocError, Global};
-use store_rows::{FromRow, ReadError, cells_of, remove_parent, text};
-use store_schema::{Query, id_in, kind_in, sources_in};
+use store_rows::{FromRow, ReadError, cells_of, remove_parent};
+use store_schema::{Columns, Query};
 use sysmods_values::Sysmod;
 use terms::Kind;
 
@@ -73,13 +73,14 @@ fn are_short(names: &[Source]) -> bool
 }
 
 // The sources of schema 1, which had at most 8 characters.
-fn short_sources_in(alloc: Global, row: &Row, at: usize) -> Result<SourceList, ReadError>
-    ensures some { IfOk result (λ names. (column row.now at ≡ ids names) × AreSorted IsSource names × AreShort names) }
-    ensures none { IsErrOf result ReadError.BadRow → (names : List (List ℕ)) → AreSorted IsSource names
-        → AreShort names → column row.now at ≢ ids names }
+fn short_sources_in(alloc: Global, columns: &mut Columns<'_>) -> Result<SourceList, ReadError>
+    ensures read { IfOk result (λ names. (columns.old ≡ ids names ∷ columns.new) × AreSorted IsSource names
+        × AreShort names) }
+    ensures none { IsErrOf result ReadError.BadRow → (names : List (List ℕ)) (rest : SqlRow)
+        → AreSorted IsSource names → AreShort names → columns.old ≢ ids names ∷ rest }
     ensures fault { IsErrOf result ReadError.Fault → ⊥ }
 {
-    let names = sources_in(alloc, row, at)?;
+    let names = columns.sources(alloc)?;
     if !are_short(names.as_slice()) {
         return Err(ReadError::BadRow);
     }
@@ -104,16 +105,11 @@ impl FromRow for Heads {
             → row.now ≢ row_of_head item }
         ensures fault { IsErrOf result ReadError.Fault → ⊥ }
     {
-        if row.column_count() != 3 {
-            return Err(ReadError::BadRow);
-        }
-        let Some(id) = id_in(row, 0) else {
-            return Err(ReadError::BadRow);
-        };
-        let Some(kind) = kind_in(row, 1) else {
-            return Err(ReadError::BadRow);
-        };
-        let sources = short_sources_in(alloc, row, 2)?;
+        let mut columns = Columns::of(row);
+        let id = columns.id()?;
+        let kind = columns.kind()?;
+        let sources = short_sources_in(alloc, &mut columns)?;
+        columns.end()?;
         Ok(HeadRow { id, kind, sources })
     }
 }
@@ -151,16 +147,6 @@ impl Listed for Heads {
     ghost whole = { refl };
 }
 
-// Whether the column says that there is no source.
-fn is_bare(row: &Row, at: usize) -> bool
-    ensures { IsTrue result ↔ (column row.now at ≡ ids []) }
-{
-    match text(row, at) {
-        Some(text) => text.is_empty(),
-        None => false,
-    }
-}
-
 /// A SYSMOD without its statements and its sources.
 #[derive(Drop)]
 pub struct BareHead {
@@ -180,24 +166,19 @@ impl FromRow for BareHeads {
 
     ghost has_form = { HasBareForms };
 
-    fn read(alloc: Global, row: &Row) -> Result<BareHead, ReadError>
+    fn read(_alloc: Global, row: &Row) -> Result<BareHead, ReadError>
         ensures read { IfOk result (λ item. (row.now ≡ row_of_bare item) × HasBareForms item) }
         ensures none { IsErrOf result ReadError.BadRow → (item : ABareHead) → HasBareForms item
             → row.now ≢ row_of_bare item }
         ensures fault { IsErrOf result ReadError.Fault → ⊥ }
     {
-        if row.column_count() != 3 {
+        let mut columns = Columns::of(row);
+        let id = columns.id()?;
+        let kind = columns.kind()?;
+        if !columns.text()?.is_empty() {
             return Err(ReadError::BadRow);
         }
-        let Some(id) = id_in(row, 0) else {
-            return Err(ReadError::BadRow);
-        };
-        let Some(kind) = kind_in(row, 1) else {
-            return Err(ReadError::BadRow);
-        };
-        if !is_bare(row, 2) {
-            return Err(ReadError::BadRow);
-        }
+        columns.end()?;
         Ok(BareHead { id, kind })
     }
 }

@@ -1,12 +1,12 @@
 //! The table of holds: external ones and those of SYSMODs.
 
-ghost use Rattle.std.specs.Prelude.{◌≡◌, ◌≢◌, ◌↔◌, ℕ, List, Option, map, option_map, IsTrue, IfOk, IfSome, IfNone};
+ghost use Rattle.std.specs.Prelude.{◌≡◌, ◌≢◌, ◌↔◌, ◌∷◌, ℕ, List, Option, map, option_map, IsTrue, IfOk, IfSome};
 ghost use Rattle.std.specs.Prelude.{IsErrOf, IsPermutation, OnOk};
 ghost use Rattle.std.specs.List.{AllByRecursion};
 ghost use Rattle.std.specs.String.{string_bytes};
 ghost use Rattle.sqlite.specs.declared.types.Value.TheVariants.{Text};
 ghost use Rattle.sqlite.specs.Held.{state};
-ghost use Rattle.sqlite.specs.Order.{column};
+ghost use Rattle.sqlite.specs.Order.{Row as SqlRow};
 ghost use Rattle.sqlite.specs.State.{HasCleanDisk};
 ghost use Rattle.sqlite.specs.Values.{or_null};
 ghost use Rattle.sqlite_value.specs.Value.{owned};
@@ -31,8 +31,8 @@ use fields::{Id, Reason};
 use sqlite::{Alter, Connection, Error, Row, Transaction};
 use sqlite_value::value::ValueRef;
 use std::alloc::Global;
-use store_rows::{FromRow, ReadError, optional_text, put, remove, text};
-use store_schema::{Query, flag_in, hold_kind_in, id_in, optional_in, text_or_null};
+use store_rows::{FromRow, ReadError, put, remove};
+use store_schema::{Columns, Query, text_or_null};
 use sysmods_values::Hold;
 use terms::HoldKind;
 
@@ -58,28 +58,28 @@ fn suits(kind: HoldKind, reason: Reason) -> bool
     }
 }
 
-fn reason_in(row: &Row, at: usize, kind: HoldKind) -> Option<Reason>
-    ensures some { IfSome result (λ reason. (column row.now at ≡ Text reason) × IsReason kind reason) }
-    ensures none { IfNone result ((reason : List ℕ) → IsReason kind reason → column row.now at ≢ Text reason) }
-{
-    let reason = Reason::read(text(row, at)?)?;
-    if !suits(kind, reason) {
-        return None;
-    }
-    Some(reason)
-}
-
-fn comment_in(alloc: Global, row: &Row, at: usize) -> Result<Option<String>, ReadError>
-    ensures some { IfOk result (λ comment. (column row.now at ≡ or_null Text (option_map string_bytes comment))
-        × IfSome (option_map string_bytes comment) IsComment) }
-    ensures none { IsErrOf result ReadError.BadRow → (comment : Option (List ℕ)) → IfSome comment IsComment
-        → column row.now at ≢ or_null Text comment }
+fn reason_in(columns: &mut Columns<'_>, kind: HoldKind) -> Result<Reason, ReadError>
+    ensures read { IfOk result (λ reason. (columns.old ≡ Text reason ∷ columns.new) × IsReason kind reason) }
+    ensures none { IsErrOf result ReadError.BadRow → (reason : List ℕ) (rest : SqlRow) → IsReason kind reason
+        → columns.old ≢ Text reason ∷ rest }
     ensures fault { IsErrOf result ReadError.Fault → ⊥ }
 {
-    let bytes = match optional_text(row, at) {
-        Some(Some(bytes)) => bytes,
-        Some(None) => return Ok(None),
-        None => return Err(ReadError::BadRow),
+    let reason = Reason::read(columns.text()?).ok_or(ReadError::BadRow)?;
+    if !suits(kind, reason) {
+        return Err(ReadError::BadRow);
+    }
+    Ok(reason)
+}
+
+fn comment_in(alloc: Global, columns: &mut Columns<'_>) -> Result<Option<String>, ReadError>
+    ensures read { IfOk result (λ comment. (columns.old ≡ or_null Text (option_map string_bytes comment) ∷ columns.new)
+        × IfSome (option_map string_bytes comment) IsComment) }
+    ensures none { IsErrOf result ReadError.BadRow → (comment : Option (List ℕ)) (rest : SqlRow)
+        → IfSome comment IsComment → columns.old ≢ or_null Text comment ∷ rest }
+    ensures fault { IsErrOf result ReadError.Fault → ⊥ }
+{
+    let Some(bytes) = columns.optional_text()? else {
+        return Ok(None);
     };
     if !is_comment(bytes) {
         return Err(ReadError::BadRow);
@@ -109,31 +109,16 @@ impl FromRow for HoldReader {
             → row.now ≢ hold_row hold }
         ensures fault { IsErrOf result ReadError.Fault → ⊥ }
     {
-        if row.column_count() != 8 {
-            return Err(ReadError::BadRow);
-        }
-        let Some(id) = id_in(row, 0) else {
-            return Err(ReadError::BadRow);
-        };
-        let Some(kind) = hold_kind_in(row, 1) else {
-            return Err(ReadError::BadRow);
-        };
-        let Some(reason) = reason_in(row, 2, kind) else {
-            return Err(ReadError::BadRow);
-        };
-        let Some(fmid) = id_in(row, 3) else {
-            return Err(ReadError::BadRow);
-        };
-        let Some(class) = optional_in(row, 4) else {
-            return Err(ReadError::BadRow);
-        };
-        let Some(date) = optional_in(row, 5) else {
-            return Err(ReadError::BadRow);
-        };
-        let comment = comment_in(alloc, row, 6)?;
-        let Some(internal) = flag_in(row, 7) else {
-            return Err(ReadError::BadRow);
-        };
+        let mut columns = Columns::of(row);
+        let id = columns.id()?;
+        let kind = columns.hold_kind()?;
+        let reason = reason_in(&mut columns, kind)?;
+        let fmid = columns.id()?;
+        let class = columns.optional()?;
+        let date = columns.optional()?;
+        let comment = comment_in(alloc, &mut columns)?;
+        let internal = columns.flag()?;
+        columns.end()?;
         Ok(Hold {
             id,
             kind,

@@ -10,7 +10,7 @@ ghost use Rattle.store_sysmods.specs.Ifs.{delete_ifreqs};
 ghost use Rattle.store_sysmods.specs.Steps.{RunsCalls};
 ghost use Rattle.store_sysmods.specs.Sysmods.{sysmod_key};
 
-use crate::cells::{number_in, requisites_in};
+use crate::cells::requisites_in;
 use crate::item_rows::{Rows, push_all};
 use crate::listed::Listed;
 use crate::numbers::number_behind;
@@ -20,7 +20,7 @@ use sqlite_value::row::Row as Cells;
 use sqlite_value::value::ValueRef;
 use std::alloc::{AllocError, Global};
 use store_rows::{FromRow, ReadError, cells_of, remove};
-use store_schema::{Query, id_in, joined_ids, srel_in};
+use store_schema::{Columns, Query, joined_ids};
 use sysmods_values::{IfReq, Ver};
 
 const SELECT: &str = "SELECT id, srel, n, fmid, req FROM ifreq ORDER BY id, srel, n";
@@ -66,22 +66,13 @@ impl FromRow for Ifs {
             → row.now ≢ row_of_if item }
         ensures fault { IsErrOf result ReadError.Fault → ⊥ }
     {
-        if row.column_count() != 5 {
-            return Err(ReadError::BadRow);
-        }
-        let Some(id) = id_in(row, 0) else {
-            return Err(ReadError::BadRow);
-        };
-        let Some(srel) = srel_in(row, 1) else {
-            return Err(ReadError::BadRow);
-        };
-        let Some(number) = number_in(row, 2) else {
-            return Err(ReadError::BadRow);
-        };
-        let Some(function) = id_in(row, 3) else {
-            return Err(ReadError::BadRow);
-        };
-        let req = requisites_in(alloc, row, 4, id)?;
+        let mut columns = Columns::of(row);
+        let id = columns.id()?;
+        let srel = columns.srel()?;
+        let number = columns.number()?;
+        let function = columns.id()?;
+        let req = requisites_in(alloc, &mut columns, id)?;
+        columns.end()?;
         let ifreq = IfReq { function, req };
         Ok(IfRow {
             id,

@@ -10,7 +10,7 @@ ghost use Rattle.store_sysmods.specs.MoreIfs.{delete_moreifs};
 ghost use Rattle.store_sysmods.specs.Steps.{RunsCalls};
 ghost use Rattle.store_sysmods.specs.Sysmods.{sysmod_key};
 
-use crate::cells::{further_in, number_in, requisites_in};
+use crate::cells::{further_in, requisites_in};
 use crate::ifreq::IfRow;
 use crate::item_rows::{Rows, push_all};
 use crate::numbers::number_behind;
@@ -20,7 +20,7 @@ use sqlite_value::row::Row as Cells;
 use sqlite_value::value::ValueRef;
 use std::alloc::{AllocError, Global};
 use store_rows::{FromRow, ReadError, cells_of, remove};
-use store_schema::{Query, id_in, joined_ids, srel_in};
+use store_schema::{Columns, Query, joined_ids};
 use sysmods_values::{IfReq, Ver};
 
 const SELECT: &str = "SELECT id, srel, v, n, fmid, req FROM moreif ORDER BY id, srel, v, n";
@@ -57,25 +57,14 @@ impl FromRow for MoreIfs {
             → row.now ≢ row_of_more_if item }
         ensures fault { IsErrOf result ReadError.Fault → ⊥ }
     {
-        if row.column_count() != 6 {
-            return Err(ReadError::BadRow);
-        }
-        let Some(id) = id_in(row, 0) else {
-            return Err(ReadError::BadRow);
-        };
-        let Some(srel) = srel_in(row, 1) else {
-            return Err(ReadError::BadRow);
-        };
-        let Some(place) = further_in(row, 2) else {
-            return Err(ReadError::BadRow);
-        };
-        let Some(number) = number_in(row, 3) else {
-            return Err(ReadError::BadRow);
-        };
-        let Some(function) = id_in(row, 4) else {
-            return Err(ReadError::BadRow);
-        };
-        let req = requisites_in(alloc, row, 5, id)?;
+        let mut columns = Columns::of(row);
+        let id = columns.id()?;
+        let srel = columns.srel()?;
+        let place = further_in(&mut columns)?;
+        let number = columns.number()?;
+        let function = columns.id()?;
+        let req = requisites_in(alloc, &mut columns, id)?;
+        columns.end()?;
         let ifreq = IfReq { function, req };
         Ok(IfRow {
             id,

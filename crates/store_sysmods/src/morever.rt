@@ -20,7 +20,7 @@ use sqlite_value::row::Row as Cells;
 use sqlite_value::value::ValueRef;
 use std::alloc::{AllocError, Global};
 use store_rows::{FromRow, ReadError, cells_of, remove};
-use store_schema::{Query, id_in, srel_in, text_or_null};
+use store_schema::{Columns, Query, text_or_null};
 use sysmods_values::Ver;
 
 const SELECT: &str = "SELECT id, srel, n, fmid, pre, req, sup FROM morever ORDER BY id, srel, n";
@@ -58,24 +58,15 @@ impl FromRow for MoreVers {
             → row.now ≢ row_of_more_ver item }
         ensures fault { IsErrOf result ReadError.Fault → ⊥ }
     {
-        if row.column_count() != 7 {
-            return Err(ReadError::BadRow);
-        }
-        let Some(id) = id_in(row, 0) else {
-            return Err(ReadError::BadRow);
-        };
-        let Some(srel) = srel_in(row, 1) else {
-            return Err(ReadError::BadRow);
-        };
-        let Some(number) = further_in(row, 2) else {
-            return Err(ReadError::BadRow);
-        };
-        let Some(fmid) = other_in(row, 3, id) else {
-            return Err(ReadError::BadRow);
-        };
-        let pre = others_in(alloc, row, 4, id)?;
-        let req = others_in(alloc, row, 5, id)?;
-        let sup = others_in(alloc, row, 6, id)?;
+        let mut columns = Columns::of(row);
+        let id = columns.id()?;
+        let srel = columns.srel()?;
+        let number = further_in(&mut columns)?;
+        let fmid = other_in(&mut columns, id)?;
+        let pre = others_in(alloc, &mut columns, id)?;
+        let req = others_in(alloc, &mut columns, id)?;
+        let sup = others_in(alloc, &mut columns, id)?;
+        columns.end()?;
         let npre = IdList::new(alloc);
         let del = IdList::new(alloc);
         let ifs = Vec::new(alloc);

@@ -1,12 +1,9 @@
 //! The table of sources.
 
-ghost use Rattle.std.specs.Prelude.{◌≡◌, ◌≢◌, ℕ, List, [], ◌∷◌, IfOk, IfSome, IfNone, IsErrOf};
-ghost use Rattle.sqlite.specs.declared.types.Value.TheVariants.{Text};
-ghost use Rattle.sqlite.specs.Order.{column};
+ghost use Rattle.std.specs.Prelude.{◌≡◌, ◌≢◌, [], ◌∷◌, IfOk, IsErrOf};
 ghost use Rattle.store_rows.specs.Rows.{as_bound, in_table, with_row, without};
 ghost use Rattle.store_schema.specs.Rows.{source_row};
 ghost use Rattle.store_schema.specs.Tables.{source as source_table};
-ghost use Rattle.terms.specs.Forms.{IsSource};
 ghost use Rattle.store_sysmods.specs.declared.source.SourceRow.{SourceRow as ASourceRow};
 ghost use Rattle.store_sysmods.specs.Sources.{insert_source as into_source, delete_sources};
 ghost use Rattle.store_sysmods.specs.Steps.{RunsCalls};
@@ -19,8 +16,8 @@ use sqlite::{Alter, Error, Row, Transaction};
 use sqlite_value::row::Row as Cells;
 use sqlite_value::value::ValueRef;
 use std::alloc::{AllocError, Global};
-use store_rows::{FromRow, ReadError, cells_of, insert, remove, text};
-use store_schema::{Query, id_in};
+use store_rows::{FromRow, ReadError, cells_of, insert, remove};
+use store_schema::{Columns, Query};
 
 const SELECT: &str = "SELECT id, name FROM source ORDER BY id, name";
 
@@ -42,14 +39,6 @@ pub struct SourceRow {
     pub name: Source,
 }
 
-// The name of a source.
-fn source_in(row: &Row, at: usize) -> Option<Source>
-    ensures some { IfSome result (λ name. (column row.now at ≡ Text name) × IsSource name) }
-    ensures none { IfNone result ((name : List ℕ) → IsSource name → column row.now at ≢ Text name) }
-{
-    Source::read(text(row, at)?)
-}
-
 /// Reads sources.
 pub struct Sources;
 
@@ -62,21 +51,16 @@ impl FromRow for Sources {
 
     ghost has_form = { HasSourceForms };
 
-    fn read(alloc: Global, row: &Row) -> Result<SourceRow, ReadError>
+    fn read(_alloc: Global, row: &Row) -> Result<SourceRow, ReadError>
         ensures read { IfOk result (λ item. (row.now ≡ row_of_source item) × HasSourceForms item) }
         ensures none { IsErrOf result ReadError.BadRow → (item : ASourceRow) → HasSourceForms item
             → row.now ≢ row_of_source item }
         ensures fault { IsErrOf result ReadError.Fault → ⊥ }
     {
-        if row.column_count() != 2 {
-            return Err(ReadError::BadRow);
-        }
-        let Some(id) = id_in(row, 0) else {
-            return Err(ReadError::BadRow);
-        };
-        let Some(name) = source_in(row, 1) else {
-            return Err(ReadError::BadRow);
-        };
+        let mut columns = Columns::of(row);
+        let id = columns.id()?;
+        let name = columns.source()?;
+        columns.end()?;
         Ok(SourceRow { id, name })
     }
 }

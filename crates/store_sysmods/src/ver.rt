@@ -19,7 +19,7 @@ use sqlite_value::row::Row as Cells;
 use sqlite_value::value::ValueRef;
 use std::alloc::{AllocError, Global};
 use store_rows::{FromRow, ReadError, cells_of, remove};
-use store_schema::{Query, id_in, joined_ids, srel_in, text_or_null};
+use store_schema::{Columns, Query, joined_ids, text_or_null};
 use sysmods_values::Ver;
 
 const SELECT: &str = "SELECT id, srel, fmid, pre, req, sup, npre, del FROM ver ORDER BY id, srel";
@@ -65,23 +65,16 @@ impl FromRow for Vers {
             → row.now ≢ row_of_ver item }
         ensures fault { IsErrOf result ReadError.Fault → ⊥ }
     {
-        if row.column_count() != 8 {
-            return Err(ReadError::BadRow);
-        }
-        let Some(id) = id_in(row, 0) else {
-            return Err(ReadError::BadRow);
-        };
-        let Some(srel) = srel_in(row, 1) else {
-            return Err(ReadError::BadRow);
-        };
-        let Some(fmid) = other_in(row, 2, id) else {
-            return Err(ReadError::BadRow);
-        };
-        let pre = others_in(alloc, row, 3, id)?;
-        let req = others_in(alloc, row, 4, id)?;
-        let sup = others_in(alloc, row, 5, id)?;
-        let npre = others_in(alloc, row, 6, id)?;
-        let del = others_in(alloc, row, 7, id)?;
+        let mut columns = Columns::of(row);
+        let id = columns.id()?;
+        let srel = columns.srel()?;
+        let fmid = other_in(&mut columns, id)?;
+        let pre = others_in(alloc, &mut columns, id)?;
+        let req = others_in(alloc, &mut columns, id)?;
+        let sup = others_in(alloc, &mut columns, id)?;
+        let npre = others_in(alloc, &mut columns, id)?;
+        let del = others_in(alloc, &mut columns, id)?;
+        columns.end()?;
         let ifs = Vec::new(alloc);
         let ver = Ver {
             srel,

@@ -1,13 +1,15 @@
-use Rattle.std.proofs.Common.{◌≡◌, true, false, sym, subst, ◌∙◌}
+use Rattle.std.proofs.Common.{◌≡◌, true, false, sym, subst}
+use Rattle.store_schema.specs.Rows.{ids}
 use Rattle.store_schema.proofs.Spelled.{ids_same, sources_are_words}
 use Rattle.store_sysmods.specs.Heads.{AreShort}
 use Rattle.store_sysmods.proofs.head.short_sources_in.Goals as goal
 
 pub returns-then-not-are_short-clause-none : goal.returns-then-not-are_short-clause-none
-returns-then-not-are_short-clause-none c bad names sorted short same =
-    let read = c.in_ok-names.ensures.some in
+returns-then-not-are_short-clause-none c bad names rest sorted short same =
+    let read = c.in_ok-names.ensures.read in
+    let spelled : ids names ≡ ids c.in_ok-names.names = let first = read.0 in cc in
     let one : names ≡ c.in_ok-names.names = ids_same names c.in_ok-names.names (sources_are_words names sorted)
-    (sources_are_words c.in_ok-names.names read.1) (sym same ∙ read.0) in
+    (sources_are_words c.in_ok-names.names read.1) spelled in
     let told : c.are_short.result ≡ true = c.are_short.ensures.1
     (rw c.as_slice.ensures.items (subst AreShort one short))
     in

@@ -1,24 +1,25 @@
-use Rattle.std.proofs.Common.{◌≡◌, length, sym, ◌∙◌}
+use Rattle.std.proofs.Common.{rules, sym, ◌∙◌}
 use Rattle.sysmods_values.specs.Views.{action_of}
-use Rattle.store_sysmods.proofs.CellLemmas.{whole_elem, fits_action}
+use Rattle.store_sysmods.proofs.CellLemmas.{next, fits_action}
 use Rattle.store_sysmods.proofs.elem.ElemsFromRow.read.Goals as goal
 
 pub invariant_of-change : goal.invariant_of-change
-invariant_of-change c = fits_action c.in-Some-elem_type_in.elem_type c.in-Some-name_in.name
-    (action_of c.in_ok-action.action) c.in_ok-action.ensures.some.1
+invariant_of-change c = fits_action c.in_ok-elem_type.elem_type c.in_ok-name.name (action_of c.in_ok-action.action)
+    c.in_ok-action.ensures.read.1
+
+pub returns-in_err-id-clause-none : goal.returns-in_err-id-clause-none
+returns-in_err-id-clause-none c bad item forms same =
+    c.id.ensures.none (search rules) item.id _ forms.0 (c.of-columns.ensures ∙ same)
 
 pub returns-clause-read : goal.returns-clause-read
-returns-clause-read c =
-    let len : length c.args.row.now ≡ 7 = sym c.column_count.ensures ∙ c.if-column_count-ne7.false in (
-      whole_elem c.args.row.now c.in-Some.id c.in-Some-elem_type_in.elem_type c.in-Some-name_in.name
-          (action_of c.in_ok-action.action) len
-          c.in-Some.ensures.some.0 c.in-Some-elem_type_in.ensures.some c.in-Some-name_in.ensures.some.0
-          c.in_ok-action.ensures.some.0,
-      (
-        c.in-Some.ensures.some.1,
-        record {
-          name = c.in-Some-name_in.ensures.some.1;
-          action = c.in_ok-action.ensures.some.1;
-        },
-      ),
-    )
+returns-clause-read c = (
+  sym c.of-columns.ensures ∙ next c.in_ok-id.ensures.read.0 (next c.in_ok-elem_type.ensures.read
+      (next c.in_ok-name.ensures.read.0 c.in_ok-action.ensures.read.0)),
+  (
+    c.in_ok-id.ensures.read.1,
+    record {
+      name = c.in_ok-name.ensures.read.1;
+      action = c.in_ok-action.ensures.read.1;
+    },
+  ),
+)

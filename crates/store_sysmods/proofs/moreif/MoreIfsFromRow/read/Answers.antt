@@ -1,23 +1,24 @@
-use Rattle.std.proofs.Common.{◌≡◌, length, sym, ◌∙◌}
+use Rattle.std.proofs.Common.{rules, sym, ◌∙◌}
+use Rattle.store_sysmods.proofs.CellLemmas.{next}
 use Rattle.store_sysmods.proofs.Exact.{formed_if}
-use Rattle.store_sysmods.proofs.CellLemmas.{whole_more_if}
 use Rattle.store_sysmods.proofs.moreif.MoreIfsFromRow.read.Goals as goal
+
+pub returns-in_err-id-clause-none : goal.returns-in_err-id-clause-none
+returns-in_err-id-clause-none c bad item forms same =
+    c.id.ensures.none (search rules) item.id _ forms.0.0 (c.of-columns.ensures ∙ same)
 
 pub returns-clause-read : goal.returns-clause-read
 returns-clause-read c =
-    let len : length c.args.row.now ≡ 6 = sym c.column_count.ensures ∙ c.if-column_count-ne6.false in (
-      whole_more_if c.args.row.now c.in-Some.id c.in-Some-srel_in.srel c.in-Some-further_in.place
-          c.in-Some-number_in.number
-          c.in-Some-id_in.function c.in_ok-req.req len
-          c.in-Some.ensures.some.0 c.in-Some-srel_in.ensures.some.0 c.in-Some-further_in.ensures.some.0
-          c.in-Some-number_in.ensures.some
-          c.in-Some-id_in.ensures.some.0 c.in_ok-req.ensures.some.0,
+    let requisites = c.in_ok-req.ensures.read in (
+      sym c.of-columns.ensures ∙ next c.in_ok-id.ensures.read.0 (next c.in_ok-srel.ensures.read.0
+          (next c.in_ok-place.ensures.read.0 (next c.in_ok-number.ensures.read (next c.in_ok-function.ensures.read.0
+          (next requisites.0 c.in_ok-end.ensures.read))))),
       (
         (
-          c.in-Some.ensures.some.1,
-          c.in-Some-srel_in.ensures.some.1,
-          formed_if _ _ _ c.in-Some-id_in.ensures.some.1 (c.in_ok-req.ensures.some.1, c.in_ok-req.ensures.some.2),
+          c.in_ok-id.ensures.read.1,
+          c.in_ok-srel.ensures.read.1,
+          formed_if _ _ _ c.in_ok-function.ensures.read.1 (requisites.1, requisites.2),
         ),
-        c.in-Some-further_in.ensures.some.1,
+        c.in_ok-place.ensures.read.1,
       ),
     )

@@ -1,31 +1,43 @@
-use Rattle.std.proofs.Common.{◌≡◌, length, arith, refl, sym, ◌∙◌}
-use Rattle.store_sysmods.proofs.CellLemmas.{whole_ver}
+use Rattle.std.proofs.Common.{◌≡◌, ◌≢◌, arith, refl, rules, sym, subst, ◌∙◌}
+use Rattle.std.specs.Prelude.{IfSome}
+use Rattle.terms.specs.Forms.{IsId}
+use Rattle.store_sysmods.proofs.CellLemmas.{next, rest_is, text_is}
 use Rattle.store_sysmods.proofs.ver.VersFromRow.read.Goals as goal
 
+pub returns-in_err-id-clause-none : goal.returns-in_err-id-clause-none
+returns-in_err-id-clause-none c bad item forms same =
+    c.id.ensures.none (search rules) item.id _ forms.0.0 (c.of-columns.ensures ∙ same)
+
+pub returns-in_err-fmid-clause-none : goal.returns-in_err-fmid-clause-none
+returns-in_err-fmid-clause-none c bad item forms same =
+    let first = c.of-columns.ensures ∙ same in
+    let read = c.in_ok-id.ensures.read in
+    c.other_in.ensures.none (search rules) item.ver.fmid _
+    (subst (λ x. IfSome item.ver.fmid (λ f. IsId f × (f ≢ x))) (text_is read.0 first) forms.0.1.fmid)
+    (rest_is c.in_ok-srel.ensures.read.0 (rest_is read.0 first))
+
 pub returns-clause-read : goal.returns-clause-read
-returns-clause-read c =
-    let len : length c.args.row.now ≡ 8 = sym c.column_count.ensures ∙ c.if-column_count-ne8.false in (
-      whole_ver c.args.row.now c.in-Some.id c.in-Some-srel_in.srel c.in-Some-other_in.fmid c.in_ok-pre.pre
-          c.in_ok-req.req c.in_ok-sup.sup c.in_ok-npre.npre c.in_ok-del.del len
-          c.in-Some.ensures.some.0 c.in-Some-srel_in.ensures.some.0 c.in-Some-other_in.ensures.some.0
-          c.in_ok-pre.ensures.some.0 c.in_ok-req.ensures.some.0 c.in_ok-sup.ensures.some.0
-          c.in_ok-npre.ensures.some.0 c.in_ok-del.ensures.some.0,
-      (
-        (
-          c.in-Some.ensures.some.1,
-          record {
-            srel = c.in-Some-srel_in.ensures.some.1;
-            fmid = c.in-Some-other_in.ensures.some.1;
-            pre = c.in_ok-pre.ensures.some.1;
-            req = c.in_ok-req.ensures.some.1;
-            sup = c.in_ok-sup.ensures.some.1;
-            npre = c.in_ok-npre.ensures.some.1;
-            del = c.in_ok-del.ensures.some.1;
-            ifs = λ k d within. absurd (omega arith);
-            suits = tt;
-          },
-          c.new-ifs.ensures.items,
-        ),
-        refl,
-      ),
-    )
+returns-clause-read c = (
+  sym c.of-columns.ensures ∙ next c.in_ok-id.ensures.read.0 (next c.in_ok-srel.ensures.read.0
+      (next c.in_ok-fmid.ensures.read.0 (next c.in_ok-pre.ensures.read.0 (next c.in_ok-req.ensures.read.0
+      (next c.in_ok-sup.ensures.read.0 (next c.in_ok-npre.ensures.read.0 (next c.in_ok-del.ensures.read.0
+      c.in_ok-end.ensures.read))))))),
+  (
+    (
+      c.in_ok-id.ensures.read.1,
+      record {
+        srel = c.in_ok-srel.ensures.read.1;
+        fmid = c.in_ok-fmid.ensures.read.1;
+        pre = c.in_ok-pre.ensures.read.1;
+        req = c.in_ok-req.ensures.read.1;
+        sup = c.in_ok-sup.ensures.read.1;
+        npre = c.in_ok-npre.ensures.read.1;
+        del = c.in_ok-del.ensures.read.1;
+        ifs = λ k d within. absurd (omega arith);
+        suits = tt;
+      },
+      c.new-ifs.ensures.items,
+    ),
+    refl,
+  ),
+)
