@@ -92,3 +92,6 @@ pub mod StepAnswers
 pub mod Wanted
 pub mod ZoneAnswered
 pub mod Greatest
+pub mod AnyDate
+pub mod ClearFacts
+pub mod ClearInstall

@@ -4,3 +4,5 @@ pub mod Singles
 pub mod Answers
 pub mod Causers
 pub mod Greatest
+pub mod Clear
+pub mod AnyDate

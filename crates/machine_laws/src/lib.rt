@@ -23,10 +23,15 @@
 //!
 //! And what is kept is the greatest set that supports itself, for installs and for RESTORE (`Greatest`), and each
 //! failed id has a cause, to which the lines lead (`Causers`).
+//!
+//! What an APPLY or ACCEPT of given ids prints (`installs`): the same lines on any date (`AnyDate`), and an id that no
+//! fact about it blocks is applied (`ClearInstall`).
 #![tactic(auto)]
 
 mod answers;
+mod installs;
 mod keeps;
 
 pub use answers::{failures_are_caused, greatest_is_kept, one_answer, some_answer};
+pub use installs::{clear_is_applied, prints_the_same};
 pub use keeps::{choice_is_kept, one_ver_counts, stays_storable};

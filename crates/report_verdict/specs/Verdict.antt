@@ -19,8 +19,7 @@ use Rattle.terms.specs.Spelling.{hold_text, type_text, need_text, test_text}
 use Rattle.machine.specs.Outcome.{Status, Applied, Accepted, Superseded, Failed}
 use Rattle.machine.specs.Outcome.{Failure, OpenNeed, Line, StatusLine}
 use Rattle.machine.specs.Report.{detail_line, optional_text, list_text, status_word}
-use Rattle.report.specs.Facts.{Resolution, Supplied, ByItself, Open, Maker, Found, Fact}
-pub use Rattle.report.specs.Facts.{is_over}
+use Rattle.report.specs.Facts.{Resolution, Supplied, ByItself, Open, is_over, Maker, Found, Fact}
 use Rattle.report.specs.Facts.{VerFact, RequisiteFact, HoldFact, ElementFact, DeleteFact, NpreFact, ForbiddenFact}
 use Rattle.report.specs.WordTexts.{inner_line, named}
 use Rattle.report_verdict.specs.declared.conflict.Apart.{Apart}

@@ -9,7 +9,6 @@ mod breach;
 mod closed;
 mod element_rules;
 mod entry_rules;
-mod joined;
 mod law;
 mod told;
 mod verification;

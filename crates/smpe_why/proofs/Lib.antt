@@ -1,8 +1,4 @@
 mod Alone
-mod Behind
-mod ClearFacts
-mod ClearInstall
 mod Cards
 pub mod Parts
 pub mod Related
-pub mod AnyDate

@@ -21,7 +21,7 @@ use Rattle.report_verdict.specs.declared.conflict.Conflict.{Conflict}
 use Rattle.store_schema.specs.Inventory.{Inventory}
 use Rattle.store_zones.specs.declared.head.ZoneHead.{ZoneHead}
 use Rattle.store_zones.specs.Found.{zone_in, head_of}
-use Rattle.smpe_why.specs.Clear.{selecting}
+use Rattle.machine_laws.specs.AnyDate.{Selects}
 use Rattle.smpe_why.specs.declared.found.LoadedZones.{LoadedZones}
 use Rattle.smpe_why.specs.declared.told.Told.{Told}
 
@@ -55,12 +55,6 @@ pub record Inquiry : Type 0 where
 -- the ids of each command in turn
 abbrev pub commands_of : Inquiry → List (List Id)
 commands_of a = if a.together then a.ids ∷ [] else map (λ x. x ∷ []) a.ids
-
--- SELECT names exactly these ids.
-pub record Selects (ids : List Id) (groupextend : Bool) (sel : Selection) : Type 0 where
-  pub rising : IsRising sel.select
-  pub members : (x : Id) → Contains sel.select x ↔ Contains ids x
-  pub selection : sel ≡ selecting sel.select groupextend
 
 -- These are the candidates and the lines of an APPLY, in a distribution zone of an ACCEPT, that selects these ids.
 pub record Prints (g : Global) (zone : Zone) (related : Option Zone) (a : Inquiry) (ids cands : List Id) (lines : List Line)

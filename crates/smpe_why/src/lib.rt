@@ -2,19 +2,17 @@
 //! which an ACCEPT there also looks, and changes nothing, whatever the tables hold. `tell` makes from them the lines of
 //! the facts of the ids, each with what an APPLY or ACCEPT that selects it, alone or with the others, would print about
 //! it, in words, and the program's status, or a refusal if there is no such zone. `bypass_of` reads the BYPASS of a
-//! question. There are two laws: what such an APPLY prints is the same on any date (`prints_the_same`), and an id that
-//! no fact blocks is applied (`clear_is_applied`). Every call that allocates returns an error if memory runs out; no
-//! contract says when.
+//! question. Two laws of `machine_laws` say more: what such an APPLY prints is the same on any date (`prints_the_same`),
+//! and an id that no fact blocks is applied (`clear_is_applied`). Every call that allocates returns an error if memory
+//! runs out; no contract says when.
 #![tactic(auto)]
 
 mod bypass_text;
 mod found;
-mod law;
 mod question;
 mod told;
 
 pub use bypass_text::bypass_of;
 pub use found::{LoadedZones, find};
-pub use law::{clear_is_applied, prints_the_same};
 pub use question::Question;
 pub use told::{Told, tell};

@@ -10,12 +10,13 @@ ghost use Rattle.machine.specs.Report.{refused_text};
 ghost use Rattle.report.specs.Views.{line_view};
 ghost use Rattle.report.specs.Facts.{among};
 ghost use Rattle.smpe_why.specs.Scopes.{IsScopeOf};
-ghost use Rattle.smpe_why.specs.Telling.{IsTold, AreToldBy, AreToldInTurn, IsToldOf, Selects};
+ghost use Rattle.machine_laws.specs.AnyDate.{Selects};
+ghost use Rattle.smpe_why.specs.Telling.{IsTold, AreToldBy, AreToldInTurn, IsToldOf};
 
 use crate::found::LoadedZones;
 use crate::question::Question;
 use fields::{Attest, Bypass, Id, IdList, Selection, SourceList, YyDdd};
-use report::ReportLine;
+use report::{LineWord, ReportLine, append_words};
 use report_verdict::{Grounds, conflicts_of, put_verdict};
 use report_why::{Lookups, facts_code, facts_of, put_facts};
 use select::candidates;
@@ -134,7 +135,6 @@ fn tell_of<'a>(
         (map line_view lines.now) id text code
         × (told.new.text.items ≡ told.old.text.items ++ text) × (told.new.status ≡ max told.old.status code)) }
 {
-    scope.ids.attest();
     if scope.ids.contains(id) {
         return tell_in(alloc, lookups, scope, lines, id, told);
     }
@@ -254,6 +254,6 @@ fn unknown(alloc: Global) -> Result<Told, AllocError>
     ensures { IfOk result (λ told. (told.text.items ≡ refused_text NoZone) × (told.status ≡ 12)) }
 {
     let mut text = Vec::new(alloc);
-    text.extend_from_slice(b"REFUSED Cm2\n")?;
+    append_words(b"REFUSED", &[LineWord::Of(b"Cm2")], &mut text)?;
     Ok(Told { text, status: 12 })
 }

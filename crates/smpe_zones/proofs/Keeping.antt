@@ -1,5 +1,5 @@
 -- What a store keeps behind a load or a commit, and how a call ends by it.
-use Rattle.std.proofs.Common.{◌≡◌, ◌⊎◌, ◌∙◌, Result, Ok, Err, IsSome, arith, refl, subst, inl, inr}
+use Rattle.std.proofs.Common.{◌≡◌, ◌⊎◌, Result, Ok, Err, refl, inl, inr}
 use Rattle.std.specs.Prelude.{IfErr, IsErrOf, OnOk, OnErr}
 use Rattle.sqlite.specs.Store.{Ghosts}
 use Rattle.sqlite.specs.Tree.{Trees}
@@ -17,6 +17,7 @@ use Rattle.store.specs.Changes.{Makes}
 use Rattle.store.specs.Loads.{Loads}
 use Rattle.store.specs.declared.change.Change.{Change}
 use Rattle.store.specs.View.{Tables, TablesIfOpen, MayLeave, Leaves}
+use Rattle.store.proofs.Successive.{cause_since}
 use Rattle.smpe_zones.specs.Ends.{StillKeeps, HasFailed, HasEnded, HasLoaded, HasCommitted, ActFailed}
 use Rattle.smpe_zones.specs.Kept.{kept, Keeps, IsAfter, LeadsOn}
 
@@ -43,22 +44,6 @@ cause_more g old at i IsOwn More more cause = record {
     | inl failed ↦ inl failed
     | inr (inl limited) ↦ inr (inl limited)
     | inr (inr (change, own, refused)) ↦ inr (inr (change, more change own, refused))
-  ];
-}
-
--- a cause since a later moment
-pub cause_since : {S : Type 0} (g : Ghosts S) (old mid at : Held S) → IsLater g old mid → (i : Inventory)
-    → (IsOwn : Change → Type 0) → HasCause g mid at i IsOwn → HasCause g old at i IsOwn
-cause_since g old mid at later i IsOwn cause = record {
-  moment = cause.moment;
-  since = (omega (arith, later.0, cause.since.0), cause.since.1 ∙ later.1);
-  is_open = cause.is_open;
-  stands = cause.stands;
-  kept = cause.kept;
-  why = elim cause.why [
-    | inl failed ↦ inl failed
-    | inr (inl limited) ↦ inr (inl (subst IsSome later.1 limited))
-    | inr (inr refused) ↦ inr (inr refused)
   ];
 }
 

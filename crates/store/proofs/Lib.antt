@@ -11,5 +11,6 @@ pub mod NoState
 mod Parts
 pub mod Reopening
 mod Standing
+pub mod Successive
 pub mod ViewLemmas
 mod Waiting

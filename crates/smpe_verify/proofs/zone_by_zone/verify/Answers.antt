@@ -1,6 +1,6 @@
 use Rattle.std.proofs.Common.{◌≡◌, ◌∙◌, sym, ap, arith, rules, None, Some}
 use Rattle.smpe_verify.specs.Verified.{begun}
-use Rattle.smpe_verify.proofs.Loading.{handed_on, answered, loads_both}
+use Rattle.store.proofs.Successive.{handed_on, answered, loads_both}
 use Rattle.smpe_verify.proofs.ZoneByZone.{whole, goes_on, stops, ends}
 use Rattle.smpe_verify.proofs.zone_by_zone.verify.Goals as goal
 

@@ -3,7 +3,7 @@ use Rattle.std.specs.Prelude.{option_and_then}
 use Rattle.std.specs.Option.{option_map_or}
 use Rattle.terms.specs.Types.{Zone}
 use Rattle.smpe_verify.specs.Verified.{breach_in, with_zone}
-use Rattle.smpe_verify.proofs.Loading.{handed_on, answered, ran_short}
+use Rattle.store.proofs.Successive.{handed_on, answered, ran_short}
 use Rattle.smpe_verify.proofs.zone_by_zone.verify_zone.Goals as goal
 
 pub returns-in_err-loaded : goal.returns-in_err-loaded

@@ -1,5 +1,5 @@
 use Rattle.std.proofs.Common.{rules}
-use Rattle.smpe_why.proofs.Behind.{handed_on, answered, loads_both}
+use Rattle.store.proofs.Successive.{handed_on, answered, loads_both}
 use Rattle.smpe_why.proofs.Related.{found_none, found_some}
 use Rattle.smpe_why.proofs.found.find.Goals as goal
 
@@ -23,7 +23,7 @@ returns-in_err-heads g c = handed_on g.S.Store _ _ c.args.store.now c.zone_heads
 
 pub returns-in_default : goal.returns-in_default
 returns-in_default g c = answered g.S.Store _ _ c.args.store.now c.zone_heads.new.self c.in_ok-heads.heads _
-    (λ i so. found_none i c.args.name c.in_ok-zone.zone c.in_ok-heads.heads.items c.in_ok-global.global so.0.0 so.0.1 so.1
+    (λ i inventory so. found_none i c.args.name c.in_ok-zone.zone c.in_ok-heads.heads.items c.in_ok-global.global so.0.0 so.0.1 so.1
     (search rules))
     (loads_both g.S.Store _ _ c.args.store.now c.load_zone.new.self c.zone_heads.new.self c.in_ok-zone.zone _
     (loads_both g.S.Store _ _ c.args.store.now c.load_global.new.self c.load_zone.new.self c.in_ok-global.global _
@@ -39,7 +39,7 @@ returns-in_err-related g c = handed_on g.S.Store _ _ c.args.store.now c.load_zon
 
 pub returns : goal.returns
 returns g c = answered g.S.Store _ _ c.args.store.now c.load_zone-2.new.self c.in_ok-related.related _
-    (λ i so. found_some i c.args.name c.in_ok-zone.zone c.in_ok-heads.heads.items c.in_ok-global.global so.0.0.0 so.0.0.1
+    (λ i inventory so. found_some i c.args.name c.in_ok-zone.zone c.in_ok-heads.heads.items c.in_ok-global.global so.0.0.0 so.0.0.1
     so.0.1 c.in_ok-related.related c.in-Some.target (search rules) so.1)
     (loads_both g.S.Store _ _ c.args.store.now c.zone_heads.new.self c.load_zone-2.new.self c.in_ok-heads.heads _
     (loads_both g.S.Store _ _ c.args.store.now c.load_zone.new.self c.zone_heads.new.self c.in_ok-zone.zone _

@@ -33,7 +33,7 @@ returns-then-contains c =
     let is = Contains_from_is_in scope.ids.now x (sym c.contains.ensures ∙ c.if-contains.true) in
     let same = setting_is c.args.lookups.now.global.now c.args.lookups.now.zone.now scope.ids.now scope.bypass.now x
     scope.vers.now.global.now (choice scope.vers.now) scope.zone.now scope.ids.now c.requires.global_is
-    c.requires.zone_is c.requires.choice_is (sym (with_candidate scope.ids.now x c.attest.ensures is)) in
+    c.requires.zone_is c.requires.choice_is (sym (with_candidate scope.ids.now x c.requires.rising is)) in
     IfOk-weaker c.tell_in.result _ _ (λ done is. (
       is.0,
       is.1,

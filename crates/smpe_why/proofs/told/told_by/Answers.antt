@@ -11,6 +11,7 @@ pub told_in_turn-requires : goal.told_in_turn-requires
 told_in_turn-requires c = record {
   global_is = c.in_ok-vers.ensures.global;
   zone_is = refl;
+  rising = c.in_ok-candidates.ensures.members.rising;
   srel_is = c.in_ok-vers.ensures.srel;
   choice_is = c.in_ok-vers.ensures.counting;
   numbers_are = c.in_ok-vers.ensures.numbers;

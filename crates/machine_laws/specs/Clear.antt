@@ -7,7 +7,7 @@ use Rattle.terms.specs.Types.{Text, Id, Global, Zone, Selection}
 use Rattle.terms.specs.CommandForms.{no_bypass}
 use Rattle.report.specs.Facts.{Standing, StandsReceived}
 use Rattle.report.specs.Facts.{Resolution, Supplied, Found, Fact}
-use Rattle.report_verdict.specs.Verdict.{is_over}
+use Rattle.report.specs.Facts.{is_over}
 use Rattle.report.specs.Facts.{StandingFact, EntryFact, VerFact, RequisiteFact, HoldFact, ElementFact, DeleteFact}
 use Rattle.report.specs.Facts.{TakesFact, NpreFact, ForbiddenFact, NeededFact, AreFacts, alone}
 use Rattle.machine.specs.Outcome.{Line, StatusLine, Applied}

@@ -44,9 +44,9 @@ use Rattle.report.specs.Facts.{delete_facts, npre_facts, forbids}
 use Rattle.terms.proofs.Applied.{in_applied_ids}
 use Rattle.terms.proofs.ChangedElements.{change_there, change_found}
 use Rattle.terms.proofs.Ids.{is_in_from_Contains, Contains_from_is_in}
-use Rattle.report_verdict.specs.Verdict.{is_over}
-use Rattle.smpe_why.specs.Clear.{AreClear, is_clear, is_fitting, is_free, is_received_alone, is_resolved}
-use Rattle.smpe_why.specs.Clear.{is_supplied}
+use Rattle.report.specs.Facts.{is_over}
+use Rattle.machine_laws.specs.Clear.{AreClear, is_clear, is_fitting, is_free, is_received_alone, is_resolved}
+use Rattle.machine_laws.specs.Clear.{is_supplied}
 
 never : {A : Type 0} → false ≡ true → A
 never e = absurd (true≢false (sym e))

@@ -32,9 +32,9 @@ use Rattle.machine.specs.Receiving.{place_of}
 use Rattle.machine.specs.Installing.{InstallsSelected, Decision, HasStatus, IsInstalled}
 use Rattle.machine.specs.Installing.{IsSuperseded, IsFailed, IsNotChosen}
 use Rattle.machine.specs.Installing.{installed_status}
-use Rattle.smpe_why.specs.Clear.{AreClear, only}
-use Rattle.smpe_why.proofs.ClearFacts.{stands, one_fits, no_system, no_user, met, changed, updates_there, not_deleted}
-use Rattle.smpe_why.proofs.ClearFacts.{names_none, none_forbids}
+use Rattle.machine_laws.specs.Clear.{AreClear, only}
+use Rattle.machine_laws.proofs.ClearFacts.{stands, one_fits, no_system, no_user, met, changed, updates_there, not_deleted}
+use Rattle.machine_laws.proofs.ClearFacts.{names_none, none_forbids}
 
 never : {A : Type 0} → false ≡ true → A
 never e = absurd (true≢false (sym e))

@@ -1,17 +1,35 @@
--- A load behind another one, and what becomes of their results.
-use Rattle.std.proofs.Common.{◌≡◌, ◌∙◌, Result, Ok, Err, OnOk, IfOk, refl, sym, ap, subst}
-use Rattle.std.specs.Prelude.{IsErrAnd, OnErr}
+-- Loads one after the other, what becomes of their results, and memory that runs out after them.
+use Rattle.std.proofs.Common.{◌≡◌, ◌∙◌, Result, Ok, Err, OnOk, IfOk, refl, sym, ap, arith, inl, inr, subst}
+use Rattle.std.specs.Prelude.{IsErrAnd, IsSome, OnErr}
 use Rattle.std.proofs.lemmas.Result.{err_from_is_err_and}
 use Rattle.sqlite.specs.Store.{Ghosts}
 use Rattle.sqlite.specs.Held.{Held}
 use Rattle.store_rows.proofs.Queries.{reads_then}
-use Rattle.store_schema.specs.Inventory.{Inventory}
+use Rattle.store_schema.specs.Inventory.{Inventory, IsInventory}
 use Rattle.store_schema.specs.Tables.{store_schema}
 use Rattle.store_schema.specs.declared.error.StoreError.{StoreError}
-use Rattle.store_schema.specs.declared.error.StoreError.TheVariants.{Fault, NoState}
+use Rattle.store_schema.specs.declared.error.StoreError.TheVariants.{Fault, NoState, Memory}
+use Rattle.store.specs.declared.change.Change.{Change}
+use Rattle.store.specs.Causes.{HasCause, IsLater}
 use Rattle.store.specs.Loads.{Loads}
 use Rattle.store.proofs.NoState.{loads_read, found_after}
-use Rattle.smpe_zones.proofs.Keeping.{cause_since}
+use Rattle.store.proofs.ViewLemmas.{Settled, still_open}
+
+-- a cause since a later moment
+pub cause_since : {S : Type 0} (g : Ghosts S) (old mid at : Held S) → IsLater g old mid → (i : Inventory)
+    → (IsOwn : Change → Type 0) → HasCause g mid at i IsOwn → HasCause g old at i IsOwn
+cause_since g old mid at later i IsOwn cause = record {
+  moment = cause.moment;
+  since = (omega (arith, later.0, cause.since.0), cause.since.1 ∙ later.1);
+  is_open = cause.is_open;
+  stands = cause.stands;
+  kept = cause.kept;
+  why = elim cause.why [
+    | inl failed ↦ inl failed
+    | inr (inl limited) ↦ inr (inl (subst IsSome later.1 limited))
+    | inr (inr refused) ↦ inr (inr refused)
+  ];
+}
 
 module _ {S X Y : Type 0} (g : Ghosts S) (F : Inventory → X → Type 0) (G : Inventory → Y → Type 0) where
   failed : (old new : Held S) (e : StoreError) → Loads g old new F (Err e) → Loads g old new G (Err e)
@@ -42,10 +60,10 @@ module _ {S X Y : Type 0} (g : Ghosts S) (F : Inventory → X → Type 0) (G : I
       subst (λ q. Loads g old new G q) (sym (p.1 ∙ ap Err p.2)) (failed old new e loads)
 
   -- something else is answered
-  pub answered : (old new : Held S) (x : X) (y : Y) → ((i : Inventory) → F i x → G i y)
+  pub answered : (old new : Held S) (x : X) (y : Y) → ((i : Inventory) → IsInventory i → F i x → G i y)
       → Loads g old new F (Ok x) → Loads g old new G (Ok y)
   answered old new x y more loads = record {
-    found = λ clean i tables. more i (loads.found clean i tables);
+    found = λ clean i tables. more i (tables (loads.clean clean)).1.inventory (loads.found clean i tables);
     none = λ clean bad. absurd (cc bad);
     reads = record {
       same = loads.reads.same;
@@ -62,6 +80,33 @@ module _ {S X Y : Type 0} (g : Ghosts S) (F : Inventory → X → Type 0) (G : I
     crash = loads.crash;
     clean = loads.clean;
   }
+
+  short : (old new : Held S) (x : X) → Settled g new → Loads g old new F (Ok x) → Loads g old new G (Err Memory)
+  short old new x settled loads = record {
+    found = λ clean i tables. tt;
+    none = λ clean bad. absurd (cc bad);
+    reads = record {
+      same = λ clean. tt;
+      bad = λ clean bad. absurd (cc bad);
+      cause = λ clean failed is. absurd (cc failed);
+      kept = loads.reads.kept;
+      crash = loads.reads.crash;
+      mode = loads.reads.mode;
+    };
+    cause = λ clean failed i tables. absurd (cc failed);
+    same = tt;
+    err = λ i tables. still_open g new settled i (λ clean is_open. (loads.same i tables clean).1);
+    which = λ is. absurd (cc is);
+    crash = loads.crash;
+    clean = loads.clean;
+  }
+
+  -- memory runs out after loads
+  pub ran_short : (old new : Held S) (x : X) (r : Result Y StoreError) → Settled g new → IsErrAnd r (λ y. y ≡ Memory)
+      → Loads g old new F (Ok x) → Loads g old new G r
+  ran_short old new x r settled is loads =
+      let p = err_from_is_err_and r is in
+      subst (λ q. Loads g old new G q) (sym (p.1 ∙ ap Err p.2)) (short old new x settled loads)
 
   -- what both have found
   found_both : (r : Result Y StoreError) (i : Inventory) (x : X) → F i x → IfOk r (G i) → IfOk r (λ y. F i x × G i y)
