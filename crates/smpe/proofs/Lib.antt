@@ -1,5 +1,5 @@
 mod Reports
 mod Taken
 mod Commanding
-mod Coursing
+mod Going
 mod Single

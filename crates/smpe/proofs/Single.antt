@@ -27,10 +27,10 @@ use Rattle.smpe_session.specs.Sessions.{HasBegun}
 use Rattle.smpe_zones.specs.declared.error.ZoneFault.{ZoneFault}
 use Rattle.smpe_zones.specs.declared.error.ZoneError.{ZoneError}
 use Rattle.smpe_zones.specs.declared.error.ZoneError.TheVariants as zone_error
-use Rattle.smpe_zones.specs.Definitions.{HasDefined, fault_of, is_refused}
+use Rattle.smpe_zones.specs.Definitions.{EndsDefine, fault_of, is_refused}
 use Rattle.smpe_jobs.specs.declared.error.JobError.{JobError}
 use Rattle.smpe_jobs.specs.declared.error.JobError.TheVariants.{Memory, Write}
-use Rattle.smpe_jobs.specs.Ending.{LastStep, EndsEarly, EndsAmong, EndsJob}
+use Rattle.smpe_jobs.specs.Ending.{EndsLast, EndsEarly, EndsAmong, EndsJob}
 use Rattle.smpe.specs.Commands.{EndsCommands}
 use Rattle.smpe_jobs.specs.Errors.{job_error}
 use Rattle.smpe_jobs.proofs.Courses.{ran_quiet, course_after}
@@ -100,7 +100,7 @@ module _ {S : Type 0} (g : Ghosts S) (began at : Held S) (s : State) where
     faulty_broke fault old new is keeps part = (
       Begin ∷ Faulty (control fault) ∷ [],
       one_job (RunFiles date cntl files) (Begin ∷ Faulty (control fault) ∷ []) (inr (fault, is, refl)),
-      course_after Steps (LastStep g began at new Write) s (unset s) (Begin ∷ []) (Faulty (control fault) ∷ []) old old
+      course_after Steps (EndsLast g began at new Write) s (unset s) (Begin ∷ []) (Faulty (control fault) ∷ []) old old
           (ran_quiet Steps s (unset s) Begin old (refl, refl))
           (broke_first g began at (unset s) (Faulty (control fault)) (unset s) (Control (control fault)) old new
           (refl, refl) keeps part),
@@ -167,7 +167,7 @@ module _ {S : Type 0} (g : Ghosts S) (began at : Held S) (s : State) where
 
     -- an error that is this one
     abbrev Fails : ZoneError → Type 0
-    Fails e = HasDefined g began at s d {U = ℕ} (Err e)
+    Fails e = EndsDefine g began at s d {U = ℕ} (Err e)
 
     pub define_refused : (why : ZoneFault) (e : ZoneError) → e ≡ zone_error.Refused why → Fails e
         → EndsJob g began at s (NewZone d) taken taken (λ answer. answer) (Ok (machine.NotDefined (fault_of why)))

@@ -11,7 +11,7 @@ use Rattle.machine.specs.Machine.{Act, Begin, Perform, Faulty, Define, Job, RunF
 use Rattle.machine.specs.Machine.{Answer, Code, Defined, NotDefined}
 use Rattle.store_schema.specs.declared.error.StoreError.TheVariants as store
 use Rattle.store.specs.BadRows.{OnlyLoads, FoundNoState}
-use Rattle.store.specs.Courses.{CommitsOnce, GoesOver}
+use Rattle.store.specs.Going.{CommitsOnce, GoesOver}
 use Rattle.store.specs.Whole.{ShowsGlobal}
 use Rattle.store.specs.declared.change.Change.TheVariants as change
 use Rattle.smpe_zones.specs.Own.{IsOwn}
@@ -40,19 +40,19 @@ module _ {S : Type 0} (g : Ghosts S) where
   -- of a global zone, and has left the store as it was. The fault of a command file has not asked the store. A command
   -- has its own header. One that was refused has left the store as it was. One that ran, or the definition of a zone,
   -- has made at most one change of its own, a command one of the zone that its header names.
-  abbrev pub Passes : Held S → Act → Held S → List Outcome → Type 0
-  Passes old Begin new outcomes = OnlyLoads g old new × (outcomes ≡ [])
+  abbrev pub ActRan : Held S → Act → Held S → List Outcome → Type 0
+  ActRan old Begin new outcomes = OnlyLoads g old new × (outcomes ≡ [])
       × (HasCleanDisk (state g new) → (global : terms.Global) × ShowsGlobal g old global)
-  Passes old (Faulty fault) new outcomes = (new ≡ old) × (outcomes ≡ Control fault ∷ [])
-  Passes old (Perform date files c) new outcomes = (outcome : Outcome) × (outcomes ≡ outcome ∷ []) × IsOutcomeOf c outcome
+  ActRan old (Faulty fault) new outcomes = (new ≡ old) × (outcomes ≡ Control fault ∷ [])
+  ActRan old (Perform date files c) new outcomes = (outcome : Outcome) × (outcomes ≡ outcome ∷ []) × IsOutcomeOf c outcome
       × GoesOver g old new (λ change. IsOwn (Perform date files c) change × IsRan change outcome) {E = JobError}
       (Ok outcome)
-  Passes old (Define d) new outcomes =
+  ActRan old (Define d) new outcomes =
       (outcomes ≡ []) × GoesOver g old new (IsOwn (Define d)) {E = JobError} (Ok outcomes)
 
   -- The acts went to their end.
-  abbrev pub Passed : Held S → Held S → List Act → Option (List ℕ) → Option (List ℕ) → Type 0
-  Passed old new acts taken taken' = AllRan Passes old acts new taken taken'
+  abbrev pub ActsRan : Held S → Held S → List Act → Option (List ℕ) → Option (List ℕ) → Type 0
+  ActsRan old new acts taken taken' = AllRan ActRan old acts new taken taken'
 
   module _ (new : Held S) (taken' : Option (List ℕ)) where
     -- The act failed. It has loaded, or failed to commit one of its own changes, and is not reported.
@@ -68,22 +68,22 @@ module _ {S : Type 0} (g : Ghosts S) where
     FailsBy (Store store.NoState) before had act = Fails (Store store.NoState) before had act
         × (HasCleanDisk (state g new) → FoundNoState g before new)
     FailsBy (Store _) before had act = ⊥
-    FailsBy Write before had act = Unreported Passes (λ after. after ≡ new) taken' before had act
+    FailsBy Write before had act = Unreported ActRan (λ after. after ≡ new) taken' before had act
 
     -- The call ended by this error: by that of the next act, or because memory ran out before that began.
-    abbrev pub LastCall : JobError → Held S → Option (List ℕ) → List Act → Type 0
-    LastCall error before had rest =
+    abbrev pub GoesLast : JobError → Held S → Option (List ℕ) → List Act → Type 0
+    GoesLast error before had rest =
         AtNext (FailsBy error) before had rest ⊎ ((error ≡ Memory) × (before ≡ new) × (had ≡ taken'))
 
   module _ (old new : Held S) (acts : List Act) (taken taken' : Option (List ℕ)) where
     -- The acts ended early, by this error.
     abbrev pub GoesEarly : JobError → Type 0
-    GoesEarly error = Course Passes (LastCall new taken' error) old acts taken
+    GoesEarly error = Course ActRan (GoesLast new taken' error) old acts taken
 
     -- Commands go in this way: to their end, with the greatest return code of what they reported, or to an error.
-    abbrev pub Goes : Result ℕ JobError → Type 0
-    Goes (Ok code) = (passed : Passed old new acts taken taken') × (code ≡ job_code passed.outcomes)
-    Goes (Err error) = GoesEarly error
+    abbrev pub GoesCommands : Result ℕ JobError → Type 0
+    GoesCommands (Ok code) = (ran : ActsRan old new acts taken taken') × (code ≡ job_code ran.outcomes)
+    GoesCommands (Err error) = GoesEarly error
 
   -- What an answer says about a job that reported these outcomes. Its return code is the greatest of theirs. A zone
   -- that is defined was added in one commit, and one that is not defined has left the store as it was.
@@ -95,35 +95,35 @@ module _ {S : Type 0} (g : Ghosts S) where
   Tells (NotDefined why) (NewZone d) old new outcomes = OnlyLoads g old new
 
   -- The job went to its end, and this is its answer.
-  pub record JobPassed (old : Held S) (job : Job) (new : Held S) (taken taken' : Option (List ℕ)) (answer : Answer) :
+  pub record JobRan (old : Held S) (job : Job) (new : Held S) (taken taken' : Option (List ℕ)) (answer : Answer) :
       Type 0 where
     pub acts : List Act
     pub asks : Asks job acts
-    pub passed : Passed old new acts taken taken'
-    pub tells : Tells answer job old new passed.outcomes
+    pub ran : ActsRan old new acts taken taken'
+    pub tells : Tells answer job old new ran.outcomes
 
   -- So did jobs, one after the other.
-  abbrev pub JobsPassed : Held S → List Job → Held S → Option (List ℕ) → Option (List ℕ) → List Answer → Type 0
-  JobsPassed old [] new taken taken' answers = (new ≡ old) × (taken' ≡ taken) × (answers ≡ [])
-  JobsPassed old (job ∷ more) new taken taken' answers =
+  abbrev pub JobsRan : Held S → List Job → Held S → Option (List ℕ) → Option (List ℕ) → List Answer → Type 0
+  JobsRan old [] new taken taken' answers = (new ≡ old) × (taken' ≡ taken) × (answers ≡ [])
+  JobsRan old (job ∷ more) new taken taken' answers =
       (mid : Held S) × (had : Option (List ℕ)) × (answer : Answer) × (later : List Answer)
-      × JobPassed old job mid taken had answer × JobsPassed mid more new had taken' later
+      × JobRan old job mid taken had answer × JobsRan mid more new had taken' later
       × (answers ≡ answer ∷ later)
 
   module _ (old new : Held S) where
     -- Jobs ended early, by this error.
-    abbrev pub JobsStopped : List Job → Option (List ℕ) → Option (List ℕ) → JobError → Type 0
-    JobsStopped jobs taken taken' error =
+    abbrev pub GoesAmong : List Job → Option (List ℕ) → Option (List ℕ) → JobError → Type 0
+    GoesAmong jobs taken taken' error =
         (acts : List Act) × AreFirstAsked jobs acts × GoesEarly old new acts taken taken' error
 
     -- a job goes in this way, with these answers
-    abbrev pub JobGoes : Job → Option (List ℕ) → Option (List ℕ) → {X : Type 0} → (X → Answer) → Result X JobError
+    abbrev pub GoesJob : Job → Option (List ℕ) → Option (List ℕ) → {X : Type 0} → (X → Answer) → Result X JobError
         → Type 0
-    JobGoes job taken taken' answer (Ok x) = JobPassed old job new taken taken' (answer x)
-    JobGoes job taken taken' answer (Err error) = JobsStopped (job ∷ []) taken taken' error
+    GoesJob job taken taken' answer (Ok x) = JobRan old job new taken taken' (answer x)
+    GoesJob job taken taken' answer (Err error) = GoesAmong (job ∷ []) taken taken' error
 
     -- and so do jobs
-    abbrev pub JobsGo : List Job → Option (List ℕ) → Option (List ℕ) → {X : Type 0} → (X → List Answer)
+    abbrev pub GoesJobs : List Job → Option (List ℕ) → Option (List ℕ) → {X : Type 0} → (X → List Answer)
         → Result X JobError → Type 0
-    JobsGo jobs taken taken' answers (Ok x) = JobsPassed old jobs new taken taken' (answers x)
-    JobsGo jobs taken taken' answers (Err error) = JobsStopped jobs taken taken' error
+    GoesJobs jobs taken taken' answers (Ok x) = JobsRan old jobs new taken taken' (answers x)
+    GoesJobs jobs taken taken' answers (Err error) = GoesAmong jobs taken taken' error

@@ -7,10 +7,10 @@ ghost use Rattle.machine.specs.Machine.{RunFiles, Code, Perform};
 ghost use Rattle.cntl.specs.Views.{command_of};
 ghost use Rattle.smpe_session.specs.Sessions.{IsSessionOf};
 ghost use Rattle.smpe_zones.specs.Kept.{Keeps};
-ghost use Rattle.smpe_zones.specs.Ends.{Follows};
+ghost use Rattle.smpe_zones.specs.Calls.{Follows};
 ghost use Rattle.smpe_jobs.specs.Ending.{EndsJob, KeepsClosed, TellsOfSink};
 ghost use Rattle.smpe.specs.Commands.{EndsCommands};
-ghost use Rattle.smpe.specs.Going.{Goes, JobGoes};
+ghost use Rattle.smpe.specs.Going.{GoesCommands, GoesJob};
 
 use crate::command::perform;
 use cntl::{CntlError, Command, read_cntl};
@@ -33,12 +33,12 @@ fn run_command<S: Alter, W: Sink>(
     w: &mut W,
 ) -> Result<u8, JobError>
     ensures follows { Follows S.Store store.old store.new }
-    ensures ended { HasCleanDisk (state S.Store store.new) → (s : State) → IsSessionOf s session.old
+    ensures ends { HasCleanDisk (state S.Store store.new) → (s : State) → IsSessionOf s session.old
         → Keeps S.Store store.old s
         → EndsCommands S.Store store.old store.new s session.new date files.now (command_of command.now ∷ []) (W.taken
         w.old)
         (W.taken w.new) result }
-    ensures course { Goes S.Store store.old store.new (Perform date files.now (command_of command.now) ∷ [])
+    ensures goes { GoesCommands S.Store store.old store.new (Perform date files.now (command_of command.now) ∷ [])
         (W.taken w.old) (W.taken w.new) result }
     ensures fault { TellsOfSink (W.has_failed w.old) (W.has_failed w.new) result }
 {
@@ -60,12 +60,12 @@ fn run_commands<S: Alter, W: Sink>(
     w: &mut W,
 ) -> Result<u8, JobError>
     ensures follows { Follows S.Store store.old store.new }
-    ensures ended { HasCleanDisk (state S.Store store.new) → (s : State) → IsSessionOf s session.old
+    ensures ends { HasCleanDisk (state S.Store store.new) → (s : State) → IsSessionOf s session.old
         → Keeps S.Store store.old s
         → EndsCommands S.Store store.old store.new s session.new date files.now (map command_of commands.now) (W.taken
         w.old)
         (W.taken w.new) result }
-    ensures course { Goes S.Store store.old store.new (map (Perform date files.now) (map command_of commands.now))
+    ensures goes { GoesCommands S.Store store.old store.new (map (Perform date files.now) (map command_of commands.now))
         (W.taken w.old) (W.taken w.new) result }
     ensures fault { TellsOfSink (W.has_failed w.old) (W.has_failed w.new) result }
 {
@@ -91,13 +91,13 @@ pub fn run_job<S: Alter, W: Sink>(
     w: &mut W,
 ) -> Result<u8, JobError>
     ensures follows { Follows S.Store store.old store.new }
-    ensures ended { HasCleanDisk (state S.Store store.new) → (s : State) → Keeps S.Store store.old s
+    ensures ends { HasCleanDisk (state S.Store store.new) → (s : State) → Keeps S.Store store.old s
         → EndsJob S.Store store.old store.new s (RunFiles date cntl.now (record {
           ptfin = ptfin.now;
           holds = hold.now;
         }))
         (W.taken w.old) (W.taken w.new) Code result }
-    ensures course { JobGoes S.Store store.old store.new (RunFiles date cntl.now
+    ensures goes { GoesJob S.Store store.old store.new (RunFiles date cntl.now
         (record { ptfin = ptfin.now; holds = hold.now })) (W.taken w.old) (W.taken w.new) Code result }
     ensures closed { KeepsClosed S.Store store.old store.new }
     ensures fault { TellsOfSink (W.has_failed w.old) (W.has_failed w.new) result }

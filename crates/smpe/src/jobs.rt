@@ -6,8 +6,8 @@ ghost use Rattle.machine.specs.State.{State};
 ghost use Rattle.machine.specs.Machine.{NewZone};
 ghost use Rattle.smpe_zones.specs.Definitions.{definition};
 ghost use Rattle.smpe_zones.specs.Kept.{Keeps};
-ghost use Rattle.smpe.specs.Going.{JobGoes, JobsGo};
-ghost use Rattle.smpe_zones.specs.Ends.{Follows};
+ghost use Rattle.smpe.specs.Going.{GoesJob, GoesJobs};
+ghost use Rattle.smpe_zones.specs.Calls.{Follows};
 ghost use Rattle.smpe_jobs.specs.Ending.{EndsJob, EndsJobs, KeepsClosed, TellsOfSink, is_write, job_of, answer_of};
 
 use crate::job::run_job;
@@ -29,11 +29,11 @@ fn define<S: Alter>(
     related: Option<ZoneName>,
 ) -> Result<Answer, JobError>
     ensures follows { Follows S.Store store.old store.new }
-    ensures ended { HasCleanDisk (state S.Store store.new) → (s : State) → Keeps S.Store store.old s
+    ensures ends { HasCleanDisk (state S.Store store.new) → (s : State) → Keeps S.Store store.old s
         → (taken : Option (List ℕ))
         → EndsJob S.Store store.old store.new s (NewZone (definition name kind srel related)) taken taken answer_of
         result }
-    ensures course { (taken : Option (List ℕ)) → JobGoes S.Store store.old store.new
+    ensures goes { (taken : Option (List ℕ)) → GoesJob S.Store store.old store.new
         (NewZone (definition name kind srel related)) taken taken answer_of result }
     ensures closed { KeepsClosed S.Store store.old store.new }
     ensures fault { is_write result ≡ false }
@@ -54,9 +54,9 @@ fn run_one<S: Alter, W: Sink>(
     w: &mut W,
 ) -> Result<Answer, JobError>
     ensures follows { Follows S.Store store.old store.new }
-    ensures ended { HasCleanDisk (state S.Store store.new) → (s : State) → Keeps S.Store store.old s
+    ensures ends { HasCleanDisk (state S.Store store.new) → (s : State) → Keeps S.Store store.old s
         → EndsJob S.Store store.old store.new s (job_of job.now) (W.taken w.old) (W.taken w.new) answer_of result }
-    ensures course { JobGoes S.Store store.old store.new (job_of job.now) (W.taken w.old) (W.taken w.new) answer_of
+    ensures goes { GoesJob S.Store store.old store.new (job_of job.now) (W.taken w.old) (W.taken w.new) answer_of
         result }
     ensures closed { KeepsClosed S.Store store.old store.new }
     ensures fault { TellsOfSink (W.has_failed w.old) (W.has_failed w.new) result }
@@ -90,10 +90,10 @@ pub fn run_jobs<S: Alter, W: Sink>(
     w: &mut W,
 ) -> Result<Vec<Answer>, JobError>
     ensures follows { Follows S.Store store.old store.new }
-    ensures ended { HasCleanDisk (state S.Store store.new) → (s : State) → Keeps S.Store store.old s
+    ensures ends { HasCleanDisk (state S.Store store.new) → (s : State) → Keeps S.Store store.old s
         → EndsJobs S.Store store.old store.new s (map job_of jobs.now) (W.taken w.old) (W.taken w.new)
         (λ v. map answer_of v.items) result }
-    ensures course { JobsGo S.Store store.old store.new (map job_of jobs.now) (W.taken w.old) (W.taken w.new)
+    ensures goes { GoesJobs S.Store store.old store.new (map job_of jobs.now) (W.taken w.old) (W.taken w.new)
         (λ v. map answer_of v.items) result }
     ensures closed { KeepsClosed S.Store store.old store.new }
     ensures fault { TellsOfSink (W.has_failed w.old) (W.has_failed w.new) result }

@@ -2,7 +2,7 @@
 //! stand for are the machine's, or after an error those of some first commands. Whatever a crash leaves includes each
 //! command that was reported. Zones that were closed stay so, also after an error and a crash (`closed`). A fault of the
 //! database has a cause in the call that returns it. No contract says when memory runs out. Whatever the tables hold
-//! (`course`), each command has loaded, or made one change of its own besides. If the answer is that they stand for no
+//! (`goes`), each command has loaded, or made one change of its own besides. If the answer is that they stand for no
 //! state, nothing has changed since the last command that was reported. `smpe_jobs` says what jobs are and how they end.
 #![tactic(auto)]
 

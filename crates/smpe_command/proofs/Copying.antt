@@ -10,7 +10,7 @@ use Rattle.report.specs.declared.sink.Sink.{Ghosts as SinkGhosts}
 use Rattle.smpe_zones.specs.Kept.{kept, Keeps}
 use Rattle.smpe_jobs.specs.declared.error.JobError.{JobError}
 use Rattle.smpe_jobs.specs.Ending.{EndsJobs, TellsOfSink}
-use Rattle.smpe.specs.Going.{JobsGo}
+use Rattle.smpe.specs.Going.{GoesJobs}
 use Rattle.smpe_jobs.proofs.Early.{jobs_since}
 use Rattle.smpe_command.specs.Copied.{AsksAfter, AsksIfAny, AsksStore, TriedOver}
 use Rattle.smpe_command.specs.Database.{IsStoreOver}
@@ -32,7 +32,7 @@ module _ {S O : Type 0} (g : Ghosts S) (sink : SinkGhosts O) (zone : Text) where
       → Alike f (λ all. all) r q → IsStoreOver g conn begun
       → (HasCleanDisk (state g store) → (s : State) → Keeps g begun s
       → EndsJobs g begun store s jobs (sink.taken out) (sink.taken mid) f r)
-      → JobsGo g begun store jobs (sink.taken out) (sink.taken mid) f r
+      → GoesJobs g begun store jobs (sink.taken out) (sink.taken mid) f r
       → TellsOfSink (sink.has_failed out) (sink.has_failed mid) r
       → AsksAfter g sink zone q ids store mid status out'
       → TriedOver g sink zone ids jobs conn begun out status out'

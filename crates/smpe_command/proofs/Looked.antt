@@ -9,9 +9,9 @@ use Rattle.store_schema.specs.declared.error.StoreError.{StoreError}
 use Rattle.store_schema.specs.Inventory.{Inventory}
 use Rattle.store_schema.specs.Stands.{StandsFor}
 use Rattle.store.specs.Causes.{IsLater}
-use Rattle.store.specs.Courses.{LoadsAlone}
+use Rattle.store.specs.Going.{LoadsAlone}
 use Rattle.store.specs.Loads.{Loads}
-use Rattle.smpe_zones.specs.Ends.{HasLoaded}
+use Rattle.smpe_zones.specs.Calls.{EndsLoad}
 use Rattle.smpe_zones.specs.Kept.{kept, Keeps}
 use Rattle.smpe_zones.proofs.Keeping.{loaded, ended_since}
 use Rattle.smpe_jobs.specs.Ending.{StaysClosed}
@@ -21,7 +21,7 @@ module _ {S X : Type 0} (g : Ghosts S) (old new : Held S) where
   -- what was found, and the cause of a fault since the opening
   pub looked : (s : State) (Found : Inventory → X → Type 0) → Keeps g old s → (conn : Held S) → IsLater g conn old
       → HasCleanDisk (state g new) → (r : Result X StoreError) → Loads g old new Found r
-      → HasLoaded g conn new s (Found (kept s)) r
+      → EndsLoad g conn new s (Found (kept s)) r
   looked s Found keeps conn later clean r loads =
       ended_since g conn old new s later (λ _. ⊥) (λ _. ⊥) (λ x. Found (kept s) x × Keeps g new s) r
       (loaded g old new s Found r clean loads keeps)

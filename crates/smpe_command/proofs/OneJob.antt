@@ -16,7 +16,7 @@ use Rattle.sqlite.specs.Steps.{over_memory}
 use Rattle.smpe_jobs.specs.Errors.{job_error}
 use Rattle.smpe_jobs.specs.Ending.{EndsJobs, is_write}
 use Rattle.smpe_jobs.specs.FromEmpty.{empty_system}
-use Rattle.smpe.specs.Going.{JobsGo, JobsPassed}
+use Rattle.smpe.specs.Going.{GoesJobs, JobsRan}
 use Rattle.smpe_command.specs.declared.host.Host.{Ghosts as HostGhosts}
 use Rattle.smpe_command.specs.Database.{JobsOver}
 use Rattle.smpe_command.specs.ServiceSet.{JobsInMemory, TriesSet, TriesWith, apply_records, set_jobs, tried_with}
@@ -56,14 +56,14 @@ module _ {V W : Type 0} (f : V → List machine.Answer) (k : W → List machine.
         subst (λ x. EndsJobs g a b s jobs (sink.taken out) (sink.taken out') k (Err x)) same ended
 
     pub goes_as : (a b : Held S) (r : Result V JobError) (q : Result W JobError) → Alike r q
-        → JobsGo g a b jobs (sink.taken out) (sink.taken out') f r
-        → JobsGo g a b jobs (sink.taken out) (sink.taken out') k q
+        → GoesJobs g a b jobs (sink.taken out) (sink.taken out') f r
+        → GoesJobs g a b jobs (sink.taken out) (sink.taken out') k q
     goes_as a b (Ok v) (Ok w) same went =
-        subst (JobsPassed g a jobs b (sink.taken out) (sink.taken out')) same went
+        subst (JobsRan g a jobs b (sink.taken out) (sink.taken out')) same went
     goes_as a b (Ok v) (Err d) same went = absurd same
     goes_as a b (Err e) (Ok w) same went = absurd same
     goes_as a b (Err e) (Err d) same went =
-        subst (λ x. JobsGo g a b jobs (sink.taken out) (sink.taken out') k (Err x)) same went
+        subst (λ x. GoesJobs g a b jobs (sink.taken out) (sink.taken out') k (Err x)) same went
 
     pub write_as : (r : Result V JobError) (q : Result W JobError) → Alike r q → is_write r ≡ is_write q
     write_as (Ok v) (Ok w) same = refl

@@ -50,9 +50,9 @@ module _ {H D E : Type 0} (host : HostGhosts H D) (stderr : SinkGhosts E) where
       ⊎ ((is_text fault ≡ false) × Tells h err (Arg fault) status after err')
 
   -- nothing is reported about a success
-  abbrev pub Ends : H → E → Result ℕ Fault → ℕ → H → E → Type 0
-  Ends h err (Ok code) status after err' = (status ≡ code) × (after ≡ h) × (err' ≡ err)
-  Ends h err (Err fault) status after err' = Tells h err fault status after err'
+  abbrev pub TellsResult : H → E → Result ℕ Fault → ℕ → H → E → Type 0
+  TellsResult h err (Ok code) status after err' = (status ≡ code) × (after ≡ h) × (err' ≡ err)
+  TellsResult h err (Err fault) status after err' = Tells h err fault status after err'
 
 module _ {H D M O E : Type 0} (host : HostGhosts H D) (g : Ghosts D) (memory : disk.Ghosts M)
     (stdout : SinkGhosts O) (stderr : SinkGhosts E) where
@@ -61,6 +61,6 @@ module _ {H D M O E : Type 0} (host : HostGhosts H D) (g : Ghosts D) (memory : d
   abbrev pub Answers : List (List ℕ) → H → O → E → ℕ → H → O → E → Type 0
   Answers words h out err status after out' err' =
       ((asked : Invocation) × IsAsked words asked × (m : H) × (r : Result ℕ Fault)
-      × Serves host g memory stdout h asked out r m out' × Ends host stderr m err r status after err')
+      × Serves host g memory stdout h asked out r m out' × TellsResult host stderr m err r status after err')
       ⊎ ((fault : ArgFault) × IsUnasked words fault × TellsWords host stderr h err fault status after err'
       × (out' ≡ out))

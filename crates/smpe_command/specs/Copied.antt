@@ -27,7 +27,7 @@ use Rattle.smpe_jobs.specs.declared.error.JobError.{JobError}
 use Rattle.smpe_jobs.specs.declared.error.JobError.TheVariants.{Memory}
 use Rattle.smpe_jobs.specs.Errors.{job_error}
 use Rattle.smpe_jobs.specs.Ending.{EndsJobs, is_write}
-use Rattle.smpe.specs.Going.{JobsGo}
+use Rattle.smpe.specs.Going.{GoesJobs}
 use Rattle.smpe_jobs.specs.ListJob.{two_records}
 use Rattle.smpe_why.specs.Telling.{Inquiry, IsFoundIn}
 use Rattle.smpe_why.specs.declared.found.LoadedZones.{LoadedZones}
@@ -80,7 +80,7 @@ module _ {S O : Type 0} (g : Ghosts S) (sink : SinkGhosts O) (zone : Text) where
     pub answers : Result (List machine.Answer) JobError
     pub ends : HasCleanDisk (state g store) → (s : State) → IsFound g conn (kept s)
         → EndsJobs g conn store s jobs (sink.taken out) (sink.taken mid) (λ all. all) answers
-    pub goes : JobsGo g begun store jobs (sink.taken out) (sink.taken mid) (λ all. all) answers
+    pub goes : GoesJobs g begun store jobs (sink.taken out) (sink.taken mid) (λ all. all) answers
     pub fault : sink.has_failed out ≡ false → sink.has_failed mid ≡ is_write answers
     pub asks : AsksAfter answers ids store mid r out'
 

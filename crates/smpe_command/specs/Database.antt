@@ -18,8 +18,8 @@ use Rattle.store_schema.specs.Inventory.{Inventory}
 use Rattle.store_schema.specs.Known.{HasOtherNumber, HasNoState, HasOwnTables, told}
 use Rattle.store_schema.specs.Stands.{IsSetUp}
 use Rattle.store.specs.BadRows.{TellsNoState}
-use Rattle.store.specs.Courses.{LoadsAlone}
-use Rattle.smpe_zones.specs.Ends.{HasLoaded}
+use Rattle.store.specs.Going.{LoadsAlone}
+use Rattle.smpe_zones.specs.Calls.{EndsLoad}
 use Rattle.smpe_zones.specs.Kept.{kept}
 use Rattle.store_migration.specs.Migrated.{Migrated, Unmigrated}
 use Rattle.store.specs.View.{Tables, Leaves, LeavesFound, IsFound}
@@ -31,7 +31,7 @@ use Rattle.smpe_jobs.specs.declared.error.JobError.{JobError}
 use Rattle.smpe_jobs.specs.declared.jobs.Answer.{Answer}
 use Rattle.smpe_jobs.specs.Errors.{job_error}
 use Rattle.smpe_jobs.specs.Ending.{EndsJobs, StaysClosed, answer_of, is_write}
-use Rattle.smpe.specs.Going.{JobsGo}
+use Rattle.smpe.specs.Going.{GoesJobs}
 use Rattle.smpe_command.specs.declared.host.Host.{Ghosts as HostGhosts}
 
 -- The connection became this store. The store's tables, created if there were none, stand for what was found. A database
@@ -90,7 +90,7 @@ module _ {H D : Type 0} (host : HostGhosts H D) (g : Ghosts D) where
       ((why : StoreError) × FailsToOpen h db why after × (r ≡ Err (job_error why)) × (out' ≡ out))
       ⊎ (Works h db
       (λ conn store s. EndsJobs g conn store s jobs (sink.taken out) (sink.taken out') answers r)
-      (λ begun store. JobsGo g begun store jobs (sink.taken out) (sink.taken out') answers r) after
+      (λ begun store. GoesJobs g begun store jobs (sink.taken out) (sink.taken out') answers r) after
       × (sink.has_failed out ≡ false → sink.has_failed out' ≡ is_write r))
 
   -- so one job, with its answer
@@ -104,7 +104,7 @@ module _ {H D : Type 0} (host : HostGhosts H D) (g : Ghosts D) where
   -- opened.
   abbrev pub LoadsOver : {X : Type 0} → (Inventory → X → Type 0) → H → Text → Result X StoreError → H → Type 0
   LoadsOver Found h db r after = ((why : StoreError) × FailsToOpen h db why after × (r ≡ Err why))
-      ⊎ Works h db (λ conn store s. HasLoaded g conn store s (Found (kept s)) r)
+      ⊎ Works h db (λ conn store s. EndsLoad g conn store s (Found (kept s)) r)
       (λ begun store. LoadsAlone g begun store r × TellsNoState g begun store r) after
 
   -- the global zone and the zone of a name

@@ -19,7 +19,7 @@ use Rattle.store_schema.specs.Inventory.{Inventory}
 use Rattle.store_schema.specs.Stands.{StandsFor}
 use Rattle.store_schema.specs.Tables.{store_schema}
 use Rattle.store_schema.proofs.OneState.{one_state}
-use Rattle.smpe_zones.specs.Ends.{StillKeeps}
+use Rattle.smpe_zones.specs.Calls.{StillKeeps}
 use Rattle.smpe_zones.specs.Kept.{kept, Keeps, IsAfter}
 use Rattle.store.specs.View.{Leaves, IsFound}
 use Rattle.smpe_zones.proofs.Adding.{steps_defined}
@@ -29,10 +29,10 @@ use Rattle.machine_laws.proofs.StepKeeps.{IsClosedState, step_keeps}
 use Rattle.machine_laws.proofs.JobsKeep.{first_formed, runs_keep, job_keeps, jobs_keep}
 use Rattle.smpe_zones.specs.declared.error.ZoneError.{ZoneError}
 use Rattle.smpe_zones.specs.declared.error.ZoneError.TheVariants as zone
-use Rattle.smpe_zones.specs.Definitions.{HasDefined}
+use Rattle.smpe_zones.specs.Definitions.{EndsDefine}
 use Rattle.smpe_jobs.specs.declared.error.JobError.{JobError}
 use Rattle.smpe_jobs.specs.declared.error.JobError.TheVariants.{Memory, Store, Write}
-use Rattle.smpe_jobs.specs.Ending.{IsAfterNext, LastStep, StaysClosed, EndsEarly, EndsJob, EndsJobs}
+use Rattle.smpe_jobs.specs.Ending.{IsAfterNext, EndsLast, StaysClosed, EndsEarly, EndsJob, EndsJobs}
 use Rattle.smpe_jobs.specs.FromEmpty.{IsNewStore, EndsClosed, empty_system}
 
 -- tables of one database, whatever schema it is read by, stand for one inventory
@@ -89,7 +89,7 @@ module _ {S : Type 0} (g : Ghosts S) (at : Held S) (clean : HasCleanDisk (state 
 
   module _ (began : Held S) where
     last : (new : Option (List ℕ)) (e : JobError) (s : State) (had : Option (List ℕ)) (rest : List Act)
-        → AllByRecursion HasActForms rest → IsClosedState s → LastStep g began at new e s had rest → StaysClosed g at
+        → AllByRecursion HasActForms rest → IsClosedState s → EndsLast g began at new e s had rest → StaysClosed g at
     last new Memory s had rest forms is (keeps, same) =
         still s (IsAfterNext s rest) is (after_next s rest forms is) keeps
     last new (Store store.Fault) s had [] forms is none = absurd none
@@ -128,7 +128,7 @@ module _ {S : Type 0} (g : Ghosts S) (at : Held S) (clean : HasCleanDisk (state 
         early s acts a b e is (first_formed jobs acts forms are) ends
 
     zone_ended : {U : Type 0} (s : State) (d : ZoneDefinition) (r : Result U ZoneError) → IsClosedState s
-        → HasActForms (Define d) → HasDefined g began at s d r → StaysClosed g at
+        → HasActForms (Define d) → EndsDefine g began at s d r → StaysClosed g at
     zone_ended s d (Ok done) is form (t, answers, keeps) =
         keeps_closed t keeps (step_keeps s (Define d) t [] form (steps_defined s t d answers) is).closed
     zone_ended s d (Err (zone.Refused why)) is form ended = keeps_closed s ended.1 is.closed
@@ -152,7 +152,7 @@ module _ {S : Type 0} (g : Ghosts S) (old at : Held S) (s : State) (was : HasCle
 
   -- The definition of such a zone.
   pub definition_closed : {U : Type 0} (d : ZoneDefinition) (r : Result U ZoneError) → IsZoneName d.name
-      → IsSrel d.srel → HasDefined g old at s d r → StaysClosed g at
+      → IsSrel d.srel → EndsDefine g old at s d r → StaysClosed g at
   definition_closed d r name srel ends = zone_ended g at clean old s d r found (name, srel) ends
 
 -- Jobs over a store that was opened in a database without tables.

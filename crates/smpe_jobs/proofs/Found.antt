@@ -15,15 +15,15 @@ use Rattle.smpe_zones.specs.Kept.{kept, Keeps}
 use Rattle.smpe_jobs.specs.declared.error.JobError.{JobError}
 use Rattle.smpe_jobs.specs.declared.error.JobError.TheVariants.{Memory, Store, Write}
 use Rattle.smpe_jobs.specs.Course.{Unreported}
-use Rattle.smpe_jobs.specs.Ending.{LastStep, EndsEarly}
-use Rattle.smpe_jobs.specs.Reopened.{ShowsOne, KeepsOne, LastFound, FindsEarly, NextOpenFinds, GoesOn}
+use Rattle.smpe_jobs.specs.Ending.{EndsLast, EndsEarly}
+use Rattle.smpe_jobs.specs.Reopened.{ShowsOne, KeepsOne, FindsLast, FindsEarly, NextOpenFinds, MayGoOn}
 use Rattle.smpe_jobs.proofs.Courses.{course_as, next_as}
 
 -- Of what a crash may leave one is found.
 module _ {S : Type 0} (g : Ghosts S) (began at : Held S) (One : (Inventory → Type 0) → Type 0)
     (one_of : (Among : Inventory → Type 0) → Leaves g at Among → One Among) where
   last_found : (new : Option (List ℕ)) (e : JobError) (before : State) (had : Option (List ℕ)) (rest : List Act)
-      → LastStep g began at new e before had rest → LastFound One new e before had rest
+      → EndsLast g began at new e before had rest → FindsLast One new e before had rest
   last_found new Memory before had rest (still, same) = (one_of _ still.crash, same)
   last_found new (Store store.Fault) before had [] none = absurd none
   last_found new (Store store.Fault) before had (next ∷ rest) (failed, same) = (one_of _ failed.still.crash, same)
@@ -37,7 +37,7 @@ module _ {S : Type 0} (g : Ghosts S) (began at : Held S) (One : (Inventory → T
   early : (s : State) (acts : List Act) (old new : Option (List ℕ)) (e : JobError)
       → EndsEarly g began at s acts old new e → FindsEarly One s acts old new e
   early s acts old new e ends =
-      course_as Steps (LastStep g began at new e) (LastFound One new e) s acts old (last_found new e) ends
+      course_as Steps (EndsLast g began at new e) (FindsLast One new e) s acts old (last_found new e) ends
 
 pub next_open_finds_holds : {S T : Type 0} (g : Ghosts S) (h : Ghosts T) → NextOpenFinds g h
 next_open_finds_holds g h began at again s jobs old new error (acts, first, ends) shows =
@@ -67,7 +67,7 @@ module _ {S T : Type 0} (g : Ghosts S) (h : Ghosts T) (at : Held S) (conn again 
           },
         )
 
-    pub goes_on : GoesOn g at h again
+    pub goes_on : MayGoOn g at h again
     goes_on = record {
       clean = clean;
       same = λ s keeps. ∥∥₁_map shows.left (λ left.

@@ -14,7 +14,7 @@ use Rattle.store_schema.specs.declared.error.StoreError.TheVariants as store
 use Rattle.store_schema.specs.Inventory.{Inventory}
 use Rattle.store_schema.specs.Stands.{StandsFor}
 use Rattle.smpe_zones.specs.Definitions.{definition, fault_of}
-use Rattle.smpe_zones.specs.Ends.{StillKeeps, ActFailed}
+use Rattle.smpe_zones.specs.Calls.{StillKeeps, FailsAct}
 use Rattle.smpe_zones.specs.Kept.{Keeps, IsAfter}
 use Rattle.smpe_jobs.specs.Course.{Course, Unreported, AtNext}
 use Rattle.smpe_jobs.specs.declared.error.JobError.{JobError}
@@ -65,22 +65,22 @@ module _ {S : Type 0} (g : Ghosts S) (began at : Held S) where
     -- The act met a fault: it had no effect, except that a crash may leave one, and no report. The cause is of this
     -- call, and of this act.
     abbrev pub Faulted : State → Option (List ℕ) → Act → Type 0
-    Faulted before had act = ActFailed g began at before act store.Fault × (had ≡ new)
+    Faulted before had act = FailsAct g began at before act store.Fault × (had ≡ new)
 
     -- The call ended by this error: because memory ran out, at the next act, if there was one, or before that began; by
     -- a fault of the store that the next act met; or by a fault of the sink. If the connection is still open, the store
     -- keeps the result of the acts that ran, and the caller may go on from there.
-    abbrev pub LastStep : JobError → State → Option (List ℕ) → List Act → Type 0
-    LastStep Memory before had rest = StillKeeps g at before (IsAfterNext before rest) × (had ≡ new)
-    LastStep (Store store.Fault) before had rest = AtNext Faulted before had rest
-    LastStep (Store _) before had rest = ⊥
-    LastStep Write before had rest = AtNext (Unreported Steps (Keeps g at) new) before had rest
+    abbrev pub EndsLast : JobError → State → Option (List ℕ) → List Act → Type 0
+    EndsLast Memory before had rest = StillKeeps g at before (IsAfterNext before rest) × (had ≡ new)
+    EndsLast (Store store.Fault) before had rest = AtNext Faulted before had rest
+    EndsLast (Store _) before had rest = ⊥
+    EndsLast Write before had rest = AtNext (Unreported Steps (Keeps g at) new) before had rest
 
 -- It found the tables standing for s. The sink had taken `old`, and now has `new`.
 module _ {S : Type 0} (g : Ghosts S) (began at : Held S) (s : State) where
   -- The call could not go on to the end of these acts.
   abbrev pub EndsEarly : List Act → Option (List ℕ) → Option (List ℕ) → JobError → Type 0
-  EndsEarly acts old new error = Course Steps (LastStep g began at new error) s acts old
+  EndsEarly acts old new error = Course Steps (EndsLast g began at new error) s acts old
 
   -- the same of these jobs: the acts are those of the first ones
   abbrev pub EndsAmong : List machine.Job → Option (List ℕ) → Option (List ℕ) → JobError → Type 0

@@ -29,15 +29,15 @@ module _ {T : Type 0} (h : Ghosts T) (again : Held T) where
 module _ (One : (Inventory → Type 0) → Type 0) where
   -- The call ended by this error, and what is found is the result of the acts that ran, or of one act more. After a
   -- fault of the sink, the next act ran, and what is found is its result.
-  abbrev pub LastFound : Option (List ℕ) → JobError → State → Option (List ℕ) → List Act → Type 0
-  LastFound new Memory before had rest = One (λ c. (c ≡ kept before) ⊎ IsAfterNext before rest c) × (had ≡ new)
-  LastFound new (Store store.Fault) before had rest =
+  abbrev pub FindsLast : Option (List ℕ) → JobError → State → Option (List ℕ) → List Act → Type 0
+  FindsLast new Memory before had rest = One (λ c. (c ≡ kept before) ⊎ IsAfterNext before rest c) × (had ≡ new)
+  FindsLast new (Store store.Fault) before had rest =
       One (λ c. (c ≡ kept before) ⊎ IsAfterNext before rest c) × (had ≡ new)
-  LastFound new (Store _) before had rest = ⊥
-  LastFound new Write before had rest = AtNext (Unreported Steps (λ t. One (λ c. c ≡ kept t)) new) before had rest
+  FindsLast new (Store _) before had rest = ⊥
+  FindsLast new Write before had rest = AtNext (Unreported Steps (λ t. One (λ c. c ≡ kept t)) new) before had rest
 
   abbrev pub FindsEarly : State → List Act → Option (List ℕ) → Option (List ℕ) → JobError → Type 0
-  FindsEarly s acts old new error = Course Steps (LastFound new error) s acts old
+  FindsEarly s acts old new error = Course Steps (FindsLast new error) s acts old
 
   -- the same of these jobs: the acts are those of the first ones
   abbrev pub FindsAmong : State → List Job → Option (List ℕ) → Option (List ℕ) → JobError → Type 0
@@ -54,7 +54,7 @@ NextOpenFinds {S} {T} g h =
 -- The store was opened again after what jobs had left of the first connection, and a caller may go on with it. It keeps
 -- the state that the first one kept. After jobs that ended early, whether or not a fault shut the connection, it keeps
 -- the state of the commands that were reported, or that of one command more. A load tells which of them it is.
-pub record GoesOn {S T : Type 0} (g : Ghosts S) (at : Held S) (h : Ghosts T) (again : Held T) : Type 0 where
+pub record MayGoOn {S T : Type 0} (g : Ghosts S) (at : Held S) (h : Ghosts T) (again : Held T) : Type 0 where
   pub clean : HasCleanDisk (state g at)
   pub same : (s : State) → Keeps g at s → ∥ Keeps h again s ∥₁
   pub early : (began : Held S) (s : State) (jobs : List Job) (old new : Option (List ℕ)) (error : JobError)

@@ -1,6 +1,6 @@
 //! A store that is opened again after jobs that ended early.
 ghost use Rattle.std.specs.Prelude.{◌≡◌, false, IfOk};
-ghost use Rattle.smpe_jobs.specs.Reopened.{GoesOn};
+ghost use Rattle.smpe_jobs.specs.Reopened.{MayGoOn};
 ghost use Rattle.sqlite.specs.Files.{file_state, over_files};
 ghost use Rattle.sqlite.specs.State.{HasCleanDisk};
 ghost use Rattle.store.specs.View.{ShowsLeft};
@@ -37,7 +37,7 @@ pub fn reopened<D: Crash + Drop>(
     conn: Connection<FileStore<D>>,
     options: Options,
 ) -> Result<Store<FileStore<D>>, (Files<D>, StoreError)>
-    ensures { IfOk result (λ again. HasCleanDisk (file_state again) → GoesOn over_files conn over_files again) }
+    ensures { IfOk result (λ again. HasCleanDisk (file_state again) → MayGoOn over_files conn over_files again) }
 {
     let again = connected_again(alloc, conn, options)?;
     match Store::open(alloc, again) {

@@ -3,8 +3,8 @@ ghost use Rattle.sqlite.specs.Held.{state};
 ghost use Rattle.sqlite.specs.State.{HasCleanDisk};
 ghost use Rattle.machine.specs.State.{State};
 ghost use Rattle.smpe_zones.specs.Kept.{Keeps};
-ghost use Rattle.smpe_zones.specs.Definitions.{HasCourse, HasDefined, definition};
-ghost use Rattle.smpe_zones.specs.Ends.{Follows};
+ghost use Rattle.smpe_zones.specs.Definitions.{GoesDefine, EndsDefine, definition};
+ghost use Rattle.smpe_zones.specs.Calls.{Follows};
 ghost use Rattle.smpe_jobs.specs.Ending.{KeepsClosed};
 
 use fields::{Attest, Srel, ZoneName};
@@ -24,9 +24,9 @@ pub fn define_zone<S: Alter>(
     related: Option<ZoneName>,
 ) -> Result<(), ZoneError>
     ensures follows { Follows S.Store store.old store.new }
-    ensures ended { HasCleanDisk (state S.Store store.new) → (s : State) → Keeps S.Store store.old s
-        → HasDefined S.Store store.old store.new s (definition name kind srel related) result }
-    ensures course { HasCourse S.Store store.old store.new (definition name kind srel related) result }
+    ensures ends { HasCleanDisk (state S.Store store.new) → (s : State) → Keeps S.Store store.old s
+        → EndsDefine S.Store store.old store.new s (definition name kind srel related) result }
+    ensures goes { GoesDefine S.Store store.old store.new (definition name kind srel related) result }
     ensures closed { KeepsClosed S.Store store.old store.new }
 {
     name.attest();

@@ -17,7 +17,7 @@ use Rattle.smpe_global.specs.Rejections.{AppliesAlike}
 use Rattle.smpe_global.proofs.Zones.{applies_alike}
 use Rattle.smpe_zones.specs.Kept.{kept}
 use Rattle.smpe_session.specs.declared.session.Session.{Session}
-use Rattle.smpe_session.specs.Steps.{is_known, IsSought, AreSought, HasAllZones}
+use Rattle.smpe_session.specs.KnownZones.{is_known, IsSought, AreSought, HasAllZones}
 use Rattle.smpe_session.proofs.Places.{none_global}
 use Rattle.std.proofs.lemmas.Bool.{or_right}
 

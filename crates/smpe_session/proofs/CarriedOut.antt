@@ -18,7 +18,7 @@ use Rattle.machine.specs.State.{State, with_zone}
 use Rattle.machine.specs.Machine.{Files, Performs}
 use Rattle.report.specs.declared.outcome.Outcome.{Outcome as Told}
 use Rattle.report.specs.Views.{outcome_view}
-use Rattle.smpe_zones.specs.Ends.{HasCommitted}
+use Rattle.smpe_zones.specs.Calls.{EndsCommit}
 use Rattle.smpe_zones.specs.Kept.{kept}
 use Rattle.smpe_zones.specs.Own.{IsOwnOf}
 use Rattle.smpe_session.specs.declared.session.Session.{Session}
@@ -49,7 +49,7 @@ module _ (date : Text) (files : Files) (c : Command) (s : State) (at : Session) 
     abbrev Commits : Result Told StoreError → Type 0
     Commits r =
         (t : State) → Makes (ZoneChange name delta) (kept s) (kept t) → IsInventory (kept t)
-        → HasCommitted g before after s t (ZoneChange name delta) answer r
+        → EndsCommit g before after s t (ZoneChange name delta) answer r
 
     owns : IsDelta delta → IsOwnOf c (ZoneChange name delta)
     owns is = planned.owns unchecked (ZoneChange name delta) (planned.zone, is, planned.knows)

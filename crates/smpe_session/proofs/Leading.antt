@@ -19,7 +19,7 @@ use Rattle.sysmods.specs.Edits.{EachFits, after_edits}
 use Rattle.store.specs.Changes.{Makes}
 use Rattle.store.specs.declared.change.Change.{Change}
 use Rattle.store.specs.declared.change.Change.TheVariants as changes
-use Rattle.smpe_zones.specs.Ends.{HasCommitted}
+use Rattle.smpe_zones.specs.Calls.{EndsCommit}
 use Rattle.smpe_zones.specs.Kept.{kept, IsHere}
 use Rattle.smpe_zones.specs.Own.{IsOwnOf}
 use Rattle.smpe_session.specs.declared.session.Session.{Session}
@@ -73,7 +73,7 @@ pub led : {S : Type 0} (g : Ghosts S) (old at : Held S) (date : Text) (files : F
     → boundary ≡ s.boundary → IsSessionOf s before → after.zones ≡ before.zones → after.boundary ≡ before.boundary
     → LeadsBy date files c s after.global edits lines → (change : Change) → IsOwnOf c change → IsHere s change
     → Makes change (kept s) (kept (record s { global = after.global })) → (r : Result Told StoreError)
-    → HasCommitted g old at s (record s { global = after.global }) change answer r
+    → EndsCommit g old at s (record s { global = after.global }) change answer r
     → outcome_view answer ≡ Ran (header_of c boundary) lines → HasPerformed g old at s after date files c r
 led g old at date files c s boundary before after edits lines answer named is zones same leads change own here makes r ended
     view =

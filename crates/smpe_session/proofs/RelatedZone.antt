@@ -16,7 +16,7 @@ use Rattle.machine.specs.State.{State, zone_named, target_of}
 use Rattle.smpe_zones.specs.Kept.{kept}
 use Rattle.smpe_session.specs.declared.session.Session.{Session}
 use Rattle.smpe_session.specs.Sessions.{IsSessionOf}
-use Rattle.smpe_session.specs.Steps.{IsSought}
+use Rattle.smpe_session.specs.KnownZones.{IsSought}
 use Rattle.smpe_session.specs.Places.{HasRelated}
 use Rattle.smpe_session.proofs.StateZones.{its_own, sought_held}
 

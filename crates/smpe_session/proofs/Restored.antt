@@ -17,7 +17,7 @@ use Rattle.smpe_zones.specs.Kept.{kept}
 use Rattle.machine_laws.proofs.RestoreForms.{restore_kept}
 use Rattle.smpe_session.specs.declared.session.Session.{Session}
 use Rattle.smpe_session.specs.Sessions.{IsSessionOf}
-use Rattle.smpe_session.specs.Steps.{IsSought}
+use Rattle.smpe_session.specs.KnownZones.{IsSought}
 use Rattle.smpe_session.specs.Places.{IsPlace, ChangesZone}
 use Rattle.smpe_session.specs.Restored.{HasAccepted}
 use Rattle.smpe_session.proofs.Leading.{headed}

@@ -12,7 +12,7 @@ use Rattle.machine.specs.State.{State, global_name, zone_named, misplaced}
 use Rattle.machine.specs.Machine.{Files, Performs}
 use Rattle.smpe_session.specs.declared.session.Session.{Session}
 use Rattle.smpe_session.specs.Sessions.{IsSessionOf}
-use Rattle.smpe_session.specs.Steps.{IsSought}
+use Rattle.smpe_session.specs.KnownZones.{IsSought}
 
 -- a zone of the state under its name
 pub zones_updated : (s : State) (at new : Session) (name : Text) (zone : Zone)

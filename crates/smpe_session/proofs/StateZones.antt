@@ -18,7 +18,7 @@ use Rattle.machine.specs.State.{State, global_name, zone_named}
 use Rattle.smpe_zones.specs.Kept.{kept}
 use Rattle.machine_laws.proofs.Lists.{find_itself}
 use Rattle.smpe_session.specs.declared.session.Session.{Session}
-use Rattle.smpe_session.specs.Steps.{IsSought}
+use Rattle.smpe_session.specs.KnownZones.{IsSought}
 use Rattle.smpe_session.proofs.Places.{none_global}
 
 module _ (s : State) (inventory : IsInventory (kept s)) where

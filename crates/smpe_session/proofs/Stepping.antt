@@ -10,11 +10,11 @@ use Rattle.report.specs.Views.{outcome_view}
 use Rattle.terms.specs.Types.{Text, Command}
 use Rattle.store.specs.declared.change.Change.{Change}
 use Rattle.store.specs.Changes.{Makes}
-use Rattle.smpe_zones.specs.Ends.{Follows, StillKeeps, HasFailed, HasCommitted}
+use Rattle.smpe_zones.specs.Calls.{Follows, StillKeeps, FailsCall, EndsCommit}
 use Rattle.smpe_zones.specs.Kept.{kept, Keeps, IsAfter, IsHere, LeadsOn}
 use Rattle.smpe_zones.specs.Own.{IsOwnOf}
 use Rattle.smpe_zones.proofs.Keeping.{still_kept, failed_more, failed_since, ended_since}
-use Rattle.smpe_zones.proofs.Once.{is_later}
+use Rattle.smpe_zones.proofs.Calls.{is_later}
 use Rattle.smpe_session.specs.declared.session.Session.{Session}
 use Rattle.smpe_session.specs.Sessions.{IsSessionOf, HasPerformed}
 
@@ -33,7 +33,7 @@ module _ {S : Type 0} (g : Ghosts S) (old at : Held S) (s : State) (date : Text)
   leads_on : LeadsOn s (Perform date files c) change
   leads_on = (own, here, (t, outcome_view answer ∷ [], steps, makes))
 
-  pub performs_failed : (e : StoreError) → HasCommitted g old at s t change answer (Err e)
+  pub performs_failed : (e : StoreError) → EndsCommit g old at s t change answer (Err e)
       → HasPerformed g old at s session date files c (Err e)
   performs_failed e failed =
       failed_more g old at s (λ k. k ≡ kept t) (IsAfter s (Perform date files c)) (λ made. made ≡ change)
@@ -41,15 +41,15 @@ module _ {S : Type 0} (g : Ghosts S) (old at : Held S) (s : State) (date : Text)
       (λ made is. subst (LeadsOn s (Perform date files c)) (sym is) leads_on) e failed
 
   pub performs_committed : IsSessionOf t session → (r : Result Outcome StoreError)
-      → HasCommitted g old at s t change answer r → HasPerformed g old at s session date files c r
+      → EndsCommit g old at s t change answer r → HasPerformed g old at s session date files c r
   performs_committed is (Ok outcome) done =
       (t, subst (λ o. Performs date files s c t (outcome_view o)) (sym done.0) performs, is, done.1)
   performs_committed is (Err e) failed = performs_failed e failed
 
 -- a call that is behind others of one that began at `old`
 module _ {S : Type 0} (g : Ghosts S) (old mid at : Held S) (s : State) (follows : Follows g old mid) where
-  pub unmoved_since : (e : StoreError) → HasFailed g mid at s (λ _. ⊥) (λ _. ⊥) e
-      → HasFailed g old at s (λ _. ⊥) (λ _. ⊥) e
+  pub unmoved_since : (e : StoreError) → FailsCall g mid at s (λ _. ⊥) (λ _. ⊥) e
+      → FailsCall g old at s (λ _. ⊥) (λ _. ⊥) e
   unmoved_since e failed = failed_since g old mid at s (is_later g old mid follows) (λ _. ⊥) (λ _. ⊥) e failed
 
   pub performs_since : (session : Session) (date : Text) (files : Files) (c : Command) (r : Result Outcome StoreError)

@@ -22,11 +22,11 @@ use Rattle.store_schema.specs.Stands.{StandsFor}
 use Rattle.store_schema.specs.Tables.{store_schema}
 use Rattle.store_schema.specs.declared.error.StoreError.{StoreError}
 use Rattle.store_schema.specs.declared.error.StoreError.TheVariants.{Fault, Memory}
-use Rattle.smpe_zones.specs.Ends.{HasLoaded, HasCommitted}
+use Rattle.smpe_zones.specs.Calls.{EndsLoad, EndsCommit}
 use Rattle.smpe_zones.specs.Kept.{kept, Keeps}
 use Rattle.smpe_zones.proofs.Keeping.{inventory_kept, loaded, committed}
-use Rattle.smpe_zones.proofs.Once.{once_load, once_commit, once_own, once_ok, once_err, once_short, once_none}
-use Rattle.smpe_zones.proofs.Once.{once_after}
+use Rattle.smpe_zones.proofs.Calls.{call_load, call_commit, call_own, call_ok, call_err, call_short, call_none}
+use Rattle.smpe_zones.proofs.Calls.{call_after}
 use Rattle.smpe_session.specs.declared.session.Session.{Session}
 use Rattle.smpe_session.specs.declared.session.Performed.{Performed}
 use Rattle.smpe_session.specs.Sessions.{IsSessionOf, HasPerformed, HasDone, told}
@@ -44,15 +44,15 @@ module _ {S : Type 0} {g : Ghosts S} {old new : Held S} where
       → ((s : State) → IsInventory (kept s) → P s r → Q s q)
       → HasCleanDisk (state g new) → (s : State) → Keeps g old s → Q s q
   ends_so Q q call ends clean s keeps =
-      ends s (inventory_kept g old s keeps (call.once.follows.clean clean)) (call.ended clean s keeps)
+      ends s (inventory_kept g old s keeps (call.goes.follows.clean clean)) (call.ends clean s keeps)
 
   -- the same result, of which less is said, with changes that are others too
   pub weaker : {X : Type 0} {IsOwn More : Change → Type 0} {P Q : Ending X} {r : Result X StoreError}
       → UsesStore g old new IsOwn P r → ((change : Change) → IsOwn change → More change)
       → ((s : State) → IsInventory (kept s) → P s r → Q s r) → UsesStore g old new More Q r
   weaker {IsOwn = IsOwn} {More = More} {Q = Q} {r = r} call more ends = record {
-    once = once_own g old new IsOwn More more r call.once;
-    ended = ends_so Q r call ends;
+    goes = call_own g old new IsOwn More more r call.goes;
+    ends = ends_so Q r call ends;
   }
 
   -- something else is answered
@@ -60,16 +60,16 @@ module _ {S : Type 0} {g : Ghosts S} {old new : Held S} where
       → UsesStore g old new IsOwn P (Ok x) → ((change : Change) → IsOwn change → More change)
       → ((s : State) → IsInventory (kept s) → P s (Ok x) → Q s (Ok y)) → UsesStore g old new More Q (Ok y)
   answered {IsOwn = IsOwn} {More = More} {Q = Q} {x = x} {y = y} call more ends = record {
-    once = once_ok g old new IsOwn More more x y call.once;
-    ended = ends_so Q (Ok y) call ends;
+    goes = call_ok g old new IsOwn More more x y call.goes;
+    ends = ends_so Q (Ok y) call ends;
   }
 
   failed : {X Y : Type 0} {IsOwn More : Change → Type 0} {P : Ending X} {Q : Ending Y} {e : StoreError}
       → UsesStore g old new IsOwn P (Err e) → ((change : Change) → IsOwn change → More change)
       → ((s : State) → IsInventory (kept s) → P s (Err e) → Q s (Err e)) → UsesStore g old new More Q (Err e)
   failed {X = X} {Y = Y} {IsOwn = IsOwn} {More = More} {Q = Q} {e = e} call more ends = record {
-    once = once_err g old new IsOwn More more X Y e call.once;
-    ended = ends_so Q (Err e) call ends;
+    goes = call_err g old new IsOwn More more X Y e call.goes;
+    ends = ends_so Q (Err e) call ends;
   }
 
   -- an error is handed on
@@ -90,8 +90,8 @@ module _ {S : Type 0} {g : Ghosts S} {old new : Held S} where
       → UsesStore g old new (λ _. ⊥) P (Ok x)
       → ((s : State) → IsInventory (kept s) → P s (Ok x) → Q s (Err Memory)) → UsesStore g old new More Q (Err Memory)
   short {Y = Y} {More = More} {Q = Q} {x = x} call ends = record {
-    once = once_short g old new Y More x call.once;
-    ended = ends_so Q (Err Memory) call ends;
+    goes = call_short g old new Y More x call.goes;
+    ends = ends_so Q (Err Memory) call ends;
   }
 
   -- memory runs out behind loads
@@ -103,10 +103,10 @@ module _ {S : Type 0} {g : Ghosts S} {old new : Held S} where
 
   -- a load
   pub load_uses : {X : Type 0} {Found : Inventory → X → Type 0} {r : Result X StoreError} → Loads g old new Found r
-      → UsesStore g old new (λ _. ⊥) (λ s ended. HasLoaded g old new s (Found (kept s)) ended) r
+      → UsesStore g old new (λ _. ⊥) (λ s ended. EndsLoad g old new s (Found (kept s)) ended) r
   load_uses {Found = Found} {r = r} loads = record {
-    once = once_load g old new Found r loads;
-    ended = λ clean s keeps. loaded g old new s Found r clean loads keeps;
+    goes = call_load g old new Found r loads;
+    ends = λ clean s keeps. loaded g old new s Found r clean loads keeps;
   }
 
   module _ {IsMine IsOwn : Change → Type 0} {P : Ending Outcome} {at session : Session} (date : Text) (files : Files)
@@ -153,23 +153,23 @@ pub commit_uses : {S : Type 0} (g : Ghosts S) (old new : Held S) (change : Chang
     → (HasCleanDisk (state g new) → IsErrOf r Fault → (i : Inventory) → Tables g old i
     → HasCause g old new i (λ own. own ≡ change))
     → UsesStore g old new (λ own. own ≡ change) (λ s ended. (t : State) → Makes change (kept s) (kept t)
-    → IsInventory (kept t) → HasCommitted g old new s t change tt ended) r
+    → IsInventory (kept t) → EndsCommit g old new s t change tt ended) r
 commit_uses g old new change r was only ok durable err crash which before = record {
-  once = once_commit g old new change r was only which;
-  ended = λ clean s keeps t makes is. committed g old new s change t keeps makes is r ok durable err crash which
+  goes = call_commit g old new change r was only which;
+  ends = λ clean s keeps t makes is. committed g old new s change t keeps makes is r ok durable err crash which
       (λ failed. before clean failed (kept s) keeps.now);
 }
 
 module _ {S : Type 0} {g : Ghosts S} where
   -- no call at all
   pub nothing : {at : Held S} → UsesStore {X = Unit {0}} g at at (λ _. ⊥) (λ s ended. Keeps g at s) (Ok tt)
-  nothing {at = at} = record { once = once_none g at; ended = λ clean s keeps. keeps }
+  nothing {at = at} = record { goes = call_none g at; ends = λ clean s keeps. keeps }
 
   -- a call behind one that has only loaded
   pub after : {X Y : Type 0} {IsOwn : Change → Type 0} {P : Ending X} {Q : Ending Y} {a b c : Held S} {x : X}
       {r : Result Y StoreError} → UsesStore g a b (λ _. ⊥) P (Ok x) → UsesStore g b c IsOwn Q r
       → UsesStore g a c IsOwn (λ s ended. P s (Ok x) × (Keeps g b s → Q s ended)) r
   after {IsOwn = IsOwn} {a = a} {b = b} {c = c} {x = x} {r = r} one two = record {
-    once = once_after g a b c IsOwn x r one.once two.once;
-    ended = λ clean s keeps. (one.ended (two.once.follows.clean clean) s keeps, two.ended clean s);
+    goes = call_after g a b c IsOwn x r one.goes two.goes;
+    ends = λ clean s keeps. (one.ends (two.goes.follows.clean clean) s keeps, two.ends clean s);
   }

@@ -2,6 +2,6 @@ pub mod Places
 pub mod Received
 pub mod Restored
 pub mod Sessions
-pub mod Steps
+pub mod KnownZones
 pub mod Uses
 pub mod Writing

@@ -10,7 +10,7 @@ use Rattle.machine.specs.Machine.{Files, Begin, Perform, Performs}
 use Rattle.report.specs.declared.outcome.Outcome.{Outcome}
 use Rattle.report.specs.Views.{outcome_view}
 use Rattle.store_schema.specs.declared.error.StoreError.{StoreError}
-use Rattle.smpe_zones.specs.Ends.{ActEnded, ActFailed}
+use Rattle.smpe_zones.specs.Calls.{EndsAct, FailsAct}
 use Rattle.smpe_zones.specs.Kept.{Keeps}
 use Rattle.smpe_session.specs.declared.session.Session.{Session}
 use Rattle.smpe_session.specs.declared.session.Performed.{Performed}
@@ -28,19 +28,19 @@ pub record IsSessionOf (s : State) (at : Session) : Type 0 where
 module _ {S : Type 0} (g : Ghosts S) (old at : Held S) (s : State) where
   -- The job has begun, and the tables stand for what they stood for, or its beginning has failed.
   abbrev pub HasBegun : Result Session StoreError → Type 0
-  HasBegun result = ActEnded g old at s Begin
+  HasBegun result = EndsAct g old at s Begin
       (λ session. IsSessionOf (record s { boundary = None }) session × Keeps g at s) result
 
   -- The command is performed, the tables stand for its result, and so does the session, or it has failed.
   abbrev pub HasPerformed : Session → Text → Files → Command → Result Outcome StoreError → Type 0
-  HasPerformed session date files c result = ActEnded g old at s (Perform date files c) (λ outcome. (t : State)
+  HasPerformed session date files c result = EndsAct g old at s (Perform date files c) (λ outcome. (t : State)
       × Performs date files s c t (outcome_view outcome) × IsSessionOf t session × Keeps g at t) result
 
   -- This is so, or it is a LIST, before and after which the state is the same.
   abbrev pub HasDone : Session → Text → Files → Command → Result Performed StoreError → Type 0
   HasDone session date files c (Ok (Told outcome)) = HasPerformed session date files c (Ok outcome)
   HasDone session date files c (Ok (Lists text)) = (c ≡ ListZone text) × IsSessionOf s session × Keeps g at s
-  HasDone session date files c (Err error) = ActFailed g old at s (Perform date files c) error
+  HasDone session date files c (Err error) = FailsAct g old at s (Perform date files c) error
 
 -- LIST and REPORT look at what the session has.
 abbrev pub LooksOnly : Command → Type 0

@@ -7,12 +7,12 @@ use Rattle.machine.specs.State.{State}
 use Rattle.store.specs.declared.change.Change.{Change}
 use Rattle.store_schema.specs.declared.error.StoreError.{StoreError}
 use Rattle.store_schema.specs.declared.error.StoreError.TheVariants.{OtherSchema, NoState}
-use Rattle.smpe_zones.specs.Ends.{GoesOnce}
+use Rattle.smpe_zones.specs.Calls.{GoesCall}
 use Rattle.smpe_zones.specs.Kept.{Keeps}
 
 -- A call began at `old` and has ended. Whatever the tables hold, it has loaded, or made one of its own changes besides.
 -- If they stood for a state, it has ended as `Ends` says of the state and the result.
 pub record UsesStore {S X : Type 0} (g : Ghosts S) (old new : Held S) (IsMine : Change → Type 0)
     (Ends : State → Result X StoreError → Type 0) (result : Result X StoreError) : Type 0 where
-  pub once : GoesOnce g old new IsMine NoState OtherSchema result
-  pub ended : HasCleanDisk (state g new) → (s : State) → Keeps g old s → Ends s result
+  pub goes : GoesCall g old new IsMine NoState OtherSchema result
+  pub ends : HasCleanDisk (state g new) → (s : State) → Keeps g old s → Ends s result

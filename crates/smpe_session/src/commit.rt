@@ -4,7 +4,7 @@ ghost use Rattle.machine.specs.State.{State};
 ghost use Rattle.store_schema.specs.Inventory.{IsInventory};
 ghost use Rattle.store.specs.Changes.{Makes};
 ghost use Rattle.smpe_zones.specs.Kept.{kept};
-ghost use Rattle.smpe_zones.specs.Ends.{HasCommitted};
+ghost use Rattle.smpe_zones.specs.Calls.{EndsCommit};
 ghost use Rattle.smpe_session.specs.Uses.{UsesStore};
 
 use sqlite::Alter;
@@ -19,7 +19,7 @@ pub(crate) fn commit_change<S: Alter, T: Drop>(
     ensures answer { IfOk result (λ given. given ≡ answer) }
     ensures uses { UsesStore S.Store store.old store.new (λ own. own ≡ change.now)
         (λ s ended. (t : State) → Makes change.now (kept s) (kept t) → IsInventory (kept t)
-        → HasCommitted S.Store store.old store.new s t change.now answer ended) result }
+        → EndsCommit S.Store store.old store.new s t change.now answer ended) result }
 {
     store.commit(change)?;
     Ok(answer)

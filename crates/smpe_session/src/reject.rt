@@ -3,8 +3,8 @@ ghost use Rattle.std.specs.Prelude.{IfOk};
 ghost use Rattle.terms.specs.Types.{Text, Reject};
 ghost use Rattle.machine.specs.Machine.{Files};
 ghost use Rattle.smpe_session.specs.Sessions.{IsSessionOf, HasPerformed};
-ghost use Rattle.smpe_session.specs.Steps.{HasAllZones};
-ghost use Rattle.smpe_zones.specs.Ends.{HasLoaded};
+ghost use Rattle.smpe_session.specs.KnownZones.{HasAllZones};
+ghost use Rattle.smpe_zones.specs.Calls.{EndsLoad};
 ghost use Rattle.smpe_session.specs.Uses.{UsesStore};
 ghost use Rattle.smpe_session.specs.Writing.{TellsOutcomeOf, TellsRun};
 ghost use Rattle.smpe_zones.specs.Own.{IsRejected};
@@ -24,7 +24,7 @@ impl Session {
     // Loads each zone that it does not have yet.
     fn load_zones<S: Alter>(&mut self, store: &mut Store<S>) -> Result<(), StoreError>
         ensures { UsesStore S.Store store.old store.new (λ _. ⊥) (λ s ended. IsSessionOf s self.old
-            → HasLoaded S.Store store.old store.new s (λ _. HasAllZones s self.new) ended) result }
+            → EndsLoad S.Store store.old store.new s (λ _. HasAllZones s self.new) ended) result }
     {
         let names = store.zone_names()?;
         for name in names.as_slice() {

@@ -2,7 +2,7 @@
 ghost use Rattle.std.specs.Prelude.{◌≡◌, false, find, option_map};
 ghost use Rattle.std.specs.Option.{option_map_or};
 ghost use Rattle.std.specs.Str.{bytes_eq};
-ghost use Rattle.smpe_zones.specs.Ends.{HasLoaded};
+ghost use Rattle.smpe_zones.specs.Calls.{EndsLoad};
 ghost use Rattle.smpe_session.specs.Places.{HasRelated};
 ghost use Rattle.smpe_session.specs.Restored.{HasAccepted};
 ghost use Rattle.smpe_session.specs.Sessions.{IsSessionOf};
@@ -34,7 +34,7 @@ impl Session {
         kind: ZoneKind,
     ) -> Result<Option<ZoneName>, StoreError>
         ensures { UsesStore S.Store store.old store.new (λ _. ⊥) (λ s ended. IsSessionOf s self.old
-            → HasLoaded S.Store store.old store.new s (λ related. HasRelated s self.new kind related) ended) result }
+            → EndsLoad S.Store store.old store.new s (λ related. HasRelated s self.new kind related) ended) result }
     {
         if kind == ZoneKind::Target {
             return Ok(None);
@@ -56,7 +56,7 @@ impl Session {
         store: &mut Store<S>,
     ) -> Result<Option<ZoneName>, StoreError>
         ensures { UsesStore S.Store store.old store.new (λ _. ⊥) (λ s ended. IsSessionOf s self.old
-            → HasLoaded S.Store store.old store.new s (λ accepted. HasAccepted s self.new accepted) ended) result }
+            → EndsLoad S.Store store.old store.new s (λ accepted. HasAccepted s self.new accepted) ended) result }
     {
         let Some(accepted) = self.zone_at(self.boundary).and_then(|zone| zone.related()) else {
             return Ok(None);

@@ -5,8 +5,8 @@ ghost use Rattle.indexmap.specs.IndexMap.{get};
 ghost use Rattle.terms.specs.Types.{Text, Set};
 ghost use Rattle.machine.specs.Machine.{Files};
 ghost use Rattle.smpe_session.specs.Sessions.{IsSessionOf, HasPerformed};
-ghost use Rattle.smpe_session.specs.Steps.{IsSought};
-ghost use Rattle.smpe_zones.specs.Ends.{HasLoaded};
+ghost use Rattle.smpe_session.specs.KnownZones.{IsSought};
+ghost use Rattle.smpe_zones.specs.Calls.{EndsLoad};
 ghost use Rattle.smpe_session.specs.Uses.{UsesStore};
 ghost use Rattle.smpe_session.specs.Writing.{TellsOutcomeOf};
 
@@ -26,7 +26,7 @@ impl Session {
         name: ZoneName,
     ) -> Result<bool, StoreError>
         ensures uses { UsesStore S.Store store.old store.new (λ _. ⊥) (λ s ended. IsSessionOf s self.old
-            → HasLoaded S.Store store.old store.new s (IsSought s self.new name) ended) result }
+            → EndsLoad S.Store store.old store.new s (IsSought s self.new name) ended) result }
         ensures stay { OnOk result ((q : Text) → IsSome (get bytes_eq self.old.zones q)
             → IsSome (get bytes_eq self.new.zones q)) }
     {

@@ -7,26 +7,26 @@ use Rattle.machine.specs.State.{State, ZoneDefinition}
 use Rattle.machine.specs.Machine.{Define}
 use Rattle.store_schema.specs.declared.error.StoreError.{StoreError}
 use Rattle.store_schema.specs.declared.error.StoreError.TheVariants.{Fault, OtherSchema, NoState, Memory}
-use Rattle.store.specs.Courses.{GoesOver, CommitsOnce}
+use Rattle.store.specs.Going.{GoesOver, CommitsOnce}
 use Rattle.store.specs.declared.change.Change.{Change}
 use Rattle.store.specs.declared.change.Change.TheVariants.{NewZone}
 use Rattle.store.proofs.Going.{goes_err}
-use Rattle.smpe_zones.specs.Ends.{GoesOnce, ActFailed}
+use Rattle.smpe_zones.specs.Calls.{GoesCall, FailsAct}
 use Rattle.smpe_zones.specs.declared.error.ZoneError.{ZoneError}
 use Rattle.smpe_zones.specs.declared.error.ZoneError.TheVariants.{Store}
-use Rattle.smpe_zones.specs.Definitions.{HasCourse, HasDefined, is_refused, zone_error}
+use Rattle.smpe_zones.specs.Definitions.{GoesDefine, EndsDefine, is_refused, zone_error}
 use Rattle.smpe_zones.specs.Own.{IsOwn}
 
 -- The call of the store failed.
 pub defined_failed : {S U : Type 0} (g : Ghosts S) (old at : Held S) (s : State) (d : ZoneDefinition) (e : StoreError)
-    (r : Result U ZoneError) → IsErrAnd r (λ y. y ≡ zone_error e) → ActFailed g old at s (Define d) e
-    → HasDefined g old at s d r
+    (r : Result U ZoneError) → IsErrAnd r (λ y. y ≡ zone_error e) → FailsAct g old at s (Define d) e
+    → EndsDefine g old at s d r
 defined_failed {S = S} {U = U} g old at s d e r is failed =
     let p = err_from_is_err_and r is in
-    subst (HasDefined g old at s d) (sym (p.1 ∙ ap (λ y. Err y) p.2)) (by e failed)
+    subst (EndsDefine g old at s d) (sym (p.1 ∙ ap (λ y. Err y) p.2)) (by e failed)
   where
-    by : (e : StoreError) → ActFailed g old at s (Define d) e
-        → HasDefined {S = S} g old at s d {U = U} (Err (zone_error e))
+    by : (e : StoreError) → FailsAct g old at s (Define d) e
+        → EndsDefine {S = S} g old at s d {U = U} (Err (zone_error e))
     by Fault failed = failed
     by OtherSchema failed = failed
     by NoState failed = failed
@@ -53,21 +53,21 @@ not_refused U OtherSchema = refl
 not_refused U NoState = refl
 not_refused U Memory = refl
 
--- the course of a definition that met an error of the store
-pub course_failed : {S U X : Type 0} (g : Ghosts S) (old new : Held S) (d : ZoneDefinition) (IsMine : Change → Type 0)
+-- how a definition went that met an error of the store
+pub goes_failed : {S U X : Type 0} (g : Ghosts S) (old new : Held S) (d : ZoneDefinition) (IsMine : Change → Type 0)
     (e : StoreError) (r : Result U ZoneError) → IsErrAnd r (λ y. y ≡ zone_error e)
     → ((change : Change) → IsMine change → IsOwn (Define d) change)
-    → GoesOnce {X = X} g old new IsMine NoState OtherSchema (Err e) → HasCourse g old new d r
-course_failed {U = U} g old new d IsMine e r is own once =
+    → GoesCall {X = X} g old new IsMine NoState OtherSchema (Err e) → GoesDefine g old new d r
+goes_failed {U = U} g old new d IsMine e r is own call =
     let p = err_from_is_err_and r is in
     let told : r ≡ Err (zone_error e) = p.1 ∙ ap (λ y. Err y) p.2 in
     record {
-      once = record {
-        follows = once.follows;
-        goes = subst (GoesOver g old new (IsOwn (Define d))) (sym told)
-            (goes_err g old new IsMine (IsOwn (Define d)) e (zone_error e) own once.goes);
-        none = λ clean bad. once.none clean (ap (λ y. Err y) (no_state r e told bad));
-        which = λ bad. once.which (ap (λ y. Err y) (other_schema r e told bad));
+      call = record {
+        follows = call.follows;
+        over = subst (GoesOver g old new (IsOwn (Define d))) (sym told)
+            (goes_err g old new IsMine (IsOwn (Define d)) e (zone_error e) own call.over);
+        none = λ clean bad. call.none clean (ap (λ y. Err y) (no_state r e told bad));
+        which = λ bad. call.which (ap (λ y. Err y) (other_schema r e told bad));
       };
       done = subst (λ q. OnOk q (CommitsOnce g old new (NewZone d.name d.kind d.srel d.related) q)) (sym told) tt;
       refused = λ refused. absurd (true≢false (sym refused ∙ ap is_refused told ∙ not_refused U e));

@@ -18,7 +18,7 @@ use Rattle.store.specs.Loads.{Loads}
 use Rattle.store.specs.declared.change.Change.{Change}
 use Rattle.store.specs.View.{Tables, TablesIfOpen, MayLeave, Leaves}
 use Rattle.store.proofs.Successive.{cause_since}
-use Rattle.smpe_zones.specs.Ends.{StillKeeps, HasFailed, HasEnded, HasLoaded, HasCommitted, ActFailed}
+use Rattle.smpe_zones.specs.Calls.{StillKeeps, FailsCall, EndsCall, EndsLoad, EndsCommit, FailsAct}
 use Rattle.smpe_zones.specs.Kept.{kept, Keeps, IsAfter, LeadsOn}
 
 -- what is kept is an inventory
@@ -71,7 +71,7 @@ module _ {S : Type 0} (g : Ghosts S) (old at : Held S) (s : State) where
   -- with changes that are others too
   pub failed_more : (More Most : Inventory → Type 0) (IsMine IsOwn : Change → Type 0)
       → ((c : Inventory) → More c → Most c) → ((change : Change) → IsMine change → IsOwn change) → (e : StoreError)
-      → HasFailed g old at s More IsMine e → HasFailed g old at s Most IsOwn e
+      → FailsCall g old at s More IsMine e → FailsCall g old at s Most IsOwn e
   failed_more More Most IsMine IsOwn more own Fault faulted = record {
     still = still_more g at s More Most more faulted.still;
     cause = cause_more g old at (kept s) IsMine IsOwn own faulted.cause;
@@ -81,7 +81,7 @@ module _ {S : Type 0} (g : Ghosts S) (old at : Held S) (s : State) where
   failed_more More Most IsMine IsOwn more own Memory still = still_more g at s More Most more still
 
   -- a load of an act
-  pub act_unmoved : (a : Act) (e : StoreError) → HasFailed g old at s (λ _. ⊥) (λ _. ⊥) e → ActFailed g old at s a e
+  pub act_unmoved : (a : Act) (e : StoreError) → FailsCall g old at s (λ _. ⊥) (λ _. ⊥) e → FailsAct g old at s a e
   act_unmoved a e failed =
       failed_more (λ _. ⊥) (IsAfter s a) (λ _. ⊥) (LeadsOn s a) (λ c none. absurd none) (λ change none. absurd none) e
       failed
@@ -89,7 +89,7 @@ module _ {S : Type 0} (g : Ghosts S) (old at : Held S) (s : State) where
 -- behind others of one that began at `old`
 module _ {S : Type 0} (g : Ghosts S) (old mid at : Held S) (s : State) (later : IsLater g old mid) where
   pub failed_since : (More : Inventory → Type 0) (IsMine : Change → Type 0) (e : StoreError)
-      → HasFailed g mid at s More IsMine e → HasFailed g old at s More IsMine e
+      → FailsCall g mid at s More IsMine e → FailsCall g old at s More IsMine e
   failed_since More IsMine Fault faulted = record {
     still = faulted.still;
     cause = cause_since g old mid at later (kept s) IsMine faulted.cause;
@@ -99,7 +99,7 @@ module _ {S : Type 0} (g : Ghosts S) (old mid at : Held S) (s : State) (later : 
   failed_since More IsMine Memory still = still
 
   pub ended_since : {X : Type 0} (More : Inventory → Type 0) (IsMine : Change → Type 0) (IsDone : X → Type 0)
-      (r : Result X StoreError) → HasEnded g mid at s More IsMine IsDone r → HasEnded g old at s More IsMine IsDone r
+      (r : Result X StoreError) → EndsCall g mid at s More IsMine IsDone r → EndsCall g old at s More IsMine IsDone r
   ended_since More IsMine IsDone (Ok x) done = done
   ended_since More IsMine IsDone (Err e) failed = failed_since More IsMine e failed
 
@@ -108,7 +108,7 @@ module _ {S : Type 0} (g : Ghosts S) (old mid at : Held S) (s : State) (later : 
 module _ {S : Type 0} (g : Ghosts S) (old new : Held S) (s : State) where
   pub loaded : {X : Type 0} (Found : Inventory → X → Type 0) (result : Result X StoreError)
       → HasCleanDisk (state g new) → Loads g old new Found result → Keeps g old s
-      → HasLoaded g old new s (Found (kept s)) result
+      → EndsLoad g old new s (Found (kept s)) result
   loaded {X = X} Found result clean loads keeps = by result loads
     where
       unmoved : (r : Result X StoreError) → Loads g old new Found r → TablesIfOpen g new (kept s)
@@ -119,7 +119,7 @@ module _ {S : Type 0} (g : Ghosts S) (old new : Held S) (s : State) where
             (loads.crash (kept s) keeps.now db left);
       }
 
-      by : (r : Result X StoreError) → Loads g old new Found r → HasLoaded g old new s (Found (kept s)) r
+      by : (r : Result X StoreError) → Loads g old new Found r → EndsLoad g old new s (Found (kept s)) r
       by (Ok x) loads = (
         loads.found clean (kept s) keeps.now,
         record {
@@ -160,7 +160,7 @@ module _ {S : Type 0} (g : Ghosts S) (old new : Held S) (s : State) where
         → CommitsOnce
         → IfErr result (λ e. (e ≡ Fault) ⊎ (e ≡ Memory))
         → (IsErrOf result Fault → HasCause g old new (kept s) (λ own. own ≡ change))
-        → HasCommitted g old new s t change tt result
+        → EndsCommit g old new s t change tt result
     committed (Ok x) ok durable err lost which cause = (
       refl,
       record {

@@ -3,4 +3,4 @@ pub mod Ending
 mod Found
 pub mod Keeping
 mod Lookups
-pub mod Once
+pub mod Calls

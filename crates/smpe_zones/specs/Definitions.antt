@@ -10,9 +10,9 @@ use Rattle.machine.specs.Machine.{Define}
 use Rattle.store_schema.specs.declared.error.StoreError.{StoreError}
 use Rattle.store_schema.specs.declared.error.StoreError.TheVariants as store
 use Rattle.store.specs.BadRows.{OnlyLoads}
-use Rattle.store.specs.Courses.{CommitsOnce}
+use Rattle.store.specs.Going.{CommitsOnce}
 use Rattle.store.specs.declared.change.Change.TheVariants.{NewZone}
-use Rattle.smpe_zones.specs.Ends.{GoesOnce, ActFailed}
+use Rattle.smpe_zones.specs.Calls.{GoesCall, FailsAct}
 use Rattle.smpe_zones.specs.Kept.{Keeps}
 use Rattle.smpe_zones.specs.Own.{IsOwn}
 use Rattle.smpe_zones.specs.declared.error.ZoneFault.{ZoneFault}
@@ -31,12 +31,12 @@ fault_of TooMany = state.TooMany
 
 -- The call began at `old`. The zone is defined, or refused for the first fault, or the call failed.
 module _ {S : Type 0} (g : Ghosts S) (old at : Held S) (s : State) (d : ZoneDefinition) where
-  abbrev pub HasDefined : {U : Type 0} → Result U ZoneError → Type 0
-  HasDefined (Ok done) = (t : State) × (define_zone s d ≡ Ok t) × Keeps g at t
-  HasDefined (Err (Refused why)) = (define_zone s d ≡ Err (fault_of why)) × Keeps g at s
-  HasDefined (Err (Store store.Fault)) = ActFailed g old at s (Define d) store.Fault
-  HasDefined (Err (Store _)) = ⊥
-  HasDefined (Err Memory) = ActFailed g old at s (Define d) store.Memory
+  abbrev pub EndsDefine : {U : Type 0} → Result U ZoneError → Type 0
+  EndsDefine (Ok done) = (t : State) × (define_zone s d ≡ Ok t) × Keeps g at t
+  EndsDefine (Err (Refused why)) = (define_zone s d ≡ Err (fault_of why)) × Keeps g at s
+  EndsDefine (Err (Store store.Fault)) = FailsAct g old at s (Define d) store.Fault
+  EndsDefine (Err (Store _)) = ⊥
+  EndsDefine (Err Memory) = FailsAct g old at s (Define d) store.Memory
 
 -- the definition is refused
 abbrev pub is_refused : {U : Type 0} → Result U ZoneError → Bool
@@ -45,10 +45,10 @@ is_refused _ = false
 
 -- What a definition has done, whatever the tables are. One that is done has added its zone in one commit, and a refused
 -- one has left all as it was.
-pub record HasCourse {S U : Type 0} (g : Ghosts S) (old new : Held S) (d : ZoneDefinition)
+pub record GoesDefine {S U : Type 0} (g : Ghosts S) (old new : Held S) (d : ZoneDefinition)
     (result : Result U ZoneError) :
     Type 0 where
-  pub once : GoesOnce g old new (IsOwn (Define d)) (Store store.NoState) (Store store.OtherSchema) result
+  pub call : GoesCall g old new (IsOwn (Define d)) (Store store.NoState) (Store store.OtherSchema) result
   pub done : OnOk result (CommitsOnce g old new (NewZone d.name d.kind d.srel d.related) result)
   pub refused : IsTrue (is_refused result) → OnlyLoads g old new
 

@@ -1,5 +1,5 @@
 pub mod Definitions
-pub mod Ends
+pub mod Calls
 pub mod Heads
 pub mod Kept
 pub mod Own

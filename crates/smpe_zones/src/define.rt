@@ -3,7 +3,7 @@ ghost use Rattle.sqlite.specs.Held.{state};
 ghost use Rattle.sqlite.specs.State.{HasCleanDisk};
 ghost use Rattle.machine.specs.State.{State};
 ghost use Rattle.smpe_zones.specs.Kept.{Keeps};
-ghost use Rattle.smpe_zones.specs.Definitions.{HasCourse, HasDefined, definition};
+ghost use Rattle.smpe_zones.specs.Definitions.{GoesDefine, EndsDefine, definition};
 
 use crate::error::ZoneError;
 use crate::faults::first_fault;
@@ -23,9 +23,9 @@ pub fn define_zone<S: Alter>(
     srel: Srel,
     related: Option<ZoneName>,
 ) -> Result<(), ZoneError>
-    ensures ended { HasCleanDisk (state S.Store store.new) → (s : State) → Keeps S.Store store.old s
-        → HasDefined S.Store store.old store.new s (definition name kind srel related) result }
-    ensures course { HasCourse S.Store store.old store.new (definition name kind srel related) result }
+    ensures ends { HasCleanDisk (state S.Store store.new) → (s : State) → Keeps S.Store store.old s
+        → EndsDefine S.Store store.old store.new s (definition name kind srel related) result }
+    ensures goes { GoesDefine S.Store store.old store.new (definition name kind srel related) result }
 {
     let heads = store.zone_heads()?;
     if let Some(fault) = first_fault(heads.as_slice(), name, kind, srel, &related) {

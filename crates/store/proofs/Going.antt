@@ -13,7 +13,7 @@ use Rattle.store.specs.declared.change.Change.{Change}
 use Rattle.store.specs.BadRows.{OnlyLoads}
 use Rattle.store.specs.Calls.{calls_of}
 use Rattle.store.specs.Commits.{OnlyCommits}
-use Rattle.store.specs.Courses.{LoadsAlone, CommitsOnce, GoesOver}
+use Rattle.store.specs.Going.{LoadsAlone, CommitsOnce, GoesOver}
 use Rattle.store.proofs.NoState.{loads_none, loads_read, loads_then}
 
 module _ {S : Type 0} (g : Ghosts S) where

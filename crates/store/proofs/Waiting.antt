@@ -25,7 +25,7 @@ use Rattle.store_schema.specs.Tables.{store_schema}
 use Rattle.store_sysmods.specs.Calls.{insert_sysmods_calls}
 use Rattle.store_sysmods.specs.Sysmods.{AddsSysmods, AreNew, AreWaitingRows, with_sysmods, ChangesGlobal, sourced}
 use Rattle.store_sysmods.specs.declared.sysmod_rows.SysmodRows.{SysmodRows}
-use Rattle.store.specs.Calls.{Course, behind_waiting, course_of, edits_calls, with_edit, with_waiting}
+use Rattle.store.specs.Calls.{Progress, behind_waiting, progress_of, edits_calls, with_edit, with_waiting}
 use Rattle.store.specs.Waiting.{HoldsBut, ChangesBut, Waits}
 use Rattle.store.proofs.EditCalls.{behind, calls_behind, course_more}
 
@@ -160,7 +160,7 @@ module _ {S : Type 0} (g : Ghosts S) where
   }
 
   -- a call behind another
-  pub waits_then : {xs : List Sysmod} {one two : Course} {F H : Global → Type 0} {f h : Global → Global}
+  pub waits_then : {xs : List Sysmod} {one two : Progress} {F H : Global → Type 0} {f h : Global → Global}
       {a b c : Held S} {rows more : SysmodRows} {r : Result (Unit {0}) Error} → StaysInside g a b → StaysInside g b c
       → Waits g xs one F f a b rows (Ok tt) → Waits g one.1 two H h b c more r
       → Waits g xs (behind one.0 two) (λ x. F x × H (f x)) (λ x. h (f x)) a c more r
@@ -172,18 +172,18 @@ module _ {S : Type 0} (g : Ghosts S) where
       }
 
   -- the same in other words
-  pub waits_as : {xs : List Sysmod} {one two : Course} {F H : Global → Type 0} {f h : Global → Global}
+  pub waits_as : {xs : List Sysmod} {one two : Progress} {F H : Global → Type 0} {f h : Global → Global}
       {a b : Held S} {rows : SysmodRows} {r : Result (Unit {0}) Error} → one ≡ two → ((x : Global) → H x → F x)
       → ((x : Global) → f x ≡ h x) → Waits g xs one F f a b rows r → Waits g xs two H h a b rows r
   waits_as {xs = xs} {one = one} {two = two} {F = F} {H = H} {f = f} {h = h} {a = a} {b = b} {rows = rows} {r = r} is
       fits same waits =
-      subst (λ course. Waits g xs course H h a b rows r) is (record {
+      subst (λ progress. Waits g xs progress H h a b rows r) is (record {
         runs = waits.runs;
         waits = waits.waits;
         ok = on_ok r _ _ (but_as a b xs one.1 F H f h fits same) waits.ok;
       })
 
-  pub waits_ok : {xs : List Sysmod} {one : Course} {F : Global → Type 0} {f : Global → Global} {a b : Held S}
+  pub waits_ok : {xs : List Sysmod} {one : Progress} {F : Global → Type 0} {f : Global → Global} {a b : Held S}
       {rows : SysmodRows} {q : Result (Unit {0}) Error} {x : Unit {0}} → q ≡ Ok x → Waits g xs one F f a b rows q
       → Waits g xs one F f a b rows (Ok tt)
   waits_ok {xs = xs} {one = one} {F = F} {f = f} {a = a} {b = b} {rows = rows} is =
@@ -196,7 +196,7 @@ module _ {S : Type 0} (g : Ghosts S) where
   none_of_error P (Err e) Q told = tt
 
   -- the call failed, and none behind it was begun
-  pub waits_stops : {xs : List Sysmod} {one : Course} {F H : Global → Type 0} {f h : Global → Global} {a b : Held S}
+  pub waits_stops : {xs : List Sysmod} {one : Progress} {F H : Global → Type 0} {f h : Global → Global} {a b : Held S}
       {rows more : SysmodRows} {q : Result (Unit {0}) Error} {e : Error} (last : List Call) (waiting : List Sysmod)
       (r : Result (Unit {0}) Error) → q ≡ Err e → IsErrAnd r (λ z. z ≡ e) → Waits g xs one F f a b rows q
       → Waits g xs (one.0 ++ last, waiting) H h a b more r
@@ -243,20 +243,21 @@ module _ {S : Type 0} (g : Ghosts S) where
     -- so the first edits go
     abbrev pub FirstGo : ℕ → Held S → Held S → SysmodRows → Type 0
     FirstGo n old new rows =
-        Waits g [] (course_of stated (take n edits)) (EachFits stated edits) (after_edits stated (take n edits)) old new
+        Waits g [] (progress_of stated (take n edits)) (EachFits stated edits)
+        (after_edits stated (take n edits)) old new
         rows (Ok tt)
 
     -- and so one more, whatever comes of it
     abbrev pub NextGoes : ℕ → GlobalEdit → Held S → Held S → SysmodRows → Result (Unit {0}) Error → Type 0
     NextGoes n edit old new rows result =
-        let waiting = (course_of stated (take n edits)).1 in
+        let waiting = (progress_of stated (take n edits)).1 in
         Waits g waiting (with_edit stated ([], waiting) edit) (λ global. Fits global edit)
         (λ global. after_edit stated global edit) old new rows result
 
     more_go : (k : ℕ) (edit : GlobalEdit) {a b c : Held S} {rows more : SysmodRows} {q : Result (Unit {0}) Error}
         → k < length edits → edit ≡ get_or edits k edit → StaysInside g a b → StaysInside g b c → FirstGo k a b rows
         → NextGoes k edit b c more q
-        → Waits g [] (course_of stated (take (k + 1) edits)) (EachFits stated edits)
+        → Waits g [] (progress_of stated (take (k + 1) edits)) (EachFits stated edits)
         (after_edits stated (take (k + 1) edits)) a c more q
     more_go k edit within at one two first last =
         waits_as (course_more stated edits k edit within at) (λ x fits. (fits, fits k edit within at))
@@ -278,29 +279,29 @@ module _ {S : Type 0} (g : Ghosts S) where
         → IsErrAnd r (λ z. z ≡ e) → NextGoes k edit b c more q → RunsInside g (edits_calls stated edits) a c r
     edits_stop k edit {a = a} {c = c} {more = more} {q = q} {e = e} r within at one two first failed told last =
         let rest = calls_behind stated edits (k + 1) in
-        let course = course_of stated (take (k + 1) edits) in
-        let it : Waits g [] (course.0 ++ rest.0, []) (λ x. Unit {0}) (λ x. x) a c more r =
+        let progress = progress_of stated (take (k + 1) edits) in
+        let it : Waits g [] (progress.0 ++ rest.0, []) (λ x. Unit {0}) (λ x. x) a c more r =
         waits_stops rest.0 [] r failed told (more_go k edit within at one two first last) in
         subst (λ calls. RunsInside g calls a c r) rest.1 it.runs
 
     -- so all of them go
     abbrev pub AllGo : Held S → Held S → SysmodRows → Type 0
     AllGo old new rows =
-        Waits g [] (course_of stated edits) (EachFits stated edits) (after_edits stated edits) old new rows (Ok tt)
+        Waits g [] (progress_of stated edits) (EachFits stated edits) (after_edits stated edits) old new rows (Ok tt)
 
     -- all are made, and then those that wait are written
     pub edits_end : {a b c : Held S} {rows : SysmodRows} (r : Result (Unit {0}) Error) → StaysInside g a b
-        → StaysInside g b c → AllGo a b rows → RunsInside g (insert_sysmods_calls (course_of stated edits).1) b c r
+        → StaysInside g b c → AllGo a b rows → RunsInside g (insert_sysmods_calls (progress_of stated edits).1) b c r
         → RunsInside g (edits_calls stated edits) a c r
     edits_end {a = a} {b = b} {c = c} r one two first runs =
-        let course = course_of stated edits in
-        runs_then g course.0 (insert_sysmods_calls course.1) a b c (Ok (tt {0})) tt r one two refl first.runs runs
+        let progress = progress_of stated edits in
+        runs_then g progress.0 (insert_sysmods_calls progress.1) a b c (Ok (tt {0})) tt r one two refl first.runs runs
 
     pub edits_changed : {a b c : Held S} {rows : SysmodRows} (r : Result (Unit {0}) Error) → StaysInside g b c
-        → AllGo a b rows → OnOk r (AddsSysmods g b c (course_of stated edits).1)
+        → AllGo a b rows → OnOk r (AddsSysmods g b c (progress_of stated edits).1)
         → OnOk r (ChangesGlobal g a c (EachFits stated edits) (after_edits stated edits))
     edits_changed {a = a} {b = b} {c = c} r two first adds =
-        let waiting = (course_of stated edits).1 in
+        let waiting = (progress_of stated edits).1 in
         let make = after_edits stated edits in
         let last = written_but waiting b c in
         on_ok r _ _ (λ added. but_changes a c (EachFits stated edits) make (but_as a c [] []

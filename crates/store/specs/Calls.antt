@@ -63,46 +63,46 @@ elements_calls name edits =
 
 -- The statements that ran, and the SYSMODs that came after them and are not written yet. They wait for others, because
 -- one statement puts rows of several SYSMODs.
-abbrev pub Course : Type 0
-Course = List Call × List Sysmod
+abbrev pub Progress : Type 0
+Progress = List Call × List Sysmod
 
 -- so many SYSMODs wait at most
 abbrev pub most_wait : ℕ
 most_wait = 256
 
 -- If so many wait, they are written, so that there is room for one more.
-abbrev pub with_room : Course → Course
+abbrev pub with_room : Progress → Progress
 with_room (calls, waiting) =
     if length waiting == most_wait then (calls ++ insert_sysmods_calls waiting, []) else (calls, waiting)
 
 -- the SYSMOD waits with the others
-abbrev pub with_waiting : Course → Sysmod → Course
-with_waiting course s = let room = with_room course in (room.0, room.1 ++ s ∷ [])
+abbrev pub with_waiting : Progress → Sysmod → Progress
+with_waiting progress s = let room = with_room progress in (room.0, room.1 ++ s ∷ [])
 
 -- Those that wait are written, and then these statements run.
-abbrev pub behind_waiting : Course → List Call → Course
+abbrev pub behind_waiting : Progress → List Call → Progress
 behind_waiting (calls, waiting) more = (calls ++ (insert_sysmods_calls waiting ++ more), [])
 
 -- Statements of holds, which have a table of their own, run at once.
-abbrev pub with_calls : Course → List Call → Course
+abbrev pub with_calls : Progress → List Call → Progress
 with_calls (calls, waiting) more = (calls ++ more, waiting)
 
 -- an edit of the global zone; this zone has the statements of its SYSMODs
-abbrev pub with_edit : AGlobal → Course → GlobalEdit → Course
-with_edit stated course (PutHold hold) = with_calls course (put_hold_calls hold)
-with_edit stated course (RemoveHold id kind reason) = with_calls course (remove_hold_calls id kind reason)
-with_edit stated course (InsertSysmod id sources) =
-    option_map_or (λ s. with_waiting course (sourced s sources.items)) (sysmod_of stated id) course
-with_edit stated course (ReplaceSources sysmod) = behind_waiting course (replace_sources_calls sysmod)
-with_edit stated course (RemoveSysmod id) = behind_waiting course (remove_sysmod_calls id)
+abbrev pub with_edit : AGlobal → Progress → GlobalEdit → Progress
+with_edit stated progress (PutHold hold) = with_calls progress (put_hold_calls hold)
+with_edit stated progress (RemoveHold id kind reason) = with_calls progress (remove_hold_calls id kind reason)
+with_edit stated progress (InsertSysmod id sources) =
+    option_map_or (λ s. with_waiting progress (sourced s sources.items)) (sysmod_of stated id) progress
+with_edit stated progress (ReplaceSources sysmod) = behind_waiting progress (replace_sources_calls sysmod)
+with_edit stated progress (RemoveSysmod id) = behind_waiting progress (remove_sysmod_calls id)
 
 -- the statements and those that wait after so many edits
-abbrev pub course_of : AGlobal → List GlobalEdit → Course
-course_of stated edits = fold (with_edit stated) ([], []) edits
+abbrev pub progress_of : AGlobal → List GlobalEdit → Progress
+progress_of stated edits = fold (with_edit stated) ([], []) edits
 
 -- All edits one after the other, and at the end those that wait.
 abbrev pub edits_calls : AGlobal → List GlobalEdit → List Call
-edits_calls stated edits = let course = course_of stated edits in course.0 ++ insert_sysmods_calls course.1
+edits_calls stated edits = let progress = progress_of stated edits in progress.0 ++ insert_sysmods_calls progress.1
 
 -- the entries first, and then the elements
 abbrev pub delta_calls : Text → ZoneDelta → List Call

@@ -3,7 +3,7 @@ pub mod Calls
 pub mod Causes
 pub mod Changes
 pub mod Commits
-pub mod Courses
+pub mod Going
 pub mod Loads
 pub mod Reopened
 pub mod View

@@ -13,7 +13,7 @@ use Rattle.store_schema.specs.Stands.{rows_of}
 use Rattle.store_schema.specs.Tables.{store_schema}
 use Rattle.store_sysmods.specs.declared.sysmod_rows.SysmodRows.{SysmodRows}
 use Rattle.store_sysmods.specs.Sysmods.{AreNew, AreWaitingRows, with_sysmods}
-use Rattle.store.specs.Calls.{Course}
+use Rattle.store.specs.Calls.{Progress}
 
 -- the inventory's rows, except those of SYSMODs that wait, which were added last
 abbrev pub HoldsBut : List Sysmod → Inventory → Database → Type 0
@@ -30,8 +30,8 @@ ChangesBut g old new before after Fits make =
     → Leads g old new (HoldsBut before i) (HoldsBut after (record i { global = make i.global }))
 
 -- Some SYSMODs waited, these statements ran, these SYSMODs wait now, and the inventory has changed in this way.
-pub record Waits {S : Type 0} (g : Ghosts S) (before : List Sysmod) (course : Course) (Fits : Global → Type 0)
+pub record Waits {S : Type 0} (g : Ghosts S) (before : List Sysmod) (progress : Progress) (Fits : Global → Type 0)
     (make : Global → Global) (old new : Held S) (rows : SysmodRows) (result : Result (Unit {0}) Error) : Type 0 where
-  pub runs : RunsInside g course.0 old new result
-  pub waits : OnOk result (AreWaitingRows rows course.1)
-  pub ok : OnOk result (ChangesBut g old new before course.1 Fits make)
+  pub runs : RunsInside g progress.0 old new result
+  pub waits : OnOk result (AreWaitingRows rows progress.1)
+  pub ok : OnOk result (ChangesBut g old new before progress.1 Fits make)

@@ -55,7 +55,7 @@ returns-clause-uses g c = weaker (after c.in_ok-related.ensures c.carry_out.ensu
     (c.header-header.ensures.view i (sym (ap (λ w. w.check) c.install.view_is))
     ∙ ap (header_of command) sought.0.session.boundary) in
     performs_since g.S.Store c.args.store.now c.seek_related.new.store c.carry_out.new.store s
-    c.seek_related.ensures.once.follows _ c.args.date files command c.carry_out.result
+    c.seek_related.ensures.goes.follows _ c.args.date files command c.carry_out.result
     (both.1 sought.1 sought.0.session c.args.date files command changes))
 
 pub returns-in-Err-clause-uses : goal.returns-in-Err-clause-uses

@@ -9,11 +9,11 @@ use Rattle.smpe.proofs.Commanding.{commands_err, reported}
 use Rattle.smpe_jobs.proofs.Early.{failed_first, broke_first}
 use Rattle.smpe_zones.specs.Own.{IsOwnOf}
 use Rattle.smpe_session.specs.Writing.{AnswersOf, AnswersRun, IsOutcomeOf}
-use Rattle.smpe.proofs.Coursing.{goes_one, early_first, fails_by, fails_told, performs_passes, goes_early}
+use Rattle.smpe.proofs.Going.{goes_one, early_first, fails_by, fails_told, performs_passes, goes_early}
 use Rattle.smpe.proofs.job.run_command.Goals as goal
 
-pub returns-in_err-performed-clause-ended : goal.returns-in_err-performed-clause-ended
-returns-in_err-performed-clause-ended g c clean s is keeps =
+pub returns-in_err-performed-clause-ends : goal.returns-in_err-performed-clause-ends
+returns-in_err-performed-clause-ends g c clean s is keeps =
     let at = c.perform.new.store in
     let session = c.perform.new.session in
     let command = command_of c.args.command.now in
@@ -22,39 +22,39 @@ returns-in_err-performed-clause-ended g c clean s is keeps =
     c.from_residual.result
     (job_error c.in_err-performed.field-0.0) c.from_residual.ensures.1
     (failed_first g.S.Store c.args.store.now at s (Perform c.args.date c.args.files.now command) [] taken
-    c.in_err-performed.field-0.0 (c.in_err-performed.ensures.uses.ended clean s keeps is))
+    c.in_err-performed.field-0.0 (c.in_err-performed.ensures.uses.ends clean s keeps is))
 
-pub returns-in_err-write_report-in-Told-clause-ended : goal.returns-in_err-write_report-in-Told-clause-ended
-returns-in_err-write_report-in-Told-clause-ended g c clean s is keeps =
+pub returns-in_err-write_report-in-Told-clause-ends : goal.returns-in_err-write_report-in-Told-clause-ends
+returns-in_err-write_report-in-Told-clause-ends g c clean s is keeps =
     let at = c.perform.new.store in
     let session = c.perform.new.session in
     let command = command_of c.args.command.now in
     let old = g.W.Sink.taken c.args.w.now in
     let new = g.W.Sink.taken c.write_report.new.w in
-    let p = rw c.in-Told.is at (c.in_ok-performed.ensures.uses.ended clean s keeps is) in
+    let p = rw c.in-Told.is at (c.in_ok-performed.ensures.uses.ends clean s keeps is) in
     commands_err g.S.Store c.args.date c.args.files.now c.args.store.now at s session (command ∷ []) old new
     c.from_residual-in_err-write_report-in-Told.result Write c.from_residual-in_err-write_report-in-Told.ensures.1
     (broke_first g.S.Store c.args.store.now at s (Perform c.args.date c.args.files.now command) p.0
     (outcome_view c.in-Told.outcome) old new (outcome_view c.in-Told.outcome, p.1, refl) p.3
     (sent_part _ _ _ _ _ c.in_err-write_report-in-Told.ensures.sends c.in_err-write_report-in-Told.ensures.fault))
 
-pub returns-in_ok-write_report-in-Told-clause-ended : goal.returns-in_ok-write_report-in-Told-clause-ended
-returns-in_ok-write_report-in-Told-clause-ended g c clean s is keeps =
-    let p = rw c.in-Told.is at (c.in_ok-performed.ensures.uses.ended clean s keeps is) in
+pub returns-in_ok-write_report-in-Told-clause-ends : goal.returns-in_ok-write_report-in-Told-clause-ends
+returns-in_ok-write_report-in-Told-clause-ends g c clean s is keeps =
+    let p = rw c.in-Told.is at (c.in_ok-performed.ensures.uses.ends clean s keeps is) in
     reported g.S.Store c.args.date c.args.files.now c.args.store.now c.perform.new.store s p.0 c.perform.new.session
     (command_of c.args.command.now) (outcome_view c.in-Told.outcome)
     (g.W.Sink.taken c.args.w.now) (g.W.Sink.taken c.write_report.new.w) _ p.1 p.2 p.3
     (sent_all _ _ _ _ _ c.in_ok-write_report-in-Told.ensures.sends c.in_ok-write_report-in-Told.ensures.fault)
     c.in_ok-write_report-in-Told.ensures.code
 
-pub returns-in_err-write_report-in-Lists-clause-ended : goal.returns-in_err-write_report-in-Lists-clause-ended
-returns-in_err-write_report-in-Lists-clause-ended g c clean s is keeps =
+pub returns-in_err-write_report-in-Lists-clause-ends : goal.returns-in_err-write_report-in-Lists-clause-ends
+returns-in_err-write_report-in-Lists-clause-ends g c clean s is keeps =
     let at = c.perform.new.store in
     let session = c.perform.new.session in
     let command = command_of c.args.command.now in
     let old = g.W.Sink.taken c.args.w.now in
     let new = g.W.Sink.taken c.write_report-in-Lists.new.w in
-    let p = rw c.in-Lists.is at (c.in_ok-performed.ensures.uses.ended clean s keeps is) in
+    let p = rw c.in-Lists.is at (c.in_ok-performed.ensures.uses.ends clean s keeps is) in
     let performs = subst (λ d. Performs c.args.date c.args.files.now s d s (outcome_view c.list.result)) (sym p.0)
     (c.list.ensures.performs s p.1 c.args.date c.args.files.now) in
     commands_err g.S.Store c.args.date c.args.files.now c.args.store.now at s session (command ∷ []) old new
@@ -63,9 +63,9 @@ returns-in_err-write_report-in-Lists-clause-ended g c clean s is keeps =
     (outcome_view c.list.result) old new (outcome_view c.list.result, performs, refl) p.2
     (sent_part _ _ _ _ _ c.in_err-write_report-in-Lists.ensures.sends c.in_err-write_report-in-Lists.ensures.fault))
 
-pub returns-in_ok-write_report-in-Lists-clause-ended : goal.returns-in_ok-write_report-in-Lists-clause-ended
-returns-in_ok-write_report-in-Lists-clause-ended g c clean s is keeps =
-    let p = rw c.in-Lists.is at (c.in_ok-performed.ensures.uses.ended clean s keeps is) in
+pub returns-in_ok-write_report-in-Lists-clause-ends : goal.returns-in_ok-write_report-in-Lists-clause-ends
+returns-in_ok-write_report-in-Lists-clause-ends g c clean s is keeps =
+    let p = rw c.in-Lists.is at (c.in_ok-performed.ensures.uses.ends clean s keeps is) in
     let performs = subst (λ d. Performs c.args.date c.args.files.now s d s (outcome_view c.list.result)) (sym p.0)
     (c.list.ensures.performs s p.1 c.args.date c.args.files.now) in
     reported g.S.Store c.args.date c.args.files.now c.args.store.now c.perform.new.store s s c.perform.new.session
@@ -76,22 +76,22 @@ returns-in_ok-write_report-in-Lists-clause-ended g c clean s is keeps =
 
 -- ---- whatever the tables are
 
-pub returns-in_err-performed-clause-course : goal.returns-in_err-performed-clause-course
-returns-in_err-performed-clause-course g c =
+pub returns-in_err-performed-clause-goes : goal.returns-in_err-performed-clause-goes
+returns-in_err-performed-clause-goes g c =
     let old = c.args.store.now in
     let new = c.perform.new.store in
     let command = command_of c.args.command.now in
     let act = Perform c.args.date c.args.files.now command in
     let taken = g.W.Sink.taken c.args.w.now in
     let e = c.in_err-performed.field-0.0 in
-    let at = c.in_err-performed.ensures.uses.once in
+    let at = c.in_err-performed.ensures.uses.goes in
     goes_early g.S.Store old new (act ∷ []) taken taken c.from_residual.result (job_error e) c.from_residual.ensures.1
     (early_first g.S.Store old new act [] taken taken (job_error e)
-    (fails_by g.S.Store (λ own. IsOwnOf command own × Unit {0}) old new act taken e e (λ change own. own.0) at.goes
+    (fails_by g.S.Store (λ own. IsOwnOf command own × Unit {0}) old new act taken e e (λ change own. own.0) at.over
     (λ clean is. at.none clean (ap Err is)) (λ is. at.which (ap Err is))))
 
-pub returns-in_err-write_report-in-Told-clause-course : goal.returns-in_err-write_report-in-Told-clause-course
-returns-in_err-write_report-in-Told-clause-course g c =
+pub returns-in_err-write_report-in-Told-clause-goes : goal.returns-in_err-write_report-in-Told-clause-goes
+returns-in_err-write_report-in-Told-clause-goes g c =
     let old = c.args.store.now in
     let new = c.perform.new.store in
     let command = command_of c.args.command.now in
@@ -105,11 +105,11 @@ returns-in_err-write_report-in-Told-clause-course g c =
     (fails_told g.S.Store old new act outcome a b
     (performs_passes g.S.Store old new c.args.date c.args.files.now command c.in_ok-performed.performed outcome
     (subst (AnswersOf command) c.in-Told.is c.in_ok-performed.ensures.header)
-    (λ change ran. subst (AnswersRun change) c.in-Told.is ran) c.in_ok-performed.ensures.uses.once.goes)
+    (λ change ran. subst (AnswersRun change) c.in-Told.is ran) c.in_ok-performed.ensures.uses.goes.over)
     (sent_part _ _ _ _ _ c.in_err-write_report-in-Told.ensures.sends c.in_err-write_report-in-Told.ensures.fault)))
 
-pub returns-in_ok-write_report-in-Told-clause-course : goal.returns-in_ok-write_report-in-Told-clause-course
-returns-in_ok-write_report-in-Told-clause-course g c =
+pub returns-in_ok-write_report-in-Told-clause-goes : goal.returns-in_ok-write_report-in-Told-clause-goes
+returns-in_ok-write_report-in-Told-clause-goes g c =
     let old = c.args.store.now in
     let new = c.perform.new.store in
     let command = command_of c.args.command.now in
@@ -118,12 +118,12 @@ returns-in_ok-write_report-in-Told-clause-course g c =
     (g.W.Sink.taken c.write_report.new.w) _
     (performs_passes g.S.Store old new c.args.date c.args.files.now command c.in_ok-performed.performed outcome
     (subst (AnswersOf command) c.in-Told.is c.in_ok-performed.ensures.header)
-    (λ change ran. subst (AnswersRun change) c.in-Told.is ran) c.in_ok-performed.ensures.uses.once.goes)
+    (λ change ran. subst (AnswersRun change) c.in-Told.is ran) c.in_ok-performed.ensures.uses.goes.over)
     (sent_all _ _ _ _ _ c.in_ok-write_report-in-Told.ensures.sends c.in_ok-write_report-in-Told.ensures.fault)
     c.in_ok-write_report-in-Told.ensures.code
 
-pub returns-in_err-write_report-in-Lists-clause-course : goal.returns-in_err-write_report-in-Lists-clause-course
-returns-in_err-write_report-in-Lists-clause-course g c =
+pub returns-in_err-write_report-in-Lists-clause-goes : goal.returns-in_err-write_report-in-Lists-clause-goes
+returns-in_err-write_report-in-Lists-clause-goes g c =
     let old = c.args.store.now in
     let new = c.perform.new.store in
     let command = command_of c.args.command.now in
@@ -138,11 +138,11 @@ returns-in_err-write_report-in-Lists-clause-course g c =
     (performs_passes g.S.Store old new c.args.date c.args.files.now command c.in_ok-performed.performed outcome
     (subst (λ d. IsOutcomeOf d outcome) (sym (subst (AnswersOf command) c.in-Lists.is c.in_ok-performed.ensures.header))
     c.list.ensures.header)
-    (λ change ran. absurd (subst (AnswersRun change) c.in-Lists.is ran)) c.in_ok-performed.ensures.uses.once.goes)
+    (λ change ran. absurd (subst (AnswersRun change) c.in-Lists.is ran)) c.in_ok-performed.ensures.uses.goes.over)
     (sent_part _ _ _ _ _ c.in_err-write_report-in-Lists.ensures.sends c.in_err-write_report-in-Lists.ensures.fault)))
 
-pub returns-in_ok-write_report-in-Lists-clause-course : goal.returns-in_ok-write_report-in-Lists-clause-course
-returns-in_ok-write_report-in-Lists-clause-course g c =
+pub returns-in_ok-write_report-in-Lists-clause-goes : goal.returns-in_ok-write_report-in-Lists-clause-goes
+returns-in_ok-write_report-in-Lists-clause-goes g c =
     let old = c.args.store.now in
     let new = c.perform.new.store in
     let command = command_of c.args.command.now in
@@ -152,23 +152,23 @@ returns-in_ok-write_report-in-Lists-clause-course g c =
     (performs_passes g.S.Store old new c.args.date c.args.files.now command c.in_ok-performed.performed outcome
     (subst (λ d. IsOutcomeOf d outcome) (sym (subst (AnswersOf command) c.in-Lists.is c.in_ok-performed.ensures.header))
     c.list.ensures.header)
-    (λ change ran. absurd (subst (AnswersRun change) c.in-Lists.is ran)) c.in_ok-performed.ensures.uses.once.goes)
+    (λ change ran. absurd (subst (AnswersRun change) c.in-Lists.is ran)) c.in_ok-performed.ensures.uses.goes.over)
     (sent_all _ _ _ _ _ c.in_ok-write_report-in-Lists.ensures.sends c.in_ok-write_report-in-Lists.ensures.fault)
     c.in_ok-write_report-in-Lists.ensures.code
 
 -- ---- the store behind it
 
 pub returns-in_err-performed-clause-follows : goal.returns-in_err-performed-clause-follows
-returns-in_err-performed-clause-follows g c = c.perform.ensures.uses.once.follows
+returns-in_err-performed-clause-follows g c = c.perform.ensures.uses.goes.follows
 
 pub returns-in_err-write_report-in-Told-clause-follows : goal.returns-in_err-write_report-in-Told-clause-follows
-returns-in_err-write_report-in-Told-clause-follows g c = c.perform.ensures.uses.once.follows
+returns-in_err-write_report-in-Told-clause-follows g c = c.perform.ensures.uses.goes.follows
 
 pub returns-in_ok-write_report-in-Told-clause-follows : goal.returns-in_ok-write_report-in-Told-clause-follows
-returns-in_ok-write_report-in-Told-clause-follows g c = c.perform.ensures.uses.once.follows
+returns-in_ok-write_report-in-Told-clause-follows g c = c.perform.ensures.uses.goes.follows
 
 pub returns-in_err-write_report-in-Lists-clause-follows : goal.returns-in_err-write_report-in-Lists-clause-follows
-returns-in_err-write_report-in-Lists-clause-follows g c = c.perform.ensures.uses.once.follows
+returns-in_err-write_report-in-Lists-clause-follows g c = c.perform.ensures.uses.goes.follows
 
 pub returns-in_ok-write_report-in-Lists-clause-follows : goal.returns-in_ok-write_report-in-Lists-clause-follows
-returns-in_ok-write_report-in-Lists-clause-follows g c = c.perform.ensures.uses.once.follows
+returns-in_ok-write_report-in-Lists-clause-follows g c = c.perform.ensures.uses.goes.follows

@@ -4,18 +4,18 @@ use Rattle.cntl.specs.Views.{command_of}
 use Rattle.smpe_jobs.specs.Ending.{EndsEarly}
 use Rattle.machine.specs.Machine.{Perform}
 use Rattle.smpe.specs.Commands.{EndsCommands}
-use Rattle.smpe.specs.Going.{Goes, GoesEarly}
-use Rattle.smpe_zones.proofs.Once.{follows_itself, follows_on}
+use Rattle.smpe.specs.Going.{GoesCommands, GoesEarly}
+use Rattle.smpe_zones.proofs.Calls.{follows_itself, follows_on}
 use Rattle.smpe.proofs.Taken.{taken_more, taken_split}
 use Rattle.smpe.proofs.Commanding.{commands_err, commands_more, commands_stop, commands_early}
-use Rattle.smpe.proofs.Coursing.{goes_none, commands_passed, early_commands, goes_early}
+use Rattle.smpe.proofs.Going.{goes_none, commands_passed, early_commands, goes_early}
 use Rattle.smpe.proofs.job.run_commands.Goals as goal
 
 pub loop-command-init : goal.loop-command-init
 loop-command-init g c = record {
   follows = follows_itself g.S.Store c.args.store.now;
   ran = search rules;
-  course = goes_none g.S.Store c.args.store.now (g.W.Sink.taken c.args.w.now);
+  goes = goes_none g.S.Store c.args.store.now (g.W.Sink.taken c.args.w.now);
   sound = search rules;
 }
 
@@ -39,25 +39,25 @@ loop-command-preserved g c = record {
       done (command_of c.command-item.result ∷ []) old (g.W.Sink.taken c.loop-command.w) new c.loop-command.code
       c.in_ok-next.next
       (c.loop-command.invariant.ran (c.run_command.ensures.follows.clean clean) s is keeps)
-      (λ t at stands. c.in_ok-next.ensures.ended clean t at stands)));
-  course =
+      (λ t at stands. c.in_ok-next.ensures.ends clean t at stands)));
+  goes =
       let done = map command_of (take c.loop-command.command-index c.args.commands.now) in
       let perform = Perform c.args.date c.args.files.now in
       let old = g.W.Sink.taken c.args.w.now in
       let new = g.W.Sink.taken c.run_command.new.w in
       let code = c.max-code.ensures in
-      rw code (subst (λ cs. Goes g.S.Store c.args.store.now c.run_command.new.store (map perform cs) old new
+      rw code (subst (λ cs. GoesCommands g.S.Store c.args.store.now c.run_command.new.store (map perform cs) old new
       (Ok (max c.loop-command.code c.in_ok-next.next)))
       (sym (taken_more command_of c.args.commands.now c.loop-command.command-index c.command-item.result
       c.loop-command-test.true c.command-item.is))
       (commands_passed g.S.Store c.args.date c.args.files.now c.args.store.now c.loop-command.store
       c.run_command.new.store done (command_of c.command-item.result ∷ []) old (g.W.Sink.taken c.loop-command.w) new
-      c.loop-command.code c.loop-command.invariant.course c.in_ok-next.next c.in_ok-next.ensures.course));
+      c.loop-command.code c.loop-command.invariant.goes c.in_ok-next.next c.in_ok-next.ensures.goes));
   sound = λ none. c.in_ok-next.ensures.fault (c.loop-command.invariant.sound none);
 }
 
-pub returns-in_err-next-clause-ended : goal.returns-in_err-next-clause-ended
-returns-in_err-next-clause-ended g c clean s is keeps =
+pub returns-in_err-next-clause-ends : goal.returns-in_err-next-clause-ends
+returns-in_err-next-clause-ends g c clean s is keeps =
     let done = map command_of (take c.loop-command.command-index c.args.commands.now) in
     let rest = map command_of (drop (c.loop-command.command-index + 1) c.args.commands.now) in
     let old = g.W.Sink.taken c.args.w.now in
@@ -79,10 +79,10 @@ returns-in_err-next-clause-ended g c clean s is keeps =
     done (command_of c.command-item.result ∷ []) old (g.W.Sink.taken c.loop-command.w) new c.loop-command.code error
     (c.loop-command.invariant.follows.faults, c.loop-command.invariant.follows.limit)
     (c.loop-command.invariant.ran (c.run_command.ensures.follows.clean clean) s is keeps)
-    (λ t session stands. c.in_err-next.ensures.ended clean t session stands))))
+    (λ t session stands. c.in_err-next.ensures.ends clean t session stands))))
 
-pub returns-in_err-next-clause-course : goal.returns-in_err-next-clause-course
-returns-in_err-next-clause-course g c =
+pub returns-in_err-next-clause-goes : goal.returns-in_err-next-clause-goes
+returns-in_err-next-clause-goes g c =
     let done = map command_of (take c.loop-command.command-index c.args.commands.now) in
     let rest = map command_of (drop (c.loop-command.command-index + 1) c.args.commands.now) in
     let next = command_of c.command-item.result ∷ [] in
@@ -97,19 +97,19 @@ returns-in_err-next-clause-course g c =
     (sym (taken_split command_of c.args.commands.now c.loop-command.command-index c.command-item.result
     c.loop-command-test.true c.command-item.is))
     (early_commands g.S.Store c.args.date c.args.files.now c.args.store.now c.loop-command.store at done next old
-    (g.W.Sink.taken c.loop-command.w) new c.loop-command.code c.loop-command.invariant.course rest error
-    c.in_err-next.ensures.course))
+    (g.W.Sink.taken c.loop-command.w) new c.loop-command.code c.loop-command.invariant.goes rest error
+    c.in_err-next.ensures.goes))
 
-pub returns-clause-course : goal.returns-clause-course
-returns-clause-course g c =
-    subst (λ cs. Goes g.S.Store c.args.store.now c.loop-command.store
+pub returns-clause-goes : goal.returns-clause-goes
+returns-clause-goes g c =
+    subst (λ cs. GoesCommands g.S.Store c.args.store.now c.loop-command.store
     (map (Perform c.args.date c.args.files.now) (map command_of cs)) (g.W.Sink.taken c.args.w.now)
     (g.W.Sink.taken c.loop-command.w) (Ok c.loop-command.code))
     (take_all c.loop-command.command-index c.args.commands.now (omega (arith, c.loop-command-test.false)))
-    c.loop-command.invariant.course
+    c.loop-command.invariant.goes
 
-pub returns-clause-ended : goal.returns-clause-ended
-returns-clause-ended g c clean s is keeps =
+pub returns-clause-ends : goal.returns-clause-ends
+returns-clause-ends g c clean s is keeps =
     subst (λ cs. EndsCommands g.S.Store c.args.store.now c.loop-command.store s c.loop-command.session c.args.date
     c.args.files.now (map command_of cs) (g.W.Sink.taken c.args.w.now) (g.W.Sink.taken c.loop-command.w)
     (Ok c.loop-command.code))

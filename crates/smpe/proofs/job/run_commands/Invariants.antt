@@ -7,8 +7,8 @@ use Rattle.smpe_session.specs.Sessions.{IsSessionOf}
 use Rattle.smpe_zones.specs.Kept.{Keeps}
 use Rattle.machine.specs.Machine.{Perform}
 use Rattle.smpe.specs.Commands.{EndsCommands}
-use Rattle.smpe.specs.Going.{Goes}
-use Rattle.smpe_zones.specs.Ends.{Follows}
+use Rattle.smpe.specs.Going.{GoesCommands}
+use Rattle.smpe_zones.specs.Calls.{Follows}
 use Rattle.smpe.proofs.job.run_commands.Given as goal
 
 abbrev pub invariant-loop-command : goal.invariant-loop-command
@@ -19,7 +19,7 @@ invariant-loop-command g l = record {
       EndsCommands g.S.Store l.fn.store l.store s l.session l.fn.date l.fn.files (map command_of (take l.command-index
       l.commands))
       (g.W.Sink.taken l.fn.w) (g.W.Sink.taken l.w) (Ok l.code);
-  course : Goes g.S.Store l.fn.store l.store
+  goes : GoesCommands g.S.Store l.fn.store l.store
       (map (Perform l.fn.date l.fn.files) (map command_of (take l.command-index l.commands)))
       (g.W.Sink.taken l.fn.w) (g.W.Sink.taken l.w) (Ok l.code);
   sound : g.W.Sink.has_failed l.fn.w ≡ false → g.W.Sink.has_failed l.w ≡ false;

@@ -2,25 +2,25 @@ use Rattle.std.proofs.Common.{◌∷◌, [], ◌++◌, ◌+◌, map, take, drop,
 use Rattle.std.proofs.lemmas.List.{map-append, take_all}
 use Rattle.smpe_jobs.specs.declared.error.JobError.TheVariants.{Memory}
 use Rattle.smpe_jobs.specs.Ending.{EndsAmong, EndsJobs, job_of, answer_of}
-use Rattle.smpe_zones.proofs.Once.{follows_itself, follows_on}
+use Rattle.smpe_zones.proofs.Calls.{follows_itself, follows_on}
 use Rattle.smpe_jobs.proofs.Early.{ends_unbegun}
 use Rattle.smpe.proofs.Taken.{taken_more, taken_split}
 use Rattle.smpe_jobs.proofs.Listing.{jobs_err, jobs_more, jobs_stop}
 use Rattle.smpe_jobs.proofs.Closing.{keeps_closed, closed_now}
-use Rattle.smpe.specs.Going.{JobsPassed, JobsStopped}
-use Rattle.smpe.proofs.Coursing.{jobs_unbegun, jobs_one_more, jobs_stopped, stopped_more, jobs_early}
+use Rattle.smpe.specs.Going.{JobsRan, GoesAmong}
+use Rattle.smpe.proofs.Going.{jobs_unbegun, jobs_one_more, jobs_stopped, stopped_more, jobs_early}
 use Rattle.smpe.proofs.jobs.run_jobs.Goals as goal
 
-pub returns-in_err-answers-clause-ended : goal.returns-in_err-answers-clause-ended
-returns-in_err-answers-clause-ended g c clean s keeps =
+pub returns-in_err-answers-clause-ends : goal.returns-in_err-answers-clause-ends
+returns-in_err-answers-clause-ends g c clean s keeps =
     let taken = g.W.Sink.taken c.args.w.now in
     jobs_err g.S.Store s c.args.store.now c.args.store.now (map job_of c.args.jobs.now) taken taken (λ v. map answer_of
     v.items)
     c.from_residual.result Memory c.from_residual.ensures.1
     (ends_unbegun g.S.Store c.args.store.now c.args.store.now s (map job_of c.args.jobs.now) taken keeps)
 
-pub returns-in_err-answer-clause-ended : goal.returns-in_err-answer-clause-ended
-returns-in_err-answer-clause-ended g c clean s keeps =
+pub returns-in_err-answer-clause-ends : goal.returns-in_err-answer-clause-ends
+returns-in_err-answer-clause-ends g c clean s keeps =
     let done = map job_of (take c.loop-job.job-index c.args.jobs.now) in
     let rest = map job_of (drop (c.loop-job.job-index + 1) c.args.jobs.now) in
     let at = c.run_one.new.store in
@@ -36,7 +36,7 @@ returns-in_err-answer-clause-ended g c clean s keeps =
     (map answer_of c.loop-job.answers.items) rest error
     (c.loop-job.invariant.follows.faults, c.loop-job.invariant.follows.limit)
     (c.loop-job.invariant.ran (c.run_one.ensures.follows.clean clean) s keeps)
-    (λ t stands. c.in_err-answer.ensures.ended clean t stands)))
+    (λ t stands. c.in_err-answer.ensures.ends clean t stands)))
 
 pub loop-job-preserved : goal.loop-job-preserved
 loop-job-preserved g c =
@@ -64,24 +64,24 @@ loop-job-preserved g c =
           (g.W.Sink.taken c.loop-job.w)
           new answers answer
           (c.loop-job.invariant.ran (c.run_one.ensures.follows.clean clean) s keeps)
-          (λ t stands. c.in_ok-answer.ensures.ended clean t stands)));
-      course =
+          (λ t stands. c.in_ok-answer.ensures.ends clean t stands)));
+      goes =
           let done = map job_of (take c.loop-job.job-index c.args.jobs.now) in
           let old = g.W.Sink.taken c.args.w.now in
           let new = g.W.Sink.taken c.run_one.new.w in
           let answers = map answer_of c.loop-job.answers.items in
           let answer = answer_of c.in_ok-answer.answer in
-          subst (λ told. JobsPassed g.S.Store c.args.store.now (map job_of (take (c.loop-job.job-index + 1)
+          subst (λ told. JobsRan g.S.Store c.args.store.now (map job_of (take (c.loop-job.job-index + 1)
           c.args.jobs.now)) c.run_one.new.store old new told)
           (sym (ap (map answer_of) pushed ∙ map-append answer_of c.loop-job.answers.items (c.in_ok-answer.answer ∷ [])))
-          (subst (λ jobs. JobsPassed g.S.Store c.args.store.now jobs c.run_one.new.store old new
+          (subst (λ jobs. JobsRan g.S.Store c.args.store.now jobs c.run_one.new.store old new
           (answers ++ answer ∷ []))
           (sym (taken_more job_of c.args.jobs.now c.loop-job.job-index c.job-item.result c.loop-job-test.true
           c.job-item.is))
           (jobs_one_more g.S.Store c.args.store.now c.loop-job.store c.run_one.new.store done (job_of
           c.job-item.result) old
-          (g.W.Sink.taken c.loop-job.w) new answers answer c.loop-job.invariant.course
-          c.in_ok-answer.ensures.course));
+          (g.W.Sink.taken c.loop-job.w) new answers answer c.loop-job.invariant.goes
+          c.in_ok-answer.ensures.goes));
       closed = λ clean s keeps closed.
           let was = c.run_one.ensures.follows.clean clean in
           let ran = c.loop-job.invariant.ran was s keeps in
@@ -96,7 +96,7 @@ pub loop-job-init : goal.loop-job-init
 loop-job-init g c = record {
   follows = follows_itself g.S.Store c.args.store.now;
   ran = search rules;
-  course = search rules;
+  goes = search rules;
   closed = λ clean s keeps closed. keeps_closed g.S.Store c.args.store.now clean s keeps closed;
   count = search rules;
   room = search rules;
@@ -114,15 +114,15 @@ returns-in_err-answer-clause-closed g c clean s keeps closed =
     c.run_one.ensures.closed clean ran.0 ran.3
     (closed_now g.S.Store c.loop-job.store was ran.0 ran.3 (c.loop-job.invariant.closed was s keeps closed))
 
-pub returns-in_err-answers-clause-course : goal.returns-in_err-answers-clause-course
-returns-in_err-answers-clause-course g c =
+pub returns-in_err-answers-clause-goes : goal.returns-in_err-answers-clause-goes
+returns-in_err-answers-clause-goes g c =
     let taken = g.W.Sink.taken c.args.w.now in
     jobs_early g.S.Store c.args.store.now c.args.store.now (map job_of c.args.jobs.now) taken taken (λ v. map answer_of
     v.items) c.from_residual.result Memory c.from_residual.ensures.1
     (jobs_unbegun g.S.Store c.args.store.now (map job_of c.args.jobs.now) taken)
 
-pub returns-in_err-answer-clause-course : goal.returns-in_err-answer-clause-course
-returns-in_err-answer-clause-course g c =
+pub returns-in_err-answer-clause-goes : goal.returns-in_err-answer-clause-goes
+returns-in_err-answer-clause-goes g c =
     let done = map job_of (take c.loop-job.job-index c.args.jobs.now) in
     let rest = map job_of (drop (c.loop-job.job-index + 1) c.args.jobs.now) in
     let at = c.run_one.new.store in
@@ -133,14 +133,14 @@ returns-in_err-answer-clause-course g c =
     let error = c.in_err-answer.field-0.0 in
     jobs_early g.S.Store c.args.store.now at (map job_of c.args.jobs.now) old new (λ v. map answer_of v.items)
     c.from_residual-in_err-answer.result error c.from_residual-in_err-answer.ensures.1
-    (subst (λ jobs. JobsStopped g.S.Store c.args.store.now at jobs old new error)
+    (subst (λ jobs. GoesAmong g.S.Store c.args.store.now at jobs old new error)
     (sym (taken_split job_of c.args.jobs.now c.loop-job.job-index c.job-item.result c.loop-job-test.true c.job-item.is))
     (stopped_more g.S.Store c.args.store.now at (done ++ job ∷ []) rest old new error
     (jobs_stopped g.S.Store c.args.store.now c.loop-job.store at done (job ∷ []) old mid new
-    (map answer_of c.loop-job.answers.items) error c.loop-job.invariant.course c.in_err-answer.ensures.course)))
+    (map answer_of c.loop-job.answers.items) error c.loop-job.invariant.goes c.in_err-answer.ensures.goes)))
 
-pub returns-clause-course : goal.returns-clause-course
-returns-clause-course g c =
-    subst (λ jobs. JobsPassed g.S.Store c.args.store.now (map job_of jobs) c.loop-job.store (g.W.Sink.taken
+pub returns-clause-goes : goal.returns-clause-goes
+returns-clause-goes g c =
+    subst (λ jobs. JobsRan g.S.Store c.args.store.now (map job_of jobs) c.loop-job.store (g.W.Sink.taken
     c.args.w.now) (g.W.Sink.taken c.loop-job.w) (map answer_of c.loop-job.answers.items))
-    (take_all c.loop-job.job-index c.args.jobs.now (omega (arith, c.loop-job-test.false))) c.loop-job.invariant.course
+    (take_all c.loop-job.job-index c.args.jobs.now (omega (arith, c.loop-job-test.false))) c.loop-job.invariant.goes

@@ -4,9 +4,9 @@ use Rattle.sqlite.specs.Held.{state}
 use Rattle.sqlite.specs.State.{HasCleanDisk}
 use Rattle.machine.specs.State.{State}
 use Rattle.smpe_zones.specs.Kept.{Keeps}
-use Rattle.smpe_zones.specs.Ends.{Follows}
+use Rattle.smpe_zones.specs.Calls.{Follows}
 use Rattle.smpe_jobs.specs.Ending.{EndsJobs, KeepsClosed, job_of, answer_of}
-use Rattle.smpe.specs.Going.{JobsPassed}
+use Rattle.smpe.specs.Going.{JobsRan}
 use Rattle.smpe.proofs.jobs.run_jobs.Given as goal
 
 abbrev pub invariant-loop-job : goal.invariant-loop-job
@@ -16,7 +16,7 @@ invariant-loop-job g l = record {
       EndsJobs g.S.Store l.fn.store l.store s (map job_of (take l.job-index l.jobs)) (g.W.Sink.taken l.fn.w)
       (g.W.Sink.taken l.w)
       (λ told. told) (Ok (map answer_of l.answers.items));
-  course : JobsPassed g.S.Store l.fn.store (map job_of (take l.job-index l.jobs)) l.store (g.W.Sink.taken l.fn.w)
+  goes : JobsRan g.S.Store l.fn.store (map job_of (take l.job-index l.jobs)) l.store (g.W.Sink.taken l.fn.w)
       (g.W.Sink.taken l.w) (map answer_of l.answers.items);
   closed : KeepsClosed g.S.Store l.fn.store l.store;
   count : length l.answers.items ≡ l.job-index;

@@ -65,7 +65,7 @@ returns-clause-uses g c = weaker (after c.in_ok-accepted.ensures c.carry_out.ens
     c.in_ok-delta.ensures.knows sought.0.session there related c.in_ok-delta.ensures.restores date files c.args.check at.boundary
     sought.0.session.boundary in
     performs_since g.S.Store c.args.store.now c.seek_accepted.new.store c.carry_out.new.store s
-    c.seek_accepted.ensures.once.follows _ date files command c.carry_out.result
+    c.seek_accepted.ensures.goes.follows _ date files command c.carry_out.result
     (both.1 sought.1 sought.0.session date files command changes))
 
 -- ---- the header

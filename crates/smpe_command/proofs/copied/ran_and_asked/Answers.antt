@@ -19,7 +19,7 @@ returns-in_err-answers g c = λ conn over.
     c.args.store.now c.run_jobs.new.store c.args.out.now c.run_jobs.new.w c.run_jobs.new.w c.run_jobs.result (Err error)
     c.from_residual.result
     (alike_err (λ v. map answer_of v.items) (λ all. all) c.run_jobs.result (Err error) error error c.in_err-answers.was
-    refl refl) over went.ended went.course went.fault (p.1 ∙ ap Err p.2, refl)
+    refl refl) over went.ends went.goes went.fault (p.1 ∙ ap Err p.2, refl)
 
 pub returns-in_err-told : goal.returns-in_err-told
 returns-in_err-told g c = λ conn over.
@@ -32,7 +32,7 @@ returns-in_err-told g c = λ conn over.
     c.args.store.now c.run_jobs.new.store c.args.out.now c.run_jobs.new.w c.asked_if_any.new.out c.run_jobs.result
     (Ok all) r.result
     (alike_ok (λ v. map answer_of v.items) (λ all. all) c.run_jobs.result (Ok all) answers all c.in_ok-answers.was refl
-    refl) over went.ended went.course went.fault (
+    refl) over went.ends went.goes went.fault (
       c.asked_if_any.result,
       c.asked_if_any.ensures,
       p.1 ∙ ap Err p.2 ∙ sym (ap (at_least (greatest all)) c.in_err-told.was),
@@ -49,7 +49,7 @@ returns g c = λ conn over.
     c.args.store.now c.run_jobs.new.store c.args.out.now c.run_jobs.new.w c.asked_if_any.new.out c.run_jobs.result
     (Ok all) (Ok c.max.result)
     (alike_ok (λ v. map answer_of v.items) (λ all. all) c.run_jobs.result (Ok all) answers all c.in_ok-answers.was refl
-    refl) over went.ended went.course went.fault (
+    refl) over went.ends went.goes went.fault (
       c.asked_if_any.result,
       c.asked_if_any.ensures,
       ap (λ n. Ok n) (c.max.ensures ∙ ap (λ n. max n c.in_ok-told.told) status)

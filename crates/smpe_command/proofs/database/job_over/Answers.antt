@@ -31,9 +31,9 @@ ran g c =
             jobs_since g.H.Disk.Store it.conn c.in_ok-store.store c.run_jobs-answers.new.store
             (it.over.crash.counts, it.over.crash.limit) s jobs (g.O.Sink.taken c.args.out.now)
             (g.O.Sink.taken c.run_jobs-answers.new.w) (λ v. map answer_of v.items) c.run_jobs-answers.result
-            (went.ended clean s (it.over.stands (kept s) is));
+            (went.ends clean s (it.over.stands (kept s) is));
         closed = λ clean s is closed. went.closed clean s (it.over.stands (kept s) is) closed;
-        goes = went.course;
+        goes = went.goes;
         closes = subst (λ conn. g.H.Host.closes c.opened.new.host conn c.close-2.new.self) c.close.ensures.same
             c.close-2.ensures.closed;
       },

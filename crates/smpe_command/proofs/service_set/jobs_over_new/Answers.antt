@@ -13,7 +13,7 @@ returns-in-Ok g c =
       λ clean found. jobs_since g.S.Store c.args.conn c.in-Ok.store store (opened.crash.counts, opened.crash.limit)
           empty_system (map job_of c.args.jobs.now) (g.O.Sink.taken c.args.out.now)
           (g.O.Sink.taken c.run_jobs-answers.new.w) (λ v. map answer_of v.items) c.run_jobs-answers.result
-          (c.run_jobs-answers.ensures.ended clean empty_system (record {
+          (c.run_jobs-answers.ensures.ends clean empty_system (record {
             now = opened.tables (kept empty_system) found;
             crash = opened.leaves (kept empty_system) found;
           })),

@@ -10,15 +10,15 @@ use Rattle.smpe_zones.specs.Definitions.{definition}
 use Rattle.smpe_zones.specs.Heads.{first_fault}
 use Rattle.smpe_zones.specs.Own.{IsOwn}
 use Rattle.smpe_zones.proofs.Adding.{makes, leads, steps_defined, leads_on}
-use Rattle.smpe_zones.proofs.Ending.{defined_failed, course_failed}
+use Rattle.smpe_zones.proofs.Ending.{defined_failed, goes_failed}
 use Rattle.smpe_zones.proofs.Found.{refuses, accepts}
 use Rattle.smpe_zones.proofs.Keeping.{inventory_kept, loaded, committed, act_unmoved, failed_more, failed_since}
-use Rattle.smpe_zones.proofs.Once.{is_later, once_load, once_commit, once_after}
+use Rattle.smpe_zones.proofs.Calls.{is_later, call_load, call_commit, call_after}
 use Rattle.smpe_zones.proofs.define.define_zone.Goals as goal
 
 -- the heads could not be loaded
-pub returns-in_err-heads-clause-ended : goal.returns-in_err-heads-clause-ended
-returns-in_err-heads-clause-ended g c = λ clean s keeps.
+pub returns-in_err-heads-clause-ends : goal.returns-in_err-heads-clause-ends
+returns-in_err-heads-clause-ends g c = λ clean s keeps.
     let old = c.args.store.now in
     let new = c.zone_heads.new.self in
     let e = c.in_err-heads.field-0.0 in
@@ -28,8 +28,8 @@ returns-in_err-heads-clause-ended g c = λ clean s keeps.
     (loaded g.S.Store old new s _ (Err e) clean c.in_err-heads.ensures keeps))
 
 -- the definition is refused
-pub returns-in-Some-clause-ended : goal.returns-in-Some-clause-ended
-returns-in-Some-clause-ended g c = λ clean s keeps.
+pub returns-in-Some-clause-ends : goal.returns-in-Some-clause-ends
+returns-in-Some-clause-ends g c = λ clean s keeps.
     let d = definition c.args.name c.args.kind c.args.srel c.args.related in
     let had = loaded g.S.Store c.args.store.now c.zone_heads.new.self s _ (Ok c.in_ok-heads.heads) clean
     c.in_ok-heads.ensures keeps in
@@ -40,8 +40,8 @@ returns-in-Some-clause-ended g c = λ clean s keeps.
     )
 
 -- the zone could not be added
-pub returns-in_err-commit-clause-ended : goal.returns-in_err-commit-clause-ended
-returns-in_err-commit-clause-ended g c = λ clean s keeps.
+pub returns-in_err-commit-clause-ends : goal.returns-in_err-commit-clause-ends
+returns-in_err-commit-clause-ends g c = λ clean s keeps.
     let old = c.args.store.now in
     let before = c.zone_heads.new.self in
     let new = c.commit.new.self in
@@ -60,7 +60,7 @@ returns-in_err-commit-clause-ended g c = λ clean s keeps.
     defined_failed g.S.Store old new s d e c.from_residual-in_err-commit.result
     c.from_residual-in_err-commit.ensures.1
     (failed_since g.S.Store old before new s (is_later g.S.Store old before
-    (once_load g.S.Store old before _ (Ok c.in_ok-heads.heads) c.in_ok-heads.ensures).follows)
+    (call_load g.S.Store old before _ (Ok c.in_ok-heads.heads) c.in_ok-heads.ensures).follows)
     (IsAfter s (Define d)) (LeadsOn s (Define d)) e
     (failed_more g.S.Store before new s (λ k. k ≡ kept t) (IsAfter s (Define d)) (λ own. own ≡ added)
     (LeadsOn s (Define d)) (λ k same. (t, [], steps_defined s t d answers, same))
@@ -70,8 +70,8 @@ returns-in_err-commit-clause-ended g c = λ clean s keeps.
     at.err at.crash at.which (λ failed. at.before clean failed (kept s) had.1.now))))
 
 -- the zone is added
-pub returns-clause-ended : goal.returns-clause-ended
-returns-clause-ended g c = λ clean s keeps.
+pub returns-clause-ends : goal.returns-clause-ends
+returns-clause-ends g c = λ clean s keeps.
     let before = c.zone_heads.new.self in
     let d = definition c.args.name c.args.kind c.args.srel c.args.related in
     let sure = c.commit.ensures.clean clean in
@@ -91,23 +91,23 @@ returns-clause-ended g c = λ clean s keeps.
 
 -- ---- whatever the tables are
 
-pub returns-in_err-heads-clause-course : goal.returns-in_err-heads-clause-course
-returns-in_err-heads-clause-course g c =
+pub returns-in_err-heads-clause-goes : goal.returns-in_err-heads-clause-goes
+returns-in_err-heads-clause-goes g c =
     let e = c.in_err-heads.field-0.0 in
-    course_failed g.S.Store c.args.store.now c.zone_heads.new.self
+    goes_failed g.S.Store c.args.store.now c.zone_heads.new.self
     (definition c.args.name c.args.kind c.args.srel c.args.related) (λ _. ⊥) e c.from_residual.result
     c.from_residual.ensures.1 (λ change none. absurd none)
-    (once_load g.S.Store c.args.store.now c.zone_heads.new.self _ (Err e) c.in_err-heads.ensures)
+    (call_load g.S.Store c.args.store.now c.zone_heads.new.self _ (Err e) c.in_err-heads.ensures)
 
-pub returns-in-Some-clause-course : goal.returns-in-Some-clause-course
-returns-in-Some-clause-course g c =
+pub returns-in-Some-clause-goes : goal.returns-in-Some-clause-goes
+returns-in-Some-clause-goes g c =
     let old = c.args.store.now in
     let new = c.zone_heads.new.self in
     let loads = c.in_ok-heads.ensures in
     record {
-      once = record {
-        follows = (once_load g.S.Store old new _ (Ok c.in_ok-heads.heads) loads).follows;
-        goes = inl (alone_short g.S.Store old new c.in_ok-heads.heads _
+      call = record {
+        follows = (call_load g.S.Store old new _ (Ok c.in_ok-heads.heads) loads).follows;
+        over = inl (alone_short g.S.Store old new c.in_ok-heads.heads _
             (loads_alone g.S.Store old new _ loads.reads));
         none = λ clean bad. absurd (cc bad);
         which = λ bad. absurd (cc bad);
@@ -116,37 +116,37 @@ returns-in-Some-clause-course g c =
       refused = λ refused. loads_read g.S.Store old new _ loads.reads;
     }
 
-pub returns-in_err-commit-clause-course : goal.returns-in_err-commit-clause-course
-returns-in_err-commit-clause-course g c =
+pub returns-in_err-commit-clause-goes : goal.returns-in_err-commit-clause-goes
+returns-in_err-commit-clause-goes g c =
     let old = c.args.store.now in
     let before = c.zone_heads.new.self in
     let new = c.commit.new.self in
     let e = c.in_err-commit.field-0.0 in
     let added = NewZone c.args.name c.args.kind c.args.srel c.args.related in
     let at = c.in_err-commit.ensures in
-    course_failed g.S.Store old new (definition c.args.name c.args.kind c.args.srel c.args.related)
+    goes_failed g.S.Store old new (definition c.args.name c.args.kind c.args.srel c.args.related)
     (λ own. own ≡ added) e c.from_residual-in_err-commit.result c.from_residual-in_err-commit.ensures.1
     (λ change own. own)
-    (once_after g.S.Store old before new (λ own. own ≡ added) c.in_ok-heads.heads _
-    (once_load g.S.Store old before _ (Ok c.in_ok-heads.heads) c.in_ok-heads.ensures)
-    (once_commit g.S.Store before new added _ at.clean at.only at.which))
+    (call_after g.S.Store old before new (λ own. own ≡ added) c.in_ok-heads.heads _
+    (call_load g.S.Store old before _ (Ok c.in_ok-heads.heads) c.in_ok-heads.ensures)
+    (call_commit g.S.Store before new added _ at.clean at.only at.which))
 
-pub returns-clause-course : goal.returns-clause-course
-returns-clause-course g c =
+pub returns-clause-goes : goal.returns-clause-goes
+returns-clause-goes g c =
     let old = c.args.store.now in
     let before = c.zone_heads.new.self in
     let new = c.commit.new.self in
     let d = definition c.args.name c.args.kind c.args.srel c.args.related in
     let added = NewZone c.args.name c.args.kind c.args.srel c.args.related in
     let at = c.in_ok-commit.ensures in
-    let both = once_after g.S.Store old before new (λ own. own ≡ added) c.in_ok-heads.heads _
-    (once_load g.S.Store old before _ (Ok c.in_ok-heads.heads) c.in_ok-heads.ensures)
-    (once_commit g.S.Store before new added _ at.clean at.only at.which) in
+    let both = call_after g.S.Store old before new (λ own. own ≡ added) c.in_ok-heads.heads _
+    (call_load g.S.Store old before _ (Ok c.in_ok-heads.heads) c.in_ok-heads.ensures)
+    (call_commit g.S.Store before new added _ at.clean at.only at.which) in
     record {
-      once = record {
+      call = record {
         follows = both.follows;
-        goes = goes_ok g.S.Store old new (λ own. own ≡ added) (IsOwn (Define d)) (tt {0}) (tt {0}) (λ change own. own)
-            both.goes;
+        over = goes_ok g.S.Store old new (λ own. own ≡ added) (IsOwn (Define d)) (tt {0}) (tt {0}) (λ change own. own)
+            both.over;
         none = λ clean bad. absurd (cc bad);
         which = λ bad. absurd (cc bad);
       };

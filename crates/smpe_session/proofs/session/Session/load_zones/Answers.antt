@@ -1,6 +1,6 @@
 use Rattle.std.proofs.Common.{◌∙◌, arith, rules, subst}
 use Rattle.std.proofs.lemmas.List.{take_all}
-use Rattle.smpe_session.specs.Steps.{AreSought}
+use Rattle.smpe_session.specs.KnownZones.{AreSought}
 use Rattle.smpe_session.proofs.AllZones.{all_zones, sought_more}
 use Rattle.smpe_session.proofs.Stepping.{unmoved_since}
 use Rattle.smpe_session.proofs.Using.{after, answered, handed_on, load_uses}
@@ -35,7 +35,7 @@ pub returns-in_err-seek : goal.returns-in_err-seek
 returns-in_err-seek g c = handed_on c.from_residual-in_err-seek.ensures.1
     (after c.loop-name.invariant c.in_err-seek.ensures.uses) (λ s inventory both is.
     let before = both.0 is in
-    unmoved_since g.S.Store c.args.store.now c.loop-name.store c.seek.new.store s c.loop-name.invariant.once.follows
+    unmoved_since g.S.Store c.args.store.now c.loop-name.store c.seek.new.store s c.loop-name.invariant.goes.follows
     c.in_err-seek.field-0.0 (both.1 before.1 before.0.1.session))
 
 pub returns : goal.returns

@@ -56,7 +56,7 @@ returns-clause-uses g c =
     (c.in_ok-edits.ensures.runs s.zones (alike s at inventory c.reject.ensures.names had.0))
     (c.in_ok-edits.ensures.fits new) (c.in_ok-edits.ensures.edits new) in
     performs_since g.S.Store c.args.store.now c.load_zones.new.store c.commit_change.new.store s
-    c.load_zones.ensures.once.follows _ date files (Reject c.args.ids.now) c.commit_change.result
+    c.load_zones.ensures.goes.follows _ date files (Reject c.args.ids.now) c.commit_change.result
     (led g.S.Store c.load_zones.new.store c.commit_change.new.store date files (Reject c.args.ids.now) s
     c.args.self.now.boundary at (record at { global = new }) rejects.edits.items lines _ is.boundary had.0.session refl
     refl leads (Change.Global (stated_in c.commit_change.ensures.uses) rejects.edits) c.in_ok-edits.ensures.rejects tt

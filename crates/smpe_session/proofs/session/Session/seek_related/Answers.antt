@@ -41,7 +41,7 @@ pub returns-in_err-seek : goal.returns-in_err-seek
 returns-in_err-seek g c = handed_on c.from_residual-in_err-seek.ensures.1
     (after (load_uses c.in_ok-heads.ensures) c.in_err-seek.ensures.uses)
     (λ s inventory both is. unmoved_since g.S.Store c.args.store.now c.zone_heads.new.self c.seek.new.store s
-    (load_uses c.zone_heads.ensures).once.follows c.in_err-seek.field-0.0 (both.1 both.0.1 is))
+    (load_uses c.zone_heads.ensures).goes.follows c.in_err-seek.field-0.0 (both.1 both.0.1 is))
 
 pub returns : goal.returns
 returns g c =

@@ -19,7 +19,7 @@ use Rattle.store_schema.specs.declared.error.StoreError.{StoreError}
 use Rattle.store_schema.specs.declared.error.StoreError.TheVariants as store
 use Rattle.report.specs.Sent.{WrotePart}
 use Rattle.store.specs.BadRows.{FoundNoState, OnlyLoads}
-use Rattle.store.specs.Courses.{CommitsOnce, GoesOver}
+use Rattle.store.specs.Going.{CommitsOnce, GoesOver}
 use Rattle.store.specs.declared.change.Change.{Change}
 use Rattle.store.specs.declared.change.Change.TheVariants as change
 use Rattle.store.proofs.Going.{alone_loads, goes_err, goes_ok}
@@ -29,8 +29,8 @@ use Rattle.smpe_session.specs.Writing.{IsOutcomeOf, IsRan, AnswersRun}
 use Rattle.smpe_jobs.specs.declared.error.JobError.{JobError}
 use Rattle.smpe_jobs.specs.declared.error.JobError.TheVariants.{Memory, Store, Write}
 use Rattle.smpe_jobs.specs.Errors.{job_error}
-use Rattle.smpe.specs.Going.{Asks, AreFirstAsked, Passes, Passed, FailsBy, LastCall, GoesEarly, Goes, Tells}
-use Rattle.smpe.specs.Going.{JobPassed, JobsPassed, JobsStopped, JobGoes, JobsGo}
+use Rattle.smpe.specs.Going.{Asks, AreFirstAsked, ActRan, ActsRan, FailsBy, GoesLast, GoesEarly, GoesCommands, Tells}
+use Rattle.smpe.specs.Going.{JobRan, JobsRan, GoesAmong, GoesJob, GoesJobs}
 use Rattle.smpe_jobs.proofs.Courses.{ran_none, ran_quiet, ran_one, ran_more, course_first, course_after, course_more}
 use Rattle.smpe_jobs.proofs.Courses.{next_more, unreported}
 use Rattle.smpe.proofs.Commanding.{codes_append}
@@ -55,13 +55,13 @@ asked_more (job ∷ jobs) more acts (inr (front, back, asks, rest, is)) =
 module _ {S : Type 0} (g : Ghosts S) where
   -- ---- acts
 
-  abbrev pub passed_none : (at : Held S) (taken : Option (List ℕ)) → Passed g at at [] taken taken
-  passed_none at taken = ran_none (Passes g) at taken
+  abbrev pub passed_none : (at : Held S) (taken : Option (List ℕ)) → ActsRan g at at [] taken taken
+  passed_none at taken = ran_none (ActRan g) at taken
 
   -- one that reports this
   abbrev pub passed_one : (old new : Held S) (act : Act) (outcome : Outcome) (a b : Option (List ℕ))
-      → Passes g old act new (outcome ∷ []) → Appends a b (text outcome) → Passed g old new (act ∷ []) a b
-  passed_one old new act outcome a b passes appends = ran_one (Passes g) old new act outcome a b passes appends
+      → ActRan g old act new (outcome ∷ []) → Appends a b (text outcome) → ActsRan g old new (act ∷ []) a b
+  passed_one old new act outcome a b passes appends = ran_one (ActRan g) old new act outcome a b passes appends
 
   -- ---- acts that end early
 
@@ -69,21 +69,21 @@ module _ {S : Type 0} (g : Ghosts S) where
   pub early_first : (old new : Held S) (act : Act) (more : List Act) (a b : Option (List ℕ)) (e : JobError)
       → FailsBy g new b e old a act → GoesEarly g old new (act ∷ more) a b e
   early_first old new act more a b e fails =
-      course_first (Passes g) (LastCall g new b e) old (act ∷ more) a (inl fails)
+      course_first (ActRan g) (GoesLast g new b e) old (act ∷ more) a (inl fails)
 
   -- memory was short before the first one
   pub early_none : (at : Held S) (acts : List Act) (taken : Option (List ℕ)) → GoesEarly g at at acts taken taken Memory
-  early_none at acts taken = course_first (Passes g) (LastCall g at taken Memory) at acts taken (inr (refl, refl, refl))
+  early_none at acts taken = course_first (ActRan g) (GoesLast g at taken Memory) at acts taken (inr (refl, refl, refl))
 
   -- acts that ran, and then some that ended early
   pub early_after : (old mid new : Held S) (xs ys : List Act) (a b c : Option (List ℕ)) (e : JobError)
-      → Passed g old mid xs a b → GoesEarly g mid new ys b c e → GoesEarly g old new (xs ++ ys) a c e
+      → ActsRan g old mid xs a b → GoesEarly g mid new ys b c e → GoesEarly g old new (xs ++ ys) a c e
   early_after old mid new xs ys a b c e front back =
-      course_after (Passes g) (LastCall g new c e) old mid xs ys a b front back
+      course_after (ActRan g) (GoesLast g new c e) old mid xs ys a b front back
 
   last_more : (new : Held S) (c : Option (List ℕ)) (e : JobError) (more : List Act) (before : Held S)
-      (had : Option (List ℕ)) (rest : List Act) → LastCall g new c e before had rest
-      → LastCall g new c e before had (rest ++ more)
+      (had : Option (List ℕ)) (rest : List Act) → GoesLast g new c e before had rest
+      → GoesLast g new c e before had (rest ++ more)
   last_more new c e more before had rest (inl fails) = inl (next_more (FailsBy g new c e) before had rest more fails)
   last_more new c e more before had rest (inr short) = inr short
 
@@ -91,7 +91,7 @@ module _ {S : Type 0} (g : Ghosts S) where
   early_more : (old new : Held S) (xs ys : List Act) (a c : Option (List ℕ)) (e : JobError)
       → GoesEarly g old new xs a c e → GoesEarly g old new (xs ++ ys) a c e
   early_more old new xs ys a c e early =
-      course_more (Passes g) (LastCall g new c e) old xs ys a (last_more new c e ys) early
+      course_more (ActRan g) (GoesLast g new c e) old xs ys a (last_more new c e ys) early
 
   -- ---- how one act fails
 
@@ -111,9 +111,9 @@ module _ {S : Type 0} (g : Ghosts S) where
 
   -- by its report, which broke off
   pub fails_told : (old new : Held S) (act : Act) (outcome : Outcome) (a b : Option (List ℕ))
-      → Passes g old act new (outcome ∷ []) → WrotePart a b (text outcome) → FailsBy g new b Write old a act
+      → ActRan g old act new (outcome ∷ []) → WrotePart a b (text outcome) → FailsBy g new b Write old a act
   fails_told old new act outcome a b passes part =
-      unreported (Passes g) (λ after. after ≡ new) old new act outcome a b passes refl part
+      unreported (ActRan g) (λ after. after ≡ new) old new act outcome a b passes refl part
 
   -- ---- commands
 
@@ -122,7 +122,7 @@ module _ {S : Type 0} (g : Ghosts S) where
       (outcome : Outcome) → IsOutcomeOf c outcome
       → ((change : Change) → AnswersRun change performed → IsRan change outcome)
       → GoesOver g old new (λ change. IsOwnOf c change × AnswersRun change performed) {E = StoreError} (Ok performed)
-      → Passes g old (Perform date files c) new (outcome ∷ [])
+      → ActRan g old (Perform date files c) new (outcome ∷ [])
   performs_passes old new date files c performed outcome of ran goes = (
     outcome,
     refl,
@@ -134,31 +134,32 @@ module _ {S : Type 0} (g : Ghosts S) where
 
   -- the exit of a `?`
   pub goes_early : (old new : Held S) (acts : List Act) (a b : Option (List ℕ)) (r : Result ℕ JobError)
-      (e : JobError) → IsErrAnd r (λ y. y ≡ e) → GoesEarly g old new acts a b e → Goes g old new acts a b r
+      (e : JobError) → IsErrAnd r (λ y. y ≡ e) → GoesEarly g old new acts a b e → GoesCommands g old new acts a b r
   goes_early old new acts a b r e failed early =
       let p = err_from_is_err_and r failed in
-      subst (λ q. Goes g old new acts a b q) (sym (p.1 ∙ ap (λ y. Err y) p.2)) early
+      subst (λ q. GoesCommands g old new acts a b q) (sym (p.1 ∙ ap (λ y. Err y) p.2)) early
 
   -- no command yet
-  pub goes_none : (at : Held S) (taken : Option (List ℕ)) → Goes g at at [] taken taken (Ok 0)
+  pub goes_none : (at : Held S) (taken : Option (List ℕ)) → GoesCommands g at at [] taken taken (Ok 0)
   goes_none at taken = (passed_none at taken, refl)
 
   -- a command that reports this
   pub goes_one : (old new : Held S) (act : Act) (outcome : Outcome) (a b : Option (List ℕ)) (code : ℕ)
-      → Passes g old act new (outcome ∷ []) → Appends a b (text outcome) → code ≡ outcome_code outcome
-      → Goes g old new (act ∷ []) a b (Ok code)
+      → ActRan g old act new (outcome ∷ []) → Appends a b (text outcome) → code ≡ outcome_code outcome
+      → GoesCommands g old new (act ∷ []) a b (Ok code)
   goes_one old new act outcome a b code passes appends told =
       let greatest : code ≡ job_code (outcome ∷ []) = omega (arith, told) in
       (passed_one old new act outcome a b passes appends, greatest)
 
   module _ (date : Text) (files : Files) (old mid new : Held S) (xs ys : List Command) (a b c : Option (List ℕ))
-      (code : ℕ) (front : Goes g old mid (map (Perform date files) xs) a b (Ok code)) where
+      (code : ℕ) (front : GoesCommands g old mid (map (Perform date files) xs) a b (Ok code)) where
     -- commands, and then others
-    pub commands_passed : (next : ℕ) → Goes g mid new (map (Perform date files) ys) b c (Ok next)
-        → Goes g old new (map (Perform date files) (xs ++ ys)) a c (Ok (max code next))
+    pub commands_passed : (next : ℕ) → GoesCommands g mid new (map (Perform date files) ys) b c (Ok next)
+        → GoesCommands g old new (map (Perform date files) (xs ++ ys)) a c (Ok (max code next))
     commands_passed next back =
-        subst (λ acts. Goes g old new acts a c (Ok (max code next))) (sym (map-append (Perform date files) xs ys)) (
-          ran_more (Passes g) old mid new (map (Perform date files) xs) (map (Perform date files) ys) a b c front.0
+        subst (λ acts. GoesCommands g old new acts a c (Ok (max code next)))
+        (sym (map-append (Perform date files) xs ys)) (
+          ran_more (ActRan g) old mid new (map (Perform date files) xs) (map (Perform date files) ys) a b c front.0
               back.0,
           ap₂ max front.1 back.1 ∙ sym (codes_append front.0.outcomes back.0.outcomes),
         )
@@ -177,15 +178,15 @@ module _ {S : Type 0} (g : Ghosts S) where
   -- ---- jobs
 
   pub job_early : {X : Type 0} (old new : Held S) (job : Job) (a b : Option (List ℕ)) (answer : X → Answer)
-      (r : Result X JobError) (e : JobError) → IsErrAnd r (λ y. y ≡ e) → JobsStopped g old new (job ∷ []) a b e
-      → JobGoes g old new job a b answer r
+      (r : Result X JobError) (e : JobError) → IsErrAnd r (λ y. y ≡ e) → GoesAmong g old new (job ∷ []) a b e
+      → GoesJob g old new job a b answer r
   job_early old new job a b answer r e failed stopped =
       let p = err_from_is_err_and r failed in
-      subst (JobGoes g old new job a b answer) (sym (p.1 ∙ ap (λ y. Err y) p.2)) stopped
+      subst (GoesJob g old new job a b answer) (sym (p.1 ∙ ap (λ y. Err y) p.2)) stopped
 
   -- memory was short before the first job
   pub jobs_unbegun : (at : Held S) (jobs : List Job) (taken : Option (List ℕ))
-      → JobsStopped g at at jobs taken taken Memory
+      → GoesAmong g at at jobs taken taken Memory
   jobs_unbegun at jobs taken = ([], none_asked jobs, early_none at [] taken)
 
   module _ (date : Text) (cntl : List ℕ) (files : Files) where
@@ -193,20 +194,20 @@ module _ {S : Type 0} (g : Ghosts S) where
     pub faulty_goes : (at : Held S) (fault : CntlFault) (a b : Option (List ℕ)) (code : ℕ)
         → IsCommandFileFault cntl fault
         → Appends a b (text (Control (record { number = fault.number; code = fault.code }))) → code ≡ 12
-        → JobPassed g at (RunFiles date cntl files) at a b (Code code)
+        → JobRan g at (RunFiles date cntl files) at a b (Code code)
     faulty_goes at fault a b code is appends told =
         let control : ControlFault = record { number = fault.number; code = fault.code } in
         record {
           acts = Faulty control ∷ [];
           asks = inr (fault, is, refl);
-          passed = passed_one at at (Faulty control) (Control control) a b (refl, refl) appends;
+          ran = passed_one at at (Faulty control) (Control control) a b (refl, refl) appends;
           tells = ap Code told;
         }
 
     -- or the report of that broke off
     pub faulty_early : (at : Held S) (fault : CntlFault) (a b : Option (List ℕ)) → IsCommandFileFault cntl fault
         → WrotePart a b (text (Control (record { number = fault.number; code = fault.code })))
-        → JobsStopped g at at (RunFiles date cntl files ∷ []) a b Write
+        → GoesAmong g at at (RunFiles date cntl files ∷ []) a b Write
     faulty_early at fault a b is part =
         let control : ControlFault = record { number = fault.number; code = fault.code } in (
           Faulty control ∷ [],
@@ -218,7 +219,7 @@ module _ {S : Type 0} (g : Ghosts S) where
     -- the job could not begin
     pub begin_early : (old new : Held S) (cs : List Command) (taken : Option (List ℕ)) (e : JobError)
         → IsCommandFile cntl cs → FailsBy g new taken e old taken Begin
-        → JobsStopped g old new (RunFiles date cntl files ∷ []) taken taken e
+        → GoesAmong g old new (RunFiles date cntl files ∷ []) taken taken e
     begin_early old new cs taken e is fails =
         let acts = map (Perform date files) cs in (
           Begin ∷ acts,
@@ -228,14 +229,14 @@ module _ {S : Type 0} (g : Ghosts S) where
 
     -- it began, and its commands went so
     pub begun_goes : (old at new : Held S) (cs : List Command) (a b : Option (List ℕ)) (r : Result ℕ JobError)
-        → IsCommandFile cntl cs → Passes g old Begin at [] → Goes g at new (map (Perform date files) cs) a b r
-        → JobGoes g old new (RunFiles date cntl files) a b Code r
+        → IsCommandFile cntl cs → ActRan g old Begin at [] → GoesCommands g at new (map (Perform date files) cs) a b r
+        → GoesJob g old new (RunFiles date cntl files) a b Code r
     begun_goes old at new cs a b (Ok code) is began went =
         let acts = map (Perform date files) cs in
         record {
           acts = Begin ∷ acts;
           asks = inl (cs, is, refl);
-          passed = ran_more (Passes g) old at new (Begin ∷ []) acts a a b (ran_quiet (Passes g) old at Begin a began)
+          ran = ran_more (ActRan g) old at new (Begin ∷ []) acts a a b (ran_quiet (ActRan g) old at Begin a began)
               went.0;
           tells = ap Code went.1;
         }
@@ -243,7 +244,7 @@ module _ {S : Type 0} (g : Ghosts S) where
         let acts = map (Perform date files) cs in (
           Begin ∷ acts,
           only_asked (RunFiles date cntl files) (Begin ∷ acts) (inl (cs, is, refl)),
-          early_after old at new (Begin ∷ []) acts a a b e (ran_quiet (Passes g) old at Begin a began) early,
+          early_after old at new (Begin ∷ []) acts a a b e (ran_quiet (ActRan g) old at Begin a began) early,
         )
 
   -- a commit is answered otherwise
@@ -262,30 +263,30 @@ module _ {S : Type 0} (g : Ghosts S) where
   -- a zone is defined
   pub defined_goes : {X E : Type 0} (old new : Held S) (d : ZoneDefinition) (taken : Option (List ℕ)) (x : X)
       → CommitsOnce g old new {X = X} {E = E} (change.NewZone d.name d.kind d.srel d.related) (Ok x)
-      → JobPassed g old (NewZone d) new taken taken Defined
+      → JobRan g old (NewZone d) new taken taken Defined
   defined_goes old new d taken x once =
       let added = change.NewZone d.name d.kind d.srel d.related in
       let told = once_as old new added x [] once in
       record {
         acts = Define d ∷ [];
         asks = refl;
-        passed = ran_quiet (Passes g) old new (Define d) taken (refl, inr (added, refl, told));
+        ran = ran_quiet (ActRan g) old new (Define d) taken (refl, inr (added, refl, told));
         tells = told;
       }
 
   -- or it is refused
   pub refused_goes : (old new : Held S) (d : ZoneDefinition) (why : ZoneFault) (taken : Option (List ℕ))
-      → OnlyLoads g old new → JobPassed g old (NewZone d) new taken taken (NotDefined why)
+      → OnlyLoads g old new → JobRan g old (NewZone d) new taken taken (NotDefined why)
   refused_goes old new d why taken loads = record {
     acts = Define d ∷ [];
     asks = refl;
-    passed = ran_quiet (Passes g) old new (Define d) taken (refl, inl (alone_loads g old new [] loads));
+    ran = ran_quiet (ActRan g) old new (Define d) taken (refl, inl (alone_loads g old new [] loads));
     tells = loads;
   }
 
   -- or its definition failed
   pub define_early : (old new : Held S) (d : ZoneDefinition) (taken : Option (List ℕ)) (e : JobError)
-      → FailsBy g new taken e old taken (Define d) → JobsStopped g old new (NewZone d ∷ []) taken taken e
+      → FailsBy g new taken e old taken (Define d) → GoesAmong g old new (NewZone d ∷ []) taken taken e
   define_early old new d taken e fails = (
     Define d ∷ [],
     only_asked (NewZone d) (Define d ∷ []) refl,
@@ -295,23 +296,23 @@ module _ {S : Type 0} (g : Ghosts S) where
   -- ---- lists of jobs
 
   pub jobs_early : {X : Type 0} (old new : Held S) (jobs : List Job) (a b : Option (List ℕ)) (answers : X → List Answer)
-      (r : Result X JobError) (e : JobError) → IsErrAnd r (λ y. y ≡ e) → JobsStopped g old new jobs a b e
-      → JobsGo g old new jobs a b answers r
+      (r : Result X JobError) (e : JobError) → IsErrAnd r (λ y. y ≡ e) → GoesAmong g old new jobs a b e
+      → GoesJobs g old new jobs a b answers r
   jobs_early old new jobs a b answers r e failed stopped =
       let p = err_from_is_err_and r failed in
-      subst (JobsGo g old new jobs a b answers) (sym (p.1 ∙ ap (λ y. Err y) p.2)) stopped
+      subst (GoesJobs g old new jobs a b answers) (sym (p.1 ∙ ap (λ y. Err y) p.2)) stopped
 
   -- jobs, and then one more
   pub jobs_one_more : (old mid new : Held S) (jobs : List Job) (job : Job) (a b c : Option (List ℕ))
-      (answers : List Answer) (answer : Answer) → JobsPassed g old jobs mid a b answers
-      → JobPassed g mid job new b c answer → JobsPassed g old (jobs ++ job ∷ []) new a c (answers ++ answer ∷ [])
+      (answers : List Answer) (answer : Answer) → JobsRan g old jobs mid a b answers
+      → JobRan g mid job new b c answer → JobsRan g old (jobs ++ job ∷ []) new a c (answers ++ answer ∷ [])
   jobs_one_more old mid new [] job a b c answers answer (at, had, none) passed = (
     new,
     c,
     answer,
     [],
-    subst (λ at. JobPassed g at job new a c answer) at
-        (subst (λ had. JobPassed g mid job new had c answer) had passed),
+    subst (λ at. JobRan g at job new a c answer) at
+        (subst (λ had. JobRan g mid job new had c answer) had passed),
     (refl, refl, refl),
     ap (λ before. before ++ answer ∷ []) none,
   )
@@ -327,19 +328,19 @@ module _ {S : Type 0} (g : Ghosts S) where
 
   -- jobs that went to their end, as acts, and then some of others that ended early
   pub jobs_stopped : (old mid new : Held S) (jobs more : List Job) (a b c : Option (List ℕ)) (answers : List Answer)
-      (e : JobError) → JobsPassed g old jobs mid a b answers → JobsStopped g mid new more b c e
-      → JobsStopped g old new (jobs ++ more) a c e
+      (e : JobError) → JobsRan g old jobs mid a b answers → GoesAmong g mid new more b c e
+      → GoesAmong g old new (jobs ++ more) a c e
   jobs_stopped old mid new [] more a b c answers e (at, had, none) stopped =
-      subst (λ at. JobsStopped g at new more a c e) at
-      (subst (λ had. JobsStopped g mid new more had c e) had stopped)
+      subst (λ at. GoesAmong g at new more a c e) at
+      (subst (λ had. GoesAmong g mid new more had c e) had stopped)
   jobs_stopped old mid new (job ∷ jobs) more a b c answers e (at, had, told, later, ran, rest, are) stopped =
       let behind = jobs_stopped at mid new jobs more had b c later e rest stopped in (
         ran.acts ++ behind.0,
         inr (ran.acts, behind.0, ran.asks, behind.1, refl),
-        early_after old at new ran.acts behind.0 a had c e ran.passed behind.2,
+        early_after old at new ran.acts behind.0 a had c e ran.ran behind.2,
       )
 
   -- and with jobs behind that were never begun
   pub stopped_more : (old new : Held S) (jobs more : List Job) (a b : Option (List ℕ)) (e : JobError)
-      → JobsStopped g old new jobs a b e → JobsStopped g old new (jobs ++ more) a b e
+      → GoesAmong g old new jobs a b e → GoesAmong g old new (jobs ++ more) a b e
   stopped_more old new jobs more a b e (acts, first, early) = (acts, asked_more jobs more acts first, early)

@@ -15,7 +15,7 @@ use Rattle.store.proofs.NoState.{found_after, tells_committed}
 use Rattle.store_schema.specs.Inventory.{Inventory}
 use Rattle.store_schema.specs.declared.error.StoreError.{StoreError}
 use Rattle.store_schema.specs.declared.error.StoreError.TheVariants.{Fault, OtherSchema, NoState, Memory}
-use Rattle.smpe_zones.specs.Ends.{Follows, GoesOnce}
+use Rattle.smpe_zones.specs.Calls.{Follows, GoesCall}
 
 -- the errors of a commit
 not_other : {X : Type 0} (r : Result X StoreError) → IfErr r (λ e. (e ≡ Fault) ⊎ (e ≡ Memory))
@@ -50,26 +50,26 @@ module _ {S : Type 0} (g : Ghosts S) where
   module _ (old new : Held S) where
     -- ---- one call
 
-    pub once_load : {X : Type 0} (Found : Inventory → X → Type 0) (r : Result X StoreError) → Loads g old new Found r
-        → GoesOnce g old new (λ _. ⊥) NoState OtherSchema r
-    once_load Found r loads = record {
+    pub call_load : {X : Type 0} (Found : Inventory → X → Type 0) (r : Result X StoreError) → Loads g old new Found r
+        → GoesCall g old new (λ _. ⊥) NoState OtherSchema r
+    call_load Found r loads = record {
       follows = record {
         clean = loads.clean;
         faults = loads.reads.crash.counts;
         limit = loads.reads.crash.limit;
       };
-      goes = inl (loads_alone g old new r loads.reads);
+      over = inl (loads_alone g old new r loads.reads);
       none = loads.none;
       which = never_other r loads.which;
     }
 
-    pub once_commit : {X : Type 0} (change : Change) (r : Result X StoreError)
+    pub call_commit : {X : Type 0} (change : Change) (r : Result X StoreError)
         → (HasCleanDisk (state g new) → HasCleanDisk (state g old)) → OnlyCommits g (calls_of change) old new r
         → IfErr r (λ e. (e ≡ Fault) ⊎ (e ≡ Memory))
-        → GoesOnce g old new (λ own. own ≡ change) NoState OtherSchema r
-    once_commit change r was only which = record {
+        → GoesCall g old new (λ own. own ≡ change) NoState OtherSchema r
+    call_commit change r was only which = record {
       follows = record { clean = was; faults = only.crash.counts; limit = only.crash.limit };
-      goes = goes_commit g old new change r only;
+      over = goes_commit g old new change r only;
       none = tells_committed g old new r which;
       which = never_other r (not_other r which);
     }
@@ -78,66 +78,66 @@ module _ {S : Type 0} (g : Ghosts S) where
 
     module _ (IsMine IsOwn : Change → Type 0) (own : (change : Change) → IsMine change → IsOwn change) where
       -- with changes that are others too
-      pub once_own : {X : Type 0} (r : Result X StoreError) → GoesOnce g old new IsMine NoState OtherSchema r
-          → GoesOnce g old new IsOwn NoState OtherSchema r
-      once_own r once = record {
-        follows = once.follows;
-        goes = goes_own g old new IsMine IsOwn r own once.goes;
-        none = once.none;
-        which = once.which;
+      pub call_own : {X : Type 0} (r : Result X StoreError) → GoesCall g old new IsMine NoState OtherSchema r
+          → GoesCall g old new IsOwn NoState OtherSchema r
+      call_own r call = record {
+        follows = call.follows;
+        over = goes_own g old new IsMine IsOwn r own call.over;
+        none = call.none;
+        which = call.which;
       }
 
       -- something else is answered
-      pub once_ok : {X Y : Type 0} (x : X) (y : Y)
-          → GoesOnce {E = StoreError} g old new IsMine NoState OtherSchema (Ok x)
-          → GoesOnce {E = StoreError} g old new IsOwn NoState OtherSchema (Ok y)
-      once_ok x y once = record {
-        follows = once.follows;
-        goes = goes_ok g old new IsMine IsOwn x y own once.goes;
+      pub call_ok : {X Y : Type 0} (x : X) (y : Y)
+          → GoesCall {E = StoreError} g old new IsMine NoState OtherSchema (Ok x)
+          → GoesCall {E = StoreError} g old new IsOwn NoState OtherSchema (Ok y)
+      call_ok x y call = record {
+        follows = call.follows;
+        over = goes_ok g old new IsMine IsOwn x y own call.over;
         none = λ clean bad. absurd (cc bad);
         which = λ bad. absurd (cc bad);
       }
 
       -- an error is handed on
-      pub once_err : (X Y : Type 0) (e : StoreError) → GoesOnce {X = X} g old new IsMine NoState OtherSchema (Err e)
-          → GoesOnce {X = Y} g old new IsOwn NoState OtherSchema (Err e)
-      once_err X Y e once = record {
-        follows = once.follows;
-        goes = goes_err g old new IsMine IsOwn e e own once.goes;
-        none = λ clean bad. once.none clean (cc bad);
-        which = λ bad. once.which (cc bad);
+      pub call_err : (X Y : Type 0) (e : StoreError) → GoesCall {X = X} g old new IsMine NoState OtherSchema (Err e)
+          → GoesCall {X = Y} g old new IsOwn NoState OtherSchema (Err e)
+      call_err X Y e call = record {
+        follows = call.follows;
+        over = goes_err g old new IsMine IsOwn e e own call.over;
+        none = λ clean bad. call.none clean (cc bad);
+        which = λ bad. call.which (cc bad);
       }
 
     -- memory runs out behind loads
-    pub once_short : {X : Type 0} (Y : Type 0) (IsOwn : Change → Type 0) (x : X)
-        → GoesOnce {E = StoreError} g old new (λ _. ⊥) NoState OtherSchema (Ok x)
-        → GoesOnce {X = Y} g old new IsOwn NoState OtherSchema (Err Memory)
-    once_short Y IsOwn x once = record {
-      follows = once.follows;
-      goes = inl (alone_short g old new x Memory (goes_alone g old new (Ok x) once.goes));
+    pub call_short : {X : Type 0} (Y : Type 0) (IsOwn : Change → Type 0) (x : X)
+        → GoesCall {E = StoreError} g old new (λ _. ⊥) NoState OtherSchema (Ok x)
+        → GoesCall {X = Y} g old new IsOwn NoState OtherSchema (Err Memory)
+    call_short Y IsOwn x call = record {
+      follows = call.follows;
+      over = inl (alone_short g old new x Memory (goes_alone g old new (Ok x) call.over));
       none = λ clean bad. absurd (cc bad);
       which = λ bad. absurd (cc bad);
     }
 
   -- no call at all
-  pub once_none : (at : Held S)
-      → GoesOnce {X = Unit {0}} {E = StoreError} g at at (λ _. ⊥) NoState OtherSchema (Ok tt)
-  once_none at = record {
+  pub call_none : (at : Held S)
+      → GoesCall {X = Unit {0}} {E = StoreError} g at at (λ _. ⊥) NoState OtherSchema (Ok tt)
+  call_none at = record {
     follows = follows_itself at;
-    goes = inl (alone_none g at tt);
+    over = inl (alone_none g at tt);
     none = λ clean bad. absurd (cc bad);
     which = λ bad. absurd (cc bad);
   }
 
   -- loads, and then a call
-  pub once_after : {X Y : Type 0} (a b c : Held S) (IsOwn : Change → Type 0) (x : X) (r : Result Y StoreError)
-      → GoesOnce {E = StoreError} g a b (λ _. ⊥) NoState OtherSchema (Ok x)
-      → GoesOnce g b c IsOwn NoState OtherSchema r → GoesOnce g a c IsOwn NoState OtherSchema r
-  once_after a b c IsOwn x r one two =
-      let loads = goes_alone g a b (Ok x) one.goes in
+  pub call_after : {X Y : Type 0} (a b c : Held S) (IsOwn : Change → Type 0) (x : X) (r : Result Y StoreError)
+      → GoesCall {E = StoreError} g a b (λ _. ⊥) NoState OtherSchema (Ok x)
+      → GoesCall g b c IsOwn NoState OtherSchema r → GoesCall g a c IsOwn NoState OtherSchema r
+  call_after a b c IsOwn x r one two =
+      let loads = goes_alone g a b (Ok x) one.over in
       record {
         follows = follows_on a b c one.follows two.follows;
-        goes = goes_then g a b c IsOwn x r loads two.goes;
+        over = goes_then g a b c IsOwn x r loads two.over;
         none = λ clean bad. found_after g a b c loads.same clean (two.none clean bad);
         which = two.which;
       }

@@ -10,7 +10,7 @@ use Rattle.machine.specs.State.{State}
 use Rattle.machine.specs.Machine.{Act}
 use Rattle.store.specs.BadRows.{FoundNoState}
 use Rattle.store.specs.Causes.{HasCause}
-use Rattle.store.specs.Courses.{GoesOver}
+use Rattle.store.specs.Going.{GoesOver}
 use Rattle.store.specs.View.{TablesIfOpen, Leaves}
 use Rattle.store.specs.declared.change.Change.{Change}
 use Rattle.smpe_zones.specs.Kept.{kept, Keeps, IsAfter, LeadsOn}
@@ -26,10 +26,10 @@ pub record Follows {S : Type 0} (g : Ghosts S) (old new : Held S) : Type 0 where
 
 -- The call has loaded, or made one of its own changes besides, or failed to. If it reports no state, by the error
 -- `absent`, it has done nothing, and there is none. It never reports another schema, by the error `other`.
-pub record GoesOnce {S X E : Type 0} (g : Ghosts S) (old new : Held S) (IsMine : Change → Type 0) (absent other : E)
+pub record GoesCall {S X E : Type 0} (g : Ghosts S) (old new : Held S) (IsMine : Change → Type 0) (absent other : E)
     (result : Result X E) : Type 0 where
   pub follows : Follows g old new
-  pub goes : GoesOver g old new IsMine result
+  pub over : GoesOver g old new IsMine result
   pub none : HasCleanDisk (state g new) → IsErrOf result absent → FoundNoState g old new
   pub which : ¬ IsErrOf result other
 
@@ -51,32 +51,32 @@ module _ {S : Type 0} (g : Ghosts S) (old at : Held S) (s : State) (More : Inven
     pub cause : HasCause g old at (kept s) IsMine
 
   -- It failed because memory ran out, or by a fault. If the tables stood for a state there is no other error.
-  abbrev pub HasFailed : StoreError → Type 0
-  HasFailed Fault = IsFaulted
-  HasFailed Memory = StillKeeps g at s More
-  HasFailed _ = ⊥
+  abbrev pub FailsCall : StoreError → Type 0
+  FailsCall Fault = IsFaulted
+  FailsCall Memory = StillKeeps g at s More
+  FailsCall _ = ⊥
 
   -- It is done, and this is true of its answer, or it failed.
-  abbrev pub HasEnded : {X : Type 0} → (X → Type 0) → Result X StoreError → Type 0
-  HasEnded IsDone (Ok x) = IsDone x
-  HasEnded IsDone (Err error) = HasFailed error
+  abbrev pub EndsCall : {X : Type 0} → (X → Type 0) → Result X StoreError → Type 0
+  EndsCall IsDone (Ok x) = IsDone x
+  EndsCall IsDone (Err error) = FailsCall error
 
 -- A load that began at `old` has ended: this is true of what it found, and the store keeps the state.
-abbrev pub HasLoaded : {S : Type 0} → Ghosts S → Held S → Held S → State → {X : Type 0} → (X → Type 0)
+abbrev pub EndsLoad : {S : Type 0} → Ghosts S → Held S → Held S → State → {X : Type 0} → (X → Type 0)
     → Result X StoreError → Type 0
-HasLoaded g old at s Found result = HasEnded g old at s (λ _. ⊥) (λ _. ⊥) (λ x. Found x × Keeps g at s) result
+EndsLoad g old at s Found result = EndsCall g old at s (λ _. ⊥) (λ _. ⊥) (λ x. Found x × Keeps g at s) result
 
 -- A commit of the change, which makes t, has ended: this is the answer, and the store keeps t.
-abbrev pub HasCommitted : {S : Type 0} → Ghosts S → Held S → Held S → State → {X : Type 0} → State → Change → X
+abbrev pub EndsCommit : {S : Type 0} → Ghosts S → Held S → Held S → State → {X : Type 0} → State → Change → X
     → Result X StoreError → Type 0
-HasCommitted g old at s t change answer result =
-    HasEnded g old at s (λ c. c ≡ kept t) (λ own. own ≡ change) (λ x. (x ≡ answer) × Keeps g at t) result
+EndsCommit g old at s t change answer result =
+    EndsCall g old at s (λ c. c ≡ kept t) (λ own. own ≡ change) (λ x. (x ≡ answer) × Keeps g at t) result
 
 -- An act has failed.
-abbrev pub ActFailed : {S : Type 0} → Ghosts S → Held S → Held S → State → Act → StoreError → Type 0
-ActFailed g old at s a error = HasFailed g old at s (IsAfter s a) (LeadsOn s a) error
+abbrev pub FailsAct : {S : Type 0} → Ghosts S → Held S → Held S → State → Act → StoreError → Type 0
+FailsAct g old at s a error = FailsCall g old at s (IsAfter s a) (LeadsOn s a) error
 
 -- An act is done in this way, or has failed.
-abbrev pub ActEnded : {S : Type 0} → Ghosts S → Held S → Held S → State → Act → {X : Type 0} → (X → Type 0)
+abbrev pub EndsAct : {S : Type 0} → Ghosts S → Held S → Held S → State → Act → {X : Type 0} → (X → Type 0)
     → Result X StoreError → Type 0
-ActEnded g old at s a IsDone result = HasEnded g old at s (IsAfter s a) (LeadsOn s a) IsDone result
+EndsAct g old at s a IsDone result = EndsCall g old at s (IsAfter s a) (LeadsOn s a) IsDone result

@@ -1,4 +1,12 @@
 -- How a call goes over a store, whatever its tables hold: they need not stand for anything.
+--
+-- Few words say how calls go, here and in the crates above:
+--   Goes..   what a call has done to a store, whatever its tables hold; to the end or not
+--   Ends..   what a call has done if the tables stood for a state: for what they stand now, and what a crash may leave
+--   ..Ran    acts and jobs that went to their end, over a store; Steps and Runs are the same for the machine's states
+--   Course   acts that ran, and the last step of a call that stopped early: EndsLast or GoesLast
+--   Fails..  a call or an act that ended by an error
+-- Act, Job, Jobs and Commands name what it was; Early is a call that stopped, and Among says so of its first jobs.
 use Rattle.std.specs.Prelude.{◌⊎◌, Result, OnOk}
 use Rattle.sqlite.specs.Store.{Ghosts}
 use Rattle.sqlite.specs.Held.{Held, state}
