@@ -6,4 +6,4 @@ use Rattle.judge_needs.proofs.needed.needs_of.Given as goal
 
 abbrev pub invariant-loop-id : goal.invariant-loop-id
 invariant-loop-id l =
-    AreNeedsOf (setting_of l.scope) l.survivors (left_of l.left) (take l.id-index l.id-items) l.needs.items
+    AreNeedsOf (setting_of l.conditions.scope) l.survivors (left_of l.left) (take l.id-index l.id-items) l.needs.items
