@@ -6,4 +6,4 @@ use Rattle.judge_faults.proofs.failed_tests.all_failed.Given as goal
 
 abbrev pub invariant-loop-i : goal.invariant-loop-i
 invariant-loop-i l =
-    Beside (λ n own tests. tests_of tests ≡ row_of l.clashing.keys n own) (take l.i l.faults) l.sets.items
+    Beside (λ n own tests. tests_of tests ≡ row_of l.clashing.keys n own) (take l.i-counter l.faults) l.sets.items
