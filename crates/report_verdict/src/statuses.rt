@@ -103,10 +103,10 @@ fn push_where(saying: Saying, line: &ReportLine, found: &mut Vec<Id>) -> Result<
 {
     match line {
         ReportLine::Status { id, status, .. } => {
-            if !says(saying, status) {
-                return Ok(());
+            if says(saying, status) {
+                found.push(*id)?;
             }
-            found.push(*id)
+            Ok(())
         }
         ReportLine::Nothing => Ok(()),
         ReportLine::Errsysmod { .. } => Ok(()),
