@@ -1,6 +1,7 @@
-use Rattle.std.proofs.Common.{◌≡◌, ◌∙◌, Bool, ap}
+use Rattle.std.proofs.Common.{◌≡◌, ◌∙◌, Bool, ap, not}
 use Rattle.std.specs.List.{list_any}
-use Rattle.terms.specs.Lookups.{changes_of, is_supplied}
+use Rattle.terms.specs.Choice.{del_of}
+use Rattle.terms.specs.Lookups.{changes_of, is_nil, is_supplied}
 use Rattle.judge_system.specs.declared.test_set.TestSet.{TestSet}
 use Rattle.judge_system.specs.TestSets.{no_tests}
 use Rattle.undo.specs.Scopes.{restoring_of}
@@ -19,4 +20,4 @@ returns c =
     rw c.none.ensures
     (ap (λ b. set b c.has_delete.result c.any_behind.result) c.supplies.ensures
     ∙ ap (λ b. set (is_supplied r.accepted x) b c.any_behind.result) c.has_delete.ensures
-    ∙ ap (set (is_supplied r.accepted x) _) behind)
+    ∙ ap (set (is_supplied r.accepted x) (not (is_nil (del_of r.choice x)))) behind)
