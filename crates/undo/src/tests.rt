@@ -1,10 +1,7 @@
 //! The tests of RESTORE.
 ghost use Rattle.std.specs.Prelude.{◌≡◌, not, map, IfOk};
 ghost use Rattle.std.specs.List.{list_any};
-ghost use Rattle.terms.specs.Lookups.{is_nil};
-ghost use Rattle.terms.specs.Choice.{del_of};
 ghost use Rattle.terms.specs.Restore.{are_alike, is_alike, may_return};
-ghost use Rattle.sysmods.specs.Choices.{choice};
 ghost use Rattle.undo.specs.Scopes.{restoring_of};
 ghost use Rattle.undo.specs.Tests.{is_behind, failed_tests};
 
@@ -60,13 +57,6 @@ fn is_behind(scope: &RestoreScope<'_, '_>, change: &ElemChange) -> bool
     }
 }
 
-// Whether it has DELETE.
-fn has_delete(scope: &RestoreScope<'_, '_>, id: Id) -> bool
-    ensures { result ≡ not (is_nil (del_of (choice scope.now.vers.now) id)) }
-{
-    !scope.vers.del(id).is_empty()
-}
-
 // Whether one of these elements is behind.
 fn any_behind(scope: &RestoreScope<'_, '_>, changes: &[ElemChange]) -> bool
     ensures { result ≡ list_any (is_behind (restoring_of scope.now)) changes.now }
@@ -80,7 +70,7 @@ fn failed_tests(scope: &RestoreScope<'_, '_>, id: Id) -> TestSet
 {
     TestSet {
         already_accepted: scope.accepted.supplies(id),
-        has_delete: has_delete(scope, id),
+        has_delete: !scope.vers.del(id).is_empty(),
         other_level: any_behind(scope, scope.vers.global().changes_of(id)),
         ..TestSet::none()
     }
