@@ -1,4 +1,4 @@
-use Rattle.std.proofs.Common.{◌++◌, ap₂, sym, subst, subst₂, map}
+use Rattle.std.proofs.Common.{◌++◌, ap₂, subst, map}
 use Rattle.std.specs.Prelude.{◌↔◌, Contains}
 use Rattle.terms.specs.Types.{Id}
 use Rattle.terms.specs.Global.{IsGlobal}
@@ -26,13 +26,13 @@ returns c =
     let un = c.in_ok-ids.ensures.ids x in
     let takes = takes_effect i never x in
     (λ h. takes.0 (un.0 h), λ h. un.1 (takes.1 h)) in
-    subst₂ (λ v xs. IsPlan (installation_by v c.args.installing.now) dels (record {
-      effective = xs;
+    subst (λ v. IsPlan (installation_by v c.args.installing.now) dels (record {
+      effective = effective;
       superseders = c.in_ok-superseders.superseders;
       bypassed = c.in_ok-bypassed.bypassed;
       touched = touched;
       date = i.date;
-    })) c.vers-vers.ensures (sym c.ids.view_is)
+    })) c.vers-vers.ensures
     (is_plan i dels effective touched pairs c.in_ok-superseders.superseders
     c.in_ok-bypassed.bypassed effect c.in_ok-ids.ensures.superseded
     (subst (λ ids. (x : Id) → Contains touched x ↔ Contains ids x)
