@@ -1,0 +1,182 @@
+//! Lists of jobs, in one call and each in a call of its own, and how definitions of zones end.
+
+use fields::{Srel, YyDdd, ZoneName};
+use report::Out;
+use scripts::{card_file, compare, put_cards};
+use smpe::{Answer, Job, ZoneFault, list_commands, run_job, two_commands};
+use smpe_play::{
+    FIX, FUNCTION, FUNCTION_RECEIVED, ListWanted, RECEIVE, in_memory, job_over, opened, play_jobs,
+    zone_name,
+};
+use sqlite::Alter;
+use std::alloc::Global;
+use std::test::Fail;
+use store::Store;
+use terms::ZoneKind;
+
+fn zone<'a>(name: ZoneName, kind: ZoneKind, srel: Srel, related: Option<ZoneName>) -> Job<'a> {
+    Job::Zone {
+        name,
+        kind,
+        srel,
+        related,
+    }
+}
+
+fn srel(text: &[u8]) -> Result<Srel, Fail> {
+    Ok(Srel::read(text).ok_or("no SREL")?)
+}
+
+// Runs the jobs in each way, and compares what they print and return.
+fn run(alloc: Global, jobs: &[Job<'_>], report: &str, answers: &[Answer]) -> Result<(), Fail> {
+    play_jobs(alloc, jobs, ListWanted { report, answers })
+}
+
+// Two jobs after the definitions of three zones.
+fn define_and_run<'a>(
+    alloc: Global,
+    receive: &'a [u8],
+    ptfin: &'a [u8],
+    install: &'a [u8],
+) -> Result<(), Fail> {
+    let permanent = zone_name(b"DLB1")?;
+    let system = srel(b"Z038")?;
+    let other = zone_name(b"DLB2")?;
+    let jobs = [
+        zone(permanent, ZoneKind::Distribution, system, None),
+        zone(
+            zone_name(b"TGT1")?,
+            ZoneKind::Target,
+            system,
+            Some(permanent),
+        ),
+        zone(other, ZoneKind::Distribution, srel(b"C150")?, None),
+        job_over(receive, ptfin, b""),
+        job_over(install, b"", b""),
+    ];
+    run(
+        alloc,
+        &jobs,
+        "SET GLOBAL\nRC 00\nRECEIVE GLOBAL\nHAA1100 FUNCTION RECEIVED\nUA00024 PTF      RECEIVED\nRC 00\n\
+            SET TGT1\nRC 00\nAPPLY TGT1\nHAA1100 FUNCTION APPLIED\nRC 00\n\
+            SET DLB1\nRC 00\nACCEPT DLB1\nHAA1100 FUNCTION ACCEPTED\nRC 00\n\
+            SET TGT1\nRC 00\nAPPLY TGT1\nUA00024 PTF      APPLIED\nRC 00\n",
+        &[
+            Answer::Defined,
+            Answer::Defined,
+            Answer::Defined,
+            Answer::Code(0),
+            Answer::Code(0),
+        ],
+    )
+}
+
+#[test]
+fn five_jobs_go_one_after_the_other(rt: HostRuntime) -> Result<(), Fail> {
+    let alloc = rt.alloc();
+    let receive = card_file(alloc, RECEIVE)?;
+    let mut ptfin = card_file(alloc, FUNCTION)?;
+    put_cards(&mut ptfin, FIX)?;
+    let install = card_file(
+        alloc,
+        "SET BDY(TGT1).\nAPPLY SELECT(HAA1100).\nSET BDY(DLB1).\nACCEPT SELECT(HAA1100).\n\
+            SET BDY(TGT1).\nAPPLY SELECT(UA00024).",
+    )?;
+    let (receive, ptfin, install) = (receive.as_slice(), ptfin.as_slice(), install.as_slice());
+    define_and_run(alloc, receive, ptfin, install)
+}
+
+#[test]
+fn zones_are_refused(rt: HostRuntime) -> Result<(), Fail> {
+    let alloc = rt.alloc();
+    let global = zone_name(b"GLOBAL")?;
+    let permanent = zone_name(b"DLB1")?;
+    let missing = zone_name(b"DLB2")?;
+    let running = zone_name(b"TGT1")?;
+    let second = zone_name(b"TGT2")?;
+    let system = srel(b"Z038")?;
+    let other_system = srel(b"C150")?;
+    let jobs = [
+        zone(permanent, ZoneKind::Distribution, system, None),
+        // The name exists already, or is GLOBAL.
+        zone(permanent, ZoneKind::Distribution, system, None),
+        zone(global, ZoneKind::Distribution, system, None),
+        // There is no related zone, it is missing, or there may be none.
+        zone(running, ZoneKind::Target, system, None),
+        zone(running, ZoneKind::Target, system, Some(missing)),
+        zone(missing, ZoneKind::Distribution, system, Some(permanent)),
+        // It has another SREL.
+        zone(running, ZoneKind::Target, other_system, Some(permanent)),
+        zone(running, ZoneKind::Target, system, Some(permanent)),
+        // It has a target zone already.
+        zone(second, ZoneKind::Target, system, Some(permanent)),
+    ];
+    run(
+        alloc,
+        &jobs,
+        "",
+        &[
+            Answer::Defined,
+            Answer::Refused(ZoneFault::NameTaken),
+            Answer::Refused(ZoneFault::NameTaken),
+            Answer::Refused(ZoneFault::WrongRelated),
+            Answer::Refused(ZoneFault::WrongRelated),
+            Answer::Refused(ZoneFault::WrongRelated),
+            Answer::Refused(ZoneFault::OtherSrel),
+            Answer::Defined,
+            Answer::Refused(ZoneFault::WrongRelated),
+        ],
+    )
+}
+
+#[test]
+fn the_sixty_fifth_zone_is_refused(rt: HostRuntime) -> Result<(), Fail> {
+    let alloc = rt.alloc();
+    let srel = srel(b"Z038")?;
+    let mut jobs = Vec::with_capacity(alloc, 65)?;
+    for number in 0..65u8 {
+        let job: Job<'static> = Job::Zone {
+            name: zone_name(&[b'D', b'A' + number / 8, b'A' + number % 8])?,
+            kind: ZoneKind::Distribution,
+            srel,
+            related: None,
+        };
+        if jobs.push(job).is_err() {
+            return Err(Fail::from("out of memory"));
+        }
+    }
+    let mut answers = [Answer::Defined; 65];
+    answers[64] = Answer::Refused(ZoneFault::TooMany);
+    run(alloc, jobs.as_slice(), "", &answers)
+}
+
+// The return code of a job over the store, which must print this.
+fn run_alone<S: Alter>(alloc: Global, store: &mut Store<S>, wanted: &str) -> Result<u8, Fail> {
+    let cntl = card_file(alloc, RECEIVE)?;
+    let ptfin = card_file(alloc, FUNCTION)?;
+    let mut report = Vec::new(alloc);
+    let date = YyDdd::new(2024, 138);
+    let mut out = Out::new(&mut report);
+    let code = run_job(alloc, store, date, &cntl, &ptfin, b"", &mut out)?;
+    compare("a job alone", report.as_slice(), wanted)?;
+    Ok(code)
+}
+
+#[test]
+fn a_job_goes_alone(rt: HostRuntime) -> Result<(), Fail> {
+    let alloc = rt.alloc();
+    let mut store = opened(alloc, in_memory(alloc)?, "a job alone")?;
+    assert_eq!(rt; run_alone(alloc, &mut store, FUNCTION_RECEIVED.report)?, 0);
+    Ok(())
+}
+
+#[test]
+fn a_listing_is_a_job_of_two_commands(rt: HostRuntime) -> Result<(), Fail> {
+    let alloc = rt.alloc();
+    let listing = list_commands(alloc, zone_name(b"TGT1")?)?;
+    let wanted = card_file(alloc, "SET BDY(TGT1).\nLIST.")?;
+    assert_eq!(rt; listing.as_slice(), wanted.as_slice());
+    let receive = two_commands(alloc, b"SET BDY(GLOBAL).", b"RECEIVE SYSMODS.")?;
+    assert_eq!(rt; receive.as_slice(), card_file(alloc, RECEIVE)?.as_slice());
+    Ok(())
+}

@@ -1,0 +1,302 @@
+//! Command lines, and what they ask for.
+
+use fields::Id;
+use scripts::compare;
+use smpe::{ArgFault, DatabaseFile, Invocation, invocation};
+use smpe_invocation::{CheckedSystem, ServiceSet, WhyOptions};
+use std::alloc::Global;
+use std::test::Fail;
+
+/// Words after the program's name, with a blank between two, and the values for which they ask.
+const ASKED: &[(&str, &str)] = &[
+    (
+        "zone --db F --name DLB1 --kind distribution --srel Z038",
+        "F:0 DLB1 Distribution Z038 -",
+    ),
+    (
+        "zone --srel=Z038 --related DLB1 --kind=target --name TGT1 --db F",
+        "F:0 TGT1 Target Z038 DLB1",
+    ),
+    (
+        "run --db F --date 2024-05-17 --cntl C --ptfin P --hold H",
+        "F:0 24.138 C P H -",
+    ),
+    (
+        "run --db F --date 2024-12-31 --cntl C --hold H",
+        "F:0 24.366 C - H -",
+    ),
+    (
+        "run --db F --date 2000-02-29 --cntl C --ptfin P",
+        "F:0 00.060 C P - -",
+    ),
+    (
+        "run --db F --date 1999-01-01 --cntl C",
+        "F:0 99.001 C - - -",
+    ),
+    (
+        "run --db F --wait 30 --date 2024-05-17 --cntl C --careful",
+        "F:30 24.138 C - - careful",
+    ),
+    ("list --db F --zone TGT1", "F:0 TGT1"),
+    ("list --zone=GLOBAL --wait=9999 --db F", "F:9999 GLOBAL"),
+    (
+        "why --db F --zone TGT1 --id UA00001",
+        "F:0 TGT1 UA00001 - - -",
+    ),
+    (
+        "why --id UA00002 --zone TGT1 --id=UA00001 --db F --together",
+        "F:0 TGT1 UA00002,UA00001 together - -",
+    ),
+    (
+        "why --db F --zone TGT1 --bypass HOLDSYSTEM(ACTION),PRE --group --id UA00001",
+        "F:0 TGT1 UA00001 - group HOLDSYSTEM(ACTION),PRE",
+    ),
+    ("check --srel Z038 --ptfin P", "Z038 P - - -"),
+    ("check --db F --zone TGT1 --ptfin P", "F:0 TGT1 - P - - -"),
+    (
+        "check --why UA00001 --db F --wait 5 --zone TGT1 --ptfin P --why UA00002 --hold H",
+        "F:5 TGT1 UA00001,UA00002 P H - -",
+    ),
+    (
+        "check --db F --zone TGT1 --ptfin P --cntl C --date 2024-05-17",
+        "F:0 TGT1 - P - C 24.138",
+    ),
+    (
+        "check --ptfin P --hold H --srel Z038 --cntl C --date 2024-05-17",
+        "Z038 P H C 24.138",
+    ),
+    ("migrate --db F --wait 0", "F:0"),
+    ("verify --wait 5 --db F", "F:5"),
+];
+
+/// Words that `clap` refuses, or to which it responds itself.
+const CLAP: &[&str] = &[
+    "check --srel Z038",
+    "check --db F --db G --zone TGT1 --ptfin P",
+    "why --db F --zone TGT1 --id UA00001 --together yes",
+    "why --db F --zone TGT1 --id UA00001 --bypass",
+    "",
+    "--help",
+    "--version",
+    "help",
+    "list --help",
+    "list --db F",
+    "migrate",
+    "migrate --db F --zone TGT1",
+    "verify",
+    "list --db F --zone TGT1 --date 2024-05-17",
+    "why --db F --zone TGT1",
+    "why --db F --id UA00001",
+    "why --db F --zone TGT1 --zone TGT2 --id UA00001",
+    "why --db F --zone TGT1 --id UA00001 UA00002",
+    "zone --db F --name DLB1 --kind distribution",
+    "zone --db F --name DLB1 --kind global --srel Z038",
+    "zone --db F --name DLB1 --kind target --srel Z038 --cntl C",
+    "zone --db F --name DLB1 --name DLB2 --kind target --srel Z038",
+    "zone --db F --name DLB1 --kind target --srel Z038 more",
+    "run --db F --date 2024-02-30 --hold H",
+    "run --db F --date 2024-05-17 --cntl C --careful yes",
+    "check --srel Z038 --ptfin P --careful",
+    "migrate --db F --wait",
+    "migrate --db F --wait -1",
+];
+
+/// Words with a bad operand.
+const BAD: &[&str] = &[
+    "check --srel Z038 --ptfin P --cntl C",
+    "check --ptfin P",
+    "check --db F --ptfin P",
+    "check --srel Z038 --db F --zone TGT1 --ptfin P",
+    "check --srel Z038 --zone TGT1 --ptfin P",
+    "check --srel Z038 --wait 5 --ptfin P",
+    "check --srel Z038 --why UA00001 --ptfin P",
+    "check --db F --zone TGT1 --why UA0001 --ptfin P",
+    "zone --db F --name 1DLB --kind distribution --srel Z038",
+    "zone --db F --name DLB1 --kind distribution --srel Z38",
+    "zone --db F --name TGT1 --kind target --srel Z038 --related dlb1",
+    "list --db F --zone tgt1",
+    "why --db F --zone tgt1 --id UA00001",
+    "why --db F --zone TGT1 --id UA0001",
+    "why --db F --zone TGT1 --id UA00001 --id ua00002",
+    "run --db F --date 2024-02-30 --cntl C",
+    "run --db F --date 1900-02-29 --cntl C",
+    "run --db F --date 2024-13-01 --cntl C",
+    "run --db F --date 2024-05-00 --cntl C",
+    "run --db F --date 2024-5-17 --cntl C",
+    "run --db F --date 2024/05/17 --cntl C",
+    "run --db F --date 2024-05-17 --cntl C --wait 10000",
+    "list --db F --zone TGT1 --wait 1.5",
+    "migrate --db F --wait s",
+];
+
+fn words<'a>(alloc: Global, line: &'a str) -> Result<Vec<&'a str>, Fail> {
+    let mut words = Vec::new(alloc);
+    words.push("smpe")?;
+    for word in line.split(' ') {
+        if !word.is_empty() {
+            words.push(word)?;
+        }
+    }
+    Ok(words)
+}
+
+fn shown(alloc: Global, invocation: &Invocation) -> Result<String, Fail> {
+    match invocation {
+        Invocation::Zone {
+            db,
+            name,
+            kind,
+            srel,
+            related,
+        } => {
+            let name = std::str::from_utf8(name.as_bytes())?;
+            let srel = std::str::from_utf8(srel.as_bytes())?;
+            let related = match related {
+                Some(related) => std::str::from_utf8(related.as_bytes())?,
+                None => "-",
+            };
+            let db = place(alloc, db)?;
+            Ok(format!(in alloc; "{db} {name} {kind:?} {srel} {related}")?)
+        }
+        Invocation::Run {
+            db,
+            date,
+            cntl,
+            ptfin,
+            hold,
+            careful,
+        } => {
+            let db = place(alloc, db)?;
+            let how = if *careful { "careful" } else { "-" };
+            let date = std::str::from_utf8(date.as_bytes())?;
+            let ptfin = ptfin.as_ref().map_or("-", |text| text.as_str());
+            let hold = hold.as_ref().map_or("-", |text| text.as_str());
+            Ok(format!(in alloc; "{db} {date} {cntl} {ptfin} {hold} {how}")?)
+        }
+        Invocation::List { db, zone } => {
+            let zone = std::str::from_utf8(zone.as_bytes())?;
+            let db = place(alloc, db)?;
+            Ok(format!(in alloc; "{db} {zone}")?)
+        }
+        Invocation::Why {
+            db,
+            zone,
+            ids,
+            options,
+        } => {
+            let zone = std::str::from_utf8(zone.as_bytes())?;
+            let ids = listed(alloc, ids.as_slice())?;
+            let options = asked(alloc, options)?;
+            let db = place(alloc, db)?;
+            Ok(format!(in alloc; "{db} {zone} {ids} {options}")?)
+        }
+        Invocation::Check { system, set } => {
+            let system = checked(alloc, system)?;
+            let set = service(alloc, set)?;
+            Ok(format!(in alloc; "{system} {set}")?)
+        }
+        Invocation::Migrate { db } => place(alloc, db),
+        Invocation::Verify { db } => place(alloc, db),
+    }
+}
+
+fn asked(alloc: Global, options: &WhyOptions) -> Result<String, Fail> {
+    let together = if options.together { "together" } else { "-" };
+    let group = if options.group { "group" } else { "-" };
+    let bypass = options.bypass.as_ref().map_or("-", |text| text.as_str());
+    Ok(format!(in alloc; "{together} {group} {bypass}")?)
+}
+
+fn checked(alloc: Global, system: &CheckedSystem) -> Result<String, Fail> {
+    match system {
+        CheckedSystem::Empty(srel) => Ok(String::from_str(
+            alloc,
+            std::str::from_utf8(srel.as_bytes())?,
+        )?),
+        CheckedSystem::Copied(copy) => {
+            let zone = std::str::from_utf8(copy.zone.as_bytes())?;
+            let db = place(alloc, &copy.db)?;
+            let ids = listed(alloc, copy.ids.as_slice())?;
+            let ids = if ids.is_empty() { "-" } else { ids.as_str() };
+            Ok(format!(in alloc; "{db} {zone} {ids}")?)
+        }
+    }
+}
+
+fn service(alloc: Global, set: &ServiceSet) -> Result<String, Fail> {
+    let ptfin = set.ptfin.as_str();
+    let hold = set.hold.as_ref().map_or("-", |text| text.as_str());
+    let (cntl, date) = match &set.commands {
+        Some(commands) => (
+            commands.cntl.as_str(),
+            std::str::from_utf8(commands.date.as_bytes())?,
+        ),
+        None => ("-", "-"),
+    };
+    Ok(format!(in alloc; "{ptfin} {hold} {cntl} {date}")?)
+}
+
+fn place(alloc: Global, db: &DatabaseFile) -> Result<String, Fail> {
+    let name = db.name.as_str();
+    let wait = db.wait;
+    Ok(format!(in alloc; "{name}:{wait}")?)
+}
+
+fn listed(alloc: Global, ids: &[Id]) -> Result<String, Fail> {
+    let mut text = String::new(alloc);
+    for id in ids {
+        if !text.is_empty() {
+            text.push_str(",")?;
+        }
+        text.push_str(std::str::from_utf8(id.as_bytes())?)?;
+    }
+    Ok(text)
+}
+
+fn read(alloc: Global, line: &str) -> Result<String, Fail> {
+    let words = words(alloc, line)?;
+    match invocation(alloc, words.as_slice()) {
+        Ok(invocation) => shown(alloc, &invocation),
+        Err(ArgFault::Memory) => Ok(String::from_str(alloc, "memory")?),
+        Err(ArgFault::Clap(_)) => Ok(String::from_str(alloc, "clap")?),
+        Err(ArgFault::BadOperand) => Ok(String::from_str(alloc, "bad operand")?),
+    }
+}
+
+fn check(alloc: Global, line: &str, wanted: &str) -> Result<(), Fail> {
+    let got = read(alloc, line)?;
+    compare(line, got.as_bytes(), wanted)
+}
+
+#[test]
+fn words_are_read_as_what_they_ask_for(rt: HostRuntime) -> Result<(), Fail> {
+    for (line, wanted) in ASKED {
+        check(rt.alloc(), line, wanted)?;
+    }
+    Ok(())
+}
+
+#[test]
+fn other_words_are_refused(rt: HostRuntime) -> Result<(), Fail> {
+    for line in CLAP {
+        check(rt.alloc(), line, "clap")?;
+    }
+    for line in BAD {
+        check(rt.alloc(), line, "bad operand")?;
+    }
+    Ok(())
+}
+
+fn answer_of_clap(alloc: Global, line: &str) -> Result<String, Fail> {
+    let words = words(alloc, line)?;
+    match invocation(alloc, words.as_slice()) {
+        Ok(_) => Err(Fail::new(format_args!("{line} asks for a job"))),
+        Err(fault) => Ok(format!(in alloc; "{fault}")?),
+    }
+}
+
+#[test]
+fn the_version_is_told(rt: HostRuntime) -> Result<(), Fail> {
+    let got = answer_of_clap(rt.alloc(), "--version")?;
+    compare("smpe --version", got.as_bytes(), "smpe 1.0.0\n")
+}

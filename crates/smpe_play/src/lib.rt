@@ -1,0 +1,24 @@
+//! Playing jobs for tests: as text cards against a store in memory and against files on disks in memory, comparing what
+//! each job prints and returns. It has the jobs with which many cases begin.
+#![tactic(auto)]
+
+mod cards;
+mod disks;
+mod job_lists;
+mod rows;
+mod running;
+mod steps;
+
+pub use cards::{
+    Case, DELETER_INSTALLED, FAILING, FIX, FUNCTION, FUNCTION_INSTALLED, FUNCTION_LISTED,
+    FUNCTION_RECEIVED, JOB, JobStep, LISTING, LISTING_TEXTS, RECEIVE, RECEIVING, REFUSED,
+    RIVAL_RECEIVED, UPDATE_INSTALLED,
+};
+pub use disks::{connected, in_memory, new_files, opened};
+pub use job_lists::{ListWanted, play_jobs};
+pub use rows::lines_of;
+pub use running::{define_both, job_over, run_printing, zone_name};
+pub use steps::{
+    Plays, RowsLeft, StepPlace, installed, installed_files, play, play_cases, play_installed,
+    play_made, play_rows, run_step,
+};

@@ -1,0 +1,34 @@
+//! Rows of a database, as lines.
+
+use sqlite::{Alter, Connection};
+use std::alloc::Global;
+use std::test::Fail;
+
+// Appends the rows that a query finds, a line each.
+fn put_lines<S: Alter>(
+    conn: &mut Connection<S>,
+    sql: &str,
+    lines: &mut String,
+) -> Result<(), Fail> {
+    let rows = conn.query_all(sql, &[])?;
+    for row in &rows {
+        let text: String = row.get(0)?;
+        lines.push_str(text.as_str())?;
+        lines.push_str("\n")?;
+    }
+    Ok(())
+}
+
+/// The rows that each query finds, a line each, with a line of two hyphens behind those of each query.
+pub fn lines_of<S: Alter>(
+    alloc: Global,
+    conn: &mut Connection<S>,
+    queries: &[&str],
+) -> Result<String, Fail> {
+    let mut lines = String::new(alloc);
+    for sql in queries {
+        put_lines(conn, sql, &mut lines)?;
+        lines.push_str("--\n")?;
+    }
+    Ok(lines)
+}

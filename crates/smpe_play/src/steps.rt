@@ -1,0 +1,286 @@
+//! Playing cases, step by step.
+
+use crate::cards::{BEGINNING, Case, JobStep};
+use crate::disks::{in_memory, new_files, opened, reopened};
+use crate::rows::lines_of;
+use crate::running::{define_both, job_over, run_printing};
+use scripts::{card_file, compare, first_difference, put_cards};
+use smpe::{Answer, JobError};
+use sqlite::{Alter, Connection, FileStore, MemStore};
+use sqlite_disk::Memory;
+use std::alloc::Global;
+use std::test::Fail;
+use store::Store;
+
+/// Where a step is played, in the words of a failure.
+#[derive(Clone, Copy)]
+pub struct StepPlace {
+    /// What the step's case shows.
+    pub shows: &'static str,
+    pub disk: &'static str,
+}
+
+fn ptfin_of(alloc: Global, step: &JobStep) -> Result<Vec<u8>, Fail> {
+    let mut bytes = Vec::new(alloc);
+    for sysmod in step.ptfin {
+        put_cards(&mut bytes, sysmod)?;
+    }
+    bytes.extend_from_slice(step.rest.as_bytes())?;
+    Ok(bytes)
+}
+
+/// Runs a step's job, and appends what it prints.
+pub fn run_step<S: Alter>(
+    alloc: Global,
+    store: &mut Store<S>,
+    step: &JobStep,
+    report: &mut Vec<u8>,
+) -> Result<Result<Vec<Answer>, JobError>, Fail> {
+    let cntl = card_file(alloc, step.cntl)?;
+    let ptfin = ptfin_of(alloc, step)?;
+    let hold = card_file(alloc, step.hold)?;
+    let jobs = [job_over(cntl.as_slice(), ptfin.as_slice(), hold.as_slice())];
+    Ok(run_printing(alloc, store, &jobs, report))
+}
+
+// A failure, unless the step printed and returned what it must.
+fn check(step: &JobStep, place: StepPlace, report: &[u8], answers: &[Answer]) -> Result<(), Fail> {
+    let code = match answers {
+        [Answer::Code(code)] => Some(*code),
+        _ => None,
+    };
+    if report == step.report.as_bytes() && code == Some(step.code) {
+        return Ok(());
+    }
+    let (shows, disk, name) = (place.shows, place.disk, step.name);
+    let (line, got, wanted) = first_difference(std::str::from_utf8(report)?, step.report);
+    let wanted_code = step.code;
+    Err(Fail::new(format_args!(
+        "{shows}: {name} {disk}: line {line}: got {got:?} and {code:?}, wanted {wanted:?} and {wanted_code}"
+    )))
+}
+
+/// Something that is played over a store, and fails where it does not come to what it must.
+pub trait Plays {
+    /// Plays it. A failure begins with what the place shows.
+    fn play_at<S: Alter>(
+        &self,
+        alloc: Global,
+        store: &mut Store<S>,
+        place: StepPlace,
+    ) -> Result<(), Fail>;
+}
+
+impl Plays for JobStep {
+    // What the step prints and answers is compared.
+    fn play_at<S: Alter>(
+        &self,
+        alloc: Global,
+        store: &mut Store<S>,
+        place: StepPlace,
+    ) -> Result<(), Fail> {
+        let mut report = Vec::new(alloc);
+        match run_step(alloc, store, self, &mut report)? {
+            Ok(answers) => check(self, place, report.as_slice(), answers.as_slice()),
+            Err(error) => {
+                let (shows, disk, name) = (place.shows, place.disk, self.name);
+                Err(Fail::new(format_args!("{shows}: {name} {disk}: {error:?}")))
+            }
+        }
+    }
+}
+
+// Plays the steps one after the other over one store.
+fn play_all<S: Alter, P: Plays>(
+    alloc: Global,
+    store: &mut Store<S>,
+    steps: &[P],
+    place: StepPlace,
+) -> Result<(), Fail> {
+    for step in steps {
+        step.play_at(alloc, store, place)?;
+    }
+    Ok(())
+}
+
+/// Plays a step that belongs to no case.
+pub fn play<S: Alter>(alloc: Global, store: &mut Store<S>, step: &JobStep) -> Result<(), Fail> {
+    let shows = "a step alone";
+    step.play_at(alloc, store, StepPlace { shows, disk: "" })
+}
+
+// A store over a new database with both zones, in which these steps were played.
+fn begun<S: Alter + Drop>(
+    alloc: Global,
+    conn: Connection<S>,
+    before: &[JobStep],
+    place: StepPlace,
+) -> Result<Store<S>, Fail> {
+    let mut store = opened(alloc, conn, place.shows)?;
+    define_both(alloc, &mut store)?;
+    play_all(alloc, &mut store, before, place)?;
+    Ok(store)
+}
+
+/// A store over a new database with both zones, in which the function is applied.
+pub fn installed<S: Alter + Drop>(alloc: Global, conn: Connection<S>) -> Result<Store<S>, Fail> {
+    let shows = "the function is applied";
+    begun(alloc, conn, BEGINNING, StepPlace { shows, disk: "" })
+}
+
+// Plays steps over one store.
+fn play_over<S: Alter + Drop, P: Plays>(
+    alloc: Global,
+    conn: Connection<S>,
+    before: &[JobStep],
+    steps: &[P],
+    place: StepPlace,
+) -> Result<Connection<S>, Fail> {
+    let mut store = begun(alloc, conn, before, place)?;
+    play_all(alloc, &mut store, steps, place)?;
+    Ok(store.close())
+}
+
+// Plays a step over a store that is opened for it.
+fn play_anew<S: Alter + Drop, P: Plays>(
+    alloc: Global,
+    conn: Connection<S>,
+    step: &P,
+    place: StepPlace,
+) -> Result<Connection<S>, Fail> {
+    let mut store = opened(alloc, conn, place.shows)?;
+    step.play_at(alloc, &mut store, place)?;
+    Ok(store.close())
+}
+
+// Plays steps in memory, each over a store that is opened for it.
+fn play_each<P: Plays>(
+    alloc: Global,
+    before: &[JobStep],
+    steps: &[P],
+    shows: &'static str,
+) -> Result<Connection<MemStore>, Fail> {
+    let disk = "in memory, opened for each";
+    let place = StepPlace { shows, disk };
+    let mut conn = begun(alloc, in_memory(alloc)?, before, place)?.close();
+    for step in steps {
+        conn = play_anew(alloc, conn, step, place)?;
+    }
+    Ok(conn)
+}
+
+// Plays steps over files, which are closed and opened again before each.
+fn play_closed<P: Plays>(
+    alloc: Global,
+    before: &[JobStep],
+    steps: &[P],
+    shows: &'static str,
+) -> Result<Connection<FileStore<Memory>>, Fail> {
+    let disk = "on disks that are closed and opened before it";
+    let place = StepPlace { shows, disk };
+    let mut conn = begun(alloc, new_files(alloc)?, before, place)?.close();
+    for step in steps {
+        conn = play_anew(alloc, reopened(alloc, conn)?, step, place)?;
+    }
+    Ok(conn)
+}
+
+/// Files in which the function is applied, closed and reopened before each job.
+pub fn installed_files(alloc: Global) -> Result<Connection<FileStore<Memory>>, Fail> {
+    play_closed(alloc, &[], BEGINNING, "the function is applied")
+}
+
+/// The rows that steps leave, as these queries find them.
+#[derive(Clone, Copy)]
+pub struct RowsLeft<'a> {
+    pub queries: &'a [&'a str],
+    pub wanted: &'a str,
+}
+
+/// No look at rows.
+const UNSEEN: RowsLeft<'static> = RowsLeft {
+    queries: &[],
+    wanted: "",
+};
+
+// A failure, unless the database has these rows.
+fn check_rows<S: Alter + Drop>(
+    alloc: Global,
+    mut conn: Connection<S>,
+    shows: &str,
+    rows: RowsLeft<'_>,
+) -> Result<(), Fail> {
+    let got = lines_of(alloc, &mut conn, rows.queries)?;
+    compare(shows, got.as_bytes(), rows.wanted)
+}
+
+// Plays steps in memory and on disks in memory: over one store, and over one for each step, for which the files are
+// closed and opened again.
+fn play_steps<P: Plays>(
+    alloc: Global,
+    before: &[JobStep],
+    steps: &[P],
+    shows: &'static str,
+    rows: RowsLeft<'_>,
+) -> Result<(), Fail> {
+    let place = StepPlace {
+        shows,
+        disk: "in memory",
+    };
+    check_rows(
+        alloc,
+        play_over(alloc, in_memory(alloc)?, before, steps, place)?,
+        shows,
+        rows,
+    )?;
+    check_rows(alloc, play_each(alloc, before, steps, shows)?, shows, rows)?;
+    let place = StepPlace {
+        shows,
+        disk: "on disks",
+    };
+    check_rows(
+        alloc,
+        play_over(alloc, new_files(alloc)?, before, steps, place)?,
+        shows,
+        rows,
+    )?;
+    check_rows(
+        alloc,
+        play_closed(alloc, before, steps, shows)?,
+        shows,
+        rows,
+    )
+}
+
+fn play_after(alloc: Global, before: &[JobStep], cases: &[Case]) -> Result<(), Fail> {
+    for case in cases {
+        play_steps(alloc, before, case.steps, case.shows, UNSEEN)?;
+    }
+    Ok(())
+}
+
+/// Plays each case in memory and on disks in memory: over one store, and over one for each step, for which the files
+/// are closed and reopened. A failure says which step of which case it was, and on which disk.
+pub fn play_cases(alloc: Global, cases: &[Case]) -> Result<(), Fail> {
+    play_after(alloc, &[], cases)
+}
+
+/// Plays each case so, over a database in which the function is applied.
+pub fn play_installed(alloc: Global, cases: &[Case]) -> Result<(), Fail> {
+    play_after(alloc, BEGINNING, cases)
+}
+
+/// Plays steps so that are made, over a database in which the function is applied.
+pub fn play_made<P: Plays>(alloc: Global, steps: &[P], shows: &'static str) -> Result<(), Fail> {
+    play_steps(alloc, BEGINNING, steps, shows, UNSEEN)
+}
+
+/// The same with the rows that they must leave.
+pub fn play_rows<P: Plays>(
+    alloc: Global,
+    steps: &[P],
+    shows: &'static str,
+    rows: RowsLeft<'_>,
+) -> Result<(), Fail> {
+    play_steps(alloc, BEGINNING, steps, shows, rows)
+}

@@ -1,0 +1,114 @@
+//! Stores over the known rows, in memory and over files, and commits to them.
+
+ghost use Rattle.std.specs.Prelude.{IsTrue, IfOk};
+ghost use Rattle.sqlite_disk.specs.Memory.{memory_is_usable};
+
+use crate::rows::{SOURCES, fill_first, run_all};
+use fields::ZoneName;
+use sqlite::{Alter, Connection, Error, FileStore, Files, MemStore, Options};
+use sqlite_disk::Memory;
+use std::alloc::Global;
+use std::test::Fail;
+use store::{Change, Store};
+use sysmods::{GlobalEdit, GlobalZone};
+use zones_maps::{Zone, ZoneDelta, ZoneEdits};
+
+/// Commits a change, which must succeed.
+pub fn commit<S: Alter>(store: &mut Store<S>, change: &Change<'_>) -> Result<(), Fail> {
+    Ok(store.commit(change)?)
+}
+
+/// The zone of this name, as it is loaded.
+pub fn loaded<S: Alter>(store: &mut Store<S>, name: ZoneName) -> Result<Zone, Fail> {
+    Ok(store.load_zone(name)?.ok_or("no such zone")?)
+}
+
+/// Commits these edits of the zone of this name, which is loaded first.
+pub fn commit_zone<S: Alter>(
+    alloc: Global,
+    store: &mut Store<S>,
+    name: ZoneName,
+    edits: ZoneEdits,
+) -> Result<(), Fail> {
+    let zone = loaded(store, name)?;
+    let delta = ZoneDelta::of(alloc, edits, &zone)?;
+    commit(store, &Change::Zone(name, delta))
+}
+
+/// Commits edits of the global zone that insert no SYSMOD, so that no statements are needed.
+pub fn commit_edits<S: Alter>(
+    alloc: Global,
+    store: &mut Store<S>,
+    edits: Vec<GlobalEdit>,
+) -> Result<(), Fail> {
+    let stated = GlobalZone::new(alloc);
+    commit(store, &Change::Global(&stated, edits))
+}
+
+/// The store over the connection.
+pub fn opened<S: Alter + Drop>(alloc: Global, conn: Connection<S>) -> Result<Store<S>, Fail> {
+    if !conn.is_autocommit() {
+        return Err(Fail::from("a transaction is under way"));
+    }
+    match Store::open(alloc, conn) {
+        Ok(store) => Ok(store),
+        Err((_conn, error)) => Err(Fail::from(error)),
+    }
+}
+
+// The database without tables, once its tables have the known rows.
+fn filled<S: Alter + Drop>(alloc: Global, conn: Connection<S>) -> Result<Connection<S>, Fail> {
+    let mut conn = opened(alloc, conn)?.close();
+    fill_first(alloc, &mut conn)?;
+    run_all(&mut conn, SOURCES)?;
+    Ok(conn)
+}
+
+/// A connection to a new database in memory.
+pub fn in_memory(alloc: Global) -> Result<Connection<MemStore>, Fail> {
+    Ok(Connection::open_in_memory(alloc)?)
+}
+
+/// The known rows in memory, and these as well.
+pub fn known_with(alloc: Global, more: &[&str]) -> Result<Connection<MemStore>, Fail> {
+    let mut conn = filled(alloc, in_memory(alloc)?)?;
+    run_all(&mut conn, more)?;
+    Ok(conn)
+}
+
+pub fn zone_name(text: &[u8]) -> Result<ZoneName, Fail> {
+    Ok(ZoneName::read(text).ok_or("no name of a zone")?)
+}
+
+// A connection to a database in these files.
+fn files(alloc: Global, log: Memory, db: Memory) -> Result<Connection<FileStore<Memory>>, Error>
+    requires { IsTrue (memory_is_usable log) × IsTrue (memory_is_usable db) }
+{
+    match Connection::open_files(alloc, Files { log, db }, Options::new(1)) {
+        Ok(conn) => Ok(conn),
+        Err((error, _)) => Err(error),
+    }
+}
+
+/// A connection to a new database in files.
+pub fn new_files(alloc: Global) -> Result<Connection<FileStore<Memory>>, Error> {
+    files(alloc, Memory::new(alloc), Memory::new(alloc))
+}
+
+pub fn close(conn: Connection<FileStore<Memory>>) -> Result<Files<Memory>, Error>
+    ensures { IfOk result (λ files. IsTrue (memory_is_usable files.log) × IsTrue (memory_is_usable files.db)) }
+{
+    match conn.close_files() {
+        Ok(files) => Ok(files),
+        Err(failed) => Err(failed.0),
+    }
+}
+
+/// A connection to the files that this one has written.
+pub fn again(
+    alloc: Global,
+    conn: Connection<FileStore<Memory>>,
+) -> Result<Connection<FileStore<Memory>>, Error> {
+    let closed = close(conn)?;
+    files(alloc, closed.log, closed.db)
+}
