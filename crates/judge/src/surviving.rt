@@ -1,5 +1,5 @@
 //! The survivors: candidates that fail at most the test that looks only at survivors.
-ghost use Rattle.std.specs.Prelude.{◌≡◌, ◌↔◌, ◌++◌, [], ◌∷◌, length, map, Contains, OnOk, IfOk};
+ghost use Rattle.std.specs.Prelude.{◌≡◌, ◌↔◌, ◌<◌, ◌++◌, [], ◌∷◌, length, map, slice_get, Some, Contains, OnOk, IfOk};
 ghost use Rattle.std.specs.Prelude.{if◌then◌else◌};
 ghost use Rattle.std.specs.List.{list_all};
 ghost use Rattle.terms.specs.Types.{Id as AnId};
@@ -36,6 +36,13 @@ fn add_if_surviving(found: &mut Vec<Id>, id: Id, tests: TestSet) -> Result<(), A
     Ok(())
 }
 
+fn set_at(sets: &[TestSet], place: usize) -> TestSet
+    requires { place < length sets.now }
+    ensures { slice_get sets.now place ≡ Some result }
+{
+    sets[place]
+}
+
 /// The survivors among the candidates that fail these tests.
 pub(crate) fn survivors(alloc: Global, ids: &IdList, sets: &[TestSet]) -> Result<IdList, AllocError>
     requires { length sets.now ≡ length ids.now }
@@ -46,7 +53,7 @@ pub(crate) fn survivors(alloc: Global, ids: &IdList, sets: &[TestSet]) -> Result
     let mut found = Vec::new(alloc);
     for i in 0..ids.len() {
         let id = ids.as_slice()[i];
-        add_if_surviving(&mut found, id, sets[i])?;
+        add_if_surviving(&mut found, id, set_at(sets, i))?;
     }
     let survivors = IdList::from_vec(found);
     survivors.attest();

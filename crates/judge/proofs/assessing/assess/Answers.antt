@@ -4,9 +4,10 @@ use Rattle.terms.specs.Tests.{Setting, AreSurvivors}
 use Rattle.sysmods.specs.declared.ver_choice.VerChoice.{VerChoice}
 use Rattle.sysmods.specs.Choices.{choice}
 use Rattle.sysmods.specs.Overs.{AreOver}
-use Rattle.zones.specs.Scopes.{choice_of, setting_with}
+use Rattle.zones.specs.Scopes.{choice_of, setting_of, setting_with}
 use Rattle.judge_system.specs.TestSets.{tests_of}
-use Rattle.judge_needs.specs.Pairs.{AreSuperseded}
+use Rattle.judge_needs.specs.Needed.{AreNeeds}
+use Rattle.judge_needs.specs.Pairs.{AreBypassed, AreSuperseded}
 use Rattle.judge.proofs.SaidOf.{install_judged}
 use Rattle.judge.proofs.Survivors.{survivors_are}
 use Rattle.judge.proofs.assessing.assess.Goals as goal
@@ -26,10 +27,12 @@ returns-clause-said c =
       survivors = c.in_ok-survivors.survivors;
       are_survivors = are;
       are_judged = install_judged scope related c.in_ok-survivors.survivors rows c.in_ok-tests.ensures.tests needs
-          c.in_ok-needs.ensures superseded
+          (subst (λ sc. AreNeeds (setting_of sc) c.in_ok-survivors.survivors needs) c.in_ok-conditions.ensures
+          c.in_ok-needs.ensures) superseded
           (subst (λ ns. AreSuperseded (choice_of scope) ns scope.ids.now superseded) c.as_slice-2.ensures.value
           c.in_ok-superseded.ensures);
-      bypassed = c.in_ok-bypassed.ensures;
+      bypassed = subst (λ sc. AreBypassed (setting_of sc) sc.ids.now c.in_ok-bypassed.bypassed.items)
+          c.in_ok-conditions.ensures c.in_ok-bypassed.ensures;
     }
 
 pub returns-clause-overs : goal.returns-clause-overs

@@ -13,14 +13,11 @@ loop-i-preserved c =
     let ids = c.args.ids.now in
     let sets = c.args.sets.now in
     let i = c.loop-i.i in
-    let tests = c.index-sets-i.result in
-    survivors_next ids (map tests_of sets) i c.index-as_slice-i.result (tests_of tests) c.loop-i.found.items
-    c.add_if_surviving.new.found.items
+    survivors_next ids (map tests_of sets) i c.index-as_slice-i.result (tests_of c.set_at.result)
+    c.loop-i.found.items c.add_if_surviving.new.found.items
     (slice_get_read ids (length ids) i c.index-as_slice-i.result refl (omega arith)
     (rw c.as_slice.ensures.items at c.index-as_slice-i.is))
-    (slice_get-map tests_of sets i
-    ∙ ap (option_map tests_of) (slice_get_read sets (length sets) i tests refl (omega (arith, c.requires))
-    c.index-sets-i.is))
+    (slice_get-map tests_of sets i ∙ ap (option_map tests_of) c.set_at.ensures)
     c.in_ok-add_if_surviving.ensures c.loop-i.invariant
 
 pub loop-i-init : goal.loop-i-init
