@@ -21,7 +21,7 @@
 //! (`ElementAnswered`), each by the SYSMODs that change it, in the order of over (`InOver`), with the merge of texts
 //! (`Merged`).
 //!
-//! And what is kept is the greatest set that supports itself, for verdicts and for RESTORE (`Greatest`), and each
+//! And what is kept is the greatest set that supports itself, for installs and for RESTORE (`Greatest`), and each
 //! failed id has a cause, to which the lines lead (`Causers`).
 //!
 //! What an APPLY or ACCEPT of given ids prints (`verdicts`): the same lines on any date (`AnyDate`), and an id that no
@@ -29,9 +29,9 @@
 #![tactic(auto)]
 
 mod answers;
-mod verdicts;
 mod keeps;
+mod verdicts;
 
 pub use answers::{failures_are_caused, greatest_is_kept, one_answer, some_answer};
-pub use verdicts::{clear_is_applied, prints_the_same};
 pub use keeps::{choice_is_kept, one_ver_counts, stays_storable};
+pub use verdicts::{clear_is_applied, prints_the_same};
