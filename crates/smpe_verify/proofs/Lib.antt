@@ -1,4 +1,5 @@
 mod FirstOf
+mod Joining
 mod Judging
 mod LawLemmas
 mod Rules

@@ -1,9 +1,9 @@
 -- What is told of an inventory's zones, in words.
-use Rattle.std.specs.Prelude.{◌≡◌, ℕ, List, [], ◌∷◌, codes, decimal}
+use Rattle.std.specs.Prelude.{◌≡◌, ℕ, [], ◌∷◌, ◌++◌, codes, decimal}
+use Rattle.std.specs.List.{join_with_byte}
 use Rattle.terms.specs.Types.{Text}
 use Rattle.terms.specs.Spelling.{type_text}
 use Rattle.machine.specs.Report.{words_line}
-use Rattle.report.specs.WordTexts.{named}
 use Rattle.smpe_verify.specs.declared.breach.EntryFault.{EntryFault}
 use Rattle.smpe_verify.specs.declared.breach.EntryFault.TheVariants.{VerNotReceived, FmidNotApplied}
 use Rattle.smpe_verify.specs.declared.breach.EntryFault.TheVariants.{RequisiteNotSupplied, NpreApplied}
@@ -35,27 +35,29 @@ level_text Rmid = codes "RMID"
 level_text Umid = codes "UMID"
 
 -- the rule that an entry breaks, in words
-abbrev pub entry_fault_words : EntryFault → List Text
-entry_fault_words VerNotReceived = codes "the VER by which it was applied is not received" ∷ []
-entry_fault_words (FmidNotApplied f) = codes "FMID" ∷ f ∷ codes "is not applied" ∷ []
-entry_fault_words (RequisiteNotSupplied z) =
-    codes "REQUISITE" ∷ z ∷ codes "is neither applied nor superseded nor waived" ∷ []
-entry_fault_words (NpreApplied y) = codes "NPRE" ∷ y ∷ codes "is applied" ∷ []
-entry_fault_words (DeletedInChain y) = y ∷ codes "in its chain is deleted" ∷ []
-entry_fault_words (SupbyNotApplied y) = codes "SUPBY" ∷ y ∷ codes "is not applied" ∷ []
+abbrev pub entry_fault_text : EntryFault → Text
+entry_fault_text VerNotReceived = words_line (codes "the VER by which it was applied is not received" ∷ [])
+entry_fault_text (FmidNotApplied f) = words_line (codes "FMID" ∷ f ∷ codes "is not applied" ∷ [])
+entry_fault_text (RequisiteNotSupplied z) =
+    words_line (codes "REQUISITE" ∷ z ∷ codes "is neither applied nor superseded nor waived" ∷ [])
+entry_fault_text (NpreApplied y) = words_line (codes "NPRE" ∷ y ∷ codes "is applied" ∷ [])
+entry_fault_text (DeletedInChain y) = words_line (y ∷ codes "in its chain is deleted" ∷ [])
+entry_fault_text (SupbyNotApplied y) = words_line (codes "SUPBY" ∷ y ∷ codes "is not applied" ∷ [])
 
 -- the rule that an element breaks, in words
-abbrev pub element_fault_words : ElementFault → List Text
-element_fault_words (LevelNotApplied level x) = level_text level ∷ x ∷ codes "is not applied" ∷ []
-element_fault_words (NotReplacedBy x) = codes "RMID" ∷ x ∷ codes "does not replace it" ∷ []
-element_fault_words (NotUpdatedBy x) = codes "UMID" ∷ x ∷ codes "does not update it" ∷ []
-element_fault_words (OtherOwner level x owner) = level_text level ∷ x ∷ codes "belongs to" ∷ owner ∷ []
+abbrev pub element_fault_text : ElementFault → Text
+element_fault_text (LevelNotApplied level x) = words_line (level_text level ∷ x ∷ codes "is not applied" ∷ [])
+element_fault_text (NotReplacedBy x) = words_line (codes "RMID" ∷ x ∷ codes "does not replace it" ∷ [])
+element_fault_text (NotUpdatedBy x) = words_line (codes "UMID" ∷ x ∷ codes "does not update it" ∷ [])
+element_fault_text (OtherOwner level x owner) =
+    words_line (level_text level ∷ x ∷ codes "belongs to" ∷ owner ∷ [])
 
 -- the zone, the SYSMOD or element, and the rule
 abbrev pub breach_text : Text → Breach → Text
-breach_text zone (OfEntry x fault) = words_line (codes "ZONE" ∷ zone ∷ named x ∷ entry_fault_words fault)
+breach_text zone (OfEntry x fault) =
+    join_with_byte 32 (codes "ZONE" ∷ zone ∷ x ∷ []) ++ codes ": " ++ entry_fault_text fault
 breach_text zone (OfElement type name fault) =
-    words_line (codes "ZONE" ∷ zone ∷ type_text type ∷ named name ∷ element_fault_words fault)
+    join_with_byte 32 (codes "ZONE" ∷ zone ∷ type_text type ∷ name ∷ []) ++ codes ": " ++ element_fault_text fault
 
 abbrev pub text_of : Verification → Text
 text_of (Closed counts) = counts_text counts

@@ -9,6 +9,7 @@ mod breach;
 mod closed;
 mod element_rules;
 mod entry_rules;
+mod joined;
 mod law;
 mod told;
 mod verification;

@@ -1,14 +1,15 @@
 //! What is told about a store.
 ghost use Rattle.std.specs.Prelude.{◌≡◌, ◌++◌, IfOk, OnOk};
-ghost use Rattle.smpe_verify.specs.Telling.{IsTold, counts_text, breach_text, level_text};
+ghost use Rattle.smpe_verify.specs.Telling.{IsTold, counts_text, breach_text, entry_fault_text, element_fault_text};
+ghost use Rattle.smpe_verify.specs.Telling.{level_text};
 
 use crate::breach::{Breach, ElementFault, EntryFault, Level};
+use crate::joined::{put, put_joined, put_line};
 use crate::verification::{Counts, Verification};
+use fields::ZoneName;
 use fields::spelling::type_text;
-use fields::{Id, Name, ZoneName};
-use report::{LineWord, append_words};
+use itoa::Buffer;
 use std::alloc::{AllocError, Global};
-use terms::ElemType;
 
 /// The line that is told, and the program's status.
 #[derive(Drop)]
@@ -37,119 +38,104 @@ pub fn tell(alloc: Global, found: Verification) -> Result<Verified, AllocError>
 fn put_counts(counts: Counts, text: &mut Vec<u8>) -> Result<(), AllocError>
     ensures { OnOk result (text.new.items ≡ text.old.items ++ counts_text counts) }
 {
-    let words = [
-        LineWord::Of(b"SYSMODS"),
-        LineWord::Number(counts.sysmods),
-        LineWord::Of(b"ZONES"),
-        LineWord::Number(counts.zones),
-        LineWord::Of(b"ENTRIES"),
-        LineWord::Number(counts.entries),
-        LineWord::Of(b"ELEMENTS"),
-        LineWord::Number(counts.elements),
-    ];
-    append_words(b"VERIFIED", &words, text)
+    let mut sysmods = Buffer::new();
+    let mut zones = Buffer::new();
+    let mut entries = Buffer::new();
+    let mut elements = Buffer::new();
+    put_line(
+        &[
+            b"VERIFIED",
+            b"SYSMODS",
+            sysmods.format(counts.sysmods).as_bytes(),
+            b"ZONES",
+            zones.format(counts.zones).as_bytes(),
+            b"ENTRIES",
+            entries.format(counts.entries).as_bytes(),
+            b"ELEMENTS",
+            elements.format(counts.elements).as_bytes(),
+        ],
+        text,
+    )
 }
 
 fn put_breach(zone: ZoneName, breach: Breach, text: &mut Vec<u8>) -> Result<(), AllocError>
     ensures { OnOk result (text.new.items ≡ text.old.items ++ breach_text zone breach) }
 {
     match breach {
-        Breach::OfEntry(id, fault) => put_entry_fault(zone, id, fault, text),
+        Breach::OfEntry(id, fault) => {
+            put_joined(&[b"ZONE", zone.as_bytes(), id.as_bytes()], text)?;
+            put(b": ", text)?;
+            put_entry_fault(fault, text)
+        }
         Breach::OfElement(elem_type, name, fault) => {
-            put_element_fault(zone, elem_type, name, fault, text)
+            put_joined(
+                &[
+                    b"ZONE",
+                    zone.as_bytes(),
+                    type_text(elem_type),
+                    name.as_bytes(),
+                ],
+                text,
+            )?;
+            put(b": ", text)?;
+            put_element_fault(fault, text)
         }
     }
 }
 
-fn put_entry_fault(
-    zone: ZoneName,
-    id: Id,
-    fault: EntryFault,
-    text: &mut Vec<u8>,
-) -> Result<(), AllocError>
-    ensures { OnOk result (text.new.items ≡ text.old.items ++ breach_text zone (OfEntry id fault)) }
+fn put_entry_fault(fault: EntryFault, text: &mut Vec<u8>) -> Result<(), AllocError>
+    ensures { OnOk result (text.new.items ≡ text.old.items ++ entry_fault_text fault) }
 {
-    let zone = LineWord::Of(zone.as_bytes());
-    let id = LineWord::Named(id.as_bytes());
     match fault {
-        EntryFault::VerNotReceived => {
-            let why = LineWord::Of(b"the VER by which it was applied is not received");
-            append_words(b"ZONE", &[zone, id, why], text)
+        EntryFault::VerNotReceived => put_line(
+            &[b"the VER by which it was applied is not received"],
+            text,
+        ),
+        EntryFault::FmidNotApplied(id) => put_line(
+            &[b"FMID", id.as_bytes(), b"is not applied"],
+            text,
+        ),
+        EntryFault::RequisiteNotSupplied(id) => put_line(
+            &[
+                b"REQUISITE",
+                id.as_bytes(),
+                b"is neither applied nor superseded nor waived",
+            ],
+            text,
+        ),
+        EntryFault::NpreApplied(id) => put_line(&[b"NPRE", id.as_bytes(), b"is applied"], text),
+        EntryFault::DeletedInChain(id) => {
+            put_line(&[id.as_bytes(), b"in its chain is deleted"], text)
         }
-        EntryFault::FmidNotApplied(fmid) => {
-            let of_fmid = LineWord::Of(b"FMID");
-            let fmid = LineWord::Of(fmid.as_bytes());
-            let why = LineWord::Of(b"is not applied");
-            append_words(b"ZONE", &[zone, id, of_fmid, fmid, why], text)
-        }
-        EntryFault::RequisiteNotSupplied(requisite) => {
-            let of_requisite = LineWord::Of(b"REQUISITE");
-            let requisite = LineWord::Of(requisite.as_bytes());
-            let why = LineWord::Of(b"is neither applied nor superseded nor waived");
-            append_words(b"ZONE", &[zone, id, of_requisite, requisite, why], text)
-        }
-        EntryFault::NpreApplied(npre) => {
-            let of_npre = LineWord::Of(b"NPRE");
-            let npre = LineWord::Of(npre.as_bytes());
-            let why = LineWord::Of(b"is applied");
-            append_words(b"ZONE", &[zone, id, of_npre, npre, why], text)
-        }
-        EntryFault::DeletedInChain(above) => {
-            let above = LineWord::Of(above.as_bytes());
-            let why = LineWord::Of(b"in its chain is deleted");
-            append_words(b"ZONE", &[zone, id, above, why], text)
-        }
-        EntryFault::SupbyNotApplied(by) => {
-            let of_supby = LineWord::Of(b"SUPBY");
-            let by = LineWord::Of(by.as_bytes());
-            let why = LineWord::Of(b"is not applied");
-            append_words(b"ZONE", &[zone, id, of_supby, by, why], text)
-        }
+        EntryFault::SupbyNotApplied(id) => put_line(
+            &[b"SUPBY", id.as_bytes(), b"is not applied"],
+            text,
+        ),
     }
 }
 
-fn put_element_fault(
-    zone: ZoneName,
-    elem_type: ElemType,
-    name: Name,
-    fault: ElementFault,
-    text: &mut Vec<u8>,
-) -> Result<(), AllocError>
-    ensures { OnOk result (text.new.items ≡ text.old.items ++ breach_text zone (OfElement elem_type name fault)) }
+fn put_element_fault(fault: ElementFault, text: &mut Vec<u8>) -> Result<(), AllocError>
+    ensures { OnOk result (text.new.items ≡ text.old.items ++ element_fault_text fault) }
 {
-    let zone = LineWord::Of(zone.as_bytes());
-    let elem_type = LineWord::Of(type_text(elem_type));
-    let name = LineWord::Named(name.as_bytes());
     match fault {
         ElementFault::LevelNotApplied(level, id) => {
-            let level = LineWord::Of(level_text(level));
-            let id = LineWord::Of(id.as_bytes());
-            let why = LineWord::Of(b"is not applied");
-            append_words(b"ZONE", &[zone, elem_type, name, level, id, why], text)
+            put_line(&[level_text(level), id.as_bytes(), b"is not applied"], text)
         }
         ElementFault::NotReplacedBy(id) => {
-            let of_rmid = LineWord::Of(b"RMID");
-            let id = LineWord::Of(id.as_bytes());
-            let why = LineWord::Of(b"does not replace it");
-            append_words(b"ZONE", &[zone, elem_type, name, of_rmid, id, why], text)
+            put_line(&[b"RMID", id.as_bytes(), b"does not replace it"], text)
         }
         ElementFault::NotUpdatedBy(id) => {
-            let of_umid = LineWord::Of(b"UMID");
-            let id = LineWord::Of(id.as_bytes());
-            let why = LineWord::Of(b"does not update it");
-            append_words(b"ZONE", &[zone, elem_type, name, of_umid, id, why], text)
+            put_line(&[b"UMID", id.as_bytes(), b"does not update it"], text)
         }
-        ElementFault::OtherOwner(level, id, owner) => {
-            let level = LineWord::Of(level_text(level));
-            let id = LineWord::Of(id.as_bytes());
-            let why = LineWord::Of(b"belongs to");
-            let owner = LineWord::Of(owner.as_bytes());
-            append_words(
-                b"ZONE",
-                &[zone, elem_type, name, level, id, why, owner],
-                text,
-            )
-        }
+        ElementFault::OtherOwner(level, id, owner) => put_line(
+            &[
+                level_text(level),
+                id.as_bytes(),
+                b"belongs to",
+                owner.as_bytes(),
+            ],
+            text,
+        ),
     }
 }
 

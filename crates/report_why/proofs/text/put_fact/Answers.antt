@@ -1,8 +1,16 @@
-use Rattle.std.proofs.Common.{◌∷◌, ◌++◌, ap, refl}
+use Rattle.std.proofs.Common.{◌≡◌, ℕ, List, [], ◌∷◌, ◌++◌, ◌∙◌, ap, map, refl}
 use Rattle.std.specs.Prelude.{codes}
 use Rattle.std.proofs.lemmas.Result.{IfOk-equal}
+use Rattle.machine.specs.Report.{words_line}
+use Rattle.report.specs.WordTexts.{word_text}
 use Rattle.report_why.proofs.TextParts.{flag_is}
 use Rattle.report_why.proofs.text.put_fact.Goals as goal
+
+-- blanks before the first word are blanks before the line
+indented : (word : List ℕ) (words : List (List ℕ))
+    → words_line ((32 ∷ 32 ∷ word) ∷ words) ≡ 32 ∷ 32 ∷ words_line (word ∷ words)
+indented word [] = refl
+indented word (x ∷ xs) = refl
 
 pub returns-in-Standing : goal.returns-in-Standing
 returns-in-Standing c =
@@ -12,7 +20,8 @@ returns-in-Standing c =
 pub returns-in-Entry : goal.returns-in-Entry
 returns-in-Entry c =
     rw c.in-Entry.is (IfOk-equal c.append_words-in-Entry.result c.append_words-in-Entry.new.text.items _ _
-    c.append_words-in-Entry.ensures (ap (λ t. c.args.text.now.items ++ 32 ∷ 32 ∷ t) c.entry_words.ensures))
+    c.append_words-in-Entry.ensures (ap (λ t. c.args.text.now.items ++ t)
+    (indented (codes "ENTRY") (map word_text c.entry_words.result) ∙ ap (λ t. 32 ∷ 32 ∷ t) c.entry_words.ensures)))
 
 pub returns-in-Ver : goal.returns-in-Ver
 returns-in-Ver c = rw c.in-Ver.is c.put_ver.ensures

@@ -1,0 +1,39 @@
+//! Words joined by blanks.
+ghost use Rattle.std.specs.Prelude.{◌≡◌, ◌++◌, map, OnOk};
+ghost use Rattle.std.specs.List.{join_with_byte};
+ghost use Rattle.machine.specs.Report.{words_line};
+
+use std::alloc::AllocError;
+
+/// Appends the bytes.
+pub(crate) fn put(piece: &[u8], text: &mut Vec<u8>) -> Result<(), AllocError>
+    ensures { OnOk result (text.new.items ≡ text.old.items ++ piece.now) }
+{
+    text.extend_from_slice(piece)?;
+    Ok(())
+}
+
+/// Appends the words with one blank between them.
+pub(crate) fn put_joined(words: &[&[u8]], text: &mut Vec<u8>) -> Result<(), AllocError>
+    ensures { OnOk result
+        (text.new.items ≡ text.old.items ++ join_with_byte 32 (map (λ word. word.now) words.now)) }
+{
+    let Some((first, rest)) = words.split_first() else {
+        return Ok(());
+    };
+    put(first, text)?;
+    for word in rest {
+        text.push(b' ')?;
+        put(word, text)?;
+    }
+    Ok(())
+}
+
+/// Appends a line of these words.
+pub(crate) fn put_line(words: &[&[u8]], text: &mut Vec<u8>) -> Result<(), AllocError>
+    ensures { OnOk result
+        (text.new.items ≡ text.old.items ++ words_line (map (λ word. word.now) words.now)) }
+{
+    put_joined(words, text)?;
+    put(b"\n", text)
+}
