@@ -5,4 +5,4 @@ use Rattle.smpe_why.proofs.told.unknown.Goals as goal
 
 pub returns : goal.returns
 returns c =
-    (c.in_ok-extend_from_slice.ensures.items ∙ ap (λ l. l ++ refused_text NoZone) c.new-text.ensures.items, refl)
+    (c.in_ok-append_words.ensures ∙ ap (λ l. l ++ refused_text NoZone) c.new-text.ensures.items, refl)
