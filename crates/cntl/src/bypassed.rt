@@ -1,5 +1,5 @@
 //! The operand BYPASS and its members.
-ghost use Rattle.std.specs.Prelude.{◌↔◌, ℕ, Bool, List, IsTrue, codes, IfOk, IfErr, OnErr};
+ghost use Rattle.std.specs.Prelude.{ℕ, Bool, List, codes, IfOk, IfErr, OnErr};
 ghost use Rattle.terms.specs.Types as terms;
 ghost use Rattle.terms.specs.Forms.{IsClass, IsReason};
 ghost use Rattle.terms.specs.Words as grammar;
@@ -29,15 +29,6 @@ fn member_flag(list: &Text<'_>, name: &[u8]) -> Result<bool, BadOperand>
     flag(&named_member(list, name))
 }
 
-fn suits_kind(kind: HoldKind, reason: Reason) -> bool
-    ensures { IsTrue result ↔ IsReason kind reason }
-{
-    match kind {
-        HoldKind::Error => reason.is_id(),
-        HoldKind::System | HoldKind::User => true,
-    }
-}
-
 // The reasons in the list of a member, which are those of holds of this kind.
 fn reason_list(alloc: Global, kind: HoldKind, member: &Word<'_>) -> Result<ReasonList, OperandError>
     ensures ok { IfOk result (λ list. HasSorted (IsReason kind) (word_of member.now) list × IsShort list) }
@@ -45,7 +36,7 @@ fn reason_list(alloc: Global, kind: HoldKind, member: &Word<'_>) -> Result<Reaso
         × (HasSorted (IsReason kind) (word_of member.now) values × IsShort values))) }
 {
     let reasons = short_list::<Reason>(alloc, member)?;
-    if !reasons.iter().all(|reason| suits_kind(kind, *reason)) {
+    if !reasons.iter().all(|reason| reason.suits(kind)) {
         return Err(OperandError::Bad);
     }
     Ok(reasons)

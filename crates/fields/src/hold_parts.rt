@@ -1,12 +1,13 @@
 //! The parts of a hold.
 ghost use Rattle.std.specs.Prelude.{◌≡◌, ◌↔◌, IsSome, IfSome, IsTrue};
-ghost use Rattle.terms.specs.Forms.{IsClass, IsId, IsDate};
+ghost use Rattle.terms.specs.Forms.{IsClass, IsId, IsReason, IsDate};
 
 use crate::forms::{are_digits, is_day, is_run};
 use crate::ids::Id;
 use crate::padded::Short;
 use crate::rising_lists::Field;
 use std::marker::Model;
+use terms::HoldKind;
 
 /// The reason of a hold, for an ERROR hold an id. A contract sees it as its bytes.
 #[derive(Clone, Copy, Debug, PartialEq, Eq, PartialOrd, Ord, Hash)]
@@ -60,6 +61,16 @@ impl Reason {
         ensures { IsTrue result ↔ IsId self.now }
     {
         is_run(self.as_bytes(), 7, 7)
+    }
+
+    /// Whether a hold of the kind may have it.
+    pub fn suits(&self, kind: HoldKind) -> bool
+        ensures { IsTrue result ↔ IsReason kind self.now }
+    {
+        match kind {
+            HoldKind::Error => self.is_id(),
+            HoldKind::System | HoldKind::User => true,
+        }
     }
 
     /// The id that it is, if it has the form of one.

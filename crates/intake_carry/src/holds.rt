@@ -73,7 +73,7 @@ fn reason_of(kind: HoldKind, stated: &Option<Vec<u8>>) -> Result<HoldReason, Hol
     let Some(reason) = HoldReason::read(text.as_slice()) else {
         return Err(HoldFault::BadReason);
     };
-    if kind == HoldKind::Error && !reason.is_id() {
+    if !reason.suits(kind) {
         return Err(HoldFault::BadReason);
     }
     Ok(reason)

@@ -2,12 +2,11 @@
 //! meant is no contract here: who prints reads it back and asks for equality.
 
 use fields::Id;
-use fields::spelling::{hold_text, kind_text, type_text};
+use fields::spelling::{hold_text, kind_text, statement_text};
 use intake_cards::{PrintedCards, put_comment};
 use mcs::{Assign, HoldItem, Item, Release};
 use std::alloc::{AllocError, Global};
 use sysmods_values::{Action, ElemChange, Hold, IfReq, Sysmod, Ver};
-use terms::ElemType;
 use text80::Line;
 
 /// PTFIN of these items.
@@ -126,39 +125,24 @@ fn put_assign(cards: &mut PrintedCards, assign: &Assign) -> Result<(), AllocErro
 }
 
 fn put_change(cards: &mut PrintedCards, change: &ElemChange) -> Result<(), AllocError> {
+    cards.begin(b"++")?;
+    cards.joined(statement_text(change.word()))?;
+    cards.listed(change.name.as_bytes())?;
     match &change.action {
         Action::Replaces {
             distlib,
             syslib,
             lines,
         } => {
-            cards.begin(b"++")?;
-            cards.joined(type_text(change.elem_type))?;
-            cards.listed(change.name.as_bytes())?;
             cards.value(b"DISTLIB", distlib.as_bytes())?;
             cards.value(b"SYSLIB", syslib.as_bytes())?;
             cards.joined(b".")?;
             put_lines(cards, lines.as_slice())
         }
         Action::Updates { update } => {
-            cards.begin(update_word(change.elem_type))?;
-            cards.listed(change.name.as_bytes())?;
             cards.joined(b".")?;
             put_lines(cards, update.records())
         }
-    }
-}
-
-// The word of an update. Only macros and sources have any.
-fn update_word(elem_type: ElemType) -> &'static [u8] {
-    match elem_type {
-        ElemType::Src => b"++SRCUPD",
-        ElemType::Mac
-        | ElemType::Clist
-        | ElemType::Data
-        | ElemType::Exec
-        | ElemType::Parm
-        | ElemType::Proc => b"++MACUPD",
     }
 }
 

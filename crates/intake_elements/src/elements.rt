@@ -1,7 +1,6 @@
 //! Statements of the profile that bring or update elements.
-ghost use Rattle.std.specs.Prelude.{◌≡◌, ◌⊎◌, IfOk, IfSome, IsTrue, All, true, false};
-ghost use Rattle.terms.specs.declared.kinds.ElemType.TheVariants.{Mac, Src};
-ghost use Rattle.terms.specs.Texts.{IsReplacement, IsUpdate};
+ghost use Rattle.std.specs.Prelude.{◌≡◌, IfOk, IfSome, IsTrue, All, true, false};
+ghost use Rattle.terms.specs.Texts.{TakesUpdates, IsReplacement, IsUpdate};
 ghost use Rattle.intake_elements.specs.Elements.{is_level, HasNoLevel, is_update, IsChangeOf};
 
 use crate::element_words::{is_update, is_update_word, profile_type};
@@ -312,14 +311,14 @@ pub(crate) fn update_change(elem_type: ElemType, name: Name, update: Update) -> 
     requires { IsUpdate name update }
     ensures { IfSome result (IsChangeOf elem_type name true) }
 {
-    match elem_type {
-        ElemType::Mac | ElemType::Src => Some(change_by(elem_type, name, update)),
-        ElemType::Clist | ElemType::Data | ElemType::Exec | ElemType::Parm | ElemType::Proc => None,
+    if !elem_type.is_numbered() {
+        return None;
     }
+    Some(change_by(elem_type, name, update))
 }
 
 fn change_by(elem_type: ElemType, name: Name, update: Update) -> ElemChange
-    requires kind { (elem_type ≡ Mac) ⊎ (elem_type ≡ Src) }
+    requires kind { TakesUpdates elem_type }
     requires update { IsUpdate name update }
     ensures { IsChangeOf elem_type name true result }
 {

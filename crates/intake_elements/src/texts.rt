@@ -64,7 +64,7 @@ pub(crate) fn without_blank_cards(cards: &[Card]) -> &[Card] {
 
 /// The cards without the blank ones at the end of a text that has numbers.
 pub(crate) fn without_blank_end(elem_type: ElemType, cards: &[Card]) -> &[Card] {
-    if !matches!(elem_type, ElemType::Mac | ElemType::Src) || cards.iter().all(has_no_number) {
+    if !elem_type.is_numbered() || cards.iter().all(has_no_number) {
         return cards;
     }
     without_blank_cards(cards)
@@ -122,11 +122,7 @@ fn numbered_text(lines: Vec<Line>) -> Option<Vec<Line>>
 
 /// Whether the cards have no numbers, and get some as the text of an element of the type.
 pub(crate) fn needs_numbers(elem_type: ElemType, cards: &[Card]) -> bool {
-    match elem_type {
-        ElemType::Mac | ElemType::Src => cards.iter().all(has_no_number),
-        ElemType::Clist | ElemType::Data | ElemType::Exec | ElemType::Parm | ElemType::Proc =>
-            false,
-    }
+    elem_type.is_numbered() && cards.iter().all(has_no_number)
 }
 
 // The cards as records with numbers.
@@ -155,10 +151,8 @@ pub(crate) fn text_of(
     if lines.is_empty() {
         return Ok(None);
     }
-    match elem_type {
-        ElemType::Mac | ElemType::Src => Ok(numbered_text(lines)),
-        ElemType::Clist | ElemType::Data | ElemType::Exec | ElemType::Parm | ElemType::Proc => {
-            Ok(Some(lines))
-        }
+    if elem_type.is_numbered() {
+        return Ok(numbered_text(lines));
     }
+    Ok(Some(lines))
 }

@@ -12,7 +12,7 @@ ghost use Rattle.judge_needs.specs.Pairs.{AreSuperseded};
 
 use crate::bypassed::add_pairs;
 use fields::{Id, IdList};
-use judge_system::{RequisiteOf, takes_superseder};
+use judge_system::RequisiteOf;
 use sorted::{Keyed, Table};
 use std::alloc::{AllocError, Global};
 use sysmods::VerChoice;
@@ -41,7 +41,7 @@ fn needed_ids(alloc: Global, needs: &[RequisiteOf]) -> Result<Vec<Id>, AllocErro
 {
     needs
         .iter()
-        .filter(|need| takes_superseder(need.kind))
+        .filter(|need| need.kind.takes_superseder())
         .map(|need| need.id)
         .collect(alloc)
 }

@@ -20,5 +20,4 @@ mod stated;
 pub use decided::Decided;
 pub use failure::{Failure, OpenNeed};
 pub use judged::Judged;
-pub use serving::takes_superseder;
 pub use stated::{Assessment, RequisiteOf};

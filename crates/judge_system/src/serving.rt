@@ -79,13 +79,6 @@ pub(crate) fn served(
     Ok(set)
 }
 
-/// Whether a SYSMOD that supersedes an id serves a need for it.
-pub fn takes_superseder(kind: NeedKind) -> bool
-    ensures { result ≡ takes_superseder kind }
-{
-    !matches!(kind, NeedKind::Fmid | NeedKind::Elem | NeedKind::Dep)
-}
-
 // The places of the candidates that stand for an id.
 fn places_in(
     alloc: Global,
@@ -153,7 +146,7 @@ pub(crate) fn places_of(
     ensures below { IfOk result (λ any. All (λ n. n < length ids.now.keys) any.items) }
     ensures rising { IfOk result (λ any. AllPairs (λ a b. a < b) any.items) }
 {
-    if takes_superseder(kind) {
+    if kind.takes_superseder() {
         served_places(alloc, ids, served, kind, id)
     } else {
         own_places(alloc, ids, id)

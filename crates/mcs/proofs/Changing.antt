@@ -1,5 +1,5 @@
 -- What a replacement says, and its text.
-use Rattle.std.proofs.Common.{◌≡◌, ◌↔◌, List, [], Option, Some, refl, sym, ◌∙◌, ap, subst, inl, inr, ◌⊎◌}
+use Rattle.std.proofs.Common.{◌≡◌, ◌↔◌, List, [], Option, Some, refl, sym, ◌∙◌, ap, subst}
 use Rattle.std.specs.List.{flat_map}
 use Rattle.std.proofs.lemmas.Option.{same_Some}
 use Rattle.terms.specs.declared.kinds.ElemType.{ElemType}
@@ -12,9 +12,11 @@ use Rattle.terms.specs.Forms.{IsName}
 use Rattle.terms.specs.Operands.{HasOwn}
 use Rattle.terms.specs.Statement.{Piece}
 use Rattle.terms.specs.Words.{Word, word_pieces, HasWords}
-use Rattle.terms.specs.Texts.{IsNumbered, IsReplacement, IsActionOf, IsUpdate, IsNumberedFault, IsUpdateFault}
+use Rattle.terms.specs.Texts.{IsNumbered, TakesUpdates, IsReplacement, IsActionOf, IsUpdate, IsNumberedFault}
+use Rattle.terms.specs.Texts.{IsUpdateFault}
 use Rattle.terms.specs.Statements.{changed_type, Statement, SaysChange, HasAction, IsChangeOf}
 use Rattle.terms.specs.Ptfin.{Begun, sysmod_in, IsUpdateWord, HasValue, IsWithin}
+use Rattle.terms.proofs.Texts.{form_numbered}
 use Rattle.terms.proofs.Updates.{numbered_no_fault, update_no_fault}
 use Rattle.mcs.specs.declared.fault.StatementError.{StatementError}
 use Rattle.mcs.specs.declared.fault.StatementError.TheVariants.{Memory, Fault}
@@ -27,15 +29,10 @@ pub replacement_fits : (type : ElemType) (name distlib syslib : Text) (text : Li
 replacement_fits Mac name d s text = (λ h. h, λ h. h)
 replacement_fits type name d s text = (λ h. h, λ h. h)
 
-pub numbered_form : (type : ElemType) (text : Lines) → (type ≡ Mac) ⊎ (type ≡ Src) → IsReplacement type text
-    → IsNumbered text
-numbered_form type text (inl e) r = (subst (λ t. IsReplacement t text) e r).1
-numbered_form type text (inr e) r = (subst (λ t. IsReplacement t text) e r).1
-
-pub not_numbered : (type : ElemType) (inline lines : Lines) (fault : TextFault) → (type ≡ Mac) ⊎ (type ≡ Src)
-    → lines ≡ inline → IsNumberedFault lines fault → IsReplacement type inline → ⊥
-not_numbered type inline lines fault is same f r =
-    numbered_no_fault lines fault (subst IsNumbered (sym same) (numbered_form type inline is r)) f
+pub not_numbered : (type : ElemType) (inline lines : Lines) (fault : TextFault) → TakesUpdates type → lines ≡ inline
+    → IsNumberedFault lines fault → IsReplacement type inline → ⊥
+not_numbered type inline lines fault takes same f r =
+    numbered_no_fault lines fault (subst IsNumbered (sym same) (form_numbered type inline takes r.1)) f
 
 abbrev pub a_change : ElemType → Text → Text → Text → Lines → Change
 a_change type name distlib syslib text = record { elem_type = type; name = name; action = Replaces distlib syslib text }

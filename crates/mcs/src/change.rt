@@ -85,14 +85,12 @@ fn text_of(
         return Err(StatementError::Fault(StatementCode::BadText));
     }
     let lines = lines(alloc, inline)?;
-    match elem_type {
-        ElemType::Mac | ElemType::Src => match Numbered::read(lines) {
-            Ok(text) => Ok(text.into_lines()),
-            Err(_) => Err(StatementError::Fault(StatementCode::BadText)),
-        },
-        ElemType::Clist | ElemType::Data | ElemType::Exec | ElemType::Parm | ElemType::Proc => {
-            Ok(lines)
-        }
+    if !elem_type.is_numbered() {
+        return Ok(lines);
+    }
+    match Numbered::read(lines) {
+        Ok(text) => Ok(text.into_lines()),
+        Err(_) => Err(StatementError::Fault(StatementCode::BadText)),
     }
 }
 

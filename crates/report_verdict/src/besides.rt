@@ -2,7 +2,6 @@
 ghost use Rattle.std.specs.Prelude.{◌≡◌, ◌++◌, ◌∷◌, [], map, option_map, OnOk};
 ghost use Rattle.std.specs.List.{flat_map};
 ghost use Rattle.std.specs.String.{string_bytes};
-ghost use Rattle.terms.specs.Needs.{is_bypassed};
 ghost use Rattle.machine.specs.Report.{optional_text};
 ghost use Rattle.report.specs.Views.{line_view, status_view};
 ghost use Rattle.report.specs.Facts.{RequisiteFact, HoldFact};
@@ -138,17 +137,6 @@ fn put_supply(fact: &Fact<'_>, lines: &[ReportLine], text: &mut Vec<u8>) -> Resu
     }
 }
 
-fn is_bypassed(bypass: &Bypass, kind: NeedKind) -> bool
-    ensures { result ≡ is_bypassed bypass.now kind }
-{
-    match kind {
-        NeedKind::Pre => bypass.pre,
-        NeedKind::Req => bypass.req,
-        NeedKind::Ifreq => bypass.ifreq,
-        _ => false,
-    }
-}
-
 fn is_lacking(answer: &Resolution) -> bool
     ensures { result ≡ is_lacking (answer_view answer.now) }
 {
@@ -168,7 +156,7 @@ fn put_bypassed_requisite(
     ensures { OnOk result (text.new.items ≡ text.old.items
         ++ bypassed_told bypass.now (RequisiteFact requisite.now (answer_view answer.now))) }
 {
-    let covered = is_bypassed(bypass, requisite.kind) && is_lacking(answer);
+    let covered = bypass.covers(requisite.kind) && is_lacking(answer);
     if !covered {
         return Ok(());
     }

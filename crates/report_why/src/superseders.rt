@@ -11,7 +11,6 @@ ghost use Rattle.report_why.specs.Superseders.{direct_superseders};
 
 use fields::{Id, Srel};
 use indexmap::IndexSet;
-use judge_system::takes_superseder;
 use std::alloc::{AllocError, Global};
 use sysmods::VerChoice;
 use terms::NeedKind;
@@ -103,7 +102,7 @@ pub(crate) fn serving_ids(
     requires { vers.now.srel ≡ srel }
     ensures { IfOk result (λ ids. (y : AnId) → Contains ids.items y ↔ Serves (choice vers.now) kind y id) }
 {
-    if takes_superseder(kind) {
+    if kind.takes_superseder() {
         return with_superseders(alloc, vers, srel, id);
     }
     Ok(vec![in alloc; id]?)

@@ -1,8 +1,8 @@
 //! The texts of elements.
 
-ghost use Rattle.std.specs.Prelude.{◌≡◌, ◌≢◌, ◌↔◌, ℕ, List, IsTrue, IfOk, IsErrOf};
+ghost use Rattle.std.specs.Prelude.{◌≡◌, ◌≢◌, ℕ, List, IfOk, IsErrOf};
 ghost use Rattle.sqlite.specs.Order.{column};
-ghost use Rattle.store_schema.specs.Forms.{IsTextOf, TakesUpdates};
+ghost use Rattle.store_schema.specs.Forms.{IsTextOf};
 ghost use Rattle.store_schema.specs.Rows.{records};
 
 use crate::column_lists::records_in;
@@ -11,13 +11,6 @@ use std::alloc::Global;
 use store_rows::ReadError;
 use terms::ElemType;
 use text80::{Line, Numbered};
-
-/// Whether elements of this type have updates, and so numbered texts.
-pub fn is_updated(elem_type: ElemType) -> bool
-    ensures { IsTrue result ↔ TakesUpdates elem_type }
-{
-    matches!(elem_type, ElemType::Mac | ElemType::Src)
-}
 
 /// The records of an element of this type: those of macros and sources are numbered. Returns `Memory` if memory runs
 /// out, and `BadRow` if the column has no such records.
@@ -33,7 +26,7 @@ pub fn element_text_in(
     ensures fault { IsErrOf result ReadError.Fault → ⊥ }
 {
     let lines = records_in(alloc, row, at)?;
-    if !is_updated(elem_type) {
+    if !elem_type.is_numbered() {
         return Ok(lines);
     }
     match Numbered::read(lines) {

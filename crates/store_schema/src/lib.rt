@@ -26,7 +26,7 @@ mod texts;
 
 pub use column_lists::{ids_in, joined_ids, records_in, sources_in};
 pub use creating::add_tables;
-pub use element_texts::{element_text_in, is_updated};
+pub use element_texts::element_text_in;
 pub use error::StoreError;
 pub use kinds::{elem_type_in, flag_in, hold_kind_in, kind_in, zone_kind_in};
 pub use known::set_up;

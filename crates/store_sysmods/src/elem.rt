@@ -30,8 +30,7 @@ use sqlite_value::value::ValueRef;
 use std::alloc::{AllocError, Global};
 use store_rows::{FromRow, ReadError, cells_of, remove};
 use store_schema::{
-    Query, elem_type_in, element_text_in, flag_in, id_in, is_updated, name_in, optional_in,
-    records_in,
+    Query, elem_type_in, element_text_in, flag_in, id_in, name_in, optional_in, records_in,
 };
 use sysmods_values::{Action, ElemChange};
 use terms::ElemType;
@@ -109,7 +108,7 @@ fn update_in(
         → IsUpdate name text → column row.now at ≢ records text }
     ensures fault { IsErrOf result ReadError.Fault → ⊥ }
 {
-    if !is_updated(elem_type) {
+    if !elem_type.is_numbered() {
         return Err(ReadError::BadRow);
     }
     let lines = records_in(alloc, row, at)?;

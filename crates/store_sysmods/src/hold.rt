@@ -1,6 +1,6 @@
 //! The table of holds: external ones and those of SYSMODs.
 
-ghost use Rattle.std.specs.Prelude.{◌≡◌, ◌≢◌, ◌↔◌, ℕ, List, Option, map, option_map, IsTrue, IfOk, IfSome, IfNone};
+ghost use Rattle.std.specs.Prelude.{◌≡◌, ◌≢◌, ℕ, List, Option, map, option_map, IfOk, IfSome, IfNone};
 ghost use Rattle.std.specs.Prelude.{IsErrOf, IsPermutation, OnOk};
 ghost use Rattle.std.specs.List.{AllByRecursion};
 ghost use Rattle.std.specs.String.{string_bytes};
@@ -48,22 +48,12 @@ const DELETE: &str = "DELETE FROM hold WHERE id = ?1 AND kind = ?2 AND reason = 
 
 // ---- as it is read
 
-// Whether the reason suits the kind.
-fn suits(kind: HoldKind, reason: Reason) -> bool
-    ensures { IsTrue result ↔ IsReason kind reason }
-{
-    match kind {
-        HoldKind::Error => reason.is_id(),
-        _ => true,
-    }
-}
-
 fn reason_in(row: &Row, at: usize, kind: HoldKind) -> Option<Reason>
     ensures some { IfSome result (λ reason. (column row.now at ≡ Text reason) × IsReason kind reason) }
     ensures none { IfNone result ((reason : List ℕ) → IsReason kind reason → column row.now at ≢ Text reason) }
 {
     let reason = Reason::read(text(row, at)?)?;
-    if !suits(kind, reason) {
+    if !reason.suits(kind) {
         return None;
     }
     Some(reason)

@@ -1,11 +1,13 @@
 //! Element statements.
-ghost use Rattle.std.specs.Prelude.{◌≡◌};
+ghost use Rattle.std.specs.Prelude.{◌≡◌, Some};
 ghost use Rattle.terms.specs.Global.{change_cmp};
+ghost use Rattle.terms.specs.Statements.{changed_type};
+ghost use Rattle.sysmods_values.specs.Views.{IsWordOf};
 
 use fields::Name;
 use std::cmp::Ordering;
 use std::marker::Model;
-use terms::ElemType;
+use terms::{ElemType, StatementWord};
 use text80::{Line, Update};
 
 /// What an element statement does. An update has all records after `++MACUPD` or `++SRCUPD`, including `./` records.
@@ -50,5 +52,19 @@ impl ElemChange {
         self.elem_type
             .cmp(&other.elem_type)
             .then(self.name.cmp(&other.name))
+    }
+
+    /// The word of the statement.
+    pub fn word(&self) -> StatementWord
+        ensures element { changed_type result ≡ Some self.now.elem_type }
+        ensures action { IsWordOf self.now.action result }
+    {
+        if let Action::Replaces { .. } = self.action {
+            return StatementWord::Replace(self.elem_type);
+        }
+        match self.elem_type.update_word() {
+            Some(word) => word,
+            None => unreachable!(),
+        }
     }
 }

@@ -78,13 +78,7 @@ impl<'a, 'b> Scope<'a, 'b> {
     pub fn is_bypassed(&self, kind: NeedKind) -> bool
         ensures { result ≡ is_bypassed self.now.bypass.now kind }
     {
-        let bypass = self.bypass;
-        match kind {
-            NeedKind::Pre => bypass.pre,
-            NeedKind::Req => bypass.req,
-            NeedKind::Ifreq => bypass.ifreq,
-            _ => false,
-        }
+        self.bypass.covers(kind)
     }
 
     /// Whether it covers any requisites at all.

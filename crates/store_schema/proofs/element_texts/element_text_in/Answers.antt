@@ -4,10 +4,10 @@ use Rattle.store_schema.specs.Rows.{records}
 use Rattle.store_schema.proofs.TextForms.{numbered_text, free_text, no_text}
 use Rattle.store_schema.proofs.element_texts.element_text_in.Goals as goal
 
-pub returns-then-not-is_updated-clause-some : goal.returns-then-not-is_updated-clause-some
-returns-then-not-is_updated-clause-some c =
-    let no : c.is_updated.result ≡ false = c.if-not-is_updated.true in
-    let free : ¬ TakesUpdates c.args.elem_type = λ is. let yes : IsTrue c.is_updated.result = c.is_updated.ensures.1 is
+pub returns-then-not-is_numbered-clause-some : goal.returns-then-not-is_numbered-clause-some
+returns-then-not-is_numbered-clause-some c =
+    let no : c.is_numbered.result ≡ false = c.if-not-is_numbered.true in
+    let free : ¬ TakesUpdates c.args.elem_type = λ is. let yes : IsTrue c.is_numbered.result = c.is_numbered.ensures.1 is
     in absurd cc in (
       c.in_ok-lines.ensures.some.0,
       free_text c.args.elem_type c.in_ok-lines.lines.items free
@@ -26,5 +26,5 @@ returns-in-Ok-clause-some c =
 pub returns-in-Err-clause-none : goal.returns-in-Err-clause-none
 returns-in-Err-clause-none c bad text forms is =
     no_text c.args.elem_type c.in_ok-lines.lines.items text c.in-Err.field-0
-    (c.is_updated.ensures.0 c.if-not-is_updated.false) c.in_ok-lines.ensures.some.1 c.in-Err.ensures.fault forms
+    (c.is_numbered.ensures.0 c.if-not-is_numbered.false) c.in_ok-lines.ensures.some.1 c.in-Err.ensures.fault forms
     (sym c.in_ok-lines.ensures.some.0 ∙ is)
