@@ -64,8 +64,8 @@ impl Reason {
     }
 
     /// Whether a hold of the kind may have it.
-    pub fn suits(&self, kind: HoldKind) -> bool
-        ensures { IsTrue result ↔ IsReason kind self.now }
+    pub fn suits(self, kind: HoldKind) -> bool
+        ensures { IsTrue result ↔ IsReason kind self }
     {
         match kind {
             HoldKind::Error => self.is_id(),
