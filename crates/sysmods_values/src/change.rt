@@ -59,12 +59,12 @@ impl ElemChange {
         ensures element { changed_type result ≡ Some self.now.elem_type }
         ensures action { IsWordOf self.now.action result }
     {
-        if let Action::Replaces { .. } = self.action {
-            return StatementWord::Replace(self.elem_type);
-        }
-        match self.elem_type.update_word() {
-            Some(word) => word,
-            None => unreachable!(),
+        match &self.action {
+            Action::Replaces { .. } => StatementWord::Replace(self.elem_type),
+            Action::Updates { .. } => match self.elem_type.update_word() {
+                Some(word) => word,
+                None => unreachable!(),
+            },
         }
     }
 }
