@@ -109,9 +109,3 @@ if_said current b w own rest inline i at is h within = record {
   );
   text = tt;
 }
-
--- nothing is said outside a SYSMOD
-pub if_outside : (current : Option Begun) (w : StatementWord) (own : Option Text) (rest : List Piece) (inline : Lines)
-    → current ≡ None → w ≡ word.If → IsSaidError current w own rest inline (value_error Bad)
-if_outside current w own rest inline at is = if_excludes (sysmod_in current) w own rest inline is
-    (λ ws i h k. subst (λ c. IsSomeAnd (sysmod_in c) (λ y. IsIfOf y own ws i)) at k)

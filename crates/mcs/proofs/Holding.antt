@@ -1,5 +1,5 @@
 -- What a ++HOLD of a SYSMOD says, and why one says nothing.
-use Rattle.std.proofs.Common.{◌≡◌, IsTrue, List, Option, Some, None, sym, ◌∙◌, subst}
+use Rattle.std.proofs.Common.{◌≡◌, IsTrue, List, Option, Some, sym, ◌∙◌, subst}
 use Rattle.std.specs.Prelude.{IsSomeAnd}
 use Rattle.terms.specs.declared.statement_words.StatementWord.{StatementWord}
 use Rattle.terms.specs.declared.statement_words.StatementWord.TheVariants as word
@@ -73,9 +73,3 @@ hold_said current b w own rest inline h at is o within = record {
   within = within;
   text = tt;
 }
-
--- nothing is said outside a SYSMOD
-pub hold_outside : (current : Option Begun) (w : StatementWord) (own : Option Text) (rest : List Piece) (inline : Lines)
-    → current ≡ None → w ≡ word.Hold → IsSaidError current w own rest inline (value_error Bad)
-hold_outside current w own rest inline at is = hold_excludes (sysmod_in current) w own rest inline is
-    (λ ws h k o. subst (λ c. IsSomeAnd (sysmod_in c) (λ y. IsOwnHoldOf y own ws h)) at o)

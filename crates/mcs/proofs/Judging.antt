@@ -99,3 +99,12 @@ pub no_release : (current : Option Begun) (later records : Lines) (w : Statement
     (rest : List Piece) (inline : Lines) → Stands current later records w own rest inline → w ≡ word.Release → ⊥
 no_release current later records w own rest inline at is =
     at.placed CannotStand (λ may. may_not_release (sysmod_in current) (subst (MayStand (sysmod_in current)) is may))
+
+-- Where no SYSMOD has begun, a statement in its place is one that may come first.
+pub may_begin : (current : Option Begun) (later records : Lines) (w : StatementWord) (own : Option Text)
+    (rest : List Piece) (inline : Lines) → Stands current later records w own rest inline → current ≡ None
+    → MayStand None w
+may_begin current later records (word.Header kind) own rest inline at outside = tt
+may_begin current later records word.Assign own rest inline at outside = tt
+may_begin current later records w own rest inline at outside =
+    absurd (at.placed CannotStand (λ may. subst (λ c. MayStand (sysmod_in c) w) outside may))

@@ -1,5 +1,5 @@
 //! `++ASSIGN`.
-ghost use Rattle.std.specs.Prelude.{◌≡◌, ◌↔◌, ℕ, List, IsTrue, IfOk, IfErr, IsSomeAnd};
+ghost use Rattle.std.specs.Prelude.{◌≡◌, ◌↔◌, ℕ, List, Option, IsTrue, IfOk, IfErr, IsSomeAnd};
 ghost use Rattle.terms.specs.declared.statement_words.StatementWord.TheVariants as word;
 ghost use Rattle.terms.specs.Types.{Assign as AnyAssign};
 ghost use Rattle.terms.specs.Forms.{IsId};
@@ -10,12 +10,13 @@ ghost use Rattle.terms.specs.Statements.{IsAssignOf};
 ghost use Rattle.rec80.specs.Views.{words_of};
 ghost use Rattle.rec80.specs.Failing.{Excludes};
 ghost use Rattle.rec80.specs.Read.{IsRead};
+ghost use Rattle.mcs.specs.declared.file.Begun.{Begun};
 ghost use Rattle.mcs.specs.KnownWords.{own_list};
 ghost use Rattle.mcs.specs.Said.{Says, Fails};
 
 use crate::begin::Known;
 use crate::fault::{StatementError, no_value};
-use crate::file::{Assign, Begun};
+use crate::file::Assign;
 use crate::said::Statement;
 use fields::{Id, Source};
 use rec80::{OperandError, Word, listed_ids, operand, required};
@@ -72,16 +73,11 @@ fn is_within(assign: &Assign) -> bool
 
 /// What an `++ASSIGN` says. Returns `Memory` if memory runs out. `Fault` is `BadStatementOperand` if it has anything
 /// but SOURCEID and TO, each in its form, and `OverLimit` if TO has more than 1,000 ids.
-pub fn assign_statement(
-    alloc: Global,
-    current: &Option<Begun>,
-    known: &Known<'_>,
-) -> Result<Statement, StatementError>
+pub fn assign_statement(alloc: Global, known: &Known<'_>) -> Result<Statement, StatementError>
     requires { known.now.word ≡ word.Assign }
-    ensures said { Says current.now known.now result }
-    ensures fault { Fails current.now known.now result }
+    ensures said { (current : Option Begun) → Says current known.now result }
+    ensures fault { (current : Option Begun) → Fails current known.now result }
 {
-    let _ = current;
     let assign = match read_assign(alloc, known) {
         Ok(assign) => assign,
         Err(error) => return Err(no_value(error)),

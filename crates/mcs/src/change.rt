@@ -9,7 +9,6 @@ ghost use Rattle.terms.specs.Texts.{IsReplacement, IsUpdate};
 ghost use Rattle.rec80.specs.Read.{IsRead};
 ghost use Rattle.mcs.specs.KnownWords.{own_list};
 ghost use Rattle.mcs.specs.Elements.{HasNames, IsTextError, IsUpdateTextError};
-ghost use Rattle.mcs.specs.Files.{begun_in};
 ghost use Rattle.mcs.specs.Said.{Says, Fails};
 
 use crate::begin::Known;
@@ -99,19 +98,19 @@ fn text_of(
 /// has more than 99,999 records; and `BadText` if there is no text, or the text of a macro or source is not numbered.
 pub fn change_statement(
     alloc: Global,
-    current: &Option<Begun>,
+    begun: &Begun,
     elem_type: ElemType,
     known: &Known<'_>,
 ) -> Result<Statement, StatementError>
     requires { known.now.word ≡ word.Replace elem_type }
-    ensures said { Says current.now known.now result }
-    ensures fault { Fails current.now known.now result }
+    ensures said { Says (Some begun.now) known.now result }
+    ensures fault { Fails (Some begun.now) known.now result }
 {
     let Some(names) = read_names(known) else {
         return Err(StatementError::Fault(StatementCode::BadStatementOperand));
     };
     let inline = known.inline;
-    if !is_within(current, inline) {
+    if !is_within(begun, inline) {
         return Err(StatementError::Fault(StatementCode::OverLimit));
     }
     let lines = match text_of(alloc, elem_type, inline) {
@@ -154,13 +153,13 @@ fn update_of(alloc: Global, name: Name, inline: &[Record]) -> Result<Update, Sta
 /// `BadText` if the text is not an update of the element.
 pub fn update_statement(
     alloc: Global,
-    current: &Option<Begun>,
+    begun: &Begun,
     elem_type: ElemType,
     known: &Known<'_>,
 ) -> Result<Statement, StatementError>
     requires { (changed_type known.now.word ≡ Some elem_type) × IsUpdateWord known.now.word }
-    ensures said { Says current.now known.now result }
-    ensures fault { Fails current.now known.now result }
+    ensures said { Says (Some begun.now) known.now result }
+    ensures fault { Fails (Some begun.now) known.now result }
 {
     if !known.operands.is_empty() {
         return Err(StatementError::Fault(StatementCode::BadStatementOperand));
@@ -169,7 +168,7 @@ pub fn update_statement(
         return Err(StatementError::Fault(StatementCode::BadStatementOperand));
     };
     let inline = known.inline;
-    if !is_within(current, inline) {
+    if !is_within(begun, inline) {
         return Err(StatementError::Fault(StatementCode::OverLimit));
     }
     let update = match update_of(alloc, name, inline) {
@@ -184,13 +183,8 @@ pub fn update_statement(
 }
 
 // Whether the SYSMOD may have one more element, and the text is no longer than the limit.
-fn is_within(current: &Option<Begun>, inline: &[Record]) -> bool
-    ensures { IsTrue result ↔ (IfSome (begun_in current.now) (λ b. length b.sysmod.changes < 999)
-        × (length inline.now ≤ 99999)) }
+fn is_within(begun: &Begun, inline: &[Record]) -> bool
+    ensures { IsTrue result ↔ ((length begun.now.sysmod.changes < 999) × (length inline.now ≤ 99999)) }
 {
-    let fits = match current {
-        Some(begun) => begun.sysmod.changes.len() < 999,
-        None => true,
-    };
-    fits && inline.len() <= 99999
+    begun.sysmod.changes.len() < 999 && inline.len() <= 99999
 }

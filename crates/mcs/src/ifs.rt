@@ -1,5 +1,5 @@
 //! `++IF`.
-ghost use Rattle.std.specs.Prelude.{◌≡◌, ◌↔◌, ◌<◌, [], ◌∷◌, length, codes, IsTrue, IfOk, IfErr, IfSome, IfNone};
+ghost use Rattle.std.specs.Prelude.{◌≡◌, ◌↔◌, ◌<◌, [], ◌∷◌, length, codes, IsTrue, IfOk, IfErr, IfSome, IfNone, Some};
 ghost use Rattle.std.specs.Prelude.{option_copied};
 ghost use Rattle.terms.specs.declared.statement_words.StatementWord.TheVariants as word;
 ghost use Rattle.terms.specs.Types.{IfReq as AnyIf};
@@ -109,21 +109,18 @@ fn is_within(begun: &Begun, condition: &IfReq) -> bool
     has_place && condition.req.len() <= 1000
 }
 
-/// What an `++IF` says. Returns `Memory` if memory runs out. `Fault` is `BadStatementOperand` if no SYSMOD has begun,
-/// if it lacks FMID, THEN and REQ in this order, each in its form, or if REQ names the SYSMOD itself. It is `OverLimit`
-/// if the last `++VER` has 100 `++IF`s already, or REQ has more than 1,000 ids.
+/// What an `++IF` says. Returns `Memory` if memory runs out. `Fault` is `BadStatementOperand` if it lacks FMID, THEN and
+/// REQ in this order, each in its form, or if REQ names the SYSMOD itself. It is `OverLimit` if the last `++VER` has 100
+/// `++IF`s already, or REQ has more than 1,000 ids.
 pub fn if_statement(
     alloc: Global,
-    current: &Option<Begun>,
+    begun: &Begun,
     known: &Known<'_>,
 ) -> Result<Statement, StatementError>
     requires { known.now.word ≡ word.If }
-    ensures said { Says current.now known.now result }
-    ensures fault { Fails current.now known.now result }
+    ensures said { Says (Some begun.now) known.now result }
+    ensures fault { Fails (Some begun.now) known.now result }
 {
-    let Some(begun) = current else {
-        return Err(StatementError::Fault(StatementCode::BadStatementOperand));
-    };
     let Some(words) = known.operands.only() else {
         return Err(StatementError::Fault(StatementCode::BadStatementOperand));
     };

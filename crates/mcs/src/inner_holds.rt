@@ -1,5 +1,5 @@
 //! `++HOLD` inside a SYSMOD.
-ghost use Rattle.std.specs.Prelude.{◌≡◌, ◌↔◌, List, IsTrue, IfOk, IfErr};
+ghost use Rattle.std.specs.Prelude.{◌≡◌, ◌↔◌, List, IsTrue, IfOk, IfErr, Some};
 ghost use Rattle.terms.specs.declared.statement_words.StatementWord.TheVariants as word;
 ghost use Rattle.terms.specs.declared.kinds.HoldKind.TheVariants.{System};
 ghost use Rattle.terms.specs.Types.{Hold as AnyHold};
@@ -48,21 +48,18 @@ fn read_own_hold(alloc: Global, sysmod: &Sysmod, known: &Known<'_>) -> Result<Ho
     Ok(hold)
 }
 
-/// What a `++HOLD` in a SYSMOD says. Returns `Memory` if memory runs out. `Fault` is `BadStatementOperand` if no SYSMOD
-/// has begun, if an operand is unknown, repeated, missing or of a bad form, or if the hold is not a SYSTEM hold on this
-/// SYSMOD. It is `OverLimit` if its comment has more than 200 characters.
+/// What a `++HOLD` in a SYSMOD says. Returns `Memory` if memory runs out. `Fault` is `BadStatementOperand` if an operand
+/// is unknown, repeated, missing or of a bad form, or if the hold is not a SYSTEM hold on this SYSMOD. It is `OverLimit`
+/// if its comment has more than 200 characters.
 pub fn hold_statement(
     alloc: Global,
-    current: &Option<Begun>,
+    begun: &Begun,
     known: &Known<'_>,
 ) -> Result<Statement, StatementError>
     requires { known.now.word ≡ word.Hold }
-    ensures said { Says current.now known.now result }
-    ensures fault { FailsPrintable current.now known.now result }
+    ensures said { Says (Some begun.now) known.now result }
+    ensures fault { FailsPrintable (Some begun.now) known.now result }
 {
-    let Some(begun) = current else {
-        return Err(StatementError::Fault(StatementCode::BadStatementOperand));
-    };
     let hold = match read_own_hold(alloc, &begun.sysmod, known) {
         Ok(hold) => hold,
         Err(error) => return Err(no_value(error)),

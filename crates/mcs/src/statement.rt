@@ -1,10 +1,10 @@
 //! One statement of a PTFIN, after those before it.
-ghost use Rattle.std.specs.Prelude.{◌≢◌, All, IfOk, IfErr};
+ghost use Rattle.std.specs.Prelude.{◌≢◌, All, IfOk, IfErr, Some, None};
 ghost use Rattle.terms.specs.declared.statement_words.StatementWord.TheVariants as word;
 ghost use Rattle.terms.specs.Records.{IsRecord};
-ghost use Rattle.terms.specs.Ptfin.{IsGoodStatement};
+ghost use Rattle.terms.specs.Ptfin.{MayStand, IsGoodStatement};
 ghost use Rattle.mcs.specs.Files.{begun_in};
-ghost use Rattle.mcs.specs.Said.{Says, FailsPrintable, IsStatementError};
+ghost use Rattle.mcs.specs.Said.{Says, Fails, FailsPrintable, IsStatementError};
 ghost use Rattle.mcs.specs.Statements.{statement_of};
 
 use crate::assign::assign_statement;
@@ -22,26 +22,41 @@ use rec80::{Group, Record};
 use std::alloc::Global;
 use terms::{ElemType, StatementCode, StatementWord};
 
-// What a statement of this word says.
-fn said_by(
-    alloc: Global,
-    current: &Option<Begun>,
-    known: &Known<'_>,
-) -> Result<Statement, StatementError>
-    requires { known.now.word ≢ word.Release }
-    ensures said { Says current.now known.now result }
-    ensures fault { FailsPrintable current.now known.now result }
+// What a statement says where no SYSMOD has begun.
+fn said_outside(alloc: Global, known: &Known<'_>) -> Result<Statement, StatementError>
+    requires { MayStand None known.now.word }
+    ensures said { Says None known.now result }
+    ensures fault { Fails None known.now result }
 {
     match known.word {
-        StatementWord::Header(kind) => header_statement(current, kind, known),
-        StatementWord::Ver => ver_statement(alloc, current, known),
-        StatementWord::If => if_statement(alloc, current, known),
-        StatementWord::Hold => hold_statement(alloc, current, known),
+        StatementWord::Header(kind) => header_statement(kind, known),
+        StatementWord::Assign => assign_statement(alloc, known),
+        StatementWord::Ver
+        | StatementWord::If
+        | StatementWord::Hold
+        | StatementWord::Release
+        | StatementWord::Replace(_)
+        | StatementWord::UpdateMac
+        | StatementWord::UpdateSrc => Err(StatementError::Fault(StatementCode::WrongPlace)),
+    }
+}
+
+// What a statement says after those of a SYSMOD.
+fn said_inside(alloc: Global, begun: &Begun, known: &Known<'_>) -> Result<Statement, StatementError>
+    requires { known.now.word ≢ word.Release }
+    ensures said { Says (Some begun.now) known.now result }
+    ensures fault { FailsPrintable (Some begun.now) known.now result }
+{
+    match known.word {
+        StatementWord::Header(kind) => header_statement(kind, known),
+        StatementWord::Ver => ver_statement(alloc, begun, known),
+        StatementWord::If => if_statement(alloc, begun, known),
+        StatementWord::Hold => hold_statement(alloc, begun, known),
         StatementWord::Release => Err(StatementError::Fault(StatementCode::WrongPlace)),
-        StatementWord::Assign => assign_statement(alloc, current, known),
-        StatementWord::Replace(elem_type) => change_statement(alloc, current, elem_type, known),
-        StatementWord::UpdateMac => update_statement(alloc, current, ElemType::Mac, known),
-        StatementWord::UpdateSrc => update_statement(alloc, current, ElemType::Src, known),
+        StatementWord::Assign => assign_statement(alloc, known),
+        StatementWord::Replace(elem_type) => change_statement(alloc, begun, elem_type, known),
+        StatementWord::UpdateMac => update_statement(alloc, begun, ElemType::Mac, known),
+        StatementWord::UpdateSrc => update_statement(alloc, begun, ElemType::Src, known),
     }
 }
 
@@ -66,5 +81,8 @@ pub fn read_statement(
     if is_misplaced(current, later, &known) {
         return Err(StatementError::Fault(StatementCode::WrongPlace));
     }
-    said_by(alloc, current, &known)
+    match current {
+        Some(begun) => said_inside(alloc, begun, &known),
+        None => said_outside(alloc, &known),
+    }
 }

@@ -171,21 +171,18 @@ fn is_within(sysmod: &Sysmod, ver: &Ver) -> bool
         && ver.del.len() <= 1000
 }
 
-/// What a `++VER` says. Returns `Memory` if memory runs out. `Fault` is `BadStatementOperand` if no SYSMOD has begun,
-/// if an operand is unknown, repeated or of a bad form, if service has no FMID or has NPRE or DELETE, or if an operand
-/// names the SYSMOD itself. It is `OverLimit` if the SYSMOD has 8 `++VER`s already, or a list has more than 1,000 ids.
+/// What a `++VER` says. Returns `Memory` if memory runs out. `Fault` is `BadStatementOperand` if an operand is unknown,
+/// repeated or of a bad form, if service has no FMID or has NPRE or DELETE, or if an operand names the SYSMOD itself.
+/// It is `OverLimit` if the SYSMOD has 8 `++VER`s already, or a list has more than 1,000 ids.
 pub fn ver_statement(
     alloc: Global,
-    current: &Option<Begun>,
+    begun: &Begun,
     known: &Known<'_>,
 ) -> Result<Statement, StatementError>
     requires { known.now.word ≡ word.Ver }
-    ensures said { Says current.now known.now result }
-    ensures fault { Fails current.now known.now result }
+    ensures said { Says (Some begun.now) known.now result }
+    ensures fault { Fails (Some begun.now) known.now result }
 {
-    let Some(begun) = current else {
-        return Err(StatementError::Fault(StatementCode::BadStatementOperand));
-    };
     let Some(words) = known.operands.named(OPERANDS) else {
         return Err(StatementError::Fault(StatementCode::BadStatementOperand));
     };

@@ -14,7 +14,7 @@ ghost use Rattle.smpe_zones.specs.Own.{IsOfZone};
 use crate::commit::commit_change;
 use crate::session::Session;
 use fields::{Attest, ZoneName};
-use report::{Header, Outcome, Refusal, ReportLine};
+use report::{Header, Outcome, ReportLine};
 use sqlite::Alter;
 use std::alloc::Global;
 use store::{Change, Store, StoreError};
@@ -49,17 +49,14 @@ impl Session {
         if header.check {
             return Ok(Outcome::Ran { header, lines });
         }
+        let ran = Outcome::Ran { header, lines };
         let Some(zone) = self.zones.get_mut(&name) else {
-            // The plan is for a zone that the session has.
-            let refusal = Refusal::WrongKind;
-            return Ok(Outcome::Refused { header, refusal });
+            // The session has no copy of the zone that would have to follow.
+            return commit_change(store, &Change::Zone(name, delta), ran);
         };
         let prepared = zone.prepare(alloc, &delta)?;
-        let outcome = commit_change(
-            store,
-            &Change::Zone(name, delta),
-            Outcome::Ran { header, lines },
-        )?;
+        let change = Change::Zone(name, delta);
+        let outcome = commit_change(store, &change, ran)?;
         zone.edit(prepared);
         Ok(outcome)
     }

@@ -1,7 +1,8 @@
-use Rattle.mcs.proofs.statement.said_by.Goals as goal
+use Rattle.std.proofs.Common.{Some}
+use Rattle.mcs.proofs.statement.said_inside.Goals as goal
 
 pub returns-in-Header-clause-fault : goal.returns-in-Header-clause-fault
-returns-in-Header-clause-fault c = λ rest h printable. c.header_statement.ensures.fault rest h
+returns-in-Header-clause-fault c = λ rest h printable. c.header_statement.ensures.fault (Some c.args.begun.now) rest h
 
 pub returns-in-Ver-clause-fault : goal.returns-in-Ver-clause-fault
 returns-in-Ver-clause-fault c = λ rest h printable. c.ver_statement.ensures.fault rest h
@@ -10,7 +11,7 @@ pub returns-in-If-clause-fault : goal.returns-in-If-clause-fault
 returns-in-If-clause-fault c = λ rest h printable. c.if_statement.ensures.fault rest h
 
 pub returns-in-Assign-clause-fault : goal.returns-in-Assign-clause-fault
-returns-in-Assign-clause-fault c = λ rest h printable. c.assign_statement.ensures.fault rest h
+returns-in-Assign-clause-fault c = λ rest h printable. c.assign_statement.ensures.fault (Some c.args.begun.now) rest h
 
 pub returns-in-Replace-clause-fault : goal.returns-in-Replace-clause-fault
 returns-in-Replace-clause-fault c = λ rest h printable. c.change_statement.ensures.fault rest h
