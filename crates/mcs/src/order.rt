@@ -6,7 +6,7 @@ ghost use Rattle.terms.specs.Statements.{changed_type};
 ghost use Rattle.terms.specs.Statement.{Piece};
 ghost use Rattle.terms.specs.Ptfin.{MayStand, NamesFmid, IsSecond, Disorder, IsMisplaced, sysmod_in};
 ghost use Rattle.rec80.specs.Read.{IsRead};
-ghost use Rattle.mcs.specs.KnownWords.{own_list};
+ghost use Rattle.mcs.specs.KnownWords.{own_list, parts_of};
 ghost use Rattle.mcs.specs.Files.{begun_in};
 
 use crate::begin::Known;
@@ -133,8 +133,7 @@ fn is_second(sysmod: &Sysmod, known: &Known<'_>) -> bool
 /// Whether the statement is out of order after the statements so far.
 pub fn is_misplaced(current: &Option<Begun>, later: &[Record], known: &Known<'_>) -> bool
     ensures { (rest : List Piece) → IsRead rest known.now.operands → IsTrue result ↔ ((why : Disorder)
-        × IsMisplaced (sysmod_in (begun_in current.now)) later.now known.now.word (own_list known.now) rest
-        known.now.inline.now why) }
+        × IsMisplaced (sysmod_in (begun_in current.now)) later.now (parts_of known.now rest) why) }
 {
     if !may_stand(current, known.word) {
         return true;
