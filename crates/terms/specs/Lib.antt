@@ -25,6 +25,7 @@ pub mod Conditions
 pub mod Candidates
 pub mod Tests
 pub mod Needs
+pub mod Judging
 pub mod Kept
 pub mod Judged
 pub mod Install
