@@ -1,3 +1,4 @@
+pub mod Bytes
 pub mod Types
 pub mod Rising
 pub mod Spelling
