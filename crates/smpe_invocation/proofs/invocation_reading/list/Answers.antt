@@ -1,16 +1,15 @@
-use Rattle.std.proofs.lemmas.Result.{err_from_is_err_and}
 use Rattle.clap.specs.Words.{found_of, rows_of}
-use Rattle.smpe_invocation.proofs.Excluding.{excludes_more, list_in}
+use Rattle.smpe_invocation.proofs.Excluding.{handed_on, list_in}
 use Rattle.smpe_invocation.proofs.invocation_reading.list.Goals as goal
 
 pub returns-in_err-zone-clause-err : goal.returns-in_err-zone-clause-err
 returns-in_err-zone-clause-err c =
-    let p = err_from_is_err_and c.from_residual.result c.from_residual.ensures.1 in
-    rw (p.1, p.2) (excludes_more c.in_err-zone.field-0.0 _ _
-    (λ has. let h = list_in (rows_of (found_of c.args.found.now)) has in (h.1, h.2.1)) c.in_err-zone.ensures.err)
+    handed_on _ _ _ _ c.from_residual.ensures.1
+    (λ has. let h = list_in (rows_of (found_of c.args.found.now)) has in (h.1, h.2.1))
+    c.in_err-zone.ensures.err
 
 pub returns-in_err-db-clause-err : goal.returns-in_err-db-clause-err
 returns-in_err-db-clause-err c =
-    let p = err_from_is_err_and c.from_residual-in_err-db.result c.from_residual-in_err-db.ensures.1 in
-    rw (p.1, p.2) (excludes_more c.in_err-db.field-0.0 _ _
-    (λ has. let h = list_in (rows_of (found_of c.args.found.now)) has in (h.0, h.2.0)) c.in_err-db.ensures.err)
+    handed_on _ _ _ _ c.from_residual-in_err-db.ensures.1
+    (λ has. let h = list_in (rows_of (found_of c.args.found.now)) has in (h.0, h.2.0))
+    c.in_err-db.ensures.err

@@ -1,11 +1,9 @@
-use Rattle.std.proofs.lemmas.Result.{err_from_is_err_and}
 use Rattle.clap.specs.Words.{found_of, rows_of}
-use Rattle.smpe_invocation.proofs.Excluding.{excludes_more, verify_in}
+use Rattle.smpe_invocation.proofs.Excluding.{handed_on, verify_in}
 use Rattle.smpe_invocation.proofs.invocation_reading.verify.Goals as goal
 
 pub returns-in_err-db-clause-err : goal.returns-in_err-db-clause-err
 returns-in_err-db-clause-err c =
-    let p = err_from_is_err_and c.from_residual.result c.from_residual.ensures.1 in
-    rw (p.1, p.2) (excludes_more c.in_err-db.field-0.0 _ _
+    handed_on _ _ _ _ c.from_residual.ensures.1
     (λ has. let h = verify_in (rows_of (found_of c.args.found.now)) has in (h.0, h.1))
-    c.in_err-db.ensures.err)
+    c.in_err-db.ensures.err

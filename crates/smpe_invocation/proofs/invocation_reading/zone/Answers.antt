@@ -1,34 +1,33 @@
-use Rattle.std.proofs.lemmas.Result.{err_from_is_err_and}
 use Rattle.clap.specs.Words.{found_of, rows_of}
-use Rattle.smpe_invocation.proofs.Excluding.{excludes_more, zone_in}
+use Rattle.smpe_invocation.proofs.Excluding.{handed_on, zone_in}
 use Rattle.smpe_invocation.proofs.invocation_reading.zone.Goals as goal
 
 pub returns-in_err-name-clause-err : goal.returns-in_err-name-clause-err
 returns-in_err-name-clause-err c =
-    let p = err_from_is_err_and c.from_residual.result c.from_residual.ensures.1 in
-    rw (p.1, p.2) (excludes_more c.in_err-name.field-0.0 _ _
-    (λ has. let h = zone_in (rows_of (found_of c.args.found.now)) has in (h.1, h.5.1)) c.in_err-name.ensures.err)
+    handed_on _ _ _ _ c.from_residual.ensures.1
+    (λ has. let h = zone_in (rows_of (found_of c.args.found.now)) has in (h.1, h.5.1))
+    c.in_err-name.ensures.err
 
 pub returns-in_err-kind-clause-err : goal.returns-in_err-kind-clause-err
 returns-in_err-kind-clause-err c =
-    let p = err_from_is_err_and c.from_residual-in_err-kind.result c.from_residual-in_err-kind.ensures.1 in
-    rw (p.1, p.2) (excludes_more c.in_err-kind.field-0.0 _ _
-    (λ has. let h = zone_in (rows_of (found_of c.args.found.now)) has in (h.2, h.5.2)) c.in_err-kind.ensures.err)
+    handed_on _ _ _ _ c.from_residual-in_err-kind.ensures.1
+    (λ has. let h = zone_in (rows_of (found_of c.args.found.now)) has in (h.2, h.5.2))
+    c.in_err-kind.ensures.err
 
 pub returns-in_err-srel-clause-err : goal.returns-in_err-srel-clause-err
 returns-in_err-srel-clause-err c =
-    let p = err_from_is_err_and c.from_residual-in_err-srel.result c.from_residual-in_err-srel.ensures.1 in
-    rw (p.1, p.2) (excludes_more c.in_err-srel.field-0.0 _ _
-    (λ has. let h = zone_in (rows_of (found_of c.args.found.now)) has in (h.3, h.5.3)) c.in_err-srel.ensures.err)
+    handed_on _ _ _ _ c.from_residual-in_err-srel.ensures.1
+    (λ has. let h = zone_in (rows_of (found_of c.args.found.now)) has in (h.3, h.5.3))
+    c.in_err-srel.ensures.err
 
 pub returns-in_err-related-clause-err : goal.returns-in_err-related-clause-err
 returns-in_err-related-clause-err c =
-    let p = err_from_is_err_and c.from_residual-in_err-related.result c.from_residual-in_err-related.ensures.1 in
-    rw (p.1, p.2) (excludes_more c.in_err-related.field-0.0 _ _
-    (λ has. let h = zone_in (rows_of (found_of c.args.found.now)) has in (h.4, h.5.4)) c.in_err-related.ensures.err)
+    handed_on _ _ _ _ c.from_residual-in_err-related.ensures.1
+    (λ has. let h = zone_in (rows_of (found_of c.args.found.now)) has in (h.4, h.5.4))
+    c.in_err-related.ensures.err
 
 pub returns-in_err-db-clause-err : goal.returns-in_err-db-clause-err
 returns-in_err-db-clause-err c =
-    let p = err_from_is_err_and c.from_residual-in_err-db.result c.from_residual-in_err-db.ensures.1 in
-    rw (p.1, p.2) (excludes_more c.in_err-db.field-0.0 _ _
-    (λ has. let h = zone_in (rows_of (found_of c.args.found.now)) has in (h.0, h.5.0)) c.in_err-db.ensures.err)
+    handed_on _ _ _ _ c.from_residual-in_err-db.ensures.1
+    (λ has. let h = zone_in (rows_of (found_of c.args.found.now)) has in (h.0, h.5.0))
+    c.in_err-db.ensures.err
