@@ -4,7 +4,7 @@ use report::Out;
 use row_steps::{in_memory, new_files, opened, put_lines, reopened};
 use smpe::{Answer, Job, JobError, run_jobs};
 use sqlite::{Alter, Connection, FileStore, MemStore};
-use sqlite_disk::Memory;
+use sqlite_disk::{Fuse, Memory};
 use std::alloc::Global;
 use std::test::Fail;
 use store::Store;
@@ -13,7 +13,7 @@ use store::Store;
 #[derive(Drop)]
 pub(crate) enum Database {
     Memory(Store<MemStore>),
-    Files(Store<FileStore<Memory>>),
+    Files(Store<FileStore<Fuse<Memory>>>),
 }
 
 impl Database {

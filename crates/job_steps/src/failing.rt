@@ -4,10 +4,10 @@ ghost use Rattle.std.specs.Prelude.{IsTrue};
 
 use crate::checked::{Checked, Ended};
 use crate::running::installed_files;
-use row_steps::connected;
+use row_steps::{connected, copied_files};
 use smpe::reopened;
 use sqlite::{Connection, FileStore, Files, Options};
-use sqlite_disk::{Crash, Disk, Fuse};
+use sqlite_disk::{Crash, Disk, Fuse, Memory};
 use std::alloc::Global;
 use std::test::Fail;
 
@@ -61,10 +61,10 @@ fn check_on<D: Crash + Drop>(
 }
 
 // The same with one of the connection's disks failing at the next of so many calls.
-fn check_over<D: Crash + Drop>(
+fn check_over(
     alloc: Global,
     checked: &Checked,
-    conn: Connection<FileStore<D>>,
+    conn: Connection<FileStore<Fuse<Memory>>>,
     fused: Fused,
     calls: u64,
 ) -> Result<Ended, Fail> {
@@ -72,14 +72,10 @@ fn check_over<D: Crash + Drop>(
         Fused::Log => (calls, u64::MAX),
         Fused::Database => (u64::MAX, calls),
     };
-    match conn.close_files() {
-        Ok(Files { log, db }) => {
-            let log = Fuse::new(log, in_log);
-            let db = Fuse::new(db, in_db);
-            check_on(alloc, checked, Files { log, db })
-        }
-        Err((error, _store)) => Err(Fail::from(error)),
-    }
+    let Files { log, db } = copied_files(alloc, conn)?;
+    let log = Fuse::new(log, in_log);
+    let db = Fuse::new(db, in_db);
+    check_on(alloc, checked, Files { log, db })
 }
 
 /// Runs the job over disks on which the function is installed, and of which one fails after more and more calls, until

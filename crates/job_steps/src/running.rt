@@ -6,7 +6,7 @@ use fields::Srel;
 use row_steps::{opened, zone_name};
 use smpe::{Answer, Job, JobError};
 use sqlite::{Alter, Connection, FileStore};
-use sqlite_disk::Memory;
+use sqlite_disk::{Fuse, Memory};
 use std::alloc::Global;
 use std::test::Fail;
 use store::Store;
@@ -107,7 +107,7 @@ pub(crate) fn installed<S: Alter + Drop>(
 }
 
 /// Files in which the function is applied. They were closed and opened again before each job.
-pub(crate) fn installed_files(alloc: Global) -> Result<Connection<FileStore<Memory>>, Fail> {
+pub(crate) fn installed_files(alloc: Global) -> Result<Connection<FileStore<Fuse<Memory>>>, Fail> {
     match install(alloc, begun(alloc, true)?, true)? {
         Database::Files(store) => Ok(store.close()),
         Database::Memory(_) => Err(Fail::from("no files")),

@@ -6,7 +6,7 @@ use crate::tables::all_lines;
 use fields::ZoneName;
 use sorted::TryClone;
 use sqlite::{Alter, Connection, FileStore, MemStore};
-use sqlite_disk::Memory;
+use sqlite_disk::{Fuse, Memory};
 use std::alloc::Global;
 use std::test::Fail;
 use store::{Change, Store};
@@ -130,7 +130,7 @@ fn copied<S: Alter + Drop, T: Alter + Drop>(
 fn in_files<S: Alter + Drop>(
     alloc: Global,
     from: Connection<S>,
-) -> Result<Connection<FileStore<Memory>>, Fail> {
+) -> Result<Connection<FileStore<Fuse<Memory>>>, Fail> {
     reopened(alloc, copied(alloc, from, new_files(alloc)?)?)
 }
 

@@ -18,7 +18,7 @@ use performing::Stores;
 use scripts::{Played, play};
 use std::alloc::Global;
 use std::test::Fail;
-pub use stores::{connected, in_memory, new_files, opened, reopened, zone_name};
+pub use stores::{connected, copied_files, in_memory, new_files, opened, reopened, zone_name};
 pub use tables::{all_lines, put_lines, run};
 
 /// Plays a script about stores.

@@ -4,7 +4,7 @@ ghost use Rattle.std.specs.Prelude.{IsTrue};
 
 use crate::performing::{joined, words_of};
 use crate::rows::{fill_first, lines_of, put_difference, run_all};
-use crate::stores::{close, in_memory, known_with, new_files, reopened};
+use crate::stores::{copied_files, in_memory, known_with, new_files, reopened};
 use crate::tables::all_lines;
 use scripts::ScriptStep;
 use sqlite::{Alter, Connection, Files, Options};
@@ -188,7 +188,7 @@ fn over_fused(
     in_log: u64,
     in_db: u64,
 ) -> Result<(String, bool), Fail> {
-    let Files { log, db } = close(earlier.fill(alloc, new_files(alloc)?)?)?;
+    let Files { log, db } = copied_files(alloc, earlier.fill(alloc, new_files(alloc)?)?)?;
     let log = Fuse::new(log, in_log);
     let db = Fuse::new(db, in_db);
     let (files, went_well) = migrated_on(alloc, Files { log, db })?;

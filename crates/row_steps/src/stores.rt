@@ -5,8 +5,8 @@ ghost use Rattle.sqlite_disk.specs.Memory.{memory_is_usable};
 
 use crate::rows::{fill_first, fill_sources, run_all};
 use fields::ZoneName;
-use sqlite::{Alter, Connection, Error, FileStore, Files, MemStore, Options};
-use sqlite_disk::{Disk, Memory};
+use sqlite::{Alter, Connection, FileStore, Files, MemStore, Options};
+use sqlite_disk::{Disk, Fuse, Memory};
 use std::alloc::Global;
 use std::test::Fail;
 use store::Store;
@@ -71,29 +71,50 @@ pub fn connected<D: Disk + Drop>(
 }
 
 /// A connection to new files.
-pub fn new_files(alloc: Global) -> Result<Connection<FileStore<Memory>>, Fail> {
-    let log = Memory::new(alloc);
-    let db = Memory::new(alloc);
+pub fn new_files(alloc: Global) -> Result<Connection<FileStore<Fuse<Memory>>>, Fail> {
+    let log = Fuse::new(Memory::new(alloc), u64::MAX);
+    let db = Fuse::new(Memory::new(alloc), u64::MAX);
     connected(alloc, Files { log, db })
 }
 
-/// Closes the files, and fails if that fails.
-pub(crate) fn close(conn: Connection<FileStore<Memory>>) -> Result<Files<Memory>, Error>
-    ensures { IfOk result (λ files. IsTrue (memory_is_usable files.log) × IsTrue (memory_is_usable files.db)) }
-{
+// Closes the files.
+fn closed<D: Disk + Drop>(conn: Connection<FileStore<D>>) -> Result<Files<D>, Fail> {
     match conn.close_files() {
         Ok(files) => Ok(files),
-        Err(failed) => Err(failed.0),
+        Err((error, _store)) => Err(Fail::from(error)),
     }
 }
 
 /// Closes the files and opens them again.
-pub fn reopened(
+pub fn reopened<D: Disk + Drop>(
     alloc: Global,
-    conn: Connection<FileStore<Memory>>,
-) -> Result<Connection<FileStore<Memory>>, Fail> {
+    conn: Connection<FileStore<D>>,
+) -> Result<Connection<FileStore<D>>, Fail> {
     match conn.close_files() {
         Ok(files) => connected(alloc, files),
         Err((error, _store)) => Err(Fail::from(error)),
     }
+}
+
+// Another disk with these bytes, which are synced.
+fn disk_with(alloc: Global, bytes: &[u8]) -> Result<Memory, Fail>
+    ensures { IfOk result (λ disk. IsTrue (memory_is_usable disk)) }
+{
+    let mut disk = Memory::new(alloc);
+    disk.write_at(0, bytes)?;
+    disk.sync()?;
+    Ok(disk)
+}
+
+/// Closes the files, and copies them onto disks without fuses.
+pub fn copied_files(
+    alloc: Global,
+    conn: Connection<FileStore<Fuse<Memory>>>,
+) -> Result<Files<Memory>, Fail>
+    ensures { IfOk result (λ files. IsTrue (memory_is_usable files.log) × IsTrue (memory_is_usable files.db)) }
+{
+    let files = closed(conn)?;
+    let log = disk_with(alloc, files.log.inner().bytes())?;
+    let db = disk_with(alloc, files.db.inner().bytes())?;
+    Ok(Files { log, db })
 }
