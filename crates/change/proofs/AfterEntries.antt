@@ -22,7 +22,8 @@ use Rattle.terms.proofs.Ids.{is_in_from_Contains, Contains_from_is_in, in_or_not
 use Rattle.sysmods.specs.Choices.{number_in}
 use Rattle.change.specs.declared.deleting.Deleting.{Deleting}
 use Rattle.change.specs.declared.plan.Plan.{Plan}
-use Rattle.change.specs.Deleting.{AreDeletions, choice_of, left, at_stake}
+use Rattle.zones.specs.Gone.{left_of}
+use Rattle.change.specs.Deleting.{AreDeletions, choice_of, at_stake}
 use Rattle.change.specs.Pairs.{others_of}
 use Rattle.change.specs.Plans.{installation, IsPlan}
 use Rattle.change.specs.Entries.{is_open, bare_entry, old_entry, if_held, entry_after, IsAppliedEntry, IsOtherEntry}
@@ -98,23 +99,25 @@ module _ (e : Entry) (waives : IsTrue (waives_applied e)) where
       by true held = refl
       by false unheld = none unheld
 
-module _ (d : Deleting) (bypassed : List (Id × Id)) (date : Text) (is_global : IsGlobal d.vers.now.global.now)
-    (is_zone : IsZone d.zone.now) (lists : All (λ e. IsRising e.supby × IsRising e.waived) d.zone.now.entries)
+module _ (d : Deleting) (bypassed : List (Id × Id)) (date : Text) (is_global : IsGlobal d.left.vers.now.global.now)
+    (is_zone : IsZone d.left.zone.now) (lists : All (λ e. IsRising e.supby × IsRising e.waived) d.left.zone.now.entries)
     (dels : AreDeletions d) where
   abbrev choice : Choice
   choice = choice_of d
 
   abbrev zone : Zone
-  zone = d.zone.now
+  zone = d.left.zone.now
 
   abbrev i : Installation
-  i = installation d.vers.now.global.now (choice_of d) (number_in d.vers.now) d.zone.now d.kept.now bypassed date
+  i = installation d.left.vers.now.global.now (choice_of d) (number_in d.left.vers.now) d.left.zone.now d.kept.now
+      bypassed date
 
-  pub cleared_is : cleared i ≡ left d
-  cleared_is = ap (λ ds. zone_less d.vers.now.global.now choice ds zone) (sym dels)
+  pub cleared_is : cleared i ≡ left_of d.left
+  cleared_is = ap (λ ds. zone_less d.left.vers.now.global.now choice ds zone) (sym dels)
 
   itself : (x : Id) → ¬ Supersedes choice x x
-  itself = never_itself d.vers.now.global.now d.vers.now.srel choice (looked_up d.vers.now) is_global.no_loop
+  itself = never_itself d.left.vers.now.global.now d.left.vers.now.srel choice (looked_up d.left.vers.now)
+      is_global.no_loop
 
   not_superseded : (x y : Id) → TakesEffect i x → TakesEffect i y → ¬ Supersedes choice y x
   not_superseded x y t by over =
@@ -133,38 +136,38 @@ module _ (d : Deleting) (bypassed : List (Id × Id)) (date : Text) (is_global : 
           at
 
   old_reads : {X : Type 0} (field : Option Entry → X) (x : Id) → field (Some (bare_entry x)) ≡ field None
-      → field (Some (old_entry (left d) x)) ≡ field (entry_of (left d) x)
-  old_reads field x bare = by (entry_of (left d) x)
+      → field (Some (old_entry (left_of d.left) x)) ≡ field (entry_of (left_of d.left) x)
+  old_reads field x bare = by (entry_of (left_of d.left) x)
     where
       by : (o : Option Entry) → field (Some (unwrap_or o (bare_entry x))) ≡ field o
       by None = bare
       by (Some e) = refl
 
-  module _ (p : Plan) (plan : IsPlan i d.dels.now p) (start zone_edits : ZoneEdits)
+  module _ (p : Plan) (plan : IsPlan i d.left.dels.now p) (start zone_edits : ZoneEdits)
       (put : HasPutEntries d p p.touched start zone_edits) (new : Zone)
       (changed : (x : Id) → entry_of new x ≡ entry_after zone_edits zone x) where
     -- an id that is not touched has the entry that is left of it
     module _ (x : Id) (out : ¬ Contains p.touched x) where
-      apart : ¬ Contains (at_stake zone d.dels.now) x
+      apart : ¬ Contains (at_stake zone d.left.dels.now) x
       apart h = out (plan.touched x (inr h))
 
-      stands : entry_of (left d) x ≡ entry_of zone x
+      stands : entry_of (left_of d.left) x ≡ entry_of zone x
       stands = entry_stays d dels is_zone x apart
 
-      old_same : old_entry (left d) x ≡ old_entry zone x
+      old_same : old_entry (left_of d.left) x ≡ old_entry zone x
       old_same = ap (λ o. unwrap_or o (bare_entry x)) stands
 
-      untouched : IsMadeEntry d p x (old_entry (left d) x)
+      untouched : IsMadeEntry d p x (old_entry (left_of d.left) x)
       untouched = record {
         after = record {
-          id = old_id (left d) x;
+          id = old_id (left_of d.left) x;
           applied = λ takes. absurd (out (plan.touched x (inl (inl (Contains_from_is_in p.effective x takes)))));
           other = λ not_it. record {
-            rest = ap {A = Option Id} {B = Entry} (λ k. record (old_entry (left d) x) { delby = k })
+            rest = ap {A = Option Id} {B = Entry} (λ k. record (old_entry (left_of d.left) x) { delby = k })
                 (sym (delby_stays d dels is_zone x apart));
             supby = λ y. (
-              λ h. Contains-append_left (old_entry (left d) x).supby (others_of p.superseders x) y h,
-              λ h. elim (Contains-append_cases (old_entry (left d) x).supby (others_of p.superseders x) y h) [
+              λ h. Contains-append_left (old_entry (left_of d.left) x).supby (others_of p.superseders x) y h,
+              λ h. elim (Contains-append_cases (old_entry (left_of d.left) x).supby (others_of p.superseders x) y h) [
                 | inl old ↦ old
                 | inr more ↦ absurd (out (plan.touched x (inl (inr (y, more)))))
               ],
@@ -182,7 +185,7 @@ module _ (d : Deleting) (bypassed : List (Id × Id)) (date : Text) (is_global : 
         elim (in_or_not p.touched x) [
           | inl h ↦ let f = put.put x h in (f.0, changed x ∙ f.1, f.2)
           | inr out ↦ (
-            old_entry (left d) x,
+            old_entry (left_of d.left) x,
             changed x ∙ put.others x out ∙ old_held zone is_zone x ∙ ap if_held (sym (old_same x out)),
             untouched x out,
           )
@@ -231,7 +234,7 @@ module _ (d : Deleting) (bypassed : List (Id × Id)) (date : Text) (is_global : 
     pub applied : (x : Id) → TakesEffect i x → applied_of new x ≡ Some (applied_with i x)
     applied x t =
         date_reads x ∙ ap (λ v. v.applied) (effect x t).rest
-        ∙ ap (λ v. Some (an_applied v (number_in d.vers.now x))) plan.date
+        ∙ ap (λ v. Some (an_applied v (number_in d.left.vers.now x))) plan.date
 
     pub not_applied : (x : Id) → (¬ TakesEffect i x) → applied_of new x ≡ applied_of (cleared i) x
     not_applied x out =
@@ -260,11 +263,11 @@ module _ (d : Deleting) (bypassed : List (Id × Id)) (date : Text) (is_global : 
 
     -- ---- what supersedes an id
 
-    left_supby : (x : Id) → (old_entry (left d) x).supby ≡ supby_of (left d) x
+    left_supby : (x : Id) → (old_entry (left_of d.left) x).supby ≡ supby_of (left_of d.left) x
     left_supby x = old_reads supby_in x refl
 
     supby_left : (x y : Id) → Contains (supby_of new x) y
-        ↔ (Contains (supby_of (left d) x) y ⊎ (TakesEffect i y × Supersedes choice y x))
+        ↔ (Contains (supby_of (left_of d.left) x) y ⊎ (TakesEffect i y × Supersedes choice y x))
     supby_left x y =
         elim (takes_or_not x) [
           | inl t ↦
@@ -276,7 +279,7 @@ module _ (d : Deleting) (bypassed : List (Id × Id)) (date : Text) (is_global : 
                 ],
               )
           | inr out ↦
-              let olds : List Id = (old_entry (left d) x).supby in
+              let olds : List Id = (old_entry (left_of d.left) x).supby in
               let more : List Id = others_of p.superseders x in (
                 λ h. elim (Contains-append_cases olds more y (((other x out).supby y).0
                     (subst (λ ys. Contains ys y) (supby_reads x) h))) [
@@ -313,18 +316,18 @@ module _ (d : Deleting) (bypassed : List (Id × Id)) (date : Text) (is_global : 
     unsupplied zone z applied supby = ap (λ b. b || not (is_nil (supby_of zone z))) applied
         ∙ ap (λ ys. not (is_nil ys)) supby
 
-    left_applied : (z : Id) → (¬ TakesEffect i z) → is_applied new z ≡ is_applied (left d) z
+    left_applied : (z : Id) → (¬ TakesEffect i z) → is_applied new z ≡ is_applied (left_of d.left) z
     left_applied z out =
         applied_reads z ∙ ap (λ v. is_some v.applied) (other z out).rest ∙ old_reads is_applied_in z refl
 
     open_stays : (z : Id) → IsTrue (is_open d p z) → IsFalse (is_supplied new z)
     open_stays z h =
         let both = and_parts (not (is_in p.effective z) && is_nil (others_of p.superseders z))
-        (not (is_supplied (left d) z)) h in
+        (not (is_supplied (left_of d.left) z)) h in
         let first = and_parts (not (is_in p.effective z)) (is_nil (others_of p.superseders z)) both.0 in
         let free : ¬ TakesEffect i z = λ t. true≢false (sym (is_in_from_Contains p.effective z ((plan.effective z).1 t))
         ∙ not-true (is_in p.effective z) first.0) in
-        let none = parted (left d) z (not-true (is_supplied (left d) z) both.1) in
+        let none = parted (left_of d.left) z (not-true (is_supplied (left_of d.left) z) both.1) in
         unsupplied new z (left_applied z free ∙ none.0) (empty (supby_of new z) (λ y there.
         elim ((supby_left z y).0 there) [
           | inl old ↦ none_in y (subst (λ ys. Contains ys y) none.1 old)
@@ -349,11 +352,11 @@ module _ (d : Deleting) (bypassed : List (Id × Id)) (date : Text) (is_global : 
         let alone : others_of p.superseders z ≡ [] =
         empty (others_of p.superseders z) (λ y there. nobody y ((supby_left z y).1
         (inr ((plan.superseders z y).0 there)))) in
-        let before : is_supplied (left d) z ≡ false =
-        unsupplied (left d) z (sym (left_applied z free) ∙ parts.0)
-        (empty (supby_of (left d) z) (λ y there. nobody y ((supby_left z y).1 (inl there)))) in
-        ap (λ b. not b && is_nil (others_of p.superseders z) && not (is_supplied (left d) z)) out
-        ∙ ap (λ ys. is_nil ys && not (is_supplied (left d) z)) alone ∙ ap not before
+        let before : is_supplied (left_of d.left) z ≡ false =
+        unsupplied (left_of d.left) z (sym (left_applied z free) ∙ parts.0)
+        (empty (supby_of (left_of d.left) z) (λ y there. nobody y ((supby_left z y).1 (inl there)))) in
+        ap (λ b. not b && is_nil (others_of p.superseders z) && not (is_supplied (left_of d.left) z)) out
+        ∙ ap (λ ys. is_nil ys && not (is_supplied (left_of d.left) z)) alone ∙ ap not before
 
     pub waived : (x z : Id) → TakesEffect i x → Contains (waived_of new x) z ↔
         (Contains i.bypassed (x, z) × IsFalse (is_supplied new z))

@@ -23,19 +23,20 @@ use Rattle.change.proofs.AfterElements.{element_changed, element_unchanged}
 use Rattle.change.proofs.AfterEntries as entries
 use Rattle.change.proofs.Removed.{removed_at}
 
-module _ (d : Deleting) (bypassed : List (Id × Id)) (date : Text) (is_global : IsGlobal d.vers.now.global.now)
-    (is_zone : IsZone d.zone.now) (lists : All (λ e. IsRising e.supby × IsRising e.waived) d.zone.now.entries)
+module _ (d : Deleting) (bypassed : List (Id × Id)) (date : Text) (is_global : IsGlobal d.left.vers.now.global.now)
+    (is_zone : IsZone d.left.zone.now) (lists : All (λ e. IsRising e.supby × IsRising e.waived) d.left.zone.now.entries)
     (dels : AreDeletions d) where
   abbrev i : Installation
-  i = installation d.vers.now.global.now (choice_of d) (number_in d.vers.now) d.zone.now d.kept.now bypassed date
+  i = installation d.left.vers.now.global.now (choice_of d) (number_in d.left.vers.now) d.left.zone.now d.kept.now
+      bypassed date
 
   pub installs : (p : Plan) (start between zone_edits : ZoneEdits) (edits : List ElementEdit) (es : List Element)
-      → IsPlan i d.dels.now p → HasPutEntries d p p.touched start between → AreElementsAfter i es
-      → edits ≡ with_elements (less_elements d [] d.zone.now.elements) es
-      → HasEditedElements d.zone.now edits between zone_edits
-      → (new : Zone) → IsEdited zone_edits d.zone.now new → HasInstalled i new
+      → IsPlan i d.left.dels.now p → HasPutEntries d p p.touched start between → AreElementsAfter i es
+      → edits ≡ with_elements (less_elements d [] d.left.zone.now.elements) es
+      → HasEditedElements d.left.zone.now edits between zone_edits
+      → (new : Zone) → IsEdited zone_edits d.left.zone.now new → HasInstalled i new
   installs p start between zone_edits edits es plan put after is done new changed =
-      let zone : Zone = d.zone.now in
+      let zone : Zone = d.left.zone.now in
       let less : List ElementEdit = less_elements d [] zone.elements in
       let at_entry : (x : Id) → entry_of new x ≡ entry_after between zone x =
       λ x. changed.entries x

@@ -21,7 +21,8 @@ use Rattle.zones.proofs.Entries.{entry_less_waives}
 use Rattle.zones.proofs.Lookups.{entry_of_less}
 use Rattle.sysmods.specs.Choices.{number_in}
 use Rattle.change.specs.declared.deleting.Deleting.{Deleting}
-use Rattle.change.specs.Deleting.{AreDeletions, choice_of, is_gone, left, is_function_gone, first_naming, first_meeting}
+use Rattle.zones.specs.Gone.{is_gone, left_of}
+use Rattle.change.specs.Deleting.{AreDeletions, choice_of, is_function_gone, first_naming, first_meeting}
 use Rattle.change.specs.Deleting.{first_deleter, delby_left, at_stake}
 use Rattle.change.specs.Entries.{bare_entry, old_entry, if_held}
 use Rattle.change.specs.Plans.{installation}
@@ -101,13 +102,14 @@ named_by_none c kept x out = by (find (λ k. is_in (del_of c k) x) kept) refl
 module _ (d : Deleting) (dels : AreDeletions d) where
   pub delby_is : (bypassed : List (Id × Id)) (date : Text) (x : Id)
       → delby_left d x
-      ≡ delby_after (installation d.vers.now.global.now (choice_of d) (number_in d.vers.now) d.zone.now d.kept.now
+      ≡ delby_after (installation d.left.vers.now.global.now (choice_of d) (number_in d.left.vers.now)
+      d.left.zone.now d.kept.now
       bypassed date) x
   unfolding delby_after
-  delby_is bypassed date x = by (delby_of d.zone.now x)
+  delby_is bypassed date x = by (delby_of d.left.zone.now x)
     where
       meeting : Id → Bool
-      meeting k = is_deleted d.vers.now.global.now (choice_of d) (del_of (choice_of d) k) x
+      meeting k = is_deleted d.left.vers.now.global.now (choice_of d) (del_of (choice_of d) k) x
 
       naming : Id → Bool
       naming k = is_in (del_of (choice_of d) k) x
@@ -119,75 +121,79 @@ module _ (d : Deleting) (dels : AreDeletions d) where
 
       by : (o : Option Id) → (if is_some o then o else first_deleter d x)
           ≡ (if is_some o then o else slice_get
-          (if is_function d.vers.now.global.now x && is_taken_out d.vers.now.global.now (choice_of d)
-          (deletions (choice_of d) d.kept.now) d.zone.now x
-          then filter (λ k. is_deleted d.vers.now.global.now (choice_of d) (del_of (choice_of d) k) x) d.kept.now
+          (if is_function d.left.vers.now.global.now x && is_taken_out d.left.vers.now.global.now (choice_of d)
+          (deletions (choice_of d) d.kept.now) d.left.zone.now x
+          then filter (λ k. is_deleted d.left.vers.now.global.now (choice_of d) (del_of (choice_of d) k) x) d.kept.now
           else filter (λ k. is_in (del_of (choice_of d) k) x) d.kept.now) 0)
       by (Some k) = refl
       by None = either (is_function_gone d x)
           ∙ ap (λ ds. slice_get
-          (if is_function d.vers.now.global.now x && is_taken_out d.vers.now.global.now (choice_of d) ds d.zone.now x
-          then filter (λ k. is_deleted d.vers.now.global.now (choice_of d) (del_of (choice_of d) k) x) d.kept.now
+          (if is_function d.left.vers.now.global.now x && is_taken_out d.left.vers.now.global.now (choice_of d) ds
+          d.left.zone.now x
+          then filter (λ k. is_deleted d.left.vers.now.global.now (choice_of d) (del_of (choice_of d) k) x) d.kept.now
           else filter (λ k. is_in (del_of (choice_of d) k) x) d.kept.now) 0) dels
 
   -- ---- an id that is not at stake
 
-  module _ (is_zone : IsZone d.zone.now) (x : Id) (out : ¬ Contains (at_stake d.zone.now d.dels.now) x) where
+  module _ (is_zone : IsZone d.left.zone.now) (x : Id) (out : ¬ Contains (at_stake d.left.zone.now d.left.dels.now)
+      x) where
     -- it is not deleted, and its entry stands
     record Stays : Type 0 where
-      pub not_named : ¬ Contains d.dels.now x
-      pub not_gone : is_gone d x ≡ false
-      pub same : entry_of (left d) x ≡ entry_of d.zone.now x
+      pub not_named : ¬ Contains d.left.dels.now x
+      pub not_gone : is_gone d.left x ≡ false
+      pub same : entry_of (left_of d.left) x ≡ entry_of d.left.zone.now x
 
-    none_there : (ds : List Id) → (¬ Contains (ds ++ map (λ e. e.id) d.zone.now.entries) x)
-        → entry_of d.zone.now x ≡ None
-    none_there ds free = by (entry_of d.zone.now x) refl
+    none_there : (ds : List Id) → (¬ Contains (ds ++ map (λ e. e.id) d.left.zone.now.entries) x)
+        → entry_of d.left.zone.now x ≡ None
+    none_there ds free = by (entry_of d.left.zone.now x) refl
       where
-        by : (o : Option Entry) → entry_of d.zone.now x ≡ o → o ≡ None
+        by : (o : Option Entry) → entry_of d.left.zone.now x ≡ o → o ≡ None
         by None at = refl
         by (Some e) at =
-            let gives = find_gives (λ v. bytes_eq v.id x) d.zone.now.entries e at in
-            absurd (free (Contains-append_right ds (map (λ e. e.id) d.zone.now.entries) x
-            (subst (Contains (map (λ e. e.id) d.zone.now.entries)) (same_from e.id x gives.0)
-            (in_map (λ (e : Entry). e.id) d.zone.now.entries e gives.1))))
+            let gives = find_gives (λ v. bytes_eq v.id x) d.left.zone.now.entries e at in
+            absurd (free (Contains-append_right ds (map (λ e. e.id) d.left.zone.now.entries) x
+            (subst (Contains (map (λ e. e.id) d.left.zone.now.entries)) (same_from e.id x gives.0)
+            (in_map (λ (e : Entry). e.id) d.left.zone.now.entries e gives.1))))
 
     stays : Stays
-    stays = by d.dels.now refl
+    stays = by d.left.dels.now refl
       where
-        by : (ds : List Id) → d.dels.now ≡ ds → Stays
+        by : (ds : List Id) → d.left.dels.now ≡ ds → Stays
         by [] none = record {
           not_named = λ h. none_in x (subst (λ ds. Contains ds x) none h);
-          not_gone = ap (λ ds. is_taken_out d.vers.now.global.now (choice_of d) ds d.zone.now x) none
-              ∙ is_taken_out_none d.vers.now.global.now (choice_of d) d.zone.now x;
-          same = ap (λ ds. entry_of (zone_less d.vers.now.global.now (choice_of d) ds d.zone.now) x) none
-              ∙ ap (λ z. entry_of z x) (zone_less_none d.vers.now.global.now (choice_of d) d.zone.now is_zone.held);
+          not_gone = ap (λ ds. is_taken_out d.left.vers.now.global.now (choice_of d) ds d.left.zone.now x) none
+              ∙ is_taken_out_none d.left.vers.now.global.now (choice_of d) d.left.zone.now x;
+          same = ap (λ ds. entry_of (zone_less d.left.vers.now.global.now (choice_of d) ds d.left.zone.now) x) none
+              ∙ ap (λ z. entry_of z x) (zone_less_none d.left.vers.now.global.now (choice_of d) d.left.zone.now
+              is_zone.held);
         }
         by (y ∷ ys) some =
-            let free : ¬ Contains ((y ∷ ys) ++ map (λ e. e.id) d.zone.now.entries) x =
-            subst (λ ds. ¬ Contains (at_stake d.zone.now ds) x) some out in
+            let free : ¬ Contains ((y ∷ ys) ++ map (λ e. e.id) d.left.zone.now.entries) x =
+            subst (λ ds. ¬ Contains (at_stake d.left.zone.now ds) x) some out in
             let none = none_there (y ∷ ys) free in
             record {
-              not_named = λ h. free (Contains-append_left (y ∷ ys) (map (λ e. e.id) d.zone.now.entries) x
+              not_named = λ h. free (Contains-append_left (y ∷ ys) (map (λ e. e.id) d.left.zone.now.entries) x
                   (subst (λ ds. Contains ds x) some h));
               not_gone = ap (λ o. option_map_or (λ (e : Entry). is_some e.applied) o false
-                  && is_deleted d.vers.now.global.now (choice_of d) d.dels.now x) none;
-              same = left_none d.vers.now.global.now (choice_of d) d.dels.now d.zone.now is_zone x none ∙ sym none;
+                  && is_deleted d.left.vers.now.global.now (choice_of d) d.left.dels.now x) none;
+              same = left_none d.left.vers.now.global.now (choice_of d) d.left.dels.now d.left.zone.now is_zone x
+                  none ∙ sym none;
             }
 
-    pub entry_stays : entry_of (left d) x ≡ entry_of d.zone.now x
+    pub entry_stays : entry_of (left_of d.left) x ≡ entry_of d.left.zone.now x
     entry_stays = stays.same
 
-    pub delby_stays : delby_left d x ≡ (old_entry (left d) x).delby
-    delby_stays = by (delby_of d.zone.now x) ∙ read (entry_of d.zone.now x)
+    pub delby_stays : delby_left d x ≡ (old_entry (left_of d.left) x).delby
+    delby_stays = by (delby_of d.left.zone.now x) ∙ read (entry_of d.left.zone.now x)
         ∙ sym (ap (λ o. (unwrap_or o (bare_entry x)).delby) stays.same)
       where
         undeleted : first_deleter d x ≡ None
         undeleted = ap (λ b. if b then first_meeting d x else first_naming d x)
-            (part (is_function d.vers.now.global.now x))
+            (part (is_function d.left.vers.now.global.now x))
             ∙ named_by_none (choice_of d) d.kept.now x
             (λ h. stays.not_named (subst (λ ds. Contains ds x) (sym dels) h))
           where
-            part : (b : Bool) → (b && is_gone d x) ≡ false
+            part : (b : Bool) → (b && is_gone d.left x) ≡ false
             part true = stays.not_gone
             part false = refl
 

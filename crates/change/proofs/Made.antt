@@ -13,7 +13,8 @@ use Rattle.zones.proofs.Entries.{entries_less_waive}
 use Rattle.sysmods.specs.Choices.{number_in}
 use Rattle.change.specs.declared.deleting.Deleting.{Deleting}
 use Rattle.change.specs.declared.plan.Plan.{Plan}
-use Rattle.change.specs.Deleting.{is_gone, left, delby_left}
+use Rattle.zones.specs.Gone.{is_gone, left_of}
+use Rattle.change.specs.Deleting.{delby_left}
 use Rattle.change.specs.Pairs.{others_of}
 use Rattle.change.specs.Entries.{is_open, bare_entry, old_entry, IsWaived, IsAppliedEntry, IsOtherEntry, IsEntryAfter}
 
@@ -31,7 +32,8 @@ waived_from d p x others left waived filtered are same rising = record {
 }
 
 pub applied_from : (d : Deleting) (p : Plan) (x : Id) (old : Entry) (applied : Option Applied) (delby : Option Id)
-    (waived : List Id) → old ≡ old_entry (left d) x → applied ≡ Some (an_applied p.date (number_in d.vers.now x))
+    (waived : List Id) → old ≡ old_entry (left_of d.left) x → applied
+    ≡ Some (an_applied p.date (number_in d.left.vers.now x))
     → delby ≡ delby_left d x → IsWaived d p x waived
     → IsAppliedEntry d p x (record old { applied = applied; delby = delby; waived = waived })
 applied_from d p x old applied delby waived is on deleted waives = record {
@@ -41,7 +43,7 @@ applied_from d p x old applied delby waived is on deleted waives = record {
 }
 
 pub other_from : (d : Deleting) (p : Plan) (x : Id) (old : Entry) (more supby : List Id) (delby : Option Id)
-    → old ≡ old_entry (left d) x → more ≡ others_of p.superseders x
+    → old ≡ old_entry (left_of d.left) x → more ≡ others_of p.superseders x
     → ((y : Id) → Contains supby y ↔ Contains (old.supby ++ more) y) → delby ≡ delby_left d x
     → IsOtherEntry d p x (record old { supby = supby; delby = delby })
 other_from d p x old more supby delby is are same deleted = record {
@@ -56,31 +58,32 @@ old_id zone x = by (entry_of zone x) refl
     by None at = refl
     by (Some e) at = same_from e.id x (find_gives (λ v. bytes_eq v.id x) zone.entries e at).0
 
-pub old_waives : (d : Deleting) → IsZone d.zone.now → (x : Id) → IsTrue (waives_applied (old_entry (left d) x))
+pub old_waives : (d : Deleting) → IsZone d.left.zone.now → (x : Id)
+    → IsTrue (waives_applied (old_entry (left_of d.left) x))
 unfolding zone_less
-old_waives d is_zone x = by (entry_of (left d) x) refl
+old_waives d is_zone x = by (entry_of (left_of d.left) x) refl
   where
-    by : (o : Option Entry) → entry_of (left d) x ≡ o → IsTrue (waives_applied (unwrap_or o (bare_entry x)))
+    by : (o : Option Entry) → entry_of (left_of d.left) x ≡ o → IsTrue (waives_applied (unwrap_or o (bare_entry x)))
     by None at = refl
-    by (Some e) at = All_find (λ e. IsTrue (waives_applied e)) (λ v. bytes_eq v.id x) (left d).entries e
-        (entries_less_waive (is_gone d) d.zone.now.entries is_zone.waived) at
+    by (Some e) at = All_find (λ e. IsTrue (waives_applied e)) (λ v. bytes_eq v.id x) (left_of d.left).entries e
+        (entries_less_waive (is_gone d.left) d.left.zone.now.entries is_zone.waived) at
 
 module _ (d : Deleting) (p : Plan) (x : Id) (e : Entry) where
   pub after_applied : is_in p.effective x ≡ true → IsAppliedEntry d p x e → IsEntryAfter d p x e
   after_applied takes made = record {
-    id = ap (λ v. v.id) made.rest ∙ old_id (left d) x;
+    id = ap (λ v. v.id) made.rest ∙ old_id (left_of d.left) x;
     applied = λ h. made;
     other = λ not_it. absurd (true≢false (sym takes ∙ not_it));
     waives = ap (λ v. is_some v.applied || is_nil v.waived) made.rest;
   }
 
-  pub waives_other : IsZone d.zone.now → IsOtherEntry d p x e → IsTrue (waives_applied e)
+  pub waives_other : IsZone d.left.zone.now → IsOtherEntry d p x e → IsTrue (waives_applied e)
   waives_other is_zone made =
       ap (λ v. is_some v.applied || is_nil v.waived) made.rest ∙ old_waives d is_zone x
 
-  pub after_other : IsZone d.zone.now → is_in p.effective x ≡ false → IsOtherEntry d p x e → IsEntryAfter d p x e
+  pub after_other : IsZone d.left.zone.now → is_in p.effective x ≡ false → IsOtherEntry d p x e → IsEntryAfter d p x e
   after_other is_zone not_it made = record {
-    id = ap (λ v. v.id) made.rest ∙ old_id (left d) x;
+    id = ap (λ v. v.id) made.rest ∙ old_id (left_of d.left) x;
     applied = λ takes. absurd (true≢false (sym takes ∙ not_it));
     other = λ h. made;
     waives = waives_other is_zone made;

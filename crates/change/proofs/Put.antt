@@ -29,7 +29,7 @@ key_of = edit_key (λ e. e.id)
 
 module _ (d : Deleting) (p : Plan) where
   abbrev zone : Zone
-  zone = d.zone.now
+  zone = d.left.zone.now
 
   pub put_none : (zone_edits : ZoneEdits) → zone_edits.entries ≡ [] → HasPutEntries d p [] zone_edits zone_edits
   put_none zone_edits empty = record {

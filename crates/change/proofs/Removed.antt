@@ -20,7 +20,8 @@ use Rattle.terms.proofs.Searches.{find_gives}
 use Rattle.zones.proofs.Filtered.{passing}
 use Rattle.zones.proofs.Lookups.{element_of_less}
 use Rattle.change.specs.declared.deleting.Deleting.{Deleting}
-use Rattle.change.specs.Deleting.{choice_of, is_cut, left}
+use Rattle.zones.specs.Gone.{is_cut, left_of}
+use Rattle.change.specs.Deleting.{choice_of}
 use Rattle.zones_maps.specs.Differing.{ElementEdit}
 use Rattle.change.specs.Puts.{less_element, less_elements}
 use Rattle.sorted.specs.ElementKeys.{Key}
@@ -34,7 +35,7 @@ put_key = edit_key element_key
 
 module _ (d : Deleting) where
   cut : Element → Bool
-  cut e = is_cut d e.fmid
+  cut e = is_cut d.left e.fmid
 
   abbrev removals : List Element → List ElementEdit
   removals es = map removal (filter cut es)
@@ -51,14 +52,15 @@ module _ (d : Deleting) where
       ∙ fold-append (less_element d) edits (take k es) (x ∷ []))
 
   -- no deletions remove nothing
-  pub removed_none : d.dels.now ≡ [] → (edits : List ElementEdit) (es : List Element) → edits ≡ less_elements d edits es
+  pub removed_none : d.left.dels.now ≡ [] → (edits : List ElementEdit) (es : List Element) → edits
+      ≡ less_elements d edits es
   removed_none no_dels edits [] = refl
   removed_none no_dels edits (e ∷ es) =
-      sym (stays (is_cut d e.fmid) uncut) ∙ removed_none no_dels (less_element d edits e) es
+      sym (stays (is_cut d.left e.fmid) uncut) ∙ removed_none no_dels (less_element d edits e) es
     where
-      uncut : is_cut d e.fmid ≡ false
-      uncut = ap (λ ds. is_deleted d.vers.now.global.now (choice_of d) ds e.fmid) no_dels
-          ∙ is_deleted_none d.vers.now.global.now (choice_of d) e.fmid
+      uncut : is_cut d.left e.fmid ≡ false
+      uncut = ap (λ ds. is_deleted d.left.vers.now.global.now (choice_of d) ds e.fmid) no_dels
+          ∙ is_deleted_none d.left.vers.now.global.now (choice_of d) e.fmid
 
       stays : (b : Bool) → b ≡ false
           → (if b then with_item element_cmp put_key edits (Remove (element_key e)) else edits) ≡ edits
@@ -69,25 +71,25 @@ module _ (d : Deleting) where
       → less_elements d edits es ≡ all_removed edits es
   unfolding removal cut
   removed_are edits [] = refl
-  removed_are edits (e ∷ es) = removed_are (less_element d edits e) es ∙ by (is_cut d e.fmid) refl
+  removed_are edits (e ∷ es) = removed_are (less_element d edits e) es ∙ by (is_cut d.left e.fmid) refl
     where
-      by : (b : Bool) → is_cut d e.fmid ≡ b
+      by : (b : Bool) → is_cut d.left e.fmid ≡ b
           → all_removed (less_element d edits e) es ≡ all_removed edits (e ∷ es)
       by true at = rw at refl
       by false at = rw at refl
 
-  module _ (is_zone : IsZone d.zone.now) (type : ElemType) (name : Text) where
+  module _ (is_zone : IsZone d.left.zone.now) (type : ElemType) (name : Text) where
     abbrev key : Key
     key = (type, name)
 
     abbrev elements : List Element
-    elements = d.zone.now.elements
+    elements = d.left.zone.now.elements
 
     abbrev at_key : ElementEdit → Bool
     at_key r = element_eq (put_key r) key
 
     -- an element of the zone that has the key is the one that is found
-    only_one : (e m : Element) → element_of d.zone.now type name ≡ Some e → Contains elements m
+    only_one : (e m : Element) → element_of d.left.zone.now type name ≡ Some e → Contains elements m
         → element_eq (element_key m) key ≡ true → m ≡ e
     only_one e m at there hit =
         let both : Some m ≡ Some e =
@@ -96,14 +98,14 @@ module _ (d : Deleting) where
         cc both
 
     from_element : (r : ElementEdit) → Contains (removals elements) r
-        → (m : Element) × Contains elements m × (is_cut d m.fmid ≡ true) × (removal m ≡ r)
+        → (m : Element) × Contains elements m × (is_cut d.left m.fmid ≡ true) × (removal m ≡ r)
     unfolding cut
     from_element r there =
         let m = map_in removal (filter cut elements) r there in
         let among = filter_in cut elements m.0 m.1 in
         (m.0, among.0, among.1, m.2)
 
-    no_removal : ((m : Element) → Contains elements m → is_cut d m.fmid ≡ true
+    no_removal : ((m : Element) → Contains elements m → is_cut d.left m.fmid ≡ true
         → element_eq (element_key m) key ≡ true → ⊥)
         → find at_key (all_removed [] elements) ≡ None
     unfolding removal
@@ -117,7 +119,7 @@ module _ (d : Deleting) where
             let m = from_element r there in
             absurd (none m.0 m.1 m.2 (ap at_key m.3 ∙ hit))
 
-    one_removal : (e : Element) → element_of d.zone.now type name ≡ Some e → is_cut d e.fmid ≡ true
+    one_removal : (e : Element) → element_of d.left.zone.now type name ≡ Some e → is_cut d.left e.fmid ≡ true
         → find at_key (all_removed [] elements) ≡ Some (removal e)
     unfolding removal cut
     one_removal e at gone =
@@ -130,36 +132,38 @@ module _ (d : Deleting) where
 
     pub removed_at : (start : List ElementEdit) → start ≡ []
         → after_edits element_eq element_key (less_elements d start elements) elements key
-        ≡ element_of (left d) type name
+        ≡ element_of (left_of d.left) type name
     unfolding removal
     removed_at start empty =
         ap (λ edits. after_edits element_eq element_key edits elements key)
         (removed_are start elements ∙ ap (λ old. all_removed old elements) empty)
-        ∙ by (element_of d.zone.now type name) refl
+        ∙ by (element_of d.left.zone.now type name) refl
       where
-        left_is : (o : Option Element) → element_of d.zone.now type name ≡ o
-            → element_of (left d) type name ≡ passing (λ e. not (is_cut d e.fmid)) o
+        left_is : (o : Option Element) → element_of d.left.zone.now type name ≡ o
+            → element_of (left_of d.left) type name ≡ passing (λ e. not (is_cut d.left e.fmid)) o
         left_is o at =
-            element_of_less d.vers.now.global.now (choice_of d) d.dels.now d.zone.now is_zone type name
-            ∙ ap (passing (λ e. not (is_cut d e.fmid))) at
+            element_of_less d.left.vers.now.global.now (choice_of d) d.left.dels.now d.left.zone.now is_zone type name
+            ∙ ap (passing (λ e. not (is_cut d.left e.fmid))) at
 
         stands : find at_key (all_removed [] elements) ≡ None
             → after_edits element_eq element_key (all_removed [] elements) elements key
-            ≡ element_of d.zone.now type name
-        stands none = ap (λ o. option_map_or edit_put o (element_of d.zone.now type name)) none
+            ≡ element_of d.left.zone.now type name
+        stands none = ap (λ o. option_map_or edit_put o (element_of d.left.zone.now type name)) none
 
-        by_cut : (e : Element) → element_of d.zone.now type name ≡ Some e → (b : Bool) → is_cut d e.fmid ≡ b
-            → after_edits element_eq element_key (all_removed [] elements) elements key ≡ element_of (left d) type name
+        by_cut : (e : Element) → element_of d.left.zone.now type name ≡ Some e → (b : Bool) → is_cut d.left e.fmid ≡ b
+            → after_edits element_eq element_key (all_removed [] elements) elements key
+            ≡ element_of (left_of d.left) type name
         by_cut e at true gone =
-            ap (λ o. option_map_or edit_put o (element_of d.zone.now type name)) (one_removal e at gone)
+            ap (λ o. option_map_or edit_put o (element_of d.left.zone.now type name)) (one_removal e at gone)
             ∙ sym (left_is (Some e) at ∙ ap (λ b. if not b then Some e else None) gone)
         by_cut e at false stays =
             stands (no_removal (λ m there gone hit. true≢false (sym gone
-            ∙ ap (λ v. is_cut d v.fmid) (only_one e m at there hit) ∙ stays)))
+            ∙ ap (λ v. is_cut d.left v.fmid) (only_one e m at there hit) ∙ stays)))
             ∙ at ∙ sym (left_is (Some e) at ∙ ap (λ b. if not b then Some e else None) stays)
 
-        by : (o : Option Element) → element_of d.zone.now type name ≡ o
-            → after_edits element_eq element_key (all_removed [] elements) elements key ≡ element_of (left d) type name
+        by : (o : Option Element) → element_of d.left.zone.now type name ≡ o
+            → after_edits element_eq element_key (all_removed [] elements) elements key
+            ≡ element_of (left_of d.left) type name
         by None at =
             stands (no_removal (λ m there gone hit. missing m there hit)) ∙ at
             ∙ sym (left_is None at)
@@ -170,4 +174,4 @@ module _ (d : Deleting) where
                 sym (find_member element_cmp_total element_key element_eq element_ties elements m key is_zone.elements
                 there hit) ∙ at in
                 cc both
-        by (Some e) at = by_cut e at (is_cut d e.fmid) refl
+        by (Some e) at = by_cut e at (is_cut d.left e.fmid) refl

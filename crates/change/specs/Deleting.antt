@@ -4,34 +4,23 @@ use Rattle.terms.specs.Types.{Id, Global, Zone}
 use Rattle.terms.specs.Lookups.{is_in, is_function, is_nil, delby_of}
 use Rattle.terms.specs.Choice.{Choice, del_of}
 use Rattle.sysmods.specs.Choices.{choice}
-use Rattle.terms.specs.Deleted.{deletions, is_deleted, is_taken_out, zone_less}
+use Rattle.terms.specs.Deleted.{deletions, is_deleted}
+use Rattle.zones.specs.Gone.{is_gone}
 use Rattle.change.specs.declared.deleting.Deleting.{Deleting}
 
 abbrev pub global_of : Deleting → Global
-global_of d = d.vers.now.global.now
+global_of d = d.left.vers.now.global.now
 
 abbrev pub choice_of : Deleting → Choice
-choice_of d = choice d.vers.now
+choice_of d = choice d.left.vers.now
 
 -- the deletions are those of the kept SYSMODs
 abbrev pub AreDeletions : Deleting → Type 0
-AreDeletions d = d.dels.now ≡ deletions (choice_of d) d.kept.now
-
--- whether its chain contains one of the deletions
-abbrev pub is_cut : Deleting → Id → Bool
-is_cut d = is_deleted (global_of d) (choice_of d) d.dels.now
-
--- whether the deletions take it out
-abbrev pub is_gone : Deleting → Id → Bool
-is_gone d = is_taken_out (global_of d) (choice_of d) d.dels.now d.zone.now
-
--- what is left of the zone
-abbrev pub left : Deleting → Zone
-left d = zone_less (global_of d) (choice_of d) d.dels.now d.zone.now
+AreDeletions d = d.left.dels.now ≡ deletions (choice_of d) d.kept.now
 
 -- whether it is a function that is taken out
 abbrev pub is_function_gone : Deleting → Id → Bool
-is_function_gone d x = is_function (global_of d) x && is_gone d x
+is_function_gone d x = is_function (global_of d) x && is_gone d.left x
 
 -- the first kept SYSMOD whose DELETE meets the chain of x
 abbrev pub first_meeting : Deleting → Id → Option Id
@@ -47,7 +36,7 @@ first_deleter d x = if is_function_gone d x then first_meeting d x else first_na
 
 -- its DELBY: the one that is there, otherwise the first that deletes it
 abbrev pub delby_left : Deleting → Id → Option Id
-delby_left d x = if is_some (delby_of d.zone.now x) then delby_of d.zone.now x else first_deleter d x
+delby_left d x = if is_some (delby_of d.left.zone.now x) then delby_of d.left.zone.now x else first_deleter d x
 
 -- the ids whose entries deletions may change
 abbrev pub at_stake : Zone → List Id → List Id

@@ -9,14 +9,15 @@ use Rattle.zones_maps.specs.Delta.{ZoneEdits}
 use Rattle.sorted.specs.Edits.{after_edits}
 use Rattle.change.specs.declared.deleting.Deleting.{Deleting}
 use Rattle.change.specs.declared.plan.Plan.{Plan}
-use Rattle.change.specs.Deleting.{left, delby_left}
+use Rattle.zones.specs.Gone.{left_of}
+use Rattle.change.specs.Deleting.{delby_left}
 use Rattle.zones_maps.specs.Differing.{EntryEdit, ChangesEntry, AddsEntryEdit}
 use Rattle.change.specs.Pairs.{others_of}
 use Rattle.sysmods.specs.Choices.{number_in}
 
 -- whether nothing supplies it after the install
 abbrev pub is_open : Deleting → Plan → Id → Bool
-is_open d p z = not (is_in p.effective z) && is_nil (others_of p.superseders z) && not (is_supplied (left d) z)
+is_open d p z = not (is_in p.effective z) && is_nil (others_of p.superseders z) && not (is_supplied (left_of d.left) z)
 
 abbrev pub bare_entry : Id → Entry
 bare_entry x = record { id = x; applied = None; supby = []; delby = None; waived = [] }
@@ -32,8 +33,8 @@ pub record IsWaived (d : Deleting) (p : Plan) (x : Id) (waived : List Id) : Type
 
 -- the entry of a SYSMOD that takes effect: what is left of it, and applied
 pub record IsAppliedEntry (d : Deleting) (p : Plan) (x : Id) (e : Entry) : Type 0 where
-  pub rest : e ≡ record (old_entry (left d) x) {
-    applied = Some (an_applied p.date (number_in d.vers.now x));
+  pub rest : e ≡ record (old_entry (left_of d.left) x) {
+    applied = Some (an_applied p.date (number_in d.left.vers.now x));
     delby = delby_left d x;
     waived = e.waived;
   }
@@ -41,8 +42,9 @@ pub record IsAppliedEntry (d : Deleting) (p : Plan) (x : Id) (e : Entry) : Type 
 
 -- the entry of any other id: what is left of it, with more in SUPBY
 pub record IsOtherEntry (d : Deleting) (p : Plan) (x : Id) (e : Entry) : Type 0 where
-  pub rest : e ≡ record (old_entry (left d) x) { supby = e.supby; delby = delby_left d x }
-  pub supby : (y : Id) → Contains e.supby y ↔ Contains ((old_entry (left d) x).supby ++ others_of p.superseders x) y
+  pub rest : e ≡ record (old_entry (left_of d.left) x) { supby = e.supby; delby = delby_left d x }
+  pub supby : (y : Id) → Contains e.supby y ↔ Contains ((old_entry (left_of d.left) x).supby ++ others_of
+      p.superseders x) y
 
 -- what an install makes of an id's entry
 pub record IsEntryAfter (d : Deleting) (p : Plan) (x : Id) (e : Entry) : Type 0 where
@@ -63,7 +65,7 @@ held_edit x e = if has_content e then Put e else Remove x
 
 -- the same, if it changes something
 abbrev pub PutsEntry : Deleting → Plan → Id → ZoneEdits → ZoneEdits → Type 0
-PutsEntry d p x old new = (e : Entry) × IsMadeEntry d p x e × AddsEntryEdit d.zone.now (held_edit x e) old new
+PutsEntry d p x old new = (e : Entry) × IsMadeEntry d p x e × AddsEntryEdit d.left.zone.now (held_edit x e) old new
 
 -- the entry of an id after the edits
 abbrev pub entry_after : ZoneEdits → Zone → Id → Option Entry
@@ -77,6 +79,6 @@ if_held e = if has_content e then Some e else None
 pub record HasPutEntries (d : Deleting) (p : Plan) (done : List Id) (old new : ZoneEdits) : Type 0 where
   pub elements : new.elements ≡ old.elements
   pub put : (x : Id) → Contains done x
-      → (e : Entry) × (entry_after new d.zone.now x ≡ if_held e) × IsMadeEntry d p x e
-  pub others : (x : Id) → (¬ Contains done x) → entry_after new d.zone.now x ≡ entry_of d.zone.now x
-  pub differ : All (ChangesEntry d.zone.now) new.entries
+      → (e : Entry) × (entry_after new d.left.zone.now x ≡ if_held e) × IsMadeEntry d p x e
+  pub others : (x : Id) → (¬ Contains done x) → entry_after new d.left.zone.now x ≡ entry_of d.left.zone.now x
+  pub differ : All (ChangesEntry d.left.zone.now) new.entries

@@ -9,7 +9,7 @@ use Rattle.terms.specs.Install.{Installation}
 use Rattle.sysmods.specs.declared.ver_choice.VerChoice.{VerChoice}
 use Rattle.sysmods.specs.Choices.{choice}
 use Rattle.change.specs.declared.deleting.Deleting.{Deleting}
-use Rattle.change.specs.Deleting.{is_cut}
+use Rattle.zones.specs.Gone.{is_cut}
 use Rattle.change.specs.Elements.{IsInstallOf, AreElementsAfter}
 use Rattle.zones_maps.specs.Differing.{ElementEdit}
 
@@ -24,7 +24,7 @@ with_elements edits es = fold with_element edits es
 -- with an element removed, if its owner's chain contains one of the deletions
 abbrev pub less_element : Deleting → List ElementEdit → Element → List ElementEdit
 less_element d edits e =
-    if is_cut d e.fmid then with_item element_cmp (edit_key element_key) edits (Remove (element_key e)) else edits
+    if is_cut d.left e.fmid then with_item element_cmp (edit_key element_key) edits (Remove (element_key e)) else edits
 
 abbrev pub less_elements : Deleting → List ElementEdit → List Element → List ElementEdit
 less_elements d edits es = fold (less_element d) edits es
@@ -35,5 +35,6 @@ pub record AreElementEdits (d : Deleting) (vers : VerChoice) (effective : List I
   where
     pub elements : List Element
     pub after : (i : Installation)
-        → IsInstallOf i vers.global.now (choice vers) d.zone.now d.dels.now effective → AreElementsAfter i elements
-    pub edits_are : edits ≡ with_elements (less_elements d [] d.zone.now.elements) elements
+        → IsInstallOf i vers.global.now (choice vers) d.left.zone.now d.left.dels.now effective
+        → AreElementsAfter i elements
+    pub edits_are : edits ≡ with_elements (less_elements d [] d.left.zone.now.elements) elements

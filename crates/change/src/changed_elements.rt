@@ -17,7 +17,7 @@ use crate::ordering::in_order;
 use fields::Id;
 use std::alloc::{AllocError, Global};
 use sysmods::Overs;
-use zones::{Element, Zone, element_left};
+use zones::{Element, Zone, ZoneLess};
 
 /// The elements that these SYSMODs change, rising by type and name, as they are once all of the SYSMODs have taken
 /// effect on the zone less the deletions. Over orders those that change one element, and what they update exists.
@@ -39,12 +39,18 @@ pub(crate) fn elements_after(
         → IsInstallOf i overs.old.global.now (choice overs.old) zone.now deletions.now effective.now
         → AreElementsAfter i es.items) }
 {
-    let changes = changes_by_element(alloc, overs.vers().global(), effective)?;
+    let vers = overs.vers();
+    let left = ZoneLess {
+        vers,
+        dels: deletions,
+        zone,
+    };
+    let changes = changes_by_element(alloc, vers.global(), effective)?;
     let mut elements = Vec::new(alloc);
     for (element, changers) in &changes {
-        let base = element_left(overs.vers(), deletions, zone, element.0, element.1);
+        let base = left.element(element.0, element.1);
         let ordered = in_order(alloc, overs, changers)?;
-        let changed = element_after(alloc, overs.vers(), base, element.0, element.1, &ordered)?;
+        let changed = element_after(alloc, vers, base, element.0, element.1, &ordered)?;
         elements.push(changed)?;
     }
     Ok(elements)

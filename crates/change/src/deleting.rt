@@ -1,37 +1,28 @@
 //! What DELETE takes out of a zone, and which SYSMOD has deleted an id.
 ghost use Rattle.std.specs.Prelude.{◌≡◌, IfOk};
-ghost use Rattle.change.specs.Deleting.{AreDeletions, is_cut, left};
-ghost use Rattle.change.specs.Deleting.{first_deleter, delby_left};
+ghost use Rattle.terms.specs.Lookups.{IsZone};
+ghost use Rattle.zones.specs.Gone.{left_of};
+ghost use Rattle.change.specs.Deleting.{AreDeletions, first_deleter, delby_left};
 ghost use Rattle.change.specs.Entries.{old_entry};
 
-use fields::{Attest, Id, IdList};
+use fields::{Id, IdList};
 use std::alloc::{AllocError, Global};
-use sysmods::VerChoice;
-use zones::{Entry, TakesOut, Zone, entry_less};
+use zones::{Entry, TakesOut, ZoneLess, entry_less};
 
-/// Kept SYSMODs, what they name in DELETE by the `++VER`s that count, and the zone from which this takes SYSMODs out.
+/// Kept SYSMODs, and the zone less what they name in DELETE by the `++VER`s that count.
 #[derive(Clone, Copy)]
 pub(crate) struct Deleting<'a, 'b> {
-    pub(crate) vers: &'a VerChoice<'b>,
-    pub(crate) zone: &'a Zone,
+    pub(crate) left: ZoneLess<'a, 'b>,
     pub(crate) kept: &'a [Id],
-    pub(crate) dels: &'a [Id],
 }
 
 impl<'a, 'b> Deleting<'a, 'b> {
-    /// Whether its chain contains one of the deletions.
-    pub(crate) fn deletes(&self, id: Id) -> bool
-        ensures { result ≡ is_cut self.now id }
-    {
-        self.vers.meets(id, self.dels)
-    }
-
     /// Its DELBY: the one that is there, otherwise the first SYSMOD that deletes it.
     pub(crate) fn delby(&self, id: Id) -> Option<Id>
         requires { AreDeletions self.now }
         ensures { result ≡ delby_left self.now id }
     {
-        match self.zone.entry(id).and_then(|entry| entry.delby) {
+        match self.left.zone.entry(id).and_then(|entry| entry.delby) {
             Some(deleter) => Some(deleter),
             None => self.first_deleter(id),
         }
@@ -43,8 +34,8 @@ impl<'a, 'b> Deleting<'a, 'b> {
         requires { AreDeletions self.now }
         ensures { result ≡ first_deleter self.now id }
     {
-        let vers = self.vers;
-        if vers.global().is_function(id) && self.takes_out(id) {
+        let vers = self.left.vers;
+        if vers.global().is_function(id) && self.left.takes_out(id) {
             return self
                 .kept
                 .iter()
@@ -52,7 +43,7 @@ impl<'a, 'b> Deleting<'a, 'b> {
                 .find(|k| vers.meets(id, vers.del(*k)));
         }
         // Few ids are ever named.
-        if !self.dels.contains(&id) {
+        if !self.left.dels.contains(&id) {
             return None;
         }
         self.kept
@@ -62,24 +53,13 @@ impl<'a, 'b> Deleting<'a, 'b> {
     }
 }
 
-impl<'a, 'b> TakesOut for Deleting<'a, 'b> {
-    ghost use Rattle.change.specs.Deleting.{is_gone};
-
-    ghost is_gone = { is_gone };
-
-    // Whether it is applied and the deletions take it out.
-    fn takes_out(&self, id: Id) -> bool {
-        self.zone.is_applied(id) && self.deletes(id)
-    }
-}
-
 /// The entry in what is left; it may be empty.
-pub(crate) fn left_entry(alloc: Global, deleting: &Deleting, id: Id) -> Result<Entry, AllocError>
-    ensures { IfOk result (λ e. e ≡ old_entry (left deleting.now) id) }
+pub(crate) fn left_entry(alloc: Global, left: &ZoneLess, id: Id) -> Result<Entry, AllocError>
+    ensures entry { IfOk result (λ e. e ≡ old_entry (left_of left.now) id) }
+    ensures form { IsZone left.now.zone.now }
 {
-    deleting.zone.attest();
-    match deleting.zone.entry(id) {
-        Some(entry) => entry_less(alloc, deleting, entry),
+    match left.zone.entry(id) {
+        Some(entry) => entry_less(alloc, left, entry),
         None => Ok(Entry {
             id,
             applied: None,

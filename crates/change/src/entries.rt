@@ -1,5 +1,6 @@
 //! The entries that an install makes.
 ghost use Rattle.std.specs.Prelude.{◌≡◌, [], IfOk, OnOk, filter};
+ghost use Rattle.terms.specs.Lookups.{IsZone};
 ghost use Rattle.change.specs.Deleting.{AreDeletions};
 ghost use Rattle.change.specs.Entries.{is_open, IsAppliedEntry, IsOtherEntry};
 ghost use Rattle.change.specs.Entries.{HasPutEntries};
@@ -10,7 +11,7 @@ use crate::plan::Plan;
 use fields::{Attest, Id, IdList};
 use sorted::lists::listed;
 use std::alloc::{AllocError, Global};
-use zones::{Applied, Entry, ZoneEdits, supplies_left};
+use zones::{Applied, Entry, ZoneEdits};
 
 /// Puts the entries that the install makes of those that it may change. It does not put an entry that stays as it is,
 /// and removes one that is empty.
@@ -24,7 +25,6 @@ pub(crate) fn put_entries(
     requires empty { zone_edits.old.entries ≡ [] }
     ensures { OnOk result (HasPutEntries deleting.now plan.now plan.now.touched zone_edits.old zone_edits.new) }
 {
-    deleting.zone.attest();
     for id in plan.touched.as_slice() {
         let entry = if plan.effective.contains(*id) {
             applied_entry(alloc, deleting, plan, *id)?
@@ -33,9 +33,9 @@ pub(crate) fn put_entries(
         };
         entry.attest();
         if entry.has_content() {
-            put_entry(deleting.zone, entry, zone_edits)?;
+            put_entry(deleting.left.zone, entry, zone_edits)?;
         } else {
-            remove_entry(deleting.zone, *id, zone_edits)?;
+            remove_entry(deleting.left.zone, *id, zone_edits)?;
         }
     }
     Ok(())
@@ -52,14 +52,14 @@ fn applied_entry(
     requires { AreDeletions deleting.now }
     ensures { IfOk result (IsAppliedEntry deleting.now plan.now id) }
 {
-    let old = left_entry(alloc, deleting, id)?;
+    let old = left_entry(alloc, &deleting.left, id)?;
     let bypassed = listed(&plan.bypassed, id);
     let waived = IdList::from_vec(unsupplied(alloc, deleting, plan, bypassed)?);
     waived.attest();
     let delby = deleting.delby(id);
     let applied = Some(Applied {
         date: plan.date,
-        number: deleting.vers.number(id),
+        number: deleting.left.vers.number(id),
     });
     Ok(Entry {
         applied,
@@ -90,15 +90,16 @@ fn is_open(deleting: &Deleting, plan: &Plan, id: Id) -> bool
 {
     !plan.effective.contains(id)
         && listed(&plan.superseders, id).is_empty()
-        && !supplies_left(deleting.vers, deleting.dels, deleting.zone, id)
+        && !deleting.left.supplies(id)
 }
 
 // The entry of any other id: what is left of it, with more in SUPBY.
 fn other_entry(alloc: Global, deleting: &Deleting, plan: &Plan, id: Id) -> Result<Entry, AllocError>
     requires { AreDeletions deleting.now }
-    ensures { IfOk result (IsOtherEntry deleting.now plan.now id) }
+    ensures entry { IfOk result (IsOtherEntry deleting.now plan.now id) }
+    ensures form { IsZone deleting.now.left.zone.now }
 {
-    let old = left_entry(alloc, deleting, id)?;
+    let old = left_entry(alloc, &deleting.left, id)?;
     let mut supby = Vec::from_slice(alloc, old.supby.as_slice())?;
     supby.extend_from_slice(listed(&plan.superseders, id))?;
     let supby = IdList::from_vec(supby);

@@ -24,7 +24,7 @@ use fields::{Attest, Id, IdList, YyDdd};
 use sorted::{Edit, Table};
 use std::alloc::{AllocError, Global};
 use sysmods::Overs;
-use zones::{Element, Zone, ZoneDelta, ZoneEdits, deletions};
+use zones::{Element, Zone, ZoneDelta, ZoneEdits, ZoneLess, deletions};
 
 /// What is installed into which zone, by the `++VER`s that count and with the pairs of ids that are known to be over
 /// each other. `bypassed` has SYSMODs with one of their bypassed requisites, in any order. What it says about other
@@ -61,8 +61,9 @@ pub fn install(alloc: Global, installing: Installing<'_, '_>) -> Result<Installe
 {
     let zone = installing.zone;
     let dels = deletions(alloc, installing.overs.vers(), installing.kept.as_slice())?;
-    let plan = planned(alloc, &installing, dels.as_slice())?;
-    let zone_edits = edits_of(alloc, installing, dels.as_slice(), &plan)?;
+    let dels = dels.as_slice();
+    let plan = planned(alloc, &installing, dels)?;
+    let zone_edits = edits_of(alloc, installing, dels, &plan)?;
     Ok(Installed {
         delta: ZoneDelta::of(alloc, zone_edits, zone)?,
         effective: plan.effective,
@@ -87,20 +88,19 @@ fn edits_of(
     ensures differs { IfOk result (EachChanges installing.entry.zone.now) }
 {
     let zone = installing.zone;
-    zone.attest();
     zone.known_lists();
     let vers = installing.overs.vers();
     vers.global().attest();
+    let kept = installing.kept.as_slice();
     let deleting = Deleting {
-        vers,
-        zone,
-        kept: installing.kept.as_slice(),
-        dels,
+        left: ZoneLess { vers, dels, zone },
+        kept,
     };
     let mut zone_edits = ZoneEdits::new(alloc);
     put_entries(alloc, &deleting, plan, &mut zone_edits)?;
     let mut overs = installing.overs;
-    let edits = element_edits(alloc, &deleting, &mut overs, plan.effective.as_slice())?;
+    let effective = plan.effective.as_slice();
+    let edits = element_edits(alloc, &deleting, &mut overs, effective)?;
     edit_elements(zone, edits.into_vec(), &mut zone_edits)?;
     Ok(zone_edits)
 }
@@ -118,26 +118,33 @@ fn element_edits(
     requires some { (type : AType) (name : Text)
         → Any (λ x. IsTrue (has_change overs.old.global.now x type name)) effective.now
         → IsSome (element_of
-        (zone_less overs.old.global.now (choice overs.old) deleting.now.dels.now deleting.now.zone.now) type name)
+        (zone_less overs.old.global.now (choice overs.old) deleting.now.left.dels.now deleting.now.left.zone.now)
+        type name)
         ⊎ Any (λ x. IsTrue (has_replacement overs.old.global.now x type name)) effective.now }
     ensures { IfOk result (AreElementEdits deleting.now overs.old effective.now) }
 {
     let mut edits = Table::new(alloc);
     remove_elements(deleting, &mut edits)?;
-    let elements = elements_after(alloc, overs, deleting.zone, deleting.dels, effective)?;
+    let elements = elements_after(
+        alloc,
+        overs,
+        deleting.left.zone,
+        deleting.left.dels,
+        effective,
+    )?;
     put_elements(elements, &mut edits)?;
     Ok(edits)
 }
 
 // Removes the elements whose owner's chain contains one of the deletions. Usually nothing is deleted.
 fn remove_elements(deleting: &Deleting, edits: &mut Table<ElementEdit>) -> Result<(), AllocError>
-    ensures { OnOk result (edits.new ≡ less_elements deleting.now edits.old deleting.now.zone.now.elements) }
+    ensures { OnOk result (edits.new ≡ less_elements deleting.now edits.old deleting.now.left.zone.now.elements) }
 {
-    if deleting.dels.is_empty() {
+    if deleting.left.dels.is_empty() {
         return Ok(());
     }
-    for element in deleting.zone.elements() {
-        if deleting.deletes(element.fmid) {
+    for element in deleting.left.zone.elements() {
+        if deleting.left.deletes(element.fmid) {
             edits.put(Edit::Remove((element.elem_type, element.name)))?;
         }
     }

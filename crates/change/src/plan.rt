@@ -34,17 +34,14 @@ pub(crate) fn planned(
     let vers = installing.overs.vers();
     vers.global().attest();
     let Effective { ids, superseded } = taking_effect(alloc, vers, installing.kept)?;
-    let touched = touched(
-        alloc,
-        ids.as_slice(),
-        superseded.as_slice(),
-        installing.zone,
-        dels,
-    )?;
+    let superseded = superseded.as_slice();
+    let touched = touched(alloc, ids.as_slice(), superseded, installing.zone, dels)?;
+    let superseders = grouped(alloc, superseded)?;
+    let bypassed = grouped(alloc, installing.bypassed)?;
     Ok(Plan {
         effective: ids,
-        superseders: grouped(alloc, superseded.as_slice())?,
-        bypassed: grouped(alloc, installing.bypassed)?,
+        superseders,
+        bypassed,
         touched,
         date: installing.date,
     })

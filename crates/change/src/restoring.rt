@@ -9,7 +9,7 @@ ghost use Rattle.zones_maps.specs.Differing.{EachChanges};
 ghost use Rattle.change.specs.Restoring.{IsRestoringOf, ArePutBack, PutsBack, all_changed, changed_keys, loses};
 ghost use Rattle.change.specs.Restoring.{take_off};
 
-use fields::{Attest, Id, IdList, Name};
+use fields::{Id, IdList, Name};
 use sorted::TryClone;
 use std::alloc::{AllocError, Global};
 use sysmods::GlobalZone;
@@ -30,7 +30,6 @@ pub fn restore(
     ensures differs { IfOk result (λ delta. EachChanges zone.now delta.edits) }
     ensures knows { IfOk result (KnowsStood zone.now) }
 {
-    zone.attest();
     let mut zone_edits = ZoneEdits::new(alloc);
     take_all_off(alloc, kept, zone.entries(), &mut zone_edits)?;
     let changed = changed_in_order(alloc, global, kept)?;

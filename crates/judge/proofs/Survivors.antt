@@ -18,6 +18,7 @@ use Rattle.terms.specs.Types.{Id}
 use Rattle.terms.specs.Lookups.{IsRising}
 use Rattle.terms.specs.Tests.{Setting, AreSurvivors, Survives, FailsAlone, Fails}
 use Rattle.terms.specs.Failures.{all_tests}
+use Rattle.judge_system.proofs.Passing.{all_there}
 use Rattle.judge_faults.specs.Failed.{AreFailedTests}
 use Rattle.judge.specs.Surviving.{is_clash, SurvivesIn}
 
@@ -95,22 +96,6 @@ module _ (ids : List Id) (rows : List (List Test)) where
   pub survivors_none : (x : Id) → Contains [] x ↔ SurvivesIn ids rows 0 x
   survivors_none x = (λ h. absurd (none_in x h), λ h. absurd (omega (arith, h.below)))
 
--- each test is one of all
-among : (t : Test) → Contains all_tests t
-among HeldBySystem = (0, omega arith, refl)
-among HeldByUser = (1, omega arith, refl)
-among ForbiddenByNpre = (2, omega arith, refl)
-among OwnedByAnother = (3, omega arith, refl)
-among Regression = (4, omega arith, refl)
-among NothingToUpdate = (5, omega arith, refl)
-among NotInTarget = (6, omega arith, refl)
-among ChainDeleted = (7, omega arith, refl)
-among InClash = (8, omega arith, refl)
-among AlreadyAccepted = (9, omega arith, refl)
-among HasDelete = (10, omega arith, refl)
-among OtherLevel = (11, omega arith, refl)
-among SeveralFit = (12, omega arith, refl)
-
 module _ (s : Setting) (rows : List (List Test)) (failed : AreFailedTests s rows) where
   -- what fails only that test survives
   surviving : (x : Id) → SurvivesIn s.cands rows (length s.cands) x → Survives s x
@@ -122,7 +107,7 @@ module _ (s : Setting) (rows : List (List Test)) (failed : AreFailedTests s rows
       off : (t : Test) → is_clash t ≡ false → ¬ Fails s x t
       off t other fails = true≢false (sym (passes_all is_clash (filter (failed.fails x) all_tests) t
           (subst (λ r. list_all is_clash r ≡ true) row h.only_clashes)
-          (in_filter (failed.fails x) all_tests t (among t) ((failed.failed h.place x h.at t).1 fails))) ∙ other)
+          (in_filter (failed.fails x) all_tests t (all_there t) ((failed.failed h.place x h.at t).1 fails))) ∙ other)
 
       alone : (t : Test) → ¬ FailsAlone s x t
       alone HeldBySystem = off HeldBySystem refl

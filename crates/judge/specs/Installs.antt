@@ -6,6 +6,7 @@ use Rattle.terms.specs.Needs.{Needs, Serves}
 use Rattle.judge_system.specs.declared.judged.Judged.{Judged}
 use Rattle.judge_system.specs.declared.stated.Assessment.{Assessment}
 use Rattle.judge_system.specs.Judged.{AreJudged, IsJudged}
+use Rattle.judge_system.specs.TestSets.{tests_of}
 use Rattle.judge_needs.specs.Pairs.{AreBypassed}
 
 -- It follows the command's tests and needs. The needs depend on the survivors.
@@ -13,7 +14,7 @@ pub record IsInstallAssessed (s : Setting) (said : Assessment) : Type 0 where
   pub survivors : List Id
   pub are_survivors : AreSurvivors s survivors
   pub are_judged : AreJudged (Fails s) (IsEligible s) (Needs s survivors) (Serves s.choice) s.cands
-      (map (λ row. row.items) said.tests.items) said.needs.items said.superseded.items
+      (map tests_of said.tests.items) said.needs.items said.superseded.items
   pub bypassed : AreBypassed s s.cands said.bypassed.items
 
 -- the same for the numbered candidates

@@ -1,13 +1,12 @@
 //! The assessment of the candidates of an APPLY or ACCEPT, by their ids.
-ghost use Rattle.std.specs.Prelude.{All, IsTrue, IfOk, option_copied};
-ghost use Rattle.terms.specs.Candidates.{is_installable};
+ghost use Rattle.std.specs.Prelude.{IfOk, option_copied};
 ghost use Rattle.sysmods.specs.Overs.{AreOver};
-ghost use Rattle.zones.specs.Scopes.{choice_of, global_of, setting_with};
+ghost use Rattle.zones.specs.Scopes.{choice_of, setting_with};
 ghost use Rattle.judge.specs.Installs.{IsInstallAssessed};
 
 use crate::surviving::survivors;
 use judge_faults::{Tested, test_all};
-use judge_needs::{bypassed_pairs, needs_of, superseded_pairs};
+use judge_needs::{Conditions, bypassed_pairs, needs_of, superseded_pairs};
 use judge_system::Assessment;
 use std::alloc::{AllocError, Global};
 use sysmods::KnownOvers;
@@ -27,15 +26,15 @@ pub(crate) fn assess(
     scope: &Scope<'_, '_>,
     related: Option<&Zone>,
 ) -> Result<Assessed, AllocError>
-    requires { All (λ x. IsTrue (is_installable (global_of scope.now) scope.now.zone.now x)) scope.now.ids.now }
     ensures said { IfOk result (λ a. IsInstallAssessed (setting_with scope.now (option_copied related.entry)) a.said) }
     ensures overs { IfOk result (λ a. AreOver (choice_of scope.now) a.overs) }
 {
     let Tested { tests, overs } = test_all(alloc, scope, related)?;
     let survivors = survivors(alloc, scope.ids, tests.as_slice())?;
-    let needs = needs_of(alloc, scope, &survivors)?;
+    let conditions = Conditions::new(alloc, scope)?;
+    let needs = needs_of(alloc, &conditions, &survivors)?;
     let superseded = superseded_pairs(alloc, scope.vers, scope.ids, needs.as_slice())?;
-    let bypassed = bypassed_pairs(alloc, scope)?;
+    let bypassed = bypassed_pairs(alloc, &conditions)?;
     Ok(Assessed {
         said: Assessment {
             tests,

@@ -1,6 +1,5 @@
 //! The numbered system of an APPLY or ACCEPT.
-ghost use Rattle.std.specs.Prelude.{◌≡◌, ◌+◌, All, IsTrue, IfOk, option_copied};
-ghost use Rattle.terms.specs.Candidates.{is_installable};
+ghost use Rattle.std.specs.Prelude.{◌≡◌, ◌+◌, IfOk, option_copied};
 ghost use Rattle.terms.specs.Choice.{place, counting};
 ghost use Rattle.terms.specs.Judged.{setting};
 ghost use Rattle.sysmods.specs.Choices.{choice, number_in};
@@ -8,11 +7,11 @@ ghost use Rattle.sysmods.specs.Overs.{AreOver};
 ghost use Rattle.judge.specs.Installs.{IsInstallJudged};
 
 use crate::assessing::{Assessed, assess};
-use fields::{Attest, Bypass};
+use fields::Bypass;
 use judge_system::Judged;
 use std::alloc::{AllocError, Global};
 use sysmods::GlobalZone;
-use zones::{Candidates, Scope, Zone, choose};
+use zones::{Candidates, Scope, Zone, choose, deletions};
 
 /// Judges the candidates of an APPLY or ACCEPT in the zone, for ACCEPT with the related target zone, except for what
 /// BYPASS leaves out. The command installs the candidates that a `Solver` keeps of the system.
@@ -24,7 +23,6 @@ pub fn install_system<'a>(
     candidates: &Candidates,
     bypass: &Bypass,
 ) -> Result<Judged<'a>, AllocError>
-    requires { All (λ x. IsTrue (is_installable global.now zone.now x)) candidates.now.ids }
     ensures judged { IfOk result (λ j. IsInstallJudged (setting global.now zone.now (option_copied related.entry)
         candidates.now.ids bypass.now) j) }
     ensures global { IfOk result (λ j. j.vers.global.now ≡ global.now) }
@@ -34,12 +32,13 @@ pub fn install_system<'a>(
     ensures overs { IfOk result (λ j. AreOver (choice j.vers) j.overs) }
 {
     let ids = &candidates.ids;
-    ids.attest();
     let vers = choose(alloc, global, zone, ids)?;
+    let dels = deletions(alloc, &vers, ids.as_slice())?;
     let scope = Scope {
         vers: &vers,
         zone,
         ids,
+        dels: dels.as_slice(),
         bypass,
     };
     let Assessed { said, overs } = assess(alloc, &scope, related)?;

@@ -1,6 +1,6 @@
 //! Which SYSMODs may be installed together: the numbered system of an APPLY or ACCEPT.
-//! For candidates that may be installed in the zone, `install_system` returns the tests that each one fails, what each
-//! one needs, and which of its requisites BYPASS covers; the system is the numbered form of these. The set that any
+//! `install_system` returns the tests that each candidate fails, what each one needs, and which of its requisites BYPASS
+//! covers; the system is the numbered form of these. The set that any
 //! `solve::Solver` keeps of it is the kept set, and `solve::causers` finds the causers. Every call that allocates
 //! returns `AllocError` if memory runs out.
 #![tactic(auto)]

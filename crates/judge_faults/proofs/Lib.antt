@@ -1,4 +1,3 @@
-pub mod Few
 pub mod Collapsed
 pub mod Alone
 pub mod Claimed

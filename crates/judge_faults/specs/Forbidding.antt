@@ -1,5 +1,5 @@
 -- Which candidates forbid each other by NPRE.
-use Rattle.std.specs.Prelude.{◌≡◌, ◌≢◌, ◌⊎◌, ◌↔◌, ◌<◌, ◌^◌, ℕ, List, Contains, length}
+use Rattle.std.specs.Prelude.{◌≡◌, ◌≢◌, ◌⊎◌, ◌↔◌, ℕ, List, Contains, length}
 use Rattle.terms.specs.Lookups.{IsRising}
 use Rattle.terms.specs.Types.{Id, Global}
 use Rattle.terms.specs.Choice.{Choice, npre_of}
@@ -7,11 +7,10 @@ use Rattle.judge_faults.specs.declared.own.OwnFaults.{OwnFaults}
 use Rattle.judge_faults.specs.Claims.{PassesAt}
 use Rattle.judge_faults.specs.Sharing.{IsClashing}
 
--- candidates in order, each with its faults, and with a place that fits into 32 bits
+-- candidates in order, each with its faults
 pub record AreCandidates (ids : List Id) (faults : List OwnFaults) : Type 0 where
   pub rising : IsRising ids
   pub lengths : length faults ≡ length ids
-  pub fits : length ids < 2 ^ 32
 
 -- the place is one of two
 abbrev pub IsEither : ℕ → ℕ → ℕ → Type 0

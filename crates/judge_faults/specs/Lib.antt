@@ -3,7 +3,6 @@ pub mod Own
 pub mod Claims
 pub mod Sharing
 pub mod Rows
-pub mod Views
 pub mod Forbidders
 pub mod Deletes
 pub mod Forbidding

@@ -1,5 +1,5 @@
 //! What the candidates change that pass the tests of their own.
-ghost use Rattle.std.specs.Prelude.{◌≡◌, ◌↔◌, ◌<◌, ◌^◌, length, IsTrue, IfOk};
+ghost use Rattle.std.specs.Prelude.{◌≡◌, ◌↔◌, length, IsTrue, IfOk};
 ghost use Rattle.judge_faults.specs.Claims.{AreClaims, AreGrouped};
 
 use crate::own::{OwnFaults, own_at};
@@ -13,7 +13,7 @@ use terms::ElemType;
 pub(crate) struct Claim {
     pub(crate) element: (ElemType, Name),
     pub(crate) id: Id,
-    pub(crate) place: u32,
+    pub(crate) place: usize,
 }
 
 impl Claim {
@@ -32,8 +32,7 @@ pub(crate) fn claims_of(
     ids: &[Id],
     faults: &[OwnFaults],
 ) -> Result<Vec<Claim>, AllocError>
-    requires lengths { length faults.now ≡ length ids.now }
-    requires fits { length ids.now < 2 ^ 32 }
+    requires { length faults.now ≡ length ids.now }
     ensures are { IfOk result (λ claims. AreClaims global.now ids.now faults.now (length ids.now) claims.items) }
     ensures grouped { IfOk result (λ claims. AreGrouped claims.items) }
 {
@@ -48,7 +47,7 @@ pub(crate) fn claims_of(
             claims.push(Claim {
                 element: (change.elem_type, change.name),
                 id,
-                place: i as u32,
+                place: i,
             })?;
         }
     }

@@ -6,20 +6,19 @@ ghost use Rattle.terms.specs.Types.{type_number};
 ghost use Rattle.terms.specs.Over.{IsOver};
 ghost use Rattle.terms.specs.Changes.{is_replacement, has_replacement};
 ghost use Rattle.sysmods.specs.Choices.{choice};
-ghost use Rattle.judge_faults.specs.Views.{seen};
+ghost use Rattle.zones.specs.Gone.{left_of};
 ghost use Rattle.judge_faults.specs.Own.{is_foreign_at, IsLower, IsLowerAt, has_base, is_bare_at};
 
-use crate::view::View;
 use fields::{Id, IdList, Name};
 use std::alloc::{AllocError, Global};
 use sysmods::{GlobalZone, Overs};
 use sysmods_values::{Action, ElemChange};
 use terms::ElemType;
-use zones::Element;
+use zones::{Element, ZoneLess};
 
 // Whether the view has the element of the statement under another owner.
-fn is_foreign_at(view: &View<'_, '_>, owner: Id, change: &ElemChange) -> bool
-    ensures { result ≡ is_foreign_at (seen view.now) owner change.now }
+fn is_foreign_at(view: &ZoneLess<'_, '_>, owner: Id, change: &ElemChange) -> bool
+    ensures { result ≡ is_foreign_at (left_of view.now) owner change.now }
 {
     match view.element(change.elem_type, change.name) {
         Some(element) => element.fmid != owner,
@@ -28,8 +27,8 @@ fn is_foreign_at(view: &View<'_, '_>, owner: Id, change: &ElemChange) -> bool
 }
 
 /// Whether the view has an element of these statements under another owner.
-pub(crate) fn is_foreign(view: &View<'_, '_>, owner: Id, changes: &[ElemChange]) -> bool
-    ensures { result ≡ list_any (is_foreign_at (seen view.now) owner) changes.now }
+pub(crate) fn is_foreign(view: &ZoneLess<'_, '_>, owner: Id, changes: &[ElemChange]) -> bool
+    ensures { result ≡ list_any (is_foreign_at (left_of view.now) owner) changes.now }
 {
     changes
         .iter()
@@ -72,12 +71,12 @@ fn is_lower(
 
 fn is_lower_at(
     alloc: Global,
-    view: &View<'_, '_>,
+    view: &ZoneLess<'_, '_>,
     overs: &mut Overs<'_, '_>,
     id: Id,
     change: &ElemChange,
 ) -> Result<bool, AllocError>
-    ensures lower { IfOk result (λ lower. IsTrue lower ↔ IsLowerAt (choice overs.old) (seen view.now) id change.now) }
+    ensures lower { IfOk result (λ lower. IsTrue lower ↔ IsLowerAt (choice overs.old) (left_of view.now) id change.now) }
     ensures same { overs.new ≡ overs.old }
 {
     match view.element(change.elem_type, change.name) {
@@ -89,13 +88,13 @@ fn is_lower_at(
 /// Whether an element of these statements was made by a SYSMOD that it is not over.
 pub(crate) fn is_lower_somewhere(
     alloc: Global,
-    view: &View<'_, '_>,
+    view: &ZoneLess<'_, '_>,
     overs: &mut Overs<'_, '_>,
     id: Id,
     changes: &[ElemChange],
 ) -> Result<bool, AllocError>
     ensures lower { IfOk result (λ lower. IsTrue lower
-        ↔ Any (IsLowerAt (choice overs.old) (seen view.now) id) changes.now) }
+        ↔ Any (IsLowerAt (choice overs.old) (left_of view.now) id) changes.now) }
     ensures same { overs.new ≡ overs.old }
 {
     for change in changes {
@@ -155,12 +154,12 @@ fn has_base(global: &GlobalZone, ids: &IdList, fmid: Option<Id>, change: &ElemCh
 // Whether it updates an element that the view lacks, and no base comes with it.
 fn is_bare_at(
     global: &GlobalZone,
-    view: &View<'_, '_>,
+    view: &ZoneLess<'_, '_>,
     ids: &IdList,
     fmid: Option<Id>,
     change: &ElemChange,
 ) -> bool
-    ensures { result ≡ is_bare_at global.now (seen view.now) ids.now fmid change.now }
+    ensures { result ≡ is_bare_at global.now (left_of view.now) ids.now fmid change.now }
 {
     !is_replacement(change)
         && view.element(change.elem_type, change.name).is_none()
@@ -170,12 +169,12 @@ fn is_bare_at(
 /// Whether one of these statements updates an element that the view lacks, and no base of that comes with its function.
 pub(crate) fn has_bare_update(
     global: &GlobalZone,
-    view: &View<'_, '_>,
+    view: &ZoneLess<'_, '_>,
     ids: &IdList,
     fmid: Option<Id>,
     changes: &[ElemChange],
 ) -> bool
-    ensures { result ≡ list_any (is_bare_at global.now (seen view.now) ids.now fmid) changes.now }
+    ensures { result ≡ list_any (is_bare_at global.now (left_of view.now) ids.now fmid) changes.now }
 {
     changes
         .iter()

@@ -1,73 +1,48 @@
 //! The failed tests of each candidate.
-ghost use Rattle.std.specs.Prelude.{◌≡◌, ◌<◌, ◌^◌, [], ◌∷◌, length, filter, IfOk};
+ghost use Rattle.std.specs.Prelude.{◌≡◌, filter, IfOk};
 ghost use Rattle.terms.specs.Beside.{Beside};
-ghost use Rattle.terms.specs.declared.codes.Test.TheVariants.{HeldBySystem, HeldByUser, ForbiddenByNpre};
-ghost use Rattle.terms.specs.declared.codes.Test.TheVariants.{OwnedByAnother, Regression, NothingToUpdate};
-ghost use Rattle.terms.specs.declared.codes.Test.TheVariants.{NotInTarget, ChainDeleted, InClash, SeveralFit};
+ghost use Rattle.terms.specs.Failures.{all_tests};
+ghost use Rattle.judge_system.specs.TestSets.{tests_of};
 ghost use Rattle.judge_faults.specs.Rows.{fails_test, row_of};
 
 use crate::own::{OwnFaults, own_at};
 use indexmap::IndexSet;
+use judge_system::TestSet;
 use std::alloc::{AllocError, Global};
-use terms::Test;
 
-// Whether a candidate fails the test, given what it fails by itself and whether it clashes with another one.
-fn fails(own: OwnFaults, clashes: bool, test: Test) -> bool
-    ensures { result ≡ fails_test own clashes test }
+// The tests that a candidate fails, given what it fails by itself and whether it clashes with another one.
+fn failed(own: OwnFaults, clashes: bool) -> TestSet
+    ensures { tests_of result ≡ filter (fails_test own clashes) all_tests }
 {
-    match test {
-        Test::HeldBySystem => own.system_held,
-        Test::HeldByUser => own.user_held,
-        Test::ForbiddenByNpre => own.forbidden,
-        Test::OwnedByAnother => own.foreign,
-        Test::Regression => own.lower,
-        Test::NothingToUpdate => own.bare,
-        Test::NotInTarget => own.unapplied,
-        Test::ChainDeleted => own.deleted,
-        Test::InClash => clashes,
-        Test::SeveralFit => own.ambiguous,
-        _ => false,
+    TestSet {
+        held_by_system: own.system_held,
+        held_by_user: own.user_held,
+        forbidden_by_npre: own.forbidden,
+        owned_by_another: own.foreign,
+        regression: own.lower,
+        nothing_to_update: own.bare,
+        not_in_target: own.unapplied,
+        chain_deleted: own.deleted,
+        in_clash: clashes,
+        several_fit: own.ambiguous,
+        ..TestSet::none()
     }
-}
-
-// The tests that a candidate fails.
-fn row_of(alloc: Global, own: OwnFaults, clashes: bool) -> Result<Vec<Test>, AllocError>
-    ensures { IfOk result (λ row. row.items ≡ filter (fails_test own clashes)
-        (HeldBySystem ∷ HeldByUser ∷ ForbiddenByNpre ∷ OwnedByAnother ∷ Regression ∷ NothingToUpdate ∷ NotInTarget
-        ∷ ChainDeleted ∷ InClash ∷ SeveralFit ∷ [])) }
-{
-    [
-        Test::HeldBySystem,
-        Test::HeldByUser,
-        Test::ForbiddenByNpre,
-        Test::OwnedByAnother,
-        Test::Regression,
-        Test::NothingToUpdate,
-        Test::NotInTarget,
-        Test::ChainDeleted,
-        Test::InClash,
-        Test::SeveralFit,
-    ]
-    .iter()
-    .filter(|test| fails(own, clashes, **test))
-    .copied()
-    .collect(alloc)
 }
 
 /// The tests that each candidate fails, given which candidates clash.
-pub(crate) fn all_rows(
+pub(crate) fn all_failed(
     alloc: Global,
     faults: &[OwnFaults],
-    clashing: &IndexSet<u32>,
-) -> Result<Vec<Vec<Test>>, AllocError>
-    requires { length faults.now < 2 ^ 32 }
-    ensures { IfOk result (λ rows. Beside (λ n own row. row.items ≡ row_of clashing.now.keys n own) faults.now
-        rows.items) }
+    clashing: &IndexSet<usize>,
+) -> Result<Vec<TestSet>, AllocError>
+    ensures { IfOk result (λ sets. Beside (λ n own tests. tests_of tests ≡ row_of clashing.now.keys n own) faults.now
+        sets.items) }
 {
-    let mut rows = Vec::new(alloc);
+    let mut sets = Vec::new(alloc);
     for i in 0..faults.len() {
-        let clashes = clashing.contains(&(i as u32));
-        rows.push(row_of(alloc, own_at(faults, i), clashes)?)?;
+        let clashes = clashing.contains(&i);
+        let tests = failed(own_at(faults, i), clashes);
+        sets.push(tests)?;
     }
-    Ok(rows)
+    Ok(sets)
 }

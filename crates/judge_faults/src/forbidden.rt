@@ -7,15 +7,14 @@ ghost use Rattle.sorted.specs.Lists.{Gains};
 ghost use Rattle.terms.specs.Lookups.{is_applied};
 ghost use Rattle.sysmods.specs.Choices.{choice};
 ghost use Rattle.judge_faults.specs.Forbidders.{ForbidsBy, AreForbidders, IsForbidden};
-ghost use Rattle.judge_faults.specs.Views.{seen};
+ghost use Rattle.zones.specs.Gone.{left_of};
 
-use crate::view::View;
 use fields::{Attest, Id};
 use sorted::lists::{Lists, add_to_all, listed};
 use std::alloc::{AllocError, Global};
 use std::collections::BTreeMap;
 use sysmods::VerChoice;
-use zones::{Entry, Zone};
+use zones::{Entry, Zone, ZoneLess};
 
 /// For each id the applied functions that name it in NPRE.
 pub(crate) type Forbidders = Lists<Id, Id>;
@@ -51,18 +50,18 @@ pub(crate) fn forbidders(
     Ok(forbidders)
 }
 
-fn any_applied(view: &View<'_, '_>, ids: &[Id]) -> bool
-    ensures { result ≡ list_any (is_applied (seen view.now)) ids.now }
+fn any_applied(view: &ZoneLess<'_, '_>, ids: &[Id]) -> bool
+    ensures { result ≡ list_any (is_applied (left_of view.now)) ids.now }
 {
-    ids.iter().any(|id| view.is_applied(*id))
+    ids.iter().any(|id| view.has(*id))
 }
 
 /// Whether the candidate forbids a SYSMOD that is applied in its view, or a function that is applied there forbids the
 /// candidate.
-pub(crate) fn is_forbidden(view: &View<'_, '_>, forbidders: &Forbidders, id: Id) -> bool
+pub(crate) fn is_forbidden(view: &ZoneLess<'_, '_>, forbidders: &Forbidders, id: Id) -> bool
     requires { AreForbidders view.now.vers.now.global.now (choice view.now.vers.now) view.now.zone.now.entries
         forbidders.now }
-    ensures { IsTrue result ↔ IsForbidden view.now.vers.now.global.now (choice view.now.vers.now) (seen view.now) id }
+    ensures { IsTrue result ↔ IsForbidden view.now.vers.now.global.now (choice view.now.vers.now) (left_of view.now) id }
 {
     view.zone.attest();
     any_applied(view, view.vers.npre(id)) || any_applied(view, listed(forbidders, id))

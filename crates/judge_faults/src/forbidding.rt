@@ -30,10 +30,10 @@ fn passing_place(ids: &[Id], faults: &[OwnFaults], id: Id) -> Option<usize>
 fn mark_named(
     ids: &[Id],
     faults: &[OwnFaults],
-    place: u32,
+    place: usize,
     id: Id,
     named: Id,
-    marked: &mut IndexSet<u32>,
+    marked: &mut IndexSet<usize>,
 ) -> Result<(), AllocError>
     requires { AreCandidates ids.now faults.now }
     ensures { OnOk result (Marks (IsOfNamed ids.now faults.now place id named) marked.old.keys marked.new.keys) }
@@ -45,7 +45,7 @@ fn mark_named(
         return Ok(());
     };
     marked.insert(place)?;
-    marked.insert(other as u32)?;
+    marked.insert(other)?;
     Ok(())
 }
 
@@ -55,7 +55,7 @@ fn mark_by(
     ids: &[Id],
     faults: &[OwnFaults],
     place: usize,
-    marked: &mut IndexSet<u32>,
+    marked: &mut IndexSet<usize>,
 ) -> Result<(), AllocError>
     requires are { AreCandidates ids.now faults.now }
     requires below { place < length ids.now }
@@ -68,7 +68,7 @@ fn mark_by(
     let id = ids[place];
     let named = vers.npre(id);
     for other in named {
-        mark_named(ids, faults, place as u32, id, *other, marked)?;
+        mark_named(ids, faults, place, id, *other, marked)?;
     }
     Ok(())
 }
@@ -79,7 +79,7 @@ pub(crate) fn clashing_places(
     overs: &mut Overs<'_, '_>,
     ids: &[Id],
     faults: &[OwnFaults],
-) -> Result<IndexSet<u32>, AllocError>
+) -> Result<IndexSet<usize>, AllocError>
     requires { AreCandidates ids.now faults.now }
     ensures clashing { IfOk result (λ places. AreClashing overs.old.global.now (choice overs.old) ids.now faults.now
         places.keys) }

@@ -15,6 +15,5 @@ mod forbidding;
 mod own;
 mod sharing;
 mod tested;
-mod view;
 
 pub use tested::{Tested, test_all};

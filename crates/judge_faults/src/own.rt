@@ -7,24 +7,22 @@ ghost use Rattle.std.specs.Option.{option_map_or};
 ghost use Rattle.terms.specs.Types.{is_distribution};
 ghost use Rattle.terms.specs.Lookups.{holds_of, is_applied, is_in};
 ghost use Rattle.terms.specs.Choice.{fits};
-ghost use Rattle.terms.specs.Deleted.{deletions};
 ghost use Rattle.terms.specs.Tests.{HasSeveralFit, is_bypassed_hold};
 ghost use Rattle.sysmods.specs.Choices.{choice};
 ghost use Rattle.judge_faults.specs.Forbidders.{AreForbidders};
 ghost use Rattle.zones.specs.Scopes.{global_of, choice_of, setting_of, setting_with};
 ghost use Rattle.judge_faults.specs.Own.{IsLowerAt, HasFaults, passes_alone, passes};
 ghost use Rattle.terms.specs.Beside.{Beside};
-ghost use Rattle.judge_faults.specs.Views.{seen};
+ghost use Rattle.zones.specs.Gone.{left_of};
 
 use crate::element_tests::{has_bare_update, is_foreign, is_lower_somewhere};
 use crate::forbidden::{Forbidders, forbidders, is_forbidden};
-use crate::view::View;
 use fields::{Bypass, Id, IdList};
 use std::alloc::{AllocError, Global};
 use sysmods::{GlobalZone, Overs};
 use sysmods_values::{ElemChange, Ver};
 use terms::{HoldKind, ZoneKind};
-use zones::{Scope, Zone, deletions, fits, is_bypassed_hold, view_deletions};
+use zones::{Scope, Zone, ZoneLess, fits, is_bypassed_hold};
 
 /// What a candidate fails by itself: a SYSTEM hold or a USER hold keeps it off, an NPRE forbids it, it changes an
 /// element that another SYSMOD owns (`foreign`) or that was made by a SYSMOD that it is not over (`lower`), it updates
@@ -78,14 +76,14 @@ fn has_standing_hold(global: &GlobalZone, bypass: &Bypass, kind: HoldKind, id: I
 // Whether an element that it changes was made by a SYSMOD that it is not over. With BYPASS(ID) it never is.
 fn is_lower(
     alloc: Global,
-    view: &View<'_, '_>,
+    view: &ZoneLess<'_, '_>,
     overs: &mut Overs<'_, '_>,
     bypass: &Bypass,
     id: Id,
     changes: &[ElemChange],
 ) -> Result<bool, AllocError>
     ensures lower { IfOk result (λ lower. IsTrue lower ↔ (IsFalse bypass.now.same_id
-        × Any (IsLowerAt (choice overs.old) (seen view.now) id) changes.now)) }
+        × Any (IsLowerAt (choice overs.old) (left_of view.now) id) changes.now)) }
     ensures same { overs.new ≡ overs.old }
 {
     if bypass.same_id {
@@ -136,20 +134,18 @@ fn own_faults(
     scope: &Scope<'_, '_>,
     related: Option<&Zone>,
     forbidders: &Forbidders,
-    all_dels: &[Id],
     overs: &mut Overs<'_, '_>,
     id: Id,
 ) -> Result<OwnFaults, AllocError>
     requires overs { overs.old ≡ scope.now.vers.now }
-    requires dels { all_dels.now ≡ deletions (choice_of scope.now) scope.now.ids.now }
     requires forbidders { AreForbidders (global_of scope.now) (choice_of scope.now)
         scope.now.zone.now.entries forbidders.now }
     ensures faults { IfOk result (HasFaults (setting_with scope.now (option_copied related.entry)) id) }
     ensures same { overs.new ≡ overs.old }
 {
     let vers = scope.vers;
-    let dels = view_deletions(alloc, vers, scope.ids, all_dels, id)?;
-    let view = View {
+    let dels = scope.view_deletions(alloc, id)?;
+    let view = ZoneLess {
         vers,
         dels: dels.as_slice(),
         zone: scope.zone,
@@ -183,11 +179,9 @@ pub(crate) fn all_faults(
     ensures same { overs.new ≡ overs.old }
 {
     let forbidders = forbidders(alloc, scope.vers, scope.zone)?;
-    let all_dels = deletions(alloc, scope.vers, scope.ids.as_slice())?;
-    let dels = all_dels.as_slice();
     let mut faults = Vec::new(alloc);
     for id in scope.ids.as_slice() {
-        faults.push(own_faults(alloc, scope, related, &forbidders, dels, overs, *id)?)?;
+        faults.push(own_faults(alloc, scope, related, &forbidders, overs, *id)?)?;
     }
     Ok(faults)
 }

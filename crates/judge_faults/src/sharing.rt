@@ -1,5 +1,5 @@
 //! Which candidates change an element that they may not share with another candidate.
-ghost use Rattle.std.specs.Prelude.{◌≡◌, ◌↔◌, ◌<◌, ◌^◌, ◌⊎◌, [], ◌∷◌, ◌++◌, ℕ, List, length, IsTrue};
+ghost use Rattle.std.specs.Prelude.{◌≡◌, ◌↔◌, ◌<◌, ◌⊎◌, [], ◌∷◌, ◌++◌, ℕ, List, length, IsTrue};
 ghost use Rattle.std.specs.Prelude.{Contains, OnOk, IfOk};
 ghost use Rattle.sysmods.specs.Choices.{choice};
 ghost use Rattle.judge_faults.specs.Sharing.{Marks, IsOfPair, IsAgainst, IsAmong, Clashes, AreMarked};
@@ -14,7 +14,7 @@ use std::alloc::{AllocError, Global};
 use sysmods::Overs;
 
 // Whether the two need no test: they are of one candidate, or both are marked.
-fn is_settled(one: &Claim, other: &Claim, shared: &IndexSet<u32>) -> bool
+fn is_settled(one: &Claim, other: &Claim, shared: &IndexSet<usize>) -> bool
     ensures settled { IsTrue result → (one.now.id ≡ other.now.id) ⊎ (Contains shared.now.keys one.now.place
         × Contains shared.now.keys other.now.place) }
     ensures own { one.now.id ≡ other.now.id → IsTrue result }
@@ -28,7 +28,7 @@ fn mark_pair(
     overs: &mut Overs<'_, '_>,
     one: &Claim,
     other: &Claim,
-    shared: &mut IndexSet<u32>,
+    shared: &mut IndexSet<usize>,
 ) -> Result<(), AllocError>
     ensures marks { OnOk result (Marks (IsOfPair overs.old.global.now (choice overs.old) one.now other.now)
         shared.old.keys shared.new.keys) }
@@ -50,7 +50,7 @@ fn mark_against(
     overs: &mut Overs<'_, '_>,
     claim: &Claim,
     others: &[Claim],
-    shared: &mut IndexSet<u32>,
+    shared: &mut IndexSet<usize>,
 ) -> Result<(), AllocError>
     ensures marks { OnOk result (Marks (IsAgainst overs.old.global.now (choice overs.old) claim.now others.now)
         shared.old.keys shared.new.keys) }
@@ -76,7 +76,7 @@ fn take_in(
     overs: &mut Overs<'_, '_>,
     claim: &Claim,
     claimants: &mut Claimants,
-    shared: &mut IndexSet<u32>,
+    shared: &mut IndexSet<usize>,
 ) -> Result<(), AllocError>
     ensures taken { OnOk result ((claims : List Claim) (before : List ℕ)
         → AreMarked overs.old.global.now (choice overs.old) claims claimants.old.chain.items claimants.old.others.items
@@ -101,7 +101,7 @@ fn mark_run(
     alloc: Global,
     overs: &mut Overs<'_, '_>,
     claims: &[Claim],
-    shared: &mut IndexSet<u32>,
+    shared: &mut IndexSet<usize>,
 ) -> Result<(), AllocError>
     ensures marks { OnOk result (Marks (IsAmong (Clashes overs.old.global.now (choice overs.old)) claims.now)
         shared.old.keys shared.new.keys) }
@@ -137,9 +137,8 @@ pub(crate) fn shared_places(
     overs: &mut Overs<'_, '_>,
     ids: &[Id],
     faults: &[OwnFaults],
-) -> Result<IndexSet<u32>, AllocError>
-    requires lengths { length faults.now ≡ length ids.now }
-    requires fits { length ids.now < 2 ^ 32 }
+) -> Result<IndexSet<usize>, AllocError>
+    requires { length faults.now ≡ length ids.now }
     ensures shared { IfOk result (λ shared. (n : ℕ) → Contains shared.keys n
         ↔ IsClashing overs.old.global.now (choice overs.old) ids.now faults.now n) }
     ensures same { overs.new ≡ overs.old }

@@ -1,23 +1,23 @@
 //! The tests of all candidates.
-ghost use Rattle.std.specs.Prelude.{◌≡◌, All, IsTrue, IfOk, map, option_copied};
-ghost use Rattle.terms.specs.Candidates.{is_installable};
-ghost use Rattle.zones.specs.Scopes.{global_of, setting_with};
+ghost use Rattle.std.specs.Prelude.{◌≡◌, IfOk, map, option_copied};
+ghost use Rattle.zones.specs.Scopes.{setting_with};
+ghost use Rattle.judge_system.specs.TestSets.{tests_of};
 ghost use Rattle.judge_faults.specs.Failed.{AreFailedTests};
 
 use crate::deleted::all_with_deleted;
-use crate::failed_tests::all_rows;
+use crate::failed_tests::all_failed;
 use crate::forbidding::clashing_places;
 use crate::own::all_faults;
 use fields::Attest;
+use judge_system::TestSet;
 use std::alloc::{AllocError, Global};
 use sysmods::Overs;
-use terms::Test;
 use zones::{Scope, Zone};
 
 /// For each candidate the tests that it fails, and the pairs of ids that were found to be over each other.
 #[derive(Drop)]
 pub struct Tested<'a, 'b> {
-    pub tests: Vec<Vec<Test>>,
+    pub tests: Vec<TestSet>,
     pub overs: Overs<'a, 'b>,
 }
 
@@ -27,19 +27,16 @@ pub fn test_all<'a, 'b>(
     scope: &Scope<'a, 'b>,
     related: Option<&Zone>,
 ) -> Result<Tested<'a, 'b>, AllocError>
-    requires { All (λ x. IsTrue (is_installable (global_of scope.now) scope.now.zone.now x)) scope.now.ids.now }
     ensures tests { IfOk result (λ t. AreFailedTests (setting_with scope.now (option_copied related.entry))
-        (map (λ row. row.items) t.tests.items)) }
+        (map tests_of t.tests.items)) }
     ensures overs { IfOk result (λ t. t.overs ≡ scope.now.vers.now) }
 {
     scope.global().attest();
     let list = scope.ids.as_slice();
-    // There are no more candidates than received SYSMODs.
-    prove!(list.len() < 4_294_967_296);
     let mut overs = Overs::new(alloc, scope.vers);
     let alone = all_faults(alloc, scope, related, &mut overs)?;
     let faults = all_with_deleted(alloc, scope.vers, list, alone.as_slice())?;
     let clashing = clashing_places(alloc, &mut overs, list, faults.as_slice())?;
-    let tests = all_rows(alloc, faults.as_slice(), &clashing)?;
+    let tests = all_failed(alloc, faults.as_slice(), &clashing)?;
     Ok(Tested { tests, overs })
 }

@@ -1,4 +1,3 @@
-pub mod Left
 pub mod Conditions
 pub mod Needed
 pub mod Pairs

@@ -45,16 +45,20 @@ fn bypassed(alloc: Global, conditions: &Conditions<'_, '_>, id: Id) -> Result<Ve
 }
 
 /// Each candidate with each of its PRE, REQ and IFREQ that BYPASS covers.
-pub fn bypassed_pairs(alloc: Global, scope: &Scope<'_, '_>) -> Result<Vec<(Id, Id)>, AllocError>
-    ensures { IfOk result (λ pairs. AreBypassed (setting_of scope.now) scope.now.ids.now pairs.items) }
+pub fn bypassed_pairs(
+    alloc: Global,
+    conditions: &Conditions<'_, '_>,
+) -> Result<Vec<(Id, Id)>, AllocError>
+    ensures { IfOk result
+        (λ pairs. AreBypassed (setting_of conditions.now.scope) conditions.now.scope.ids.now pairs.items) }
 {
-    if !scope.bypasses_requisites() {
-        return Ok(Vec::new(alloc));
-    }
-    let conditions = Conditions::new(alloc, scope)?;
+    let scope = &conditions.scope;
     let mut pairs = Vec::new(alloc);
+    if !scope.bypasses_requisites() {
+        return Ok(pairs);
+    }
     for id in scope.ids.as_slice() {
-        let ids = bypassed(alloc, &conditions, *id)?;
+        let ids = bypassed(alloc, conditions, *id)?;
         add_pairs(&mut pairs, *id, ids.as_slice())?;
     }
     Ok(pairs)

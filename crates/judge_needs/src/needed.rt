@@ -4,35 +4,42 @@ ghost use Rattle.std.specs.Prelude.{◌≡◌, ◌↔◌, Contains, OnOk, IfOk};
 ghost use Rattle.terms.specs.Types.{Id as AnId};
 ghost use Rattle.terms.specs.Lookups.{IsRising};
 ghost use Rattle.terms.specs.Needs.{asked};
+ghost use Rattle.zones.specs.Gone.{left_of};
 ghost use Rattle.zones.specs.Scopes.{setting_of};
-ghost use Rattle.judge_needs.specs.Left.{left_of};
-ghost use Rattle.judge_needs.specs.Needed.{IsOpen, IsOfKind, AreNeeds, AddsPart};
+ghost use Rattle.judge_needs.specs.Needed.{is_open, IsOpen, IsOfKind, AreNeeds, AddsPart};
 
 use crate::conditions::Conditions;
-use crate::left::Left;
 use crate::reasons::open_reasons;
 use fields::{Id, IdList};
 use judge_system::RequisiteOf;
 use std::alloc::{AllocError, Global};
 use terms::NeedKind;
-use zones::{Scope, deletions, orphans};
+use zones::{Scope, ZoneLess, deletions, orphans};
+
+// Whether neither BYPASS nor what is left of the zone meets a need.
+fn is_open(scope: &Scope<'_, '_>, left: &ZoneLess<'_, '_>, kind: NeedKind, id: Id) -> bool
+    ensures { result ≡ is_open (left_of left.now) scope.now.bypass.now kind id }
+{
+    !scope.is_bypassed(kind) && !left.meets(kind, id)
+}
 
 // Adds what a candidate asks for and nothing meets.
 fn add_asked(
-    left: &Left<'_, '_>,
+    scope: &Scope<'_, '_>,
+    left: &ZoneLess<'_, '_>,
     of: Id,
     kind: NeedKind,
     asked: &[Id],
     needs: &mut Vec<RequisiteOf>,
 ) -> Result<(), AllocError>
     requires { IsRising asked.now }
-    ensures { OnOk result (AddsPart of (IsOfKind (left_of left.now) left.now.scope.bypass.now kind asked.now)
+    ensures { OnOk result (AddsPart of (IsOfKind (left_of left.now) scope.now.bypass.now kind asked.now)
         needs.old.items needs.new.items) }
 {
     needs.extend(
         asked
             .iter()
-            .filter(|id| left.is_open(kind, **id))
+            .filter(|id| is_open(scope, left, kind, **id))
             .map(|id| RequisiteOf { of, kind, id: *id }),
     )
 }
@@ -57,46 +64,54 @@ fn orphaned(
 // Adds the needs of one candidate.
 fn add_open(
     alloc: Global,
-    left: &Left<'_, '_>,
-    survivors: &IdList,
     conditions: &Conditions<'_, '_>,
+    left: &ZoneLess<'_, '_>,
+    survivors: &IdList,
     id: Id,
     needs: &mut Vec<RequisiteOf>,
 ) -> Result<(), AllocError>
-    requires { conditions.now.scope ≡ left.now.scope }
-    ensures { OnOk result (AddsPart id (IsOpen (setting_of left.now.scope) survivors.now (left_of left.now) id)
+    ensures { OnOk result (AddsPart id (IsOpen (setting_of conditions.now.scope) survivors.now (left_of left.now) id)
         needs.old.items needs.new.items) }
 {
-    let scope = &left.scope;
+    let scope = &conditions.scope;
     let fmid = scope.fmid(id);
-    add_asked(left, id, NeedKind::Fmid, fmid.as_slice(), needs)?;
-    add_asked(left, id, NeedKind::Pre, scope.pre(id), needs)?;
-    add_asked(left, id, NeedKind::Req, scope.req(id), needs)?;
+    add_asked(scope, left, id, NeedKind::Fmid, fmid.as_slice(), needs)?;
+    add_asked(scope, left, id, NeedKind::Pre, scope.pre(id), needs)?;
+    add_asked(scope, left, id, NeedKind::Req, scope.req(id), needs)?;
     let by_ifs = conditions.requisites(alloc, id)?;
-    add_asked(left, id, NeedKind::Ifreq, by_ifs.as_slice(), needs)?;
+    add_asked(scope, left, id, NeedKind::Ifreq, by_ifs.as_slice(), needs)?;
     let reasons = open_reasons(alloc, scope, id)?;
-    add_asked(left, id, NeedKind::HoldError, reasons.as_slice(), needs)?;
+    add_asked(
+        scope,
+        left,
+        id,
+        NeedKind::HoldError,
+        reasons.as_slice(),
+        needs,
+    )?;
     let lost = orphaned(alloc, scope, survivors, id)?;
-    add_asked(left, id, NeedKind::Orphan, lost.as_slice(), needs)
+    add_asked(scope, left, id, NeedKind::Orphan, lost.as_slice(), needs)
 }
 
 /// What the candidates need, given the survivors: each need once.
 pub fn needs_of(
     alloc: Global,
-    scope: &Scope<'_, '_>,
+    conditions: &Conditions<'_, '_>,
     survivors: &IdList,
 ) -> Result<Vec<RequisiteOf>, AllocError>
-    ensures { IfOk result (λ needs. AreNeeds (setting_of scope.now) survivors.now needs.items) }
+    ensures { IfOk result (λ needs. AreNeeds (setting_of conditions.now.scope) survivors.now needs.items) }
 {
-    let dels = deletions(alloc, scope.vers, survivors.as_slice())?;
-    let left = Left {
-        scope: *scope,
-        dels: dels.as_slice(),
+    let scope = &conditions.scope;
+    let deleted = deletions(alloc, scope.vers, survivors.as_slice())?;
+    let dels = deleted.as_slice();
+    let left = ZoneLess {
+        vers: scope.vers,
+        dels,
+        zone: scope.zone,
     };
-    let conditions = Conditions::new(alloc, scope)?;
     let mut needs = Vec::new(alloc);
     for id in scope.ids.as_slice() {
-        add_open(alloc, &left, survivors, &conditions, *id, &mut needs)?;
+        add_open(alloc, conditions, &left, survivors, *id, &mut needs)?;
     }
     Ok(needs)
 }

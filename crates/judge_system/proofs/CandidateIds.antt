@@ -42,6 +42,7 @@ use Rattle.judge_system.specs.ByNumber.{IsDecidedBy}
 use Rattle.judge_system.specs.Judged.{IsJudged}
 use Rattle.judge_system.specs.Open.{HaveOpen}
 use Rattle.judge_system.specs.Findings.{IsFailureAt, IsFailed}
+use Rattle.judge_system.specs.TestSets.{tests_of}
 
 -- an id is not before itself
 not_before_itself : (x : Id) → is_before x x ≡ true → ⊥
@@ -216,8 +217,8 @@ module _ (F : Id → Test → Type 0) (E : Id → Type 0) (N : Id → NeedKind �
   failure n x f at told = record {
     fails = is.fails x;
     tests = told.tests_are
-        ∙ get_or_from_slice_get (map (λ row. row.items) by.found.tests.now) n (filter (is.fails x) all_tests) []
-        (ap (λ rows. slice_get rows n) (ap (map (λ row. row.items)) by.tests_are ∙ is.tests_are)
+        ∙ get_or_from_slice_get (map tests_of by.found.tests.now) n (filter (is.fails x) all_tests) []
+        (ap (λ rows. slice_get rows n) (ap (map tests_of) by.tests_are ∙ is.tests_are)
         ∙ slice_get-map (λ y. filter (is.fails y) all_tests) ids n
         ∙ ap (option_map (λ y. filter (is.fails y) all_tests)) at);
     failed = λ t. is.failed x t (contains_at ids n x at);

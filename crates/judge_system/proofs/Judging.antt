@@ -18,6 +18,7 @@ use Rattle.judge_system.specs.Judged.{AreJudged, IsJudged, IsNumberedAs, HasPart
 use Rattle.judge_system.specs.Numbered.{need_of}
 use Rattle.judge_system.specs.NumberedForm.{IsNumberedForm}
 use Rattle.judge_system.specs.Said.{Said, AreTests}
+use Rattle.judge_system.specs.TestSets.{tests_of}
 use Rattle.judge_system.specs.Views.{why_failed}
 use Rattle.judge_system.proofs.Alike.{numbered_as}
 use Rattle.judge_system.proofs.CandidateIds.{decided}
@@ -34,7 +35,7 @@ module _ (F : Id → Test → Type 0) (E : Id → Type 0) (N : Id → NeedKind �
 
   -- their numbers
   pub judged_of : (said : Assessment)
-      → AreJudged F E N S cands (map (λ row. row.items) said.tests.items) said.needs.items said.superseded.items
+      → AreJudged F E N S cands (map tests_of said.tests.items) said.needs.items said.superseded.items
       → IsRising cands → (j : Judged) → IsNumberedAs cands said j → IsJudged F E N S cands j
   judged_of said are rising j numbered =
       let s : Said = record {
@@ -43,16 +44,19 @@ module _ (F : Id → Test → Type 0) (E : Id → Type 0) (N : Id → NeedKind �
         needs = said.needs.items;
         superseded = said.superseded.items;
       } in
-      let rows = map (λ row. row.items) said.tests.items in
-      let flags = map (λ row. is_nil row.items) said.tests.items in
-      let flagged = sym (map-map is_nil (λ row. row.items) said.tests.items) in
+      let rows = map tests_of said.tests.items in
+      let flags = map (λ tests. is_nil (tests_of tests)) said.tests.items in
+      let flagged = sym (map-map is_nil tests_of said.tests.items) in
       let system = said_problem s flags j.system rising are.once (eligible_is s rows are.tests_are flags flagged)
-      numbered.valid numbered.system in
+      (length-map said.tests.items (λ tests. is_nil (tests_of tests))
+      ∙ sym (length-map said.tests.items tests_of)
+      ∙ rows_of rows said.needs.items said.superseded.items are)
+      numbered.system in
       record {
         ids_are = numbered.ids_are;
         rising = rising;
         fails = are.fails;
-        tests_are = subst (λ tests. AreTests are.fails cands (map (λ row. row.items) tests.items))
+        tests_are = subst (λ tests. AreTests are.fails cands (map tests_of tests.items))
             (sym numbered.tests_are) are.tests_are;
         failed = are.said.fails;
         within = λ x e. ((are.said.eligible x).0 e).0;
@@ -65,7 +69,7 @@ module _ (F : Id → Test → Type 0) (E : Id → Type 0) (N : Id → NeedKind �
     pub has_parts : HasParts j
     has_parts = record {
       size = is.numbered.size ∙ ap length (sym is.ids_are);
-      tests = sym (length-map j.tests.items (λ row. row.items)) ∙ ap length is.tests_are
+      tests = sym (length-map j.tests.items tests_of) ∙ ap length is.tests_are
           ∙ length-map cands (λ x. filter (is.fails x) all_tests) ∙ ap length (sym is.ids_are);
       needs = sym (length-map j.needs.items need_of) ∙ is.numbered.lengths;
     }

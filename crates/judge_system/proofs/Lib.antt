@@ -11,3 +11,5 @@ pub mod Passing
 pub mod Standing
 pub mod NumberedCauses
 pub mod SystemOfIds
+mod Finding
+pub mod TestSets

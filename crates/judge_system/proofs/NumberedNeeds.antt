@@ -1,6 +1,6 @@
 -- The numbered needs of a system stand beside the needs, and so it is the system of what is said.
 use Rattle.std.proofs.Common.{◌≡◌, ◌≢◌, inl, inr, ℕ, ◌<◌, ◌+◌, Bool, List, [], ◌∷◌, ◌++◌, Some, IsTrue, Contains}
-use Rattle.std.proofs.Common.{sym, ap, ◌∙◌, subst, map, slice_get}
+use Rattle.std.proofs.Common.{sym, ap, ◌∙◌, subst, subst₂, map, length, slice_get}
 use Rattle.std.specs.Prelude.{◌↔◌, AllPairs, take}
 use Rattle.std.specs.Option.{option_map}
 use Rattle.std.proofs.lemmas.Bool.{cases_order}
@@ -11,7 +11,7 @@ use Rattle.terms.proofs.BesideLists.{beside_at}
 use Rattle.terms.specs.declared.codes.NeedKind.{NeedKind}
 use Rattle.terms.specs.Types.{Id}
 use Rattle.terms.specs.Lookups.{IsRising}
-use Rattle.solve.specs.System.{Need, System, IsSystem, holds}
+use Rattle.solve.specs.System.{Need, System, IsNeed, IsSystem, holds}
 use Rattle.judge_system.specs.NumberedForm.{IsNumberedForm}
 use Rattle.judge_system.specs.declared.stated.RequisiteOf.{RequisiteOf}
 use Rattle.judge_system.specs.Said.{Said, a_need, IsEligible, Needs, Serves}
@@ -61,6 +61,16 @@ module _ (ids : List Id) (pairs : List (Id × ℕ)) (flags : List Bool) where
         let d = at_place p.needs i (subst (λ k. i < k) (sym h.needs.lengths) (slice_get_within stated i w at)) in
         (d.0, d.1, need_at i w at, (h.needs.each i w d.0 at d.1).of)
 
+    is_system : length flags ≡ length ids → IsSystem p
+    is_system many = record {
+      flags = ap length h.eligible ∙ many ∙ sym h.size;
+      needs = λ k d below.
+          let e = at_place p.needs k below in
+          let w = at_place stated k (subst (λ n. k < n) h.needs.lengths below) in
+          subst₂ IsNeed (sym h.size) (sym (get_or_from_slice_get p.needs k e.0 d e.1))
+          (h.needs.each k w.0 e.0 w.1 e.1).admitted;
+    }
+
     -- each once
     needs_once : AllPairs (λ v w. v ≢ w) stated → (i j : ℕ) (d e : Need) (need : NeedKind × Id)
         → slice_get p.needs i ≡ Some d → slice_get p.needs j ≡ Some e
@@ -87,14 +97,14 @@ module _ (ids : List Id) (pairs : List (Id × ℕ)) (flags : List Bool) where
 
 -- the system of what is said
 pub said_problem : (s : Said) (flags : List Bool) (p : System) → IsRising s.cands → AllPairs (λ v w. v ≢ w) s.needs
-    → ((n : ℕ) (x : Id) → slice_get s.cands n ≡ Some x → IsTrue (holds flags n) ↔ IsEligible s x) → IsSystem p
+    → ((n : ℕ) (x : Id) → slice_get s.cands n ≡ Some x → IsTrue (holds flags n) ↔ IsEligible s x) → length flags ≡ length s.cands
     → HasSystem s.cands s.superseded flags s.needs p
     → IsNumberedForm (IsEligible s) (Needs s) (Serves s.superseded) s.cands p (map need_of s.needs)
-said_problem s flags p rising once eligible numbers has =
+said_problem s flags p rising once eligible many has =
     let ids = s.cands in
     let h = has.needs in
     record {
-      numbers = numbers;
+      numbers = is_system ids has.pairs flags s.needs p h many;
       size = h.size;
       eligible = λ n x at. subst (λ l. IsTrue (holds l n) ↔ IsEligible s x) (sym h.eligible) (eligible n x at);
       lengths = length-map s.needs need_of ∙ sym h.needs.lengths;

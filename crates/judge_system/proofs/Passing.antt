@@ -32,7 +32,7 @@ all_there HasDelete = (10, omega arith, refl)
 all_there OtherLevel = (11, omega arith, refl)
 all_there SeveralFit = (12, omega arith, refl)
 
-none_fails : (p : Test → Bool) → is_nil (filter p all_tests) ≡ true ↔ ((t : Test) → IsFalse (p t))
+pub none_fails : (p : Test → Bool) → is_nil (filter p all_tests) ≡ true ↔ ((t : Test) → IsFalse (p t))
 none_fails p = (from (filter p all_tests) refl, to (filter p all_tests) refl)
   where
     from : (row : List Test) → filter p all_tests ≡ row → is_nil row ≡ true → (t : Test) → IsFalse (p t)

@@ -1,8 +1,6 @@
 -- What is known about candidates by their places, and the failures that follow from it.
 use Rattle.std.specs.Prelude.{◌≡◌, ◌<◌, ℕ, not, List, [], ◌∷◌, ◌++◌, Some, All, length, map, filter, take, slice_get}
 use Rattle.std.specs.Prelude.{slice_index_or}
-use Rattle.terms.specs.declared.codes.NeedKind.{NeedKind}
-use Rattle.terms.specs.declared.codes.Test.{Test}
 use Rattle.terms.specs.Types.{Id}
 use Rattle.terms.specs.Lookups.{is_in}
 use Rattle.solve.specs.Rows.{row_at}
@@ -11,6 +9,7 @@ use Rattle.judge_system.specs.declared.failure.Failure.{Failure}
 use Rattle.judge_system.specs.Views.{failure_view}
 use Rattle.judge_system.specs.declared.failures.Findings.{Findings}
 use Rattle.judge_system.specs.Open.{AreNeedsOf}
+use Rattle.judge_system.specs.TestSets.{tests_of}
 
 -- there is a row for each of so many candidates, and causers are candidates
 pub record AreFindings (size : ℕ) (f : Findings) : Type 0 where
@@ -19,17 +18,11 @@ pub record AreFindings (size : ℕ) (f : Findings) : Type 0 where
   pub causers : length f.causers.now ≡ size
   pub within : (n : ℕ) → All (λ m. m < size) (row_at f.causers.now n)
 
--- the failure with these tests and needs, and with the ids at these places as causers
-pub record IsFailureOf (ids : List Id) (tests : List Test) (unserved : List (NeedKind × Id)) (causers : List ℕ)
-    (f : machine.Failure) : Type 0 where
-  pub tests_are : f.tests ≡ tests
-  pub needs : AreNeedsOf unserved f.needs
-  pub causers_are : f.causers ≡ map (λ m. slice_index_or ids m []) causers
-
--- the failure of the candidate at a place
-abbrev pub IsFailureAt : List Id → Findings → ℕ → machine.Failure → Type 0
-IsFailureAt ids found n f = IsFailureOf ids (row_at found.tests.now n) (row_at found.unserved.now n)
-    (row_at found.causers.now n) f
+-- the failure of the candidate at a place: its tests, its needs, and the ids of its causers
+pub record IsFailureAt (ids : List Id) (found : Findings) (n : ℕ) (f : machine.Failure) : Type 0 where
+  pub tests_are : f.tests ≡ slice_index_or (map tests_of found.tests.now) n []
+  pub needs : AreNeedsOf (row_at found.unserved.now n) f.needs
+  pub causers_are : f.causers ≡ map (λ m. slice_index_or ids m []) (row_at found.causers.now n)
 
 -- an id with the failure of the candidate at its place
 abbrev pub IsFailed : List Id → Findings → Id × Failure → Type 0

@@ -4,13 +4,13 @@ use Rattle.terms.specs.declared.codes.NeedKind.{NeedKind}
 use Rattle.terms.specs.declared.codes.Test.{Test}
 use Rattle.terms.specs.Types.{Id}
 use Rattle.terms.specs.Lookups.{IsRising, is_nil}
-use Rattle.solve.specs.System.{IsSystem}
 use Rattle.judge_system.specs.declared.judged.Judged.{Judged}
 use Rattle.judge_system.specs.declared.stated.Assessment.{Assessment}
 use Rattle.judge_system.specs.declared.stated.RequisiteOf.{RequisiteOf}
 use Rattle.judge_system.specs.Numbered.{HasSystem, need_of}
 use Rattle.judge_system.specs.NumberedForm.{IsNumberedForm}
 use Rattle.judge_system.specs.Said.{AreTests, IsSaid}
+use Rattle.judge_system.specs.TestSets.{tests_of}
 
 module _ (Fails : Id → Test → Type 0) (Eligible : Id → Type 0) (Requires : Id → NeedKind → Id → Type 0)
     (ServedBy : NeedKind → Id → Id → Type 0) (cands : List Id) where
@@ -35,7 +35,7 @@ module _ (Fails : Id → Test → Type 0) (Eligible : Id → Type 0) (Requires :
     pub ids_are : j.ids.keys ≡ cands
     pub rising : IsRising cands
     pub fails : Id → Test → Bool
-    pub tests_are : AreTests fails cands (map (λ row. row.items) j.tests.items)
+    pub tests_are : AreTests fails cands (map tests_of j.tests.items)
     pub failed : (x : Id) (test : Test) → Contains cands x → IsTrue (fails x test) ↔ Fails x test
     pub within : (x : Id) → Eligible x → Contains cands x
     pub numbered : IsNumberedForm Eligible Requires ServedBy cands j.system (map need_of j.needs.items)
@@ -46,8 +46,7 @@ pub record IsNumberedAs (cands : List Id) (said : Assessment) (j : Judged) : Typ
   pub tests_are : j.tests ≡ said.tests
   pub needs_are : j.needs ≡ said.needs
   pub bypassed_are : j.bypassed ≡ said.bypassed
-  pub valid : IsSystem j.system
-  pub system : HasSystem cands said.superseded.items (map (λ row. is_nil row.items) said.tests.items)
+  pub system : HasSystem cands said.superseded.items (map (λ tests. is_nil (tests_of tests)) said.tests.items)
       said.needs.items j.system
 
 -- there is a row of tests for each number, and a need by ids for each need of the system

@@ -8,3 +8,4 @@ pub mod Findings
 pub mod Open
 pub mod ByNumber
 pub mod NumberedForm
+pub mod TestSets

@@ -3,7 +3,7 @@ use Rattle.std.specs.Prelude.{◌≡◌, ℕ, Bool, List, [], ◌∷◌, ◌++�
 use Rattle.terms.specs.Beside.{Beside}
 use Rattle.terms.specs.declared.codes.NeedKind.{NeedKind}
 use Rattle.terms.specs.Types.{Id}
-use Rattle.solve.specs.System.{Need, System}
+use Rattle.solve.specs.System.{Need, System, IsNeed}
 use Rattle.judge_system.specs.declared.stated.RequisiteOf.{RequisiteOf}
 use Rattle.judge_system.specs.Serving.{AreServed, IsServedIn}
 
@@ -11,10 +11,11 @@ use Rattle.judge_system.specs.Serving.{AreServed, IsServedIn}
 abbrev pub need_of : RequisiteOf → NeedKind × Id
 need_of w = (w.kind, w.id)
 
--- the numbered need is the need: it is of the place of the candidate that has it, and lists all that serve it
+-- the numbered need is the need: it is of the place of the candidate that has it, and lists all that serve it, rising
 pub record IsNeedFor (ids : List Id) (pairs : List (Id × ℕ)) (w : RequisiteOf) (d : Need) : Type 0 where
   pub of : slice_get ids d.of ≡ Some w.of
   pub any : IsServedIn ids w.kind w.id pairs d.any
+  pub admitted : IsNeed (length ids) d
 
 -- the system of the candidates with these flags has these needs
 pub record HasNeeds (ids : List Id) (pairs : List (Id × ℕ)) (flags : List Bool) (stated : List RequisiteOf)

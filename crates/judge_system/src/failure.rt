@@ -1,7 +1,8 @@
 //! Why a candidate failed.
 
+use crate::test_set::TestSet;
 use fields::Id;
-use terms::{NeedKind, Test};
+use terms::NeedKind;
 
 /// A need that no kept candidate serves.
 #[derive(Clone, Copy, Debug)]
@@ -10,10 +11,10 @@ pub struct OpenNeed {
     pub id: Id,
 }
 
-/// Why a candidate failed: each list in print order.
+/// Why a candidate failed. The lists are in the order in which they are printed.
 #[derive(Drop)]
 pub struct Failure {
-    pub tests: Vec<Test>,
+    pub tests: TestSet,
     pub needs: Vec<OpenNeed>,
     pub causers: Vec<Id>,
 }

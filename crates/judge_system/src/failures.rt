@@ -1,42 +1,22 @@
 //! Why each candidate that is not kept has failed.
-ghost use Rattle.std.specs.Prelude.{◌<◌, All, IfOk, OnOk, length, not};
+ghost use Rattle.std.specs.Prelude.{◌<◌, IfOk, OnOk, length};
 ghost use Rattle.judge_system.specs.Views.{failure_view};
-ghost use Rattle.judge_system.specs.Findings.{AreFindings, IsFailureOf, IsFailureAt, AddsFailure, AreFailures};
+ghost use Rattle.judge_system.specs.Findings.{AreFindings, IsFailureAt, AddsFailure, AreFailures};
 
 use crate::failure::Failure;
 use crate::kept::ids_at;
 use crate::needs::needs_of;
+use crate::test_set::TestSet;
 use fields::{Id, IdList};
 use std::alloc::{AllocError, Global};
-use terms::{NeedKind, Test};
+use terms::NeedKind;
 
 /// What is known about each candidate, by its place: the tests that it fails, its open needs, and its causers.
 #[derive(Clone, Copy)]
 pub(crate) struct Findings<'a> {
-    pub(crate) tests: &'a [Vec<Test>],
+    pub(crate) tests: &'a [TestSet],
     pub(crate) unserved: &'a [Vec<(NeedKind, Id)>],
     pub(crate) causers: &'a [Vec<u32>],
-}
-
-// Why a candidate with these failed.
-fn failure_of(
-    alloc: Global,
-    ids: &[Id],
-    tests: &[Test],
-    unserved: &[(NeedKind, Id)],
-    causers: &[u32],
-) -> Result<Failure, AllocError>
-    requires { All (λ m. m < length ids.now) causers.now }
-    ensures { IfOk result (λ f. IsFailureOf ids.now tests.now unserved.now causers.now (failure_view f)) }
-{
-    let tests = Vec::from_slice(alloc, tests)?;
-    let needs = needs_of(alloc, unserved)?;
-    let causers = ids_at(alloc, ids, causers)?;
-    Ok(Failure {
-        tests,
-        needs,
-        causers,
-    })
 }
 
 // Why the candidate at the place failed.
@@ -50,13 +30,15 @@ fn failure_at(
     requires within { place < length ids.now }
     ensures { IfOk result (λ f. IsFailureAt ids.now found.now place (failure_view f)) }
 {
-    failure_of(
-        alloc,
-        ids,
-        &found.tests[place],
-        &found.unserved[place],
-        &found.causers[place],
-    )
+    let unserved = found.unserved[place].as_slice();
+    let places = found.causers[place].as_slice();
+    let needs = needs_of(alloc, unserved)?;
+    let causers = ids_at(alloc, ids, places)?;
+    Ok(Failure {
+        tests: found.tests[place],
+        needs,
+        causers,
+    })
 }
 
 // Adds the candidate at the place with its failure, unless it is kept.

@@ -4,12 +4,12 @@ ghost use Rattle.judge_system.specs.Judged.{IsNumberedAs};
 
 use crate::numbered::{all_eligible, numbered, with_numbers};
 use crate::stated::{Assessment, RequisiteOf};
+use crate::test_set::TestSet;
 use fields::{Id, IdList};
 use indexmap::IndexSet;
 use solve::System;
 use std::alloc::{AllocError, Global};
 use sysmods::{KnownOvers, VerChoice};
-use terms::Test;
 
 /// The candidates of an APPLY, ACCEPT or RESTORE, judged. They are numbered in the order in which they are first seen.
 /// A number is a place in each list that has an item for each candidate.
@@ -20,7 +20,7 @@ pub struct Judged<'a> {
     /// The id of each number.
     pub ids: IndexSet<Id>,
     /// The tests that each candidate fails.
-    pub tests: Vec<Vec<Test>>,
+    pub tests: Vec<TestSet>,
     /// Each need of the system by its ids, in the same order.
     pub needs: Vec<RequisiteOf>,
     /// The candidates with each of their requisites that BYPASS covers.

@@ -1,17 +1,17 @@
 //! The numbered system: which candidates are eligible, and what each one needs.
 ghost use Rattle.std.specs.Prelude.{◌≡◌, ◌<◌, ◌^◌, length, map, All, Contains, OnOk, IfOk};
 ghost use Rattle.terms.specs.Lookups.{IsRising, is_nil};
-ghost use Rattle.solve.specs.System.{IsSystem};
 ghost use Rattle.judge_system.specs.Numbered.{AddsNeed, HasNeeds, HasSystem};
+ghost use Rattle.judge_system.specs.TestSets.{tests_of};
 
 use crate::serving::{own_place, places_of, served};
 use crate::stated::{RequisiteOf, need_at};
+use crate::test_set::TestSet;
 use fields::{Id, IdList};
 use indexmap::IndexSet;
 use solve::{Need, System};
 use std::alloc::{AllocError, Global};
 use std::collections::BTreeSet;
-use terms::Test;
 
 /// The greatest number of candidates whose count fits into 32 bits.
 const MOST: usize = u32::MAX as usize;
@@ -33,14 +33,10 @@ pub(crate) fn with_numbers(alloc: Global, ids: &IdList) -> Result<IndexSet<Id>, 
 }
 
 /// Whether each candidate fails no test.
-pub(crate) fn all_eligible(alloc: Global, rows: &[Vec<Test>]) -> Result<Vec<bool>, AllocError>
-    ensures { IfOk result (λ flags. flags.items ≡ map (λ row. is_nil row.items) rows.now) }
+pub(crate) fn all_eligible(alloc: Global, sets: &[TestSet]) -> Result<Vec<bool>, AllocError>
+    ensures { IfOk result (λ flags. flags.items ≡ map (λ tests. is_nil (tests_of tests)) sets.now) }
 {
-    let mut flags = Vec::new(alloc);
-    for row in rows {
-        flags.push(row.is_empty())?;
-    }
-    Ok(flags)
+    sets.iter().map(|tests| tests.is_empty()).collect(alloc)
 }
 
 // Adds one need.
@@ -75,8 +71,7 @@ fn with_needs(
     requires rising { IsRising ids.now.keys }
     requires within { All (λ w. Contains ids.now.keys w.of) stated.now }
     requires flags { length eligible.items ≡ length ids.now.keys }
-    ensures valid { IfOk result (λ system. IsSystem system) }
-    ensures needs { IfOk result (λ system. HasNeeds ids.now.keys served.now.keys eligible.items stated.now
+    ensures { IfOk result (λ system. HasNeeds ids.now.keys served.now.keys eligible.items stated.now
         system) }
 {
     let mut system = System::new(alloc, eligible)?;
@@ -84,7 +79,6 @@ fn with_needs(
         let need = need_at(stated, i);
         number_need(alloc, ids, served, need, &mut system)?;
     }
-    let _ = system.size();
     Ok(system)
 }
 
@@ -101,8 +95,7 @@ pub(crate) fn numbered(
     requires by { All (λ p. Contains ids.now.keys p.0) superseded.now }
     requires within { All (λ w. Contains ids.now.keys w.of) stated.now }
     requires flags { length eligible.items ≡ length ids.now.keys }
-    ensures valid { IfOk result (λ system. IsSystem system) }
-    ensures system { IfOk result (λ system. HasSystem ids.now.keys superseded.now eligible.items stated.now system) }
+    ensures { IfOk result (λ system. HasSystem ids.now.keys superseded.now eligible.items stated.now system) }
 {
     let served = served(alloc, ids, superseded)?;
     let system = with_needs(alloc, ids, &served, stated, eligible)?;

@@ -1,10 +1,10 @@
 //! The candidates that serve a need: the id itself, and a candidate that supersedes it if that serves the need.
-ghost use Rattle.std.specs.Prelude.{◌≡◌, ◌<◌, ◌^◌, ℕ, List, Some, length, map, filter, slice_get, All, AllPairs};
+ghost use Rattle.std.specs.Prelude.{◌≡◌, ◌<◌, ◌^◌, ℕ, List, Some, length, slice_get, All, AllPairs};
 ghost use Rattle.std.specs.Prelude.{Contains, IsTrue, IsFalse, IsNone, IfSome, OnOk, IfOk};
 ghost use Rattle.terms.specs.Types.{Id as AnId};
 ghost use Rattle.terms.specs.Lookups.{IsRising, is_in};
 ghost use Rattle.terms.specs.Needs.{takes_superseder};
-ghost use Rattle.judge_system.specs.Serving.{AreOwn, AddsSuperseded, AreServed, AreOwnPlaces, IsServedIn, is_between};
+ghost use Rattle.judge_system.specs.Serving.{AreOwn, AddsSuperseded, AreServed, AreOwnPlaces, IsServedIn};
 
 use fields::Id;
 use indexmap::IndexSet;
@@ -86,25 +86,7 @@ pub fn takes_superseder(kind: NeedKind) -> bool
     !matches!(kind, NeedKind::Fmid | NeedKind::Elem | NeedKind::Dep)
 }
 
-// The places of the candidates that stand for an id.
-fn places_in(
-    alloc: Global,
-    ids: &IndexSet<Id>,
-    served: &BTreeSet<(Id, u32)>,
-    id: Id,
-) -> Result<Vec<u32>, AllocError>
-    requires { length ids.now.keys < 2 ^ 32 }
-    ensures { IfOk result (λ any. any.items ≡ map (λ p. p.1) (filter (is_between id (length ids.now.keys))
-        served.now.keys)) }
-{
-    let mut places = Vec::new(alloc);
-    for pair in served.range((id, 0)..(id, ids.len() as u32)) {
-        places.push(pair.1)?;
-    }
-    Ok(places)
-}
-
-// The candidates that serve a need that a superseder serves.
+// The candidates that stand for an id: they serve a need for it that a superseder serves.
 fn served_places(
     alloc: Global,
     ids: &IndexSet<Id>,
@@ -118,8 +100,10 @@ fn served_places(
     ensures below { IfOk result (λ any. All (λ n. n < length ids.now.keys) any.items) }
     ensures rising { IfOk result (λ any. AllPairs (λ a b. a < b) any.items) }
 {
-    let _ = served.len();
-    let places = places_in(alloc, ids, served, id)?;
+    let mut places = Vec::new(alloc);
+    for pair in served.range((id, 0)..(id, ids.len() as u32)) {
+        places.push(pair.1)?;
+    }
     Ok(places)
 }
 

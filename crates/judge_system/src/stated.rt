@@ -1,8 +1,9 @@
 //! The assessment of candidates.
 ghost use Rattle.std.specs.Prelude.{◌≡◌, ◌<◌, Some, length, slice_get};
 
+use crate::test_set::TestSet;
 use fields::Id;
-use terms::{NeedKind, Test};
+use terms::NeedKind;
 
 /// A candidate needs this id.
 #[derive(Clone, Copy)]
@@ -16,7 +17,7 @@ pub struct RequisiteOf {
 #[derive(Drop)]
 pub struct Assessment {
     /// The tests that each candidate fails, in the order of the candidates.
-    pub tests: Vec<Vec<Test>>,
+    pub tests: Vec<TestSet>,
     /// What each one needs, each need once.
     pub needs: Vec<RequisiteOf>,
     /// The candidates with each id that they supersede, among the ids with a need that a superseder serves.

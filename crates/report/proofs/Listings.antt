@@ -1,6 +1,6 @@
 -- The lines of LIST and of REPORT, as pieces.
 use Rattle.std.proofs.Common.{◌≡◌, ◌<◌, ℕ, List, [], ◌∷◌, ◌++◌, length, refl, ◌∙◌, ap, arith, map}
-use Rattle.std.specs.Prelude.{codes, Some, None, Bool, true, false, if◌then◌else◌}
+use Rattle.std.specs.Prelude.{codes, Option, Some, None, option_map, Bool, true, false, if◌then◌else◌}
 use Rattle.std.specs.List.{flat_map}
 use Rattle.std.proofs.lemmas.List.Concat.{flat_map-append}
 use Rattle.terms.specs.declared.kinds.ZoneKind.{ZoneKind}
@@ -8,8 +8,10 @@ use Rattle.terms.specs.declared.kinds.ZoneKind.TheVariants.{Target, Distribution
 use Rattle.terms.specs.Types.{Applied, Entry, Element, Global, Zone}
 use Rattle.machine.specs.Outcome.{Line, lines_code, EntryLine, TextLine, SysmodLine, HoldLine, list_global, list_zone}
 use Rattle.machine.specs.Outcome.{element_lines}
-use Rattle.machine.specs.Report.{words_line, detail_line, list_text, optional_text, mark_text, resolver_text, line_text}
+use Rattle.machine.specs.Report.{words_line, detail_line, list_text, optional_text, applied_words, entry_text, mark_text}
+use Rattle.machine.specs.Report.{resolver_text}
 use Rattle.report.specs.Views.{applied_word}
+use Rattle.report.specs.WordTexts.{applied_text}
 
 -- resolvers, where there are none or some
 pub resolvers_none : (xs : List (List ℕ)) → length xs ≡ 0
@@ -22,23 +24,30 @@ pub resolvers_some : (xs : List (List ℕ)) → 0 < length xs
 resolvers_some [] some = absurd (omega (arith, some))
 resolvers_some (x ∷ xs) some = refl
 
--- the words of an entry that is applied, or is not
-pub entry_applied : (kind : ZoneKind) (e : Entry) (a : Applied) {id word date delby : List ℕ} {supby waived : List
-    (List ℕ)} → e.applied ≡ Some a
-    → id ≡ e.id → word ≡ applied_word kind → date ≡ a.date → delby ≡ optional_text e.delby → supby ≡ e.supby
-    → waived ≡ e.waived
-    → words_line (codes "ENTRY" ∷ id ∷ word ∷ date ∷ codes "SUPBY" ∷ list_text supby ∷ codes "DELBY" ∷ delby
-    ∷ codes "WAIVED" ∷ list_text waived ∷ []) ≡ line_text (EntryLine kind e)
-entry_applied Target e a is id word date delby supby waived = rw (is, id, word, date, delby, supby, waived) refl
-entry_applied Distribution e a is id word date delby supby waived = rw (is, id, word, date, delby, supby, waived) refl
+-- the word of an applied SYSMOD, a blank and the date
+pub applied_put : (kind : ZoneKind) (applied : Option Applied) (a : Applied) {word date : List ℕ} → applied ≡ Some a
+    → word ≡ applied_word kind → date ≡ a.date → word ++ codes " " ++ date ≡ applied_text kind applied
+applied_put Target applied a is word date = rw (is, word, date) refl
+applied_put Distribution applied a is word date = rw (is, word, date) refl
 
-pub entry_bare : (kind : ZoneKind) (e : Entry) {id delby : List ℕ} {supby waived : List (List ℕ)} → e.applied ≡ None
-    → id ≡ e.id
-    → delby ≡ optional_text e.delby → supby ≡ e.supby → waived ≡ e.waived
-    → words_line (codes "ENTRY" ∷ id ∷ codes "-" ∷ codes "SUPBY" ∷ list_text supby ∷ codes "DELBY" ∷ delby
-    ∷ codes "WAIVED" ∷ list_text waived ∷ []) ≡ line_text (EntryLine kind e)
-entry_bare Target e is id delby supby waived = rw (is, id, delby, supby, waived) refl
-entry_bare Distribution e is id delby supby waived = rw (is, id, delby, supby, waived) refl
+-- the words of an entry
+dated : (kind : ZoneKind) (applied : Option Applied) (id supby delby waived : List ℕ)
+    → words_line (codes "ENTRY" ∷ id ∷ applied_text kind applied ∷ codes "SUPBY" ∷ supby ∷ codes "DELBY" ∷ delby
+    ∷ codes "WAIVED" ∷ waived ∷ [])
+    ≡ words_line (codes "ENTRY" ∷ id ∷ applied_words kind (option_map (λ a. a.date) applied)
+    ++ codes "SUPBY" ∷ supby ∷ codes "DELBY" ∷ delby ∷ codes "WAIVED" ∷ waived ∷ [])
+dated Target None id supby delby waived = refl
+dated Target (Some a) id supby delby waived = refl
+dated Distribution None id supby delby waived = refl
+dated Distribution (Some a) id supby delby waived = refl
+
+pub words_of_entry : (kind : ZoneKind) (e : Entry) {id delby : List ℕ} {supby waived : List (List ℕ)} → id ≡ e.id
+    → supby ≡ e.supby → delby ≡ optional_text e.delby → waived ≡ e.waived
+    → words_line (codes "ENTRY" ∷ id ∷ applied_text kind e.applied ∷ codes "SUPBY" ∷ list_text supby
+    ∷ codes "DELBY" ∷ delby ∷ codes "WAIVED" ∷ list_text waived ∷ []) ≡ entry_text kind e
+words_of_entry kind e id supby delby waived =
+    rw (id, supby, delby, waived)
+    (dated kind e.applied e.id (list_text e.supby) (optional_text e.delby) (list_text e.waived))
 
 -- whether a hold is internal
 pub mark_is : (b : Bool) → (if b then codes "INTERNAL" else codes "EXTERNAL") ≡ mark_text b

@@ -1,38 +1,33 @@
--- Who names whom in SUP, one SYSMOD after the other, and the search back from a reason over that.
-use Rattle.std.proofs.Common.{◌≡◌, ◌∙◌, ◌⊎◌, inl, inr, ℕ, ◌+◌, ◌<◌, ◌≤◌, Bool, List, [], ◌∷◌, ◌++◌, length, refl, sym}
-use Rattle.std.proofs.Common.{ap, subst, subst₂, get_or, Option, None, Some, Contains, IsTrue, map, filter}
-use Rattle.std.proofs.Common.{append_assoc, append-nil}
+-- The search back from an id over those that name it in SUP.
+use Rattle.std.proofs.Common.{◌≡◌, ◌⊎◌, inl, inr, ℕ, ◌+◌, ◌-◌, ◌<◌, ◌≤◌, Bool, true, List, [], ◌∷◌, ◌++◌, length, refl}
+use Rattle.std.proofs.Common.{sym, subst, subst₂, get_or, Option, None, Some, Contains, IsTrue, map, filter}
 use Rattle.std.specs.Prelude.{◌↔◌, slice_get}
-use Rattle.std.specs.BTreeMap.{IsEmpty}
 use Rattle.std.specs.Option.{option_map_or}
-use Rattle.std.specs.Ordering.{nat_cmp}
-use Rattle.std.specs.declared.cmp.Ordering.{Ordering}
-use Rattle.std.specs.Cmp.Lexicographic.{slice_cmp}
 use Rattle.std.specs.Str.{bytes_eq}
-use Rattle.std.proofs.lemmas.Cmp.{nat_list_cmp_total}
-use Rattle.std.proofs.lemmas.Map.Lookups.{exact_bytes}
+use Rattle.std.proofs.lemmas.List.Elements.{Contains-append_left, Contains-append_right}
+use Rattle.terms.proofs.Ids.{is_in_from_Contains, Contains_from_is_in}
 use Rattle.terms.proofs.Leads.{reaches_named, reaches_first, reaches_back, all_reached}
-use Rattle.terms.proofs.ListMembers.{here, here_or, none_in, in_map, in_filter, filter_in}
+use Rattle.terms.proofs.ListMembers.{here, here_or, none_in, in_map, in_filter, filter_in, in_flat}
 use Rattle.terms.proofs.Places.{contains_at}
 use Rattle.terms.proofs.Searches.{find_gives}
 use Rattle.terms.proofs.TextOrder.{same_from}
+use Rattle.terms.specs.declared.codes.NeedKind.{NeedKind}
 use Rattle.terms.specs.Types.{Text, Id, Ver, Sysmod, Global, Zone}
-use Rattle.terms.specs.Lookups.{sysmod_of}
+use Rattle.terms.specs.Global.{named, names_for}
+use Rattle.terms.specs.Lookups.{sysmod_of, is_in, at_most_one}
 use Rattle.terms.specs.Choice.{Choice, vers_of, counting, sup_of}
+use Rattle.terms.specs.Needs.{takes_superseder, Serves}
 use Rattle.terms.specs.Over.{Supersedes}
-use Rattle.sorted.specs.Lists.{Lists, listed, AddsToAll, Gains, Holds, OneOf}
-use Rattle.sorted.proofs.Gaining.{gains_more, gains_none, gains_to_all, holds_gained}
 use Rattle.sysmods.specs.declared.ver_choice.VerChoice.{VerChoice}
-use Rattle.sysmods.specs.Choices.{has_ver, choice}
+use Rattle.sysmods.specs.Choices.{has_ver, choice, number_in}
+use Rattle.sysmods.specs.Held.{zone_of}
+use Rattle.sysmods.specs.Namers.{namers_for}
 use Rattle.sysmods.specs.Seen.{AddsAll, IsGoing}
 use Rattle.sysmods.proofs.Going.{going_start, going_next, going_end}
 use Rattle.sysmods.proofs.Growth.{adds_none, adds_insert}
 use Rattle.indexmap.specs.IndexSet.{insert_key}
 use Rattle.machine.specs.Errsysmods.{Resolves}
-use Rattle.report.specs.Superseders.{AreSuperseders}
-
-abbrev C : Id → Id → Ordering
-C = slice_cmp nat_cmp
+use Rattle.report.specs.Superseders.{direct_superseders}
 
 -- what has a ++VER is received
 pub received : (g : Global) (srel : Text) (x : Id) (v : Ver) → Contains (vers_of g srel x) v
@@ -59,82 +54,91 @@ sup_by g srel places x z = by (slice_get (vers_of g srel x) (places x)) refl
     by None at is = absurd (none_in z is)
     by (Some v) at is = (v, contains_at (vers_of g srel x) (places x) v at, is)
 
--- the SYSMODs before the rest have come in
-module _ (c : Choice) where
-  abbrev Naming : Id → Id → Id → Type 0
-  Naming x z y = Contains (sup_of c x) z × (y ≡ x)
+-- SUP is among what a ++VER names
+sup_named : (v : Ver) (z : Id) → Contains v.sup z → Contains (named v) z
+sup_named v z is =
+    Contains-append_left (v.pre ++ v.sup) (at_most_one v.fmid) z (Contains-append_right v.pre v.sup z is)
 
-  pub record IsAdding (old new : Lists Id Id) (ids rest : List Id) : Type 0 where
-    pub done : List Id
-    pub ids_are : ids ≡ done ++ rest
-    pub gains : Gains C old new (OneOf done Naming)
+-- they are those that name it
+pub direct_are : (vers : VerChoice) (z y : Id)
+    → Contains (direct_superseders vers z) y ↔ Contains (sup_of (choice vers) y) z
+direct_are vers z y = (
+  λ h. Contains_from_is_in (sup_of (choice vers) y) z (filter_in names namers y h).1,
+  λ h.
+      let by = sup_by g srel (λ x. number_in vers x - 1) y z h in
+      let own = is_in_from_Contains (names_for (zone_of g.sysmods) srel y) z
+      (in_flat named (vers_of g srel y) by.0 z by.1 (sup_named by.0 z by.2)) in
+      in_filter names namers y
+      (in_filter (λ x. is_in (names_for (zone_of g.sysmods) srel x) z) (map (λ s. s.id) g.sysmods) y
+      (received g srel y by.0 by.1) own)
+      (is_in_from_Contains (sup_of (choice vers) y) z h),
+)
+  where
+    g : Global
+    g = vers.global.now
 
-  pub adding_first : (old : Lists Id Id) (ids rest : List Id) → ids ≡ rest → IsAdding old old ids rest
-  adding_first old ids rest is = record { done = []; ids_are = is; gains = gains_none C Naming old }
+    srel : Text
+    srel = vers.srel
 
-  pub adding_next : (old middle new : Lists Id Id) (ids rest more : List Id) (x : Id) → IsAdding old middle ids rest
-      → rest ≡ x ∷ more → AddsToAll C (sup_of c x) x middle new → IsAdding old new ids more
-  adding_next old middle new ids rest more x a rest_is adds = record {
-    done = a.done ++ x ∷ [];
-    ids_are = a.ids_are ∙ ap (λ l. a.done ++ l) rest_is ∙ sym (append_assoc a.done (x ∷ []) more);
-    gains = gains_more C Naming old middle new a.done x a.gains
-        (gains_to_all C nat_list_cmp_total exact_bytes middle new (sup_of c x) x adds);
-  }
+    names : Id → Bool
+    names x = is_in (sup_of (choice vers) x) z
 
-  pub adding_last : (old new : Lists Id Id) (ids rest : List Id)
-      → ((x z : Id) → Contains (sup_of c x) z → Contains ids x) → IsEmpty old → IsAdding old new ids rest → rest ≡ []
-      → AreSuperseders c new
-  adding_last old new ids rest all empty a rest_is z y = (
-    λ h. let one = (holds z y).0 h in subst (λ x. Contains (sup_of c x) z) (sym one.2.1) one.2.0,
-    λ h. (holds z y).1 (y, subst (λ l. Contains l y) whole (all y z h), (h, refl)),
-  )
-    where
-      whole : ids ≡ a.done
-      whole = a.ids_are ∙ ap (λ l. a.done ++ l) rest_is ∙ append-nil a.done
+    namers : List Id
+    namers = namers_for g.sysmods srel z
 
-      holds : Holds C new (OneOf a.done Naming)
-      holds = holds_gained C old new (OneOf a.done Naming) empty a.gains
+module _ (vers : VerChoice) (id : Id) where
+  abbrev next : Id → List Id
+  next = direct_superseders vers
 
--- The search back from a reason.
-module _ (c : Choice) (all : Lists Id Id) (reason : Id) where
-  abbrev Belongs : Id → Type 0
-  Belongs y = (y ≡ reason) ⊎ Supersedes c y reason
+  abbrev Begins : Id → Type 0
+  Begins y = y ≡ id
+
+  abbrev pub Belongs : Id → Type 0
+  Belongs y = (y ≡ id) ⊎ Supersedes (choice vers) y id
 
   abbrev pub IsSearching : List Id → ℕ → Type 0
-  IsSearching seen gone = IsGoing (listed C all) (λ y. y ≡ reason) Belongs seen gone
+  IsSearching seen gone = IsGoing next Begins Belongs seen gone
 
-  pub searching_first : (seen : List Id) → seen ≡ insert_key bytes_eq [] reason → IsSearching seen 0
+  pub searching_first : (seen : List Id) → seen ≡ insert_key bytes_eq [] id → IsSearching seen 0
   searching_first seen is =
-      going_start (listed C all) (λ y. y ≡ reason) Belongs (reason ∷ []) seen
-      (λ z h. elim (here_or reason [] z h) [ inl same ↦ inl (sym same) | inr none ↦ absurd (none_in z none) ])
-      (λ z same. subst (Contains (reason ∷ [])) (sym same) (here reason []))
-      (subst (AddsAll [] (reason ∷ [])) (sym is) (adds_insert [] [] [] reason (adds_none [])))
+      going_start next Begins Belongs (id ∷ []) seen
+      (λ z h. elim (here_or id [] z h) [ inl same ↦ inl (sym same) | inr none ↦ absurd (none_in z none) ])
+      (λ z same. subst (Contains (id ∷ [])) (sym same) (here id []))
+      (subst (AddsAll [] (id ∷ [])) (sym is) (adds_insert [] [] [] id (adds_none [])))
 
-  module _ (are : AreSuperseders c all) where
-    belongs_more : (y z : Id) → Belongs y → Contains (listed C all y) z → Belongs z
-    belongs_more y z (inl same) named =
-        inr (reaches_named (sup_of c) z reason (subst (Contains (sup_of c z)) same ((are y z).0 named)))
-    belongs_more y z (inr over) named = inr (reaches_first (sup_of c) z y reason ((are y z).0 named) over)
+  belongs_more : (y z : Id) → Belongs y → Contains (next y) z → Belongs z
+  belongs_more y z (inl same) named =
+      inr (reaches_named (sup_of (choice vers)) z id
+      (subst (Contains (sup_of (choice vers) z)) same ((direct_are vers y z).0 named)))
+  belongs_more y z (inr over) named =
+      inr (reaches_first (sup_of (choice vers)) z y id ((direct_are vers y z).0 named) over)
 
-    pub searching_next : (old new : List Id) (gone : ℕ) (y : Id) → gone < length old → y ≡ get_or old gone y
-        → AddsAll old (listed C all y) new → IsSearching old gone → IsSearching new (gone + 1)
-    searching_next = going_next (listed C all) (λ y. y ≡ reason) Belongs belongs_more
+  pub searching_next : (old new : List Id) (gone : ℕ) (y : Id) → gone < length old → y ≡ get_or old gone y
+      → AddsAll old (next y) new → IsSearching old gone → IsSearching new (gone + 1)
+  searching_next = going_next next Begins Belongs belongs_more
 
-    -- having gone through all, it has seen the reason and all that supersede it
-    pub searching_last : (seen : List Id) (gone : ℕ) → length seen ≤ gone → IsSearching seen gone
-        → (y : Id) → Contains seen y ↔ Belongs y
-    searching_last seen gone ended s y = (
-      s.sound y,
-      λ h. elim h [
-        | inl same ↦ s.first y same
-        | inr over ↦ all_reached (listed C all) (Contains seen) reason
-            (λ w named. closed reason w (s.first reason refl) named) closed y
-            (reaches_back (sup_of c) (listed C all) (λ x z named. (are z x).1 named) y reason over)
-      ],
-    )
-      where
-        closed : (x z : Id) → Contains seen x → Contains (listed C all x) z → Contains seen z
-        closed = going_end (listed C all) (λ y. y ≡ reason) Belongs seen gone ended s
+  -- having gone through all, it has seen the id and all that supersede it
+  pub searching_last : (seen : List Id) (gone : ℕ) → length seen ≤ gone → IsSearching seen gone
+      → (y : Id) → Contains seen y ↔ Belongs y
+  searching_last seen gone ended s y = (
+    s.sound y,
+    λ h. elim h [
+      | inl same ↦ s.first y same
+      | inr over ↦ all_reached next (Contains seen) id (λ w named. closed id w (s.first id refl) named) closed y
+          (reaches_back (sup_of (choice vers)) next (λ x z named. (direct_are vers z x).1 named) y id over)
+    ],
+  )
+    where
+      closed : (x z : Id) → Contains seen x → Contains (next x) z → Contains seen z
+      closed = going_end next Begins Belongs seen gone ended s
+
+-- they serve a need that superseders serve
+pub serves_above : (c : Choice) (kind : NeedKind) (id : Id) (ids : List Id) → takes_superseder kind ≡ true
+    → ((y : Id) → Contains ids y ↔ ((y ≡ id) ⊎ Supersedes c y id)) → (y : Id) → Contains ids y ↔ Serves c kind y id
+serves_above c kind id ids takes are y = (
+  λ h. elim ((are y).0 h) [ inl same ↦ inl same | inr above ↦ inr (takes, above) ],
+  λ s. (are y).1 (elim s [ inl same ↦ inl same | inr both ↦ inr both.1 ]),
+)
 
 -- those of what was seen that pass a test
 pub kept_of : (test : Id → Bool) (Of : Id → Type 0) (seen kept ids : List Id) → kept ≡ filter test seen

@@ -156,6 +156,10 @@ pub data Rank : Type 0 where
   Over : Rank
   NotOver : Rank
 
+abbrev pub is_over : Rank → Bool
+is_over Over = true
+is_over _ = false
+
 abbrev pub IsRank : Choice → Id → Id → Rank → Type 0
 IsRank c x z Itself = x ≡ z
 IsRank c x z Over = (x ≢ z) × IsOver c x z

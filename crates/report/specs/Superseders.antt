@@ -1,11 +1,13 @@
--- Which SYSMODs name which ids in SUP.
-use Rattle.std.specs.Prelude.{Contains}
-use Rattle.std.specs.Ordering.{nat_cmp}
-use Rattle.std.specs.Cmp.Lexicographic.{slice_cmp}
-use Rattle.sorted.specs.Lists.{Lists, Holds}
+-- Who names an id in SUP, by the values of the code.
+use Rattle.std.specs.Prelude.{List, filter}
 use Rattle.terms.specs.Types.{Id}
-use Rattle.terms.specs.Choice.{Choice, sup_of}
+use Rattle.terms.specs.Lookups.{is_in}
+use Rattle.terms.specs.Choice.{sup_of}
+use Rattle.sysmods.specs.Choices.{choice}
+use Rattle.sysmods.specs.Namers.{namers_for}
+use Rattle.sysmods.specs.declared.ver_choice.VerChoice.{VerChoice}
 
--- for each id those that name it in SUP
-abbrev pub AreSuperseders : Choice → Lists Id Id → Type 0
-AreSuperseders c all = Holds (slice_cmp nat_cmp) all (λ z y. Contains (sup_of c y) z)
+-- the received SYSMODs whose counting ++VER names it
+abbrev pub direct_superseders : VerChoice → Id → List Id
+direct_superseders vers z =
+    filter (λ y. is_in (sup_of (choice vers) y) z) (namers_for vers.global.now.sysmods vers.srel z)

@@ -4,7 +4,7 @@ ghost use Rattle.report.specs.ErrsysmodLines.{AreLinesOf, IsReportOf};
 
 use crate::error_holds::{OpenError, open_errors};
 use crate::outcome::{Header, Outcome, ReportLine};
-use crate::resolvers::{all_superseders, resolvers};
+use crate::superseders::resolvers;
 use fields::{Attest, IdList, Reason, ZoneName};
 use std::alloc::{AllocError, Global};
 use sysmods::GlobalZone;
@@ -25,10 +25,9 @@ fn lines_of(
     }
     let cands = IdList::new(alloc);
     let vers = choose(alloc, global, zone, &cands)?;
-    let superseders = all_superseders(alloc, &vers)?;
     let mut lines = Vec::new(alloc);
     for error in errors {
-        let ids = resolvers(alloc, &vers, &superseders, error.reason)?;
+        let ids = resolvers(alloc, &vers, zone.srel(), error.reason)?;
         lines.push(ReportLine::Errsysmod {
             id: error.id,
             reason: Reason::read(error.reason.as_bytes()).unwrap(),

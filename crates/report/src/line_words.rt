@@ -3,13 +3,16 @@ ghost use Rattle.std.specs.Prelude.{◌≡◌, ◌<◌, ◌∷◌, ◌++◌, len
 ghost use Rattle.machine.specs.Report.{words_line, list_text};
 ghost use Rattle.report.specs.Paged.{Paged};
 ghost use Rattle.report.specs.Sent.{Sent};
-ghost use Rattle.report.specs.WordTexts.{word_text};
+ghost use Rattle.report.specs.Views.{applied_word};
+ghost use Rattle.report.specs.WordTexts.{word_text, applied_text};
 
 use crate::page::Page;
 use crate::sink::{Out, Sink, WriteFault};
 use fields::{Id, Source};
 use itoa::Buffer;
 use std::alloc::AllocError;
+use terms::ZoneKind;
+use zones::Applied;
 
 /// A word of a line.
 #[derive(Clone, Copy)]
@@ -28,6 +31,8 @@ pub enum LineWord<'a> {
     Ids(&'a [Id]),
     /// Joined by commas, or `-`.
     Sources(&'a [Source]),
+    /// APPLIED or ACCEPTED with the date, or `-`.
+    Applied(ZoneKind, &'a Option<Applied>),
 }
 
 // Ids joined by commas, or `-`.
@@ -60,6 +65,29 @@ fn put_sources<W: Sink>(sources: &[Source], page: &mut Page<'_, W>)
     }
 }
 
+/// The word for an applied SYSMOD: in a distribution zone it is accepted.
+pub fn applied_word(kind: ZoneKind) -> &'static [u8]
+    ensures { result.now ≡ applied_word kind }
+{
+    match kind {
+        ZoneKind::Target => b"APPLIED",
+        ZoneKind::Distribution => b"ACCEPTED",
+    }
+}
+
+fn put_applied<W: Sink>(kind: ZoneKind, applied: &Option<Applied>, page: &mut Page<'_, W>)
+    ensures { Paged W.Sink page.old page.new (applied_text kind applied.now) }
+{
+    match applied {
+        Some(applied) => {
+            page.put(applied_word(kind));
+            page.put(b" ");
+            page.put(applied.date.as_bytes());
+        }
+        None => page.put(b"-"),
+    }
+}
+
 fn put_word<W: Sink>(word: LineWord<'_>, page: &mut Page<'_, W>)
     ensures { Paged W.Sink page.old page.new (word_text word.entry) }
 {
@@ -83,6 +111,7 @@ fn put_word<W: Sink>(word: LineWord<'_>, page: &mut Page<'_, W>)
         }
         LineWord::Ids(ids) => put_ids(ids, page),
         LineWord::Sources(sources) => put_sources(sources, page),
+        LineWord::Applied(kind, applied) => put_applied(kind, applied, page),
     }
 }
 

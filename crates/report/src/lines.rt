@@ -1,10 +1,12 @@
 //! The text of lines.
 ghost use Rattle.std.specs.Prelude.{◌≡◌, ◌∷◌, [], codes, decimal, option_map};
+ghost use Rattle.std.specs.List.{flat_map};
 ghost use Rattle.terms.specs.Spelling.{statement_code_text, test_text, need_text};
 ghost use Rattle.machine.specs.Outcome.{ErrsysmodLine};
-ghost use Rattle.machine.specs.Report.{words_line, header_text, refused_text, place_text, status_word};
+ghost use Rattle.machine.specs.Report.{words_line, detail_line, header_text, refused_text, place_text, status_word};
 ghost use Rattle.machine.specs.Report.{status_detail, failure_text, line_text, left_in};
 ghost use Rattle.terms.specs.Lookups.{at_most_one};
+ghost use Rattle.judge_system.specs.TestSets.{tests_of};
 ghost use Rattle.report.specs.Paged.{Paged};
 ghost use Rattle.judge_system.specs.Views.{failure_view};
 ghost use Rattle.report.specs.Views.{header_view, refusal_view, place_view, status_view, line_view};
@@ -17,7 +19,7 @@ use fields::spelling::{
     hold_text, kind_text, need_text, refusal_text, statement_code_text, test_text, word_text,
 };
 use fields::{Id, Reason};
-use judge_system::Failure;
+use judge_system::{Failure, TestSet};
 use terms::StatementCode;
 
 /// A command's word, its boundary or `-`, and CHECK.
@@ -108,13 +110,21 @@ fn status_detail(status: &Status) -> Option<&[u8]>
     }
 }
 
+// A line for each test that was failed.
+fn put_tests<W: Sink>(tests: TestSet, page: &mut Page<'_, W>)
+    ensures { Paged W.Sink page.old page.new
+        (flat_map (λ t. detail_line (codes "TEST" ∷ test_text t ∷ [])) (tests_of tests)) }
+{
+    for test in tests.iter() {
+        put_words(b"  TEST", &[LineWord::Of(test_text(test))], page);
+    }
+}
+
 // The lines after FAILED.
 fn put_failure<W: Sink>(failure: &Failure, page: &mut Page<'_, W>)
     ensures { Paged W.Sink page.old page.new (failure_text (failure_view failure.now)) }
 {
-    for test in failure.tests.as_slice() {
-        put_words(b"  TEST", &[LineWord::Of(test_text(*test))], page);
-    }
+    put_tests(failure.tests, page);
     for need in failure.needs.as_slice() {
         let words = [
             LineWord::Of(need_text(need.kind)),

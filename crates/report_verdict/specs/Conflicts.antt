@@ -18,6 +18,8 @@ use Rattle.report_verdict.specs.declared.conflict.Apart.TheVariants.{OtherOwner,
 use Rattle.report_verdict.specs.declared.conflict.Conflict.{Conflict}
 use Rattle.report_verdict.specs.declared.conflict.Conflict.TheVariants.{Deletes, Forbids, ForbiddenBy, Shares}
 use Rattle.report_verdict.specs.declared.conflict.Partner.{Partner}
+use Rattle.report_verdict.specs.declared.statuses.Saying.{Saying}
+use Rattle.report_verdict.specs.declared.statuses.Saying.TheVariants as saying
 
 -- the two tests at which a candidate looks at the others
 abbrev pub by_delete : Test → Bool
@@ -50,6 +52,11 @@ passes_alone Accepted = true
 passes_alone Superseded = true
 passes_alone (Failed f) = list_all by_others f.tests
 passes_alone _ = false
+
+abbrev pub says : Saying → Status → Bool
+says saying.ChainDeleted status = is_chain_deleted status
+says saying.InClash status = is_in_clash status
+says saying.PassesAlone status = passes_alone status
 
 -- the ids of the lines with such a status
 abbrev pub id_where : (Status → Bool) → Line → List Id

@@ -19,7 +19,8 @@ use Rattle.terms.specs.Spelling.{hold_text, type_text, need_text, test_text}
 use Rattle.machine.specs.Outcome.{Status, Applied, Accepted, Superseded, Failed}
 use Rattle.machine.specs.Outcome.{Failure, OpenNeed, Line, StatusLine}
 use Rattle.machine.specs.Report.{detail_line, optional_text, list_text, status_word}
-use Rattle.report.specs.Facts.{Resolution, Supplied, ByItself, Open, Rank, Over, Maker, Found, Fact}
+use Rattle.report.specs.Facts.{Resolution, Supplied, ByItself, Open, Maker, Found, Fact}
+pub use Rattle.report.specs.Facts.{is_over}
 use Rattle.report.specs.Facts.{VerFact, RequisiteFact, HoldFact, ElementFact, DeleteFact, NpreFact, ForbiddenFact}
 use Rattle.report.specs.WordTexts.{inner_line, named}
 use Rattle.report_verdict.specs.declared.conflict.Apart.{Apart}
@@ -76,10 +77,6 @@ hold_reason b t h =
 
 abbrev pub element_reason : Test → ElemType → Text → List Text → Text
 element_reason t type name words = inner_line (test_text t ∷ type_text type ∷ named name ∷ words)
-
-abbrev pub is_over : Rank → Bool
-is_over Over = true
-is_over _ = false
 
 abbrev pub maker_reason : Test → ElemType → Text → Text → Maker → Text
 maker_reason t type name word m =

@@ -2,10 +2,10 @@
 ghost use Rattle.std.specs.Prelude.{◌≡◌, ◌++◌, map, option_map, OnOk};
 ghost use Rattle.std.specs.List.{flat_map};
 ghost use Rattle.terms.specs.CommandForms.{no_bypass};
-ghost use Rattle.report.specs.Facts.{ElementFact, VerFact, DeleteFact, NpreFact, ForbiddenFact};
+ghost use Rattle.report.specs.Facts.{is_over, ElementFact, VerFact, DeleteFact, NpreFact, ForbiddenFact};
 ghost use Rattle.report.specs.FactViews.{rank_view, maker_view, found_view, fact_view};
 ghost use Rattle.report_verdict.specs.Verdict.{by_hold, by_npre, by_owner, by_makers, by_update, by_target, by_vers};
-ghost use Rattle.report_verdict.specs.Verdict.{hold_reason, element_reason, is_over, maker_reason, owner_reason};
+ghost use Rattle.report_verdict.specs.Verdict.{hold_reason, element_reason, maker_reason, owner_reason};
 ghost use Rattle.report_verdict.specs.Verdict.{makers_reason, there_reason, missing_reason, reason, test_told};
 ghost use Rattle.report_verdict.specs.Grounds.{basis_of};
 

@@ -1,14 +1,14 @@
 //! What the lines of a report say about its candidates.
-ghost use Rattle.std.specs.Prelude.{◌≡◌, ◌++◌, [], ◌∷◌, filter, map, not, IfOk, OnOk};
-ghost use Rattle.std.specs.Prelude.{if◌then◌else◌};
+ghost use Rattle.std.specs.Prelude.{◌≡◌, ◌++◌, map, IfOk, OnOk};
 ghost use Rattle.std.specs.List.{list_any, list_all};
-ghost use Rattle.std.specs.Str.{bytes_eq};
 ghost use Rattle.terms.specs.Lookups.{is_in};
+ghost use Rattle.judge_system.specs.TestSets.{tests_of};
 ghost use Rattle.report.specs.Views.{status_view, line_view};
 ghost use Rattle.report_verdict.specs.Conflicts.{by_delete, by_clash, by_others, is_chain_deleted, is_in_clash};
-ghost use Rattle.report_verdict.specs.Conflicts.{passes_alone, id_where, ids_where, others, deleters, clashing};
+ghost use Rattle.report_verdict.specs.Conflicts.{passes_alone, says, id_where, ids_where, others, deleters, clashing};
 
 use fields::Id;
+use judge_system::TestSet;
 use report::{ReportLine, Status};
 use std::alloc::{AllocError, Global};
 use terms::Test;
@@ -31,29 +31,29 @@ fn by_others(test: Test) -> bool
     by_delete(test) || by_clash(test)
 }
 
-fn any_by_delete(tests: &[Test]) -> bool
-    ensures { result ≡ list_any by_delete tests.now }
+fn any_by_delete(tests: TestSet) -> bool
+    ensures { result ≡ list_any by_delete (tests_of tests) }
 {
-    tests.iter().any(|test| by_delete(*test))
+    tests.chain_deleted
 }
 
-fn any_by_clash(tests: &[Test]) -> bool
-    ensures { result ≡ list_any by_clash tests.now }
+fn any_by_clash(tests: TestSet) -> bool
+    ensures { result ≡ list_any by_clash (tests_of tests) }
 {
-    tests.iter().any(|test| by_clash(*test))
+    tests.in_clash
 }
 
-fn all_by_others(tests: &[Test]) -> bool
-    ensures { result ≡ list_all by_others tests.now }
+fn all_by_others(tests: TestSet) -> bool
+    ensures { result ≡ list_all by_others (tests_of tests) }
 {
-    tests.iter().all(|test| by_others(*test))
+    tests.iter().all(|test| by_others(test))
 }
 
 fn is_chain_deleted(status: &Status) -> bool
     ensures { result ≡ is_chain_deleted (status_view status.now) }
 {
     match status {
-        Status::Failed(failure) => any_by_delete(failure.tests.as_slice()),
+        Status::Failed(failure) => any_by_delete(failure.tests),
         _ => false,
     }
 }
@@ -62,7 +62,7 @@ fn is_in_clash(status: &Status) -> bool
     ensures { result ≡ is_in_clash (status_view status.now) }
 {
     match status {
-        Status::Failed(failure) => any_by_clash(failure.tests.as_slice()),
+        Status::Failed(failure) => any_by_clash(failure.tests),
         _ => false,
     }
 }
@@ -74,77 +74,52 @@ fn passes_alone(status: &Status) -> bool
         Status::Applied => true,
         Status::Accepted => true,
         Status::Superseded => true,
-        Status::Failed(failure) => all_by_others(failure.tests.as_slice()),
+        Status::Failed(failure) => all_by_others(failure.tests),
         _ => false,
     }
 }
 
-// Adds the id if it is so.
-fn push_where(is_so: bool, id: Id, found: &mut Vec<Id>) -> Result<(), AllocError>
-    ensures { OnOk result (found.new.items ≡ found.old.items ++ (if is_so then id ∷ [] else [])) }
-{
-    if is_so {
-        found.push(id)?;
-    }
-    Ok(())
+// What a line may say about a candidate.
+#[derive(Clone, Copy)]
+pub(crate) enum Saying {
+    ChainDeleted,
+    InClash,
+    PassesAlone,
 }
 
-fn push_chain_deleted(line: &ReportLine, found: &mut Vec<Id>) -> Result<(), AllocError>
-    ensures { OnOk result (found.new.items ≡ found.old.items ++ id_where is_chain_deleted (line_view line.now)) }
+fn says(saying: Saying, status: &Status) -> bool
+    ensures { result ≡ says saying (status_view status.now) }
+{
+    match saying {
+        Saying::ChainDeleted => is_chain_deleted(status),
+        Saying::InClash => is_in_clash(status),
+        Saying::PassesAlone => passes_alone(status),
+    }
+}
+
+// Adds the id of the line, if it says so.
+fn push_where(saying: Saying, line: &ReportLine, found: &mut Vec<Id>) -> Result<(), AllocError>
+    ensures { OnOk result (found.new.items ≡ found.old.items ++ id_where (says saying) (line_view line.now)) }
 {
     match line {
-        ReportLine::Status { id, status, .. } => push_where(is_chain_deleted(status), *id, found),
+        ReportLine::Status { id, status, .. } => {
+            if !says(saying, status) {
+                return Ok(());
+            }
+            found.push(*id)
+        }
         ReportLine::Nothing => Ok(()),
         ReportLine::Errsysmod { .. } => Ok(()),
     }
 }
 
-fn push_in_clash(line: &ReportLine, found: &mut Vec<Id>) -> Result<(), AllocError>
-    ensures { OnOk result (found.new.items ≡ found.old.items ++ id_where is_in_clash (line_view line.now)) }
-{
-    match line {
-        ReportLine::Status { id, status, .. } => push_where(is_in_clash(status), *id, found),
-        ReportLine::Nothing => Ok(()),
-        ReportLine::Errsysmod { .. } => Ok(()),
-    }
-}
-
-fn push_passing(line: &ReportLine, found: &mut Vec<Id>) -> Result<(), AllocError>
-    ensures { OnOk result (found.new.items ≡ found.old.items ++ id_where passes_alone (line_view line.now)) }
-{
-    match line {
-        ReportLine::Status { id, status, .. } => push_where(passes_alone(status), *id, found),
-        ReportLine::Nothing => Ok(()),
-        ReportLine::Errsysmod { .. } => Ok(()),
-    }
-}
-
-fn all_chain_deleted(alloc: Global, lines: &[ReportLine]) -> Result<Vec<Id>, AllocError>
-    ensures { IfOk result (λ ids. ids.items ≡ ids_where is_chain_deleted (map line_view lines.now)) }
+// The ids of the lines that say so.
+fn ids_where(alloc: Global, saying: Saying, lines: &[ReportLine]) -> Result<Vec<Id>, AllocError>
+    ensures { IfOk result (λ ids. ids.items ≡ ids_where (says saying) (map line_view lines.now)) }
 {
     let mut found = Vec::new(alloc);
     for line in lines {
-        push_chain_deleted(line, &mut found)?;
-    }
-    Ok(found)
-}
-
-fn all_in_clash(alloc: Global, lines: &[ReportLine]) -> Result<Vec<Id>, AllocError>
-    ensures { IfOk result (λ ids. ids.items ≡ ids_where is_in_clash (map line_view lines.now)) }
-{
-    let mut found = Vec::new(alloc);
-    for line in lines {
-        push_in_clash(line, &mut found)?;
-    }
-    Ok(found)
-}
-
-fn all_passing(alloc: Global, lines: &[ReportLine]) -> Result<Vec<Id>, AllocError>
-    ensures { IfOk result (λ ids. ids.items ≡ ids_where passes_alone (map line_view lines.now)) }
-{
-    let mut found = Vec::new(alloc);
-    for line in lines {
-        push_passing(line, &mut found)?;
+        push_where(saying, line, &mut found)?;
     }
     Ok(found)
 }
@@ -169,9 +144,9 @@ fn is_among(ids: &[Id], id: Id) -> bool
 pub(crate) fn deleters(alloc: Global, lines: &[ReportLine], id: Id) -> Result<Vec<Id>, AllocError>
     ensures { IfOk result (λ ids. ids.items ≡ deleters (map line_view lines.now) id) }
 {
-    let deleted = all_chain_deleted(alloc, lines)?;
+    let deleted = ids_where(alloc, Saying::ChainDeleted, lines)?;
     if is_among(deleted.as_slice(), id) {
-        let passing = all_passing(alloc, lines)?;
+        let passing = ids_where(alloc, Saying::PassesAlone, lines)?;
         return others(alloc, id, passing.as_slice());
     }
     Ok(Vec::new(alloc))
@@ -181,7 +156,7 @@ pub(crate) fn deleters(alloc: Global, lines: &[ReportLine], id: Id) -> Result<Ve
 pub(crate) fn clashing(alloc: Global, lines: &[ReportLine], id: Id) -> Result<Vec<Id>, AllocError>
     ensures { IfOk result (λ ids. ids.items ≡ clashing (map line_view lines.now) id) }
 {
-    let clashing = all_in_clash(alloc, lines)?;
+    let clashing = ids_where(alloc, Saying::InClash, lines)?;
     if is_among(clashing.as_slice(), id) {
         return others(alloc, id, clashing.as_slice());
     }

@@ -3,6 +3,7 @@ ghost use Rattle.std.specs.Prelude.{◌≡◌, ◌++◌, ◌∷◌, ◌&&◌, []
 ghost use Rattle.std.specs.List.{flat_map};
 ghost use Rattle.std.specs.Str.{bytes_eq};
 ghost use Rattle.terms.specs.Spelling.{need_text};
+ghost use Rattle.judge_system.specs.TestSets.{tests_of};
 ghost use Rattle.judge_system.specs.Views.{need_view, failure_view};
 ghost use Rattle.report.specs.Views.{status_view, line_view};
 ghost use Rattle.report.specs.Facts.{Open};
@@ -17,10 +18,10 @@ use crate::grounds::Grounds;
 use crate::reasons::put_test;
 use fields::Id;
 use fields::spelling::need_text;
-use judge_system::{Failure, OpenNeed};
+use judge_system::{Failure, OpenNeed, TestSet};
 use report::{Fact, LineWord, ReportLine, Resolution, Status, append_words};
 use std::alloc::AllocError;
-use terms::{NeedKind, Test};
+use terms::NeedKind;
 
 // Whether the kind and the id are those of the need.
 fn is_of(need: &OpenNeed, kind: NeedKind, id: &[u8]) -> bool
@@ -140,14 +141,14 @@ fn put_causer(id: Id, causer: &Id, text: &mut Vec<u8>) -> Result<(), AllocError>
 
 fn put_tests(
     grounds: &Grounds<'_, '_>,
-    tests: &[Test],
+    tests: TestSet,
     text: &mut Vec<u8>,
 ) -> Result<(), AllocError>
     ensures { OnOk result (text.new.items
-        ≡ text.old.items ++ flat_map (test_told (basis_of grounds.now)) tests.now) }
+        ≡ text.old.items ++ flat_map (test_told (basis_of grounds.now)) (tests_of tests)) }
 {
-    for failed in tests {
-        put_test(grounds, *failed, text)?;
+    for failed in tests.iter() {
+        put_test(grounds, failed, text)?;
     }
     Ok(())
 }
@@ -184,7 +185,7 @@ fn put_failure(
     ensures { OnOk result (text.new.items
         ≡ text.old.items ++ failure_told id (basis_of grounds.now) (failure_view failure.now)) }
 {
-    put_tests(grounds, failure.tests.as_slice(), text)?;
+    put_tests(grounds, failure.tests, text)?;
     put_needs(grounds.facts, failure.needs.as_slice(), text)?;
     put_causers(id, failure.causers.as_slice(), text)
 }

@@ -5,7 +5,6 @@ pub mod Growing
 pub mod Made
 pub mod Numbering
 pub mod NeededPairs
-pub mod SearchBack
 pub mod TextParts
 pub mod Together
 pub mod Untouched

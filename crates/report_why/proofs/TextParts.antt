@@ -4,17 +4,14 @@ use Rattle.std.proofs.Common.{drop, get_or, refl, sym, ap, arith, append_assoc, 
 use Rattle.std.specs.Prelude.{codes, max, if◌then◌else◌}
 use Rattle.std.specs.List.{flat_map}
 use Rattle.std.proofs.lemmas.List.{append-nil}
-use Rattle.terms.specs.declared.kinds.ZoneKind.{ZoneKind}
 use Rattle.terms.specs.declared.kinds.ElemType.{ElemType}
-use Rattle.terms.specs.Types.{Hold, Entry, Applied}
+use Rattle.terms.specs.Types.{Hold}
 use Rattle.terms.specs.Spelling.{need_text, hold_text, type_text}
-use Rattle.machine.specs.Report.{words_line, left_in, list_text, optional_text}
-use Rattle.report.specs.Facts.{Requisite, Resolution, Found, RequisiteFact, HoldFact, ElementFact, EntryFact}
+use Rattle.machine.specs.Report.{words_line, left_in, optional_text}
+use Rattle.report.specs.Facts.{Requisite, Resolution, Found, RequisiteFact, HoldFact, ElementFact}
 use Rattle.report.specs.FactViews.{fact_view}
-use Rattle.report.specs.Views.{applied_word}
 use Rattle.report.specs.WordTexts.{inner_line}
 use Rattle.report.specs.declared.fact.Fact.{Fact}
-use Rattle.report.proofs.Listings as listings
 use Rattle.report.proofs.Listings.{mark_is}
 use Rattle.report.proofs.Texts.{max_parts}
 use Rattle.report_why.specs.FactText.{id_lines, answer_word, answer_lines, owned_text, change_text, word_if}
@@ -106,24 +103,6 @@ pub element_missing : (type : ElemType) (name : List ℕ) (replaces : Bool) (old
     → t ≡ old ++ fact_text (ElementFact type name replaces None)
 element_missing type name replaces old spelled text put =
     put ∙ rw (spelled, text, change_is replaces) (ap (λ t. old ++ t) (sym (append-nil _)))
-
--- an entry that is applied, or is not
-pub entry_applied : (kind : ZoneKind) (e : Entry) (a : Applied) (old : List ℕ) {id word date delby : List ℕ}
-    {supby waived : List (List ℕ)}
-    → e.applied ≡ Some a → id ≡ e.id → word ≡ applied_word kind → date ≡ a.date
-    → delby ≡ optional_text e.delby → supby ≡ e.supby → waived ≡ e.waived
-    → old ++ words_line (codes "  ENTRY" ∷ id ∷ word ∷ date ∷ codes "SUPBY" ∷ list_text supby ∷ codes "DELBY" ∷ delby
-    ∷ codes "WAIVED" ∷ list_text waived ∷ []) ≡ old ++ fact_text (EntryFact kind e)
-entry_applied kind e a old is id word date delby supby waived =
-    ap (λ t. old ++ 32 ∷ 32 ∷ t) (listings.entry_applied kind e a is id word date delby supby waived)
-
-pub entry_bare : (kind : ZoneKind) (e : Entry) (old : List ℕ) {id delby : List ℕ} {supby waived : List (List ℕ)}
-    → e.applied ≡ None → id ≡ e.id
-    → delby ≡ optional_text e.delby → supby ≡ e.supby → waived ≡ e.waived
-    → old ++ words_line (codes "  ENTRY" ∷ id ∷ codes "-" ∷ codes "SUPBY" ∷ list_text supby ∷ codes "DELBY" ∷ delby
-    ∷ codes "WAIVED" ∷ list_text waived ∷ []) ≡ old ++ fact_text (EntryFact kind e)
-entry_bare kind e old is id delby supby waived =
-    ap (λ t. old ++ 32 ∷ 32 ∷ t) (listings.entry_bare kind e is id delby supby waived)
 
 -- the code of one fact more
 pub codes_more : (facts : List Fact) (i : ℕ) (d : Fact) (code : ℕ) → i < length facts

@@ -2,10 +2,9 @@
 use Rattle.std.specs.Prelude.{◌||◌, Bool}
 use Rattle.terms.specs.Types.{Id, Zone}
 use Rattle.terms.specs.Lookups.{is_in, is_applied}
-use Rattle.terms.specs.Deleted.{is_taken_out}
 use Rattle.terms.specs.Tests.{Setting, view_of}
 use Rattle.report.specs.Facts.{left_by}
-use Rattle.zones.specs.Scopes.{global_of, choice_of, setting_of}
+use Rattle.zones.specs.Scopes.{setting_of}
 use Rattle.report_why.specs.declared.asking.Asking.{Asking}
 
 abbrev pub setting_in : Asking → Setting
@@ -22,7 +21,3 @@ left_in a = left_by (setting_in a) a.id
 -- whether the function is applied in its view, or is the id itself
 abbrev pub is_there : Asking → Id → Bool
 is_there a f = is_applied (view_in a) f || is_in a.scope.ids.now f
-
--- whether its DELETE takes the SYSMOD out
-abbrev pub is_dropped : Asking → Id → Bool
-is_dropped a = is_taken_out (global_of a.scope) (choice_of a.scope) a.dropped.now a.scope.zone.now

@@ -3,4 +3,3 @@ pub mod Asking
 pub mod Numbered
 pub mod Makers
 pub mod Needed
-pub mod Superseders

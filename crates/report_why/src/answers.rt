@@ -11,9 +11,8 @@ ghost use Rattle.report.specs.FactViews.{answer_view};
 
 use crate::asking::Asking;
 use crate::standing::is_deleted;
-use crate::superseders::serving_ids;
 use fields::{Attest, Id, IdList};
-use report::{Requisite, Resolution};
+use report::{Requisite, Resolution, serving_ids};
 use std::alloc::{AllocError, Global};
 use terms::NeedKind;
 use zones::Zone;

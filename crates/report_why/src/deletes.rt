@@ -2,20 +2,18 @@
 ghost use Rattle.std.specs.Prelude.{◌≡◌, [], filter, map, IfOk};
 ghost use Rattle.terms.specs.Lookups.{is_in};
 ghost use Rattle.terms.specs.Over.{chain};
-ghost use Rattle.terms.specs.Deleted.{is_taken_out};
 ghost use Rattle.sysmods.specs.Choices.{choice};
-ghost use Rattle.zones.specs.Scopes.{global_of, choice_of};
+ghost use Rattle.zones.specs.Gone.{is_gone};
 ghost use Rattle.report.specs.Facts.{delete_facts};
 ghost use Rattle.report_why.specs.Asking.{setting_in};
 ghost use Rattle.report.specs.FactViews.{fact_view};
 
 use crate::asking::Asking;
-use crate::looks::takes_out;
 use fields::Id;
 use report::Fact;
 use std::alloc::{AllocError, Global};
 use sysmods::VerChoice;
-use zones::Scope;
+use zones::{TakesOut, ZoneLess};
 
 // Whether its chain contains this id.
 fn is_in_chain(vers: &VerChoice<'_>, id: Id, other: Id) -> bool
@@ -25,20 +23,14 @@ fn is_in_chain(vers: &VerChoice<'_>, id: Id, other: Id) -> bool
 }
 
 // Those of these SYSMODs that the deletions take out.
-fn taken_out(
-    alloc: Global,
-    scope: &Scope<'_, '_>,
-    dels: &[Id],
-    ids: &[Id],
-) -> Result<Vec<Id>, AllocError>
-    ensures { IfOk result (λ taken. taken.items
-        ≡ filter (is_taken_out (global_of scope.now) (choice_of scope.now) dels.now scope.now.zone.now) ids.now) }
+fn taken_out(alloc: Global, less: &ZoneLess<'_, '_>, ids: &[Id]) -> Result<Vec<Id>, AllocError>
+    ensures { IfOk result (λ taken. taken.items ≡ filter (is_gone less.now) ids.now) }
 {
-    if dels.is_empty() {
+    if less.dels.is_empty() {
         return Ok(Vec::new(alloc));
     }
     ids.iter()
-        .filter(|id| takes_out(scope, dels, **id))
+        .filter(|id| less.takes_out(**id))
         .copied()
         .collect(alloc)
 }
@@ -52,7 +44,12 @@ pub(crate) fn delete_facts(
 {
     let scope = &asking.scope;
     let dels = scope.vers.del(asking.id);
-    let taken = taken_out(alloc, scope, dels, asking.applied)?;
+    let less = ZoneLess {
+        vers: scope.vers,
+        dels,
+        zone: scope.zone,
+    };
+    let taken = taken_out(alloc, &less, asking.applied)?;
     let mut facts = Vec::new(alloc);
     for del in dels {
         facts.push(Fact::Delete {

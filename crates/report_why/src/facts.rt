@@ -1,12 +1,10 @@
 //! All facts of an id in a zone.
 ghost use Rattle.std.specs.Prelude.{◌≡◌, ◌+◌, ◌++◌, filter, IfOk};
-ghost use Rattle.terms.specs.Lookups.{is_function, is_in, applied_ids};
+ghost use Rattle.terms.specs.Lookups.{IsZone, is_function, applied_ids};
 ghost use Rattle.terms.specs.Choice.{place};
-ghost use Rattle.terms.specs.Over.{chain};
-ghost use Rattle.terms.specs.Deleted.{deletions};
 ghost use Rattle.sysmods.specs.Choices.{number_in};
 ghost use Rattle.undo.specs.Scopes.{restoring_from};
-ghost use Rattle.zones.specs.Scopes.{global_of, choice_of, setting_of};
+ghost use Rattle.zones.specs.Scopes.{global_of, setting_of};
 ghost use Rattle.report_why.specs.Asking.{setting_in};
 ghost use Rattle.report.specs.Facts.{standing_facts, ver_facts, AreAsked, AreOfChanges, AreFacts};
 ghost use Rattle.report_why.specs.Needed.{needed_pairs};
@@ -22,12 +20,12 @@ use crate::needed::{needed_facts, needed_pairs};
 use crate::requisites::requisite_facts;
 use crate::standing::standing_facts;
 use crate::vers::ver_facts;
-use fields::{Attest, Id, IdList};
+use fields::{Id, IdList};
 use report::Fact;
 use std::alloc::{AllocError, Global};
 use sysmods::GlobalZone;
 use undo::applied_ids;
-use zones::{Scope, Zone, choose, deletions, view_deletions};
+use zones::{Scope, Zone, ZoneLess, choose, deletions};
 
 /// The global zone and a zone, and what is found once for all ids: those that are applied, the functions among them, and
 /// who needs what an applied one alone supplies.
@@ -38,6 +36,7 @@ pub struct Lookups<'a> {
     applied: Vec<Id>,
     functions: Vec<Id>,
     needed: Vec<(Id, Id)>,
+    pub ghost zone_is: { IsZone zone.now },
     ghost applied_is: { applied.items ≡ applied_ids zone.now },
     ghost functions_is: { functions.items ≡ filter (is_function global.now) applied.items },
     ghost needed_is: { needed.items ≡ needed_pairs (restoring_from global.now zone.now zone.now) },
@@ -121,7 +120,6 @@ fn facts_by<'a>(
         ≡ place (global_of asking.now.scope) asking.now.scope.zone.now asking.now.scope.ids.now asking.now.id + 1 }
     ensures { IfOk result (λ facts. AreFacts (setting_in asking.now) asking.now.id (facts_view facts.items)) }
 {
-    lookups.zone.attest();
     let own = own_facts(alloc, lookups, &asking.scope, asking.id)?;
     let asked = asked_facts(alloc, asking)?;
     let facts = joined(own, asked)?;
@@ -129,15 +127,6 @@ fn facts_by<'a>(
     let changed = joined(facts, changes)?;
     let needed = needed_facts(alloc, lookups.needed.as_slice(), asking.id)?;
     joined(changed, needed)
-}
-
-// What its view lacks: the ids that the candidates in its chain name in DELETE.
-fn seen_deletions(alloc: Global, scope: &Scope<'_, '_>, id: Id) -> Result<Vec<Id>, AllocError>
-    ensures { IfOk result (λ dels. dels.items ≡ deletions (choice_of scope.now)
-        (filter (is_in scope.now.ids.now) (chain (global_of scope.now) (choice_of scope.now) id))) }
-{
-    let all = deletions(alloc, scope.vers, scope.ids.as_slice())?;
-    view_deletions(alloc, scope.vers, scope.ids, all.as_slice(), id)
 }
 
 /// The facts of the id, for an install with the candidates of this scope.
@@ -154,13 +143,21 @@ pub fn facts_of<'a>(
         ≡ place scope.now.vers.now.global.now scope.now.zone.now scope.now.ids.now id + 1 }
     ensures { IfOk result (λ facts. AreFacts (setting_of scope.now) id (facts_view facts.items)) }
 {
-    let seen = seen_deletions(alloc, scope, id)?;
+    let seen = scope.view_deletions(alloc, id)?;
     let dropped = deletions(alloc, scope.vers, &[id])?;
     let asking = Asking {
         scope: *scope,
         id,
-        seen: seen.as_slice(),
-        dropped: dropped.as_slice(),
+        seen: ZoneLess {
+            vers: scope.vers,
+            dels: seen.as_slice(),
+            zone: scope.zone,
+        },
+        left: ZoneLess {
+            vers: scope.vers,
+            dels: dropped.as_slice(),
+            zone: scope.zone,
+        },
         applied: lookups.applied.as_slice(),
         functions: lookups.functions.as_slice(),
     };

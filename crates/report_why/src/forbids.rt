@@ -6,7 +6,7 @@ ghost use Rattle.report_why.specs.Asking.{setting_in, view_in};
 ghost use Rattle.report.specs.FactViews.{fact_view};
 
 use crate::asking::Asking;
-use fields::{Attest, Id};
+use fields::Id;
 use report::Fact;
 use std::alloc::{AllocError, Global};
 
@@ -38,7 +38,6 @@ pub(crate) fn npre_facts(
 ) -> Result<Vec<Fact<'static>>, AllocError>
     ensures { IfOk result (λ facts. map fact_view facts.items ≡ npre_facts (setting_in asking.now) asking.now.id) }
 {
-    asking.scope.zone.attest();
     let named = asking.scope.vers.npre(asking.id);
     let forbidding = forbidding(alloc, asking)?;
     let mut facts = Vec::new(alloc);

@@ -20,7 +20,6 @@ mod looks;
 mod needed;
 mod requisites;
 mod standing;
-mod superseders;
 mod text;
 mod vers;
 

@@ -4,7 +4,7 @@ ghost use Rattle.std.specs.Prelude.{if◌then◌else◌};
 ghost use Rattle.std.specs.List.{flat_map, list_all};
 ghost use Rattle.std.specs.Str.{bytes_eq};
 ghost use Rattle.terms.specs.Types.{Global as AGlobal, Zone as AZone};
-ghost use Rattle.terms.specs.Lookups.{at_most_one, is_applied, applied_ids, supby_of};
+ghost use Rattle.terms.specs.Lookups.{at_most_one, is_applied, applied_ids};
 ghost use Rattle.terms.specs.Choice.{fmid_of};
 ghost use Rattle.sysmods.specs.Choices.{choice};
 ghost use Rattle.undo.specs.Dependences.{suppliers};
@@ -12,10 +12,11 @@ ghost use Rattle.undo.specs.Scopes.{restoring};
 ghost use Rattle.report.specs.FactViews.{fact_view};
 ghost use Rattle.report_why.specs.Needed.{sole, soles, needed_pairs, needing, AllNeeded, AreNeeded};
 
-use fields::{Attest, Id, IdList};
+use fields::{Id, IdList};
 use report::Fact;
 use std::alloc::{AllocError, Global};
 use sysmods::VerChoice;
+use undo::suppliers;
 use zones::{Zone, requisites_held};
 
 // Those of these ids that are applied.
@@ -26,25 +27,6 @@ fn applied_among(alloc: Global, zone: &Zone, ids: &[Id]) -> Result<Vec<Id>, Allo
         .filter(|id| zone.is_applied(**id))
         .copied()
         .collect(alloc)
-}
-
-// The SYSMODs that supersede the id in the zone.
-fn superseders(zone: &Zone, id: Id) -> &[Id]
-    ensures { result.now ≡ supby_of zone.now id }
-{
-    match zone.entry(id) {
-        Some(entry) => entry.supby.as_slice(),
-        None => &[],
-    }
-}
-
-// The applied SYSMODs that supply the id.
-fn suppliers(alloc: Global, zone: &Zone, id: Id) -> Result<Vec<Id>, AllocError>
-    ensures { IfOk result (λ found. found.items ≡ suppliers zone.now id) }
-{
-    let mut ids = vec![in alloc; id]?;
-    ids.extend_from_slice(superseders(zone, id))?;
-    applied_among(alloc, zone, ids.as_slice())
 }
 
 // Whether all are this one.
@@ -178,7 +160,6 @@ pub(crate) fn needed_facts(
         push_needing(pair, id, &mut found)?;
     }
     let needing = IdList::from_vec(found);
-    needing.attest();
     let mut facts = Vec::new(alloc);
     for by in needing.as_slice() {
         facts.push(Fact::Needed(*by))?;

@@ -13,7 +13,7 @@ ghost use Rattle.report.specs.FactViews.{fact_view};
 
 use crate::answers::answer;
 use crate::asking::Asking;
-use fields::{Attest, Id, IdList};
+use fields::{Id, IdList};
 use report::{Fact, Requisite};
 use std::alloc::{AllocError, Global};
 use sysmods_values::IfReq;
@@ -119,7 +119,6 @@ fn push_of_others(
 fn push_conditions(asking: &Asking<'_, '_>, found: &mut Vec<Requisite>) -> Result<(), AllocError>
     ensures { OnOk result (found.new.items ≡ found.old.items ++ conditions (setting_in asking.now) asking.now.id) }
 {
-    asking.scope.zone.attest();
     push_own(asking, asking.scope.ifs(asking.id), found)?;
     if !asking.scope.global().is_function(asking.id) {
         return Ok(());
@@ -142,7 +141,6 @@ fn requisites(alloc: Global, asking: &Asking<'_, '_>) -> Result<Vec<Requisite>, 
     push_conditions(asking, &mut found)?;
     let losses = orphans(alloc, scope.vers, scope.zone, id)?;
     let lost = IdList::from_vec(losses);
-    lost.attest();
     push_all(NeedKind::Orphan, id, lost.as_slice(), &mut found)?;
     Ok(found)
 }

@@ -1,6 +1,6 @@
 //! The text of facts.
 ghost use Rattle.std.specs.Prelude.{◌≡◌, ◌++◌, map, OnOk};
-ghost use Rattle.report.specs.Facts.{EntryFact, VerFact};
+ghost use Rattle.report.specs.Facts.{VerFact};
 ghost use Rattle.report_why.specs.FactText.{fact_text, facts_text as text_of, fact_code, facts_code as code_of};
 ghost use Rattle.report.specs.FactViews.{fact_view};
 
@@ -8,43 +8,8 @@ use crate::asked_lines::{put_hold, put_requisite};
 use crate::element_lines::put_element;
 use crate::fact_words::{standing_text, type_word};
 use fields::Id;
-use report::{Fact, LineWord, Standing, append_words, applied_word, id_text};
+use report::{Fact, LineWord, Standing, append_words, entry_words, id_text};
 use std::alloc::AllocError;
-use terms::ZoneKind;
-use zones::Entry;
-
-// The line of LIST.
-fn put_entry(kind: ZoneKind, entry: &Entry, text: &mut Vec<u8>) -> Result<(), AllocError>
-    ensures { OnOk result (text.new.items ≡ text.old.items ++ fact_text (EntryFact kind entry.now)) }
-{
-    let id = LineWord::Of(entry.id.as_bytes());
-    let (of_supby, supby) = (
-        LineWord::Of(b"SUPBY"),
-        LineWord::Ids(entry.supby.as_slice()),
-    );
-    let (of_delby, delby) = (LineWord::Of(b"DELBY"), LineWord::Of(id_text(&entry.delby)));
-    let (of_waived, waived) = (
-        LineWord::Of(b"WAIVED"),
-        LineWord::Ids(entry.waived.as_slice()),
-    );
-    match &entry.applied {
-        Some(applied) => {
-            let word = LineWord::Of(applied_word(kind));
-            let date = LineWord::Of(applied.date.as_bytes());
-            let words = [
-                id, word, date, of_supby, supby, of_delby, delby, of_waived, waived,
-            ];
-            append_words(b"  ENTRY", &words, text)
-        }
-        None => {
-            let none = LineWord::Of(b"-");
-            let words = [
-                id, none, of_supby, supby, of_delby, delby, of_waived, waived,
-            ];
-            append_words(b"  ENTRY", &words, text)
-        }
-    }
-}
 
 fn put_ver(
     number: usize,
@@ -74,7 +39,7 @@ fn put_fact(fact: &Fact<'_>, text: &mut Vec<u8>) -> Result<(), AllocError>
             let standing = LineWord::Of(standing_text(*standing));
             append_words(id.as_bytes(), &[kind, standing], text)
         }
-        Fact::Entry { kind, entry } => put_entry(*kind, entry, text),
+        Fact::Entry { kind, entry } => append_words(b"  ENTRY", &entry_words(*kind, entry), text),
         Fact::Ver {
             number,
             fmid,

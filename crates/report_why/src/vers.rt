@@ -1,9 +1,8 @@
 //! The `++VER`s of an id for the zone's SREL.
 ghost use Rattle.std.specs.Prelude.{◌≡◌, ◌==◌, ◌++◌, [], ◌∷◌, filter, map, IfOk, OnOk, List};
-ghost use Rattle.std.specs.Option.{option_map_or};
 ghost use Rattle.std.specs.Str.{bytes_eq};
 ghost use Rattle.terms.specs.Types.{Ver as AVer};
-ghost use Rattle.terms.specs.Lookups.{is_in, sysmod_of};
+ghost use Rattle.terms.specs.Lookups.{is_in};
 ghost use Rattle.terms.specs.Choice.{vers_of, fits};
 ghost use Rattle.report.specs.Facts.{VerFact};
 ghost use Rattle.sysmods.specs.Choices.{number_in};
@@ -14,7 +13,6 @@ ghost use Rattle.report.specs.FactViews.{fact_view};
 use fields::Id;
 use report::Fact;
 use std::alloc::{AllocError, Global};
-use sysmods::GlobalZone;
 use sysmods_values::Ver;
 use zones::{Scope, fits};
 
@@ -49,16 +47,6 @@ fn push_ver(
     Ok(())
 }
 
-// The `++VER`s of a received SYSMOD, for all SRELs.
-fn vers_of(global: &GlobalZone, id: Id) -> &[Ver]
-    ensures { result.now ≡ option_map_or (λ s. s.vers) (sysmod_of global.now id) [] }
-{
-    match global.get(id) {
-        Some(sysmod) => sysmod.vers.as_slice(),
-        None => &[],
-    }
-}
-
 /// Its `++VER`s for the zone's SREL.
 pub(crate) fn ver_facts(
     alloc: Global,
@@ -69,7 +57,7 @@ pub(crate) fn ver_facts(
         ≡ numbered scope.now id (vers_of (global_of scope.now) scope.now.zone.now.srel id)) }
 {
     let mut facts = Vec::new(alloc);
-    for ver in vers_of(scope.global(), id) {
+    for ver in scope.global().vers_of(id) {
         push_ver(scope, id, ver, &mut facts)?;
     }
     Ok(facts)

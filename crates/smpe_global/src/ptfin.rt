@@ -13,7 +13,7 @@ ghost use Rattle.smpe_global.specs.Taken.{IsTaken};
 use crate::assign::take_assign;
 use crate::edits::edits_of;
 use crate::taken::Taken;
-use fields::{Attest, Source};
+use fields::Source;
 use mcs::Item;
 use report::{Place, ReportLine, Status};
 use std::alloc::{AllocError, Global};
@@ -56,10 +56,9 @@ fn take_sysmod(
     ensures { OnOk result (IsTaken (TakesItem source.now global.old (ASysmod sysmod)) global.old global.new taken.old
         taken.new) }
 {
+    let sysmod = with_source(sysmod, source)?;
     let id = sysmod.id;
     let kind = sysmod.kind;
-    let sysmod = with_source(sysmod, source)?;
-    sysmod.attest();
     let mut edits = edits_of(alloc, &sysmod)?;
     let answer = global.receive(alloc, sysmod);
     taken.lines.push(ReportLine::Status {

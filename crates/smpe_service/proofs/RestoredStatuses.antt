@@ -15,7 +15,7 @@ use Rattle.terms.proofs.ListMembers.{here_or, filter_in, in_filter, in_map, none
 use Rattle.terms.proofs.Searches.{find_gives}
 use Rattle.terms.proofs.TextOrder.{same_from, same_itself}
 use Rattle.terms.specs.Types.{Id, Global}
-use Rattle.terms.specs.Lookups.{IsRising, is_before, is_in}
+use Rattle.terms.specs.Lookups.{IsRising, is_applied, is_before, is_in}
 use Rattle.terms.specs.Rising.{Rises}
 use Rattle.terms.specs.Needs.{Serves}
 use Rattle.terms.specs.Restore.{Restoring, NeedsInRestore, FailsRestore, MayBeRestored, restore_candidates}
@@ -49,13 +49,15 @@ ids_of [] = refl
 ids_of (f ∷ fs) = ap (λ l. f.0 ∷ l) (ids_of fs)
 
 -- those that failed rise by their ids
-pub failed_rises : (r : Restoring) (ids cands : List Id) → IsRising cands → (kept : List Id)
-    (failed : List (Id × Failure)) → IsRestoreDecided r ids cands kept failed
+pub failed_rises : (r : Restoring) (ids cands : List Id) → IsRising ids → cands ≡ restore_candidates r ids
+    → (kept : List Id) (failed : List (Id × Failure)) → IsRestoreDecided r ids cands kept failed
     → Rises (slice_cmp nat_cmp) (λ f. f.0) failed
-failed_rises r ids cands rising kept failed d =
+failed_rises r ids cands rising are kept failed d =
+    let rises : IsRising cands = subst IsRising (sym are)
+    (AllPairs-filter (λ x y. IsTrue (is_before x y)) (is_applied r.zone) ids rising) in
     pairs_unmap (λ f h. IsTrue (is_before f.0 h.0)) (λ x y. IsTrue (is_before x y)) (λ f. f.0) (λ f h low. low) failed
     (subst IsRising (sym (sym (ids_of failed) ∙ d.ids))
-    (AllPairs-filter (λ x y. IsTrue (is_before x y)) (λ x. not (is_in kept x)) cands rising))
+    (AllPairs-filter (λ x y. IsTrue (is_before x y)) (λ x. not (is_in kept x)) cands rises))
 
 module _ (r : Restoring) (ids cands : List Id) (cands_are : cands ≡ restore_candidates r ids) (kept : List Id)
     (failed : List (Id × Failure)) (d : IsRestoreDecided r ids cands kept failed) where

@@ -15,7 +15,7 @@ ghost use Rattle.smpe_service.specs.RestoreDecided.{IsRestoreDecided};
 
 use crate::restored_lines::lines_of;
 use crate::solving::decide;
-use fields::{Attest, IdList, RestoreList};
+use fields::{IdList, RestoreList};
 use judge_system::Decided;
 use report::ReportLine;
 use std::alloc::{AllocError, Global};
@@ -45,7 +45,6 @@ pub fn restore(
     ensures knows { IfOk result (λ r. KnowsStood zone.now r.delta) }
 {
     let candidates = restore_candidates(alloc, global, zone, accepted, list)?;
-    candidates.ids.attest();
     let decided = decide_candidates(alloc, global, zone, accepted, &candidates)?;
     let delta = change::restore(alloc, global, zone, accepted, &decided.kept)?;
     let lines = listed_lines(alloc, global, &candidates, &decided)?;

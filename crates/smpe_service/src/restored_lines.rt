@@ -83,7 +83,7 @@ fn copied(alloc: Global, failure: &Failure) -> Result<Failure, AllocError>
     ensures { IfOk result (λ copy. failure_view copy ≡ failure_view failure.now) }
 {
     Ok(Failure {
-        tests: Vec::from_slice(alloc, failure.tests.as_slice())?,
+        tests: failure.tests,
         needs: Vec::from_slice(alloc, failure.needs.as_slice())?,
         causers: Vec::from_slice(alloc, failure.causers.as_slice())?,
     })

@@ -1,6 +1,6 @@
 -- What is found in a store, and what is told about ids in a zone.
-use Rattle.std.specs.Prelude.{◌≡◌, ◌↔◌, ℕ, Bool, false, max, List, [], ◌∷◌, ◌++◌, Option, None, Some, find, map}
-use Rattle.std.specs.Prelude.{option_map, Contains, if◌then◌else◌}
+use Rattle.std.specs.Prelude.{◌≡◌, ℕ, Bool, false, max, List, [], ◌∷◌, ◌++◌, Option, None, Some, find, map}
+use Rattle.std.specs.Prelude.{option_map, if◌then◌else◌}
 use Rattle.std.specs.List.{flat_map}
 use Rattle.std.specs.Option.{option_and_then, option_map_or}
 use Rattle.std.specs.Str.{bytes_eq}
@@ -8,7 +8,6 @@ use Rattle.terms.specs.declared.kinds.ZoneKind.{ZoneKind}
 use Rattle.terms.specs.declared.kinds.ZoneKind.TheVariants.{Target, Distribution}
 use Rattle.terms.specs.Beside.{Beside}
 use Rattle.terms.specs.Candidates.{AreCandidates}
-use Rattle.terms.specs.Lookups.{IsRising}
 use Rattle.terms.specs.Tests.{Setting}
 use Rattle.terms.specs.Types.{Text, Id, Global, Zone, Bypass, Selection}
 use Rattle.machine.specs.Installing.{InstallsSelected}

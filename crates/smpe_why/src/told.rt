@@ -21,7 +21,7 @@ use report_why::{Lookups, facts_code, facts_of, put_facts};
 use select::candidates;
 use smpe_service::{InstallChange, apply};
 use std::alloc::{AllocError, Global};
-use zones::{Candidates, Scope, Zone, choose};
+use zones::{Candidates, Scope, Zone, choose, deletions};
 
 /// The lines that are told, and the program's status.
 #[derive(Drop)]
@@ -84,14 +84,17 @@ fn told_by(
         ..
     } = candidates(alloc, lookups.global, lookups.zone, &selection)?;
     let lines = lines_of(alloc, lookups, related, &selection, question.bypass)?;
+    let lines = lines.as_slice();
     let vers = choose(alloc, lookups.global, lookups.zone, &candidates)?;
+    let dels = deletions(alloc, &vers, candidates.as_slice())?;
     let scope = Scope {
         vers: &vers,
         zone: lookups.zone,
         ids: &candidates,
+        dels: dels.as_slice(),
         bypass: question.bypass,
     };
-    told_in_turn(alloc, lookups, &scope, lines.as_slice(), ids)
+    told_in_turn(alloc, lookups, &scope, lines, ids)
 }
 
 // What these lines of an install with the candidates of this scope say about the ids, one after the other.
@@ -155,10 +158,12 @@ fn tell_other<'a>(
     let mut ids = scope.ids.try_clone(alloc)?;
     ids.insert(id)?;
     let vers = choose(alloc, lookups.global, lookups.zone, &ids)?;
+    let dels = deletions(alloc, &vers, ids.as_slice())?;
     let with_id = Scope {
         vers: &vers,
         zone: lookups.zone,
         ids: &ids,
+        dels: dels.as_slice(),
         bypass: scope.bypass,
     };
     tell_in(alloc, lookups, &with_id, lines, id, told)
@@ -206,7 +211,6 @@ fn lines_of(
     ensures { IfOk result (λ lines. (date : AText) × (new : AZone) × InstallsSelected lookups.now.global.now
         lookups.now.zone.now (option_copied related.entry) selection.now bypass.now date new (map line_view lines.items)) }
 {
-    lookups.zone.attest();
     let date = YyDdd::new(2000, 1);
     let InstallChange { delta, lines } = apply(
         alloc,

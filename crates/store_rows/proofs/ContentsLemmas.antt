@@ -25,12 +25,6 @@ use Rattle.store_rows.specs.Rows.{shown, has_key, AreRows, AreFound, Contents, H
 use Rattle.store_rows.specs.Texts.{key_tests, IsTableOf}
 use Rattle.store_rows.proofs.RowLemmas.{put_adds, put_numbered, deleted, filter_numbered, filter_all}
 
--- past its end a row has NULL
-pub past_end : (r : Row) (at : ℕ) → length r ≤ at → column r at ≡ Null
-past_end [] at le = refl
-past_end (v ∷ r) zero le = absurd (omega arith)
-past_end (v ∷ r) (suc at) le = past_end r at (omega arith)
-
 dropped : (r : Row) (at : ℕ) → at < length r → drop at r ≡ column r at ∷ drop (at + 1) r
 dropped r at h = let e : suc at ≡ at + 1 = omega arith in drop-cons r at Null h ∙ ap (λ k. column r at ∷ drop k r) e
 

@@ -3,12 +3,12 @@
 //! says what the commit and a crash leave. Every call that allocates returns an error if memory runs out.
 #![tactic(auto)]
 
-mod columns;
+mod cells;
 mod error;
 mod reading;
 mod statement;
 
-pub use columns::{blob, cells_of, optional_text, text, whole};
+pub use cells::cells_of;
 pub use error::ReadError;
 pub use reading::{FromRow, load};
 pub use statement::{insert, insert_rows, put, remove, remove_parent, replace};

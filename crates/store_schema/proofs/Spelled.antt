@@ -8,6 +8,8 @@ use Rattle.std.specs.Ordering.{is_lt, nat_cmp}
 use Rattle.std.specs.Cmp.Lexicographic.{slice_cmp}
 use Rattle.std.proofs.lemmas.Cmp.{nat_list_cmp_total}
 use Rattle.std.proofs.lemmas.Bool.{or_cases, and_parts, eqb-true}
+use Rattle.std.proofs.lemmas.Bool.Decides.{Decides-eqb, Decides-like, same_from_decides}
+use Rattle.std.proofs.lemmas.Slice.Eq.{bytes_eq-Decides}
 use borrow.Author.Tests.{ltb-true}
 use Rattle.sqlite.specs.declared.types.Value.TheVariants as value
 use Rattle.sqlite.specs.Values.{or_null}
@@ -84,57 +86,32 @@ type_read Proc = refl
 pub type_same : (a b : ElemType) → type_text a ≡ type_text b → a ≡ b
 type_same a b e = let both = sym (type_read a) ∙ ap read_type e ∙ type_read b in cc
 
+read_number : ℕ → ElemType
+read_number n =
+    if n == 0 then Mac
+    else if n == 1 then Src
+    else if n == 2 then Clist
+    else if n == 3 then Data
+    else if n == 4 then Exec
+    else if n == 5 then Parm
+    else Proc
+
+number_read : (k : ElemType) → read_number (type_number k) ≡ k
+unfolding read_number
+number_read Mac = refl
+number_read Src = refl
+number_read Clist = refl
+number_read Data = refl
+number_read Exec = refl
+number_read Parm = refl
+number_read Proc = refl
+
 -- and are told apart as their numbers are
 pub types_alike : (a b : ElemType) → bytes_eq (type_text a) (type_text b) ≡ (type_number a == type_number b)
-types_alike Mac Mac = refl
-types_alike Mac Src = refl
-types_alike Mac Clist = refl
-types_alike Mac Data = refl
-types_alike Mac Exec = refl
-types_alike Mac Parm = refl
-types_alike Mac Proc = refl
-types_alike Src Mac = refl
-types_alike Src Src = refl
-types_alike Src Clist = refl
-types_alike Src Data = refl
-types_alike Src Exec = refl
-types_alike Src Parm = refl
-types_alike Src Proc = refl
-types_alike Clist Mac = refl
-types_alike Clist Src = refl
-types_alike Clist Clist = refl
-types_alike Clist Data = refl
-types_alike Clist Exec = refl
-types_alike Clist Parm = refl
-types_alike Clist Proc = refl
-types_alike Data Mac = refl
-types_alike Data Src = refl
-types_alike Data Clist = refl
-types_alike Data Data = refl
-types_alike Data Exec = refl
-types_alike Data Parm = refl
-types_alike Data Proc = refl
-types_alike Exec Mac = refl
-types_alike Exec Src = refl
-types_alike Exec Clist = refl
-types_alike Exec Data = refl
-types_alike Exec Exec = refl
-types_alike Exec Parm = refl
-types_alike Exec Proc = refl
-types_alike Parm Mac = refl
-types_alike Parm Src = refl
-types_alike Parm Clist = refl
-types_alike Parm Data = refl
-types_alike Parm Exec = refl
-types_alike Parm Parm = refl
-types_alike Parm Proc = refl
-types_alike Proc Mac = refl
-types_alike Proc Src = refl
-types_alike Proc Clist = refl
-types_alike Proc Data = refl
-types_alike Proc Exec = refl
-types_alike Proc Parm = refl
-types_alike Proc Proc = refl
+types_alike a b = same_from_decides _ _
+    (Decides-like _ (type_same a b) (ap type_text) (bytes_eq-Decides (type_text a) (type_text b)))
+    (Decides-like _ (λ e. sym (number_read a) ∙ ap read_number e ∙ number_read b) (ap type_number)
+    (Decides-eqb (type_number a) (type_number b)))
 
 read_zone : Text → Option ZoneKind
 read_zone t = if bytes_eq t (codes "target") then Some Target else Some Distribution

@@ -1,17 +1,17 @@
 //! Lists of ids and of records, as columns and as values.
 
-ghost use Rattle.std.specs.Prelude.{◌≡◌, ◌≢◌, ◌==◌, ℕ, List, map, IfOk, IsErrOf};
+ghost use Rattle.std.specs.Prelude.{◌≡◌, ◌≢◌, ◌==◌, ◌∷◌, ℕ, List, map, IfOk, IsErrOf};
 ghost use Rattle.std.specs.List.{concat, join_with_byte};
 ghost use Rattle.store_schema.specs.Parts.{parts_of};
-ghost use Rattle.sqlite.specs.Order.{column};
+ghost use Rattle.sqlite.specs.Order.{Row as SqlRow};
 ghost use Rattle.store_schema.specs.Forms.{AreSorted, AreRecords};
 ghost use Rattle.store_schema.specs.Rows.{ids, records};
 ghost use Rattle.terms.specs.Forms.{IsId, IsSource};
 
+use crate::columns::Columns;
 use fields::{Id, IdList, Source, SourceList};
-use sqlite::Row;
 use std::alloc::{AllocError, Global};
-use store_rows::{ReadError, blob, text};
+use store_rows::ReadError;
 use text80::{Line, RECORD, lines_of};
 
 /// The ids, joined by commas.
@@ -74,30 +74,24 @@ fn source_list(alloc: Global, parts: &[&[u8]]) -> Result<SourceList, ReadError>
     Ok(list)
 }
 
-/// The ids of a rising list. Returns `Memory` if memory runs out, and `BadRow` if the column has no such list.
-pub fn ids_in(alloc: Global, row: &Row, at: usize) -> Result<IdList, ReadError>
-    ensures some { IfOk result (λ list. (column row.now at ≡ ids list) × AreSorted IsId list) }
+// The ids of a rising list, which are joined by commas.
+fn ids_of(alloc: Global, text: &[u8]) -> Result<IdList, ReadError>
+    ensures read { IfOk result (λ list. (text.now ≡ join_with_byte 44 list) × AreSorted IsId list) }
     ensures none { IsErrOf result ReadError.BadRow → (list : List (List ℕ)) → AreSorted IsId list
-        → column row.now at ≢ ids list }
+        → text.now ≢ join_with_byte 44 list }
     ensures fault { IsErrOf result ReadError.Fault → ⊥ }
 {
-    let Some(text) = text(row, at) else {
-        return Err(ReadError::BadRow);
-    };
     let parts = parts(alloc, text)?;
     id_list(alloc, &parts)
 }
 
-/// The sources of a rising list. Returns `Memory` if memory runs out, and `BadRow` if the column has no such list.
-pub fn sources_in(alloc: Global, row: &Row, at: usize) -> Result<SourceList, ReadError>
-    ensures some { IfOk result (λ list. (column row.now at ≡ ids list) × AreSorted IsSource list) }
+// The sources of a rising list, which are joined by commas.
+fn sources_of(alloc: Global, text: &[u8]) -> Result<SourceList, ReadError>
+    ensures read { IfOk result (λ list. (text.now ≡ join_with_byte 44 list) × AreSorted IsSource list) }
     ensures none { IsErrOf result ReadError.BadRow → (list : List (List ℕ)) → AreSorted IsSource list
-        → column row.now at ≢ ids list }
+        → text.now ≢ join_with_byte 44 list }
     ensures fault { IsErrOf result ReadError.Fault → ⊥ }
 {
-    let Some(text) = text(row, at) else {
-        return Err(ReadError::BadRow);
-    };
     let parts = parts(alloc, text)?;
     source_list(alloc, &parts)
 }
@@ -115,16 +109,34 @@ fn lines_in(alloc: Global, bytes: &[u8]) -> Result<Vec<Line>, ReadError>
     Ok(lines_of(alloc, bytes)?)
 }
 
-/// The records of a text, one after the other in a blob. Returns `Memory` if memory runs out, and `BadRow` if the
-/// column has no blob, or one that does not end with a whole record.
-pub fn records_in(alloc: Global, row: &Row, at: usize) -> Result<Vec<Line>, ReadError>
-    ensures some { IfOk result (λ lines. (column row.now at ≡ records lines.items) × AreRecords lines.items) }
-    ensures none { IsErrOf result ReadError.BadRow → (lines : List (List ℕ)) → AreRecords lines
-        → column row.now at ≢ records lines }
-    ensures fault { IsErrOf result ReadError.Fault → ⊥ }
-{
-    let Some(bytes) = blob(row, at) else {
-        return Err(ReadError::BadRow);
-    };
-    lines_in(alloc, bytes)
+impl Columns<'_> {
+    /// A rising list of ids.
+    pub fn ids(&mut self, alloc: Global) -> Result<IdList, ReadError>
+        ensures read { IfOk result (λ list. (self.old ≡ ids list ∷ self.new) × AreSorted IsId list) }
+        ensures none { IsErrOf result ReadError.BadRow → (list : List (List ℕ)) (rest : SqlRow) → AreSorted IsId list
+            → self.old ≢ ids list ∷ rest }
+        ensures fault { IsErrOf result ReadError.Fault → ⊥ }
+    {
+        ids_of(alloc, self.text()?)
+    }
+
+    /// A rising list of sources.
+    pub fn sources(&mut self, alloc: Global) -> Result<SourceList, ReadError>
+        ensures read { IfOk result (λ list. (self.old ≡ ids list ∷ self.new) × AreSorted IsSource list) }
+        ensures none { IsErrOf result ReadError.BadRow → (list : List (List ℕ)) (rest : SqlRow) → AreSorted IsSource list
+            → self.old ≢ ids list ∷ rest }
+        ensures fault { IsErrOf result ReadError.Fault → ⊥ }
+    {
+        sources_of(alloc, self.text()?)
+    }
+
+    /// The records of a text, one after the other in a blob.
+    pub fn records(&mut self, alloc: Global) -> Result<Vec<Line>, ReadError>
+        ensures read { IfOk result (λ lines. (self.old ≡ records lines.items ∷ self.new) × AreRecords lines.items) }
+        ensures none { IsErrOf result ReadError.BadRow → (lines : List (List ℕ)) (rest : SqlRow) → AreRecords lines
+            → self.old ≢ records lines ∷ rest }
+        ensures fault { IsErrOf result ReadError.Fault → ⊥ }
+    {
+        lines_in(alloc, self.blob()?)
+    }
 }

@@ -1,12 +1,11 @@
 //! The texts of elements.
 
-ghost use Rattle.std.specs.Prelude.{◌≡◌, ◌≢◌, ◌↔◌, ℕ, List, IsTrue, IfOk, IsErrOf};
-ghost use Rattle.sqlite.specs.Order.{column};
+ghost use Rattle.std.specs.Prelude.{◌≡◌, ◌≢◌, ◌↔◌, ◌∷◌, ℕ, List, IsTrue, IfOk, IsErrOf};
+ghost use Rattle.sqlite.specs.Order.{Row as SqlRow};
 ghost use Rattle.store_schema.specs.Forms.{IsTextOf, TakesUpdates};
 ghost use Rattle.store_schema.specs.Rows.{records};
 
-use crate::column_lists::records_in;
-use sqlite::Row;
+use crate::columns::Columns;
 use std::alloc::Global;
 use store_rows::ReadError;
 use terms::ElemType;
@@ -19,25 +18,26 @@ pub fn is_updated(elem_type: ElemType) -> bool
     matches!(elem_type, ElemType::Mac | ElemType::Src)
 }
 
-/// The records of an element of this type: those of macros and sources are numbered. Returns `Memory` if memory runs
-/// out, and `BadRow` if the column has no such records.
-pub fn element_text_in(
-    alloc: Global,
-    row: &Row,
-    at: usize,
-    elem_type: ElemType,
-) -> Result<Vec<Line>, ReadError>
-    ensures some { IfOk result (λ text. (column row.now at ≡ records text.items) × IsTextOf elem_type text.items) }
-    ensures none { IsErrOf result ReadError.BadRow → (text : List (List ℕ)) → IsTextOf elem_type text
-        → column row.now at ≢ records text }
-    ensures fault { IsErrOf result ReadError.Fault → ⊥ }
-{
-    let lines = records_in(alloc, row, at)?;
-    if !is_updated(elem_type) {
-        return Ok(lines);
-    }
-    match Numbered::read(lines) {
-        Ok(text) => Ok(text.into_lines()),
-        Err(_) => Err(ReadError::BadRow),
+impl Columns<'_> {
+    /// The records of an element of this type: those of macros and sources are numbered.
+    pub fn element_text(
+        &mut self,
+        alloc: Global,
+        elem_type: ElemType,
+    ) -> Result<Vec<Line>, ReadError>
+        ensures read { IfOk result (λ text. (self.old ≡ records text.items ∷ self.new)
+            × IsTextOf elem_type text.items) }
+        ensures none { IsErrOf result ReadError.BadRow → (text : List (List ℕ)) (rest : SqlRow)
+            → IsTextOf elem_type text → self.old ≢ records text ∷ rest }
+        ensures fault { IsErrOf result ReadError.Fault → ⊥ }
+    {
+        let lines = self.records(alloc)?;
+        if !is_updated(elem_type) {
+            return Ok(lines);
+        }
+        match Numbered::read(lines) {
+            Ok(text) => Ok(text.into_lines()),
+            Err(_) => Err(ReadError::BadRow),
+        }
     }
 }

@@ -74,11 +74,9 @@ pub fn set_up<S: Alter>(alloc: Global, conn: &mut Connection<S>) -> Result<(), S
     ensures crash { Survives (state S.Store conn.old) (state S.Store conn.new) (IsSetUp (state S.Store conn.old).now) }
     ensures mode { conn.new.in_transaction ≡ false }
 {
-    // Outside a transaction, the connection shows what it last committed.
-    prove!(conn.is_autocommit());
-    if !is_blank(conn.schema()) {
-        return check(alloc, conn);
+    if conn.is_autocommit() && is_blank(conn.schema()) {
+        create(conn)?;
+        return Ok(());
     }
-    create(conn)?;
-    Ok(())
+    check(alloc, conn)
 }

@@ -2,13 +2,14 @@
 //! them in an empty database and recognize them in another, and the columns of their rows as values. On a clean disk,
 //! `set_up` creates them in one commit, or keeps them, or reports another number or other tables. `found_schema` also
 //! recognizes the tables of earlier schemas, and `add_tables` creates those that they lack. No two states have the same
-//! rows, under one schema or another (`one_state`, `one_earlier_state`). For a column that is read as a value, `Some`
-//! and `Ok` mean that it has the value, `None` and `BadRow` that it has none. `load_listed` returns what the rows of a
-//! table that a query asks for stand for, and `BadRow` only if they stand for nothing, under each schema that has the
-//! table. Every call that allocates returns an error if memory runs out.
+//! rows, under one schema or another (`one_state`, `one_earlier_state`). `Columns` reads a row from left to right: a call
+//! returns the value of the next column, or `BadRow` if that column has no such value or there is none. `load_listed`
+//! returns what the rows of a table that a query asks for stand for, and `BadRow` only if they stand for nothing, under
+//! each schema that has the table. Every call that allocates returns an error if memory runs out.
 #![tactic(auto)]
 
 mod column_lists;
+mod columns;
 mod creating;
 mod element_texts;
 mod error;
@@ -24,15 +25,14 @@ mod schemas;
 mod tables;
 mod texts;
 
-pub use column_lists::{ids_in, joined_ids, records_in, sources_in};
+pub use column_lists::joined_ids;
+pub use columns::Columns;
 pub use creating::add_tables;
-pub use element_texts::{element_text_in, is_updated};
+pub use element_texts::is_updated;
 pub use error::StoreError;
-pub use kinds::{elem_type_in, flag_in, hold_kind_in, kind_in, zone_kind_in};
 pub use known::set_up;
 pub use law::{one_earlier_state, one_state};
 pub use listed::{Query, load_listed};
-pub use optional::{TextValue, optional_in, text_or_null};
+pub use optional::{TextValue, text_or_null};
 pub use schema::Schema;
 pub use schemas::found_schema;
-pub use texts::{id_in, name_in, srel_in, zone_name_in};

@@ -1,15 +1,15 @@
 //! Columns whose value is a text or NULL.
 
-ghost use Rattle.std.specs.Prelude.{◌≡◌, ◌≢◌, ℕ, List, Option, IfSome, IfNone};
+ghost use Rattle.std.specs.Prelude.{◌≡◌, ◌≢◌, ◌∷◌, ℕ, List, Option, IfOk, IfSome, IsErrOf};
 ghost use Rattle.sqlite.specs.declared.types.Value.TheVariants.{Text};
-ghost use Rattle.sqlite.specs.Order.{column};
+ghost use Rattle.sqlite.specs.Order.{Row as SqlRow};
 ghost use Rattle.sqlite.specs.Values.{or_null};
 ghost use Rattle.sqlite_value.specs.Value.{owned};
 
+use crate::columns::Columns;
 use fields::{Class, HoldDate, Id, Name, YyDdd, ZoneName};
-use sqlite::Row;
 use sqlite_value::value::ValueRef;
-use store_rows::optional_text;
+use store_rows::ReadError;
 
 /// A value that a column stores as its text.
 pub trait TextValue: Sized {
@@ -125,16 +125,22 @@ impl TextValue for HoldDate {
     }
 }
 
-/// The value in a column, or none if it is NULL.
-pub fn optional_in<T: TextValue>(row: &Row, at: usize) -> Option<Option<T>>
-    ensures some { IfSome result (λ value. (column row.now at ≡ or_null (λ v. Text (T.text v)) value)
-        × IfSome value (λ v. T.form (T.text v))) }
-    ensures none { IfNone result ((value : Option (List ℕ)) → IfSome value T.form
-        → column row.now at ≢ or_null Text value) }
-{
-    match optional_text(row, at)? {
-        Some(text) => Some(Some(T::read(text)?)),
-        None => Some(None),
+impl Columns<'_> {
+    /// A value, or none if the column is NULL.
+    pub fn optional<T: TextValue>(&mut self) -> Result<Option<T>, ReadError>
+        ensures read { IfOk result (λ value. (self.old ≡ or_null (λ v. Text (T.text v)) value ∷ self.new)
+            × IfSome value (λ v. T.form (T.text v))) }
+        ensures none { IsErrOf result ReadError.BadRow → (value : Option (List ℕ)) (rest : SqlRow)
+            → IfSome value T.form → self.old ≢ or_null Text value ∷ rest }
+        ensures fault { IsErrOf result ReadError.Fault → ⊥ }
+    {
+        let Some(text) = self.optional_text()? else {
+            return Ok(None);
+        };
+        match T::read(text) {
+            Some(value) => Ok(Some(value)),
+            None => Err(ReadError::BadRow),
+        }
     }
 }
 

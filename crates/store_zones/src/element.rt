@@ -25,9 +25,7 @@ use sqlite_value::row::Row as Cells;
 use sqlite_value::value::ValueRef;
 use std::alloc::{AllocError, Global};
 use store_rows::{FromRow, ReadError, cells_of, insert, put, remove};
-use store_schema::{
-    Query, elem_type_in, element_text_in, id_in, ids_in, joined_ids, name_in, zone_name_in,
-};
+use store_schema::{Columns, Query, joined_ids};
 use terms::ElemType;
 use text80::bytes_of;
 use zones_maps::Element;
@@ -189,32 +187,17 @@ impl FromRow for Elements {
             → row.now ≢ row_of_element item }
         ensures fault { IsErrOf result ReadError.Fault → ⊥ }
     {
-        if row.column_count() != 9 {
-            return Err(ReadError::BadRow);
-        }
-        let Some(zone) = zone_name_in(row, 0) else {
-            return Err(ReadError::BadRow);
-        };
-        let Some(elem_type) = elem_type_in(row, 1) else {
-            return Err(ReadError::BadRow);
-        };
-        let Some(name) = name_in(row, 2) else {
-            return Err(ReadError::BadRow);
-        };
-        let Some(fmid) = id_in(row, 3) else {
-            return Err(ReadError::BadRow);
-        };
-        let Some(rmid) = id_in(row, 4) else {
-            return Err(ReadError::BadRow);
-        };
-        let umids = ids_in(alloc, row, 5)?;
-        let Some(distlib) = name_in(row, 6) else {
-            return Err(ReadError::BadRow);
-        };
-        let Some(syslib) = name_in(row, 7) else {
-            return Err(ReadError::BadRow);
-        };
-        let text = element_text_in(alloc, row, 8, elem_type)?;
+        let mut columns = Columns::of(row);
+        let zone = columns.zone_name()?;
+        let elem_type = columns.elem_type()?;
+        let name = columns.name()?;
+        let fmid = columns.id()?;
+        let rmid = columns.id()?;
+        let umids = columns.ids(alloc)?;
+        let distlib = columns.name()?;
+        let syslib = columns.name()?;
+        let text = columns.element_text(alloc, elem_type)?;
+        columns.end()?;
         Ok(ZoneRow {
             zone,
             item: Element {

@@ -1,7 +1,7 @@
 //! The table of SYSMOD entries.
 
 ghost use Rattle.std.specs.Prelude.{◌≡◌, [], ◌∷◌, OnOk, if◌then◌else◌, ◌≢◌, Option, IfSome, map};
-ghost use Rattle.std.specs.Prelude.{IfNone, IfOk, IsErrOf, option_map};
+ghost use Rattle.std.specs.Prelude.{IfOk, IsErrOf, option_map};
 ghost use Rattle.std.specs.List.{join_with_byte};
 ghost use Rattle.store_rows.specs.Calls.{RunsInside};
 ghost use Rattle.store_rows.specs.Inside.{Continues, Turns};
@@ -13,7 +13,7 @@ ghost use Rattle.store_zones.specs.Entries.{insert_entry, put_entry as into_entr
 ghost use Rattle.store_zones.specs.Zones.{ChangesZone, HasMoreEntries, HasPutEntry, HasRemovedEntry, rows_with};
 ghost use Rattle.store_zones.specs.Zones.{with_more_entries, with_entry, without_entry};
 ghost use Rattle.sqlite.specs.declared.types.Value.TheVariants.{Text};
-ghost use Rattle.sqlite.specs.Order.{column};
+ghost use Rattle.sqlite.specs.Order.{Row as SqlRow};
 ghost use Rattle.sqlite.specs.Values.{bound, or_null};
 ghost use Rattle.sqlite_value.specs.Value.{owned};
 ghost use Rattle.terms.specs.Types.{Applied as AppliedTerm, Entry as EntryTerm};
@@ -30,7 +30,7 @@ use sqlite_value::row::Row as Cells;
 use sqlite_value::value::ValueRef;
 use std::alloc::{AllocError, Global};
 use store_rows::{FromRow, ReadError, cells_of, insert, put, remove};
-use store_schema::{Query, id_in, ids_in, joined_ids, optional_in, text_or_null, zone_name_in};
+use store_schema::{Columns, Query, joined_ids, text_or_null};
 use zones_maps::{Applied, Entry};
 
 const SELECT: &str =
@@ -219,23 +219,14 @@ impl FromRow for Entries {
             → row.now ≢ row_of_entry item }
         ensures fault { IsErrOf result ReadError.Fault → ⊥ }
     {
-        if row.column_count() != 6 {
-            return Err(ReadError::BadRow);
-        }
-        let Some(zone) = zone_name_in(row, 0) else {
-            return Err(ReadError::BadRow);
-        };
-        let Some(id) = id_in(row, 1) else {
-            return Err(ReadError::BadRow);
-        };
-        let Some(applied) = applied_in(row, 2) else {
-            return Err(ReadError::BadRow);
-        };
-        let supby = ids_in(alloc, row, 3)?;
-        let Some(delby) = optional_in(row, 4) else {
-            return Err(ReadError::BadRow);
-        };
-        let waived = ids_in(alloc, row, 5)?;
+        let mut columns = Columns::of(row);
+        let zone = columns.zone_name()?;
+        let id = columns.id()?;
+        let applied = applied_in(&mut columns)?;
+        let supby = columns.ids(alloc)?;
+        let delby = columns.optional()?;
+        let waived = columns.ids(alloc)?;
+        columns.end()?;
         Ok(ZoneRow {
             zone,
             item: Entry {
@@ -250,15 +241,18 @@ impl FromRow for Entries {
 }
 
 // When it was applied, or NULL. The row has no number, so it is 1 until that of another table is found.
-fn applied_in(row: &Row, at: usize) -> Option<Option<Applied>>
-    ensures some { IfSome result (λ applied. (column row.now at ≡ or_null Text (option_map (λ a. a.date) applied))
+fn applied_in(columns: &mut Columns<'_>) -> Result<Option<Applied>, ReadError>
+    ensures read { IfOk result (λ applied.
+        (columns.old ≡ or_null Text (option_map (λ a. a.date) applied) ∷ columns.new)
         × IfSome applied HasAppliedForms × IfSome applied (λ a. a.number ≡ 1)) }
-    ensures none { IfNone result ((applied : Option AppliedTerm) → IfSome applied HasAppliedForms
-        → column row.now at ≢ or_null Text (option_map (λ a. a.date) applied)) }
+    ensures none { IsErrOf result ReadError.BadRow → (applied : Option AppliedTerm) (rest : SqlRow)
+        → IfSome applied HasAppliedForms
+        → columns.old ≢ or_null Text (option_map (λ a. a.date) applied) ∷ rest }
+    ensures fault { IsErrOf result ReadError.Fault → ⊥ }
 {
-    match optional_in(row, at)? {
-        Some(date) => Some(Some(Applied::on(date))),
-        None => Some(None),
+    match columns.optional()? {
+        Some(date) => Ok(Some(Applied::on(date))),
+        None => Ok(None),
     }
 }
 

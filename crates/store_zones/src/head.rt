@@ -30,9 +30,7 @@ use sqlite::{Alter, Connection, Error, Row, Transaction};
 use sqlite_value::value::ValueRef;
 use std::alloc::{AllocError, Global};
 use store_rows::{FromRow, ReadError, insert};
-use store_schema::{
-    Query, load_listed, optional_in, srel_in, text_or_null, zone_kind_in, zone_name_in,
-};
+use store_schema::{Columns, Query, load_listed, text_or_null};
 use terms::ZoneKind;
 
 const SELECT: &str = "SELECT name, kind, srel, related FROM zone ORDER BY name";
@@ -96,25 +94,13 @@ impl FromRow for ZoneHeads {
             → row.now ≢ head_row head }
         ensures fault { IsErrOf result ReadError.Fault → ⊥ }
     {
-        if row.column_count() != 4 {
-            return Err(ReadError::BadRow);
-        }
-        let Some(name) = zone_name_in(row, 0) else {
-            return Err(ReadError::BadRow);
-        };
-        if name.is_global() {
-            return Err(ReadError::BadRow);
-        }
-        let Some(kind) = zone_kind_in(row, 1) else {
-            return Err(ReadError::BadRow);
-        };
-        let Some(srel) = srel_in(row, 2) else {
-            return Err(ReadError::BadRow);
-        };
-        let Some(related) = optional_in(row, 3) else {
-            return Err(ReadError::BadRow);
-        };
-        if related.is_some() != is_target(kind) {
+        let mut columns = Columns::of(row);
+        let name = columns.zone_name()?;
+        let kind = columns.zone_kind()?;
+        let srel = columns.srel()?;
+        let related = columns.optional()?;
+        columns.end()?;
+        if name.is_global() || related.is_some() != is_target(kind) {
             return Err(ReadError::BadRow);
         }
         Ok(ZoneHead {

@@ -1,7 +1,6 @@
 //! The table of `++VER`s by which entries were installed, if that was not the first of its SREL.
 
-ghost use Rattle.std.specs.Prelude.{◌≡◌, ◌<◌, ◌^◌, [], ◌∷◌, OnOk, ◌≢◌, ◌≤◌, ℕ, pos, IfOk, IfSome};
-ghost use Rattle.std.specs.Prelude.{IfNone, IsErrOf, map};
+ghost use Rattle.std.specs.Prelude.{◌≡◌, ◌<◌, ◌^◌, [], ◌∷◌, OnOk, ◌≢◌, ◌≤◌, ℕ, pos, IfOk, IsErrOf, map};
 ghost use Rattle.std.specs.List.{flat_map};
 ghost use Rattle.store_rows.specs.Calls.{RunsInside, puts};
 ghost use Rattle.store_rows.specs.Inside.{Continues, Turns};
@@ -14,7 +13,7 @@ ghost use Rattle.store_zones.specs.Chosen.{number_before};
 ghost use Rattle.store_zones.specs.Entries.{entry_key};
 ghost use Rattle.store_zones.specs.Zones.{numbered};
 ghost use Rattle.sqlite.specs.declared.types.Value.TheVariants.{Int};
-ghost use Rattle.sqlite.specs.Order.{column};
+ghost use Rattle.sqlite.specs.Order.{Row as SqlRow};
 ghost use Rattle.sqlite.specs.Values.{bound};
 ghost use Rattle.store_zones.specs.declared.installed_vers.EntryNumber.{EntryNumber as ANumber};
 ghost use Rattle.store_zones.specs.declared.zone_rows.ZoneRow.{ZoneRow as AZoneRow};
@@ -27,8 +26,8 @@ use sqlite::{Alter, Error, Row, Transaction};
 use sqlite_value::row::Row as Cells;
 use sqlite_value::value::ValueRef;
 use std::alloc::{AllocError, Global};
-use store_rows::{FromRow, ReadError, cells_of, insert, insert_rows, put, remove, whole};
-use store_schema::{Query, id_in, zone_name_in};
+use store_rows::{FromRow, ReadError, cells_of, insert, insert_rows, put, remove};
+use store_schema::{Columns, Query};
 use zones_maps::Entry;
 
 const SELECT: &str = "SELECT zone, id, n FROM chosen WHERE zone = ?1 ORDER BY id";
@@ -195,15 +194,17 @@ impl Keyed for EntryNumber {
 }
 
 // A number that is not 1, which is where numbers begin.
-fn number_in(row: &Row, at: usize) -> Option<VerNumber>
-    ensures some { IfSome result (λ n. (column row.now at ≡ Int (pos n)) × (2 ≤ n) × (n < 2 ^ 63)) }
-    ensures none { IfNone result ((n : ℕ) → 2 ≤ n → column row.now at ≢ Int (pos n)) }
+fn number_in(columns: &mut Columns<'_>) -> Result<VerNumber, ReadError>
+    ensures read { IfOk result (λ n. (columns.old ≡ Int (pos n) ∷ columns.new) × (2 ≤ n) × (n < 2 ^ 63)) }
+    ensures none { IsErrOf result ReadError.BadRow → (n : ℕ) (rest : SqlRow) → 2 ≤ n
+        → columns.old ≢ Int (pos n) ∷ rest }
+    ensures fault { IsErrOf result ReadError.Fault → ⊥ }
 {
-    let number = whole(row, at)?;
+    let number = columns.whole()?;
     if number < 2 {
-        return None;
+        return Err(ReadError::BadRow);
     }
-    Some(VerNumber::new(number as usize))
+    Ok(VerNumber::new(number as usize))
 }
 
 /// Reads the rows of numbers.
@@ -224,18 +225,11 @@ impl FromRow for Numbers {
             → row.now ≢ row_of_number item }
         ensures fault { IsErrOf result ReadError.Fault → ⊥ }
     {
-        if row.column_count() != 3 {
-            return Err(ReadError::BadRow);
-        }
-        let Some(zone) = zone_name_in(row, 0) else {
-            return Err(ReadError::BadRow);
-        };
-        let Some(id) = id_in(row, 1) else {
-            return Err(ReadError::BadRow);
-        };
-        let Some(number) = number_in(row, 2) else {
-            return Err(ReadError::BadRow);
-        };
+        let mut columns = Columns::of(row);
+        let zone = columns.zone_name()?;
+        let id = columns.id()?;
+        let number = number_in(&mut columns)?;
+        columns.end()?;
         Ok(ZoneRow {
             zone,
             item: EntryNumber { id, number },

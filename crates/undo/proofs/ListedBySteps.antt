@@ -14,7 +14,7 @@ use Rattle.terms.specs.declared.codes.NeedKind.TheVariants.{Elem, Dep}
 use Rattle.terms.specs.Types.{Id, Change, RestoreGroup}
 use Rattle.terms.specs.Lookups.{IsZone, is_applied, is_supplied, applied_ids, changes_of, has_change}
 use Rattle.terms.specs.Restore.{Restoring, NeedsDep, NeedsElem, NeedsInRestore}
-use Rattle.terms.specs.Restore.{IsClosedList, IsListed, AreListed}
+use Rattle.terms.specs.Restore.{IsClosedList, IsListed}
 use Rattle.terms.proofs.Ids.{is_in_from_Contains, Contains_from_is_in}
 use Rattle.terms.proofs.Applied.{applied_are}
 use Rattle.terms.proofs.ChangedElements.{change_found, change_has}
@@ -234,11 +234,8 @@ module _ (r : Restoring) (is_zone : IsZone r.zone) (ids : List Id) where
 
 -- the list is what the steps reach
 pub listed_from : (r : Restoring) → IsZone r.zone → (ids found : List Id) → AreReached ids (all_steps r) found
-    → AreListed r (RestoreGroup ids) found
-listed_from r is_zone ids found are = record {
-  rising = are.rising;
-  members = λ x. (
-    λ h. (reached_listed r is_zone ids x).0 ((are.members x).0 h),
-    λ h. (are.members x).1 ((reached_listed r is_zone ids x).1 h),
-  );
-}
+    → (x : Id) → Contains found x ↔ IsListed r (RestoreGroup ids) x
+listed_from r is_zone ids found are = λ x. (
+  λ h. (reached_listed r is_zone ids x).0 ((are x).0 h),
+  λ h. (are x).1 ((reached_listed r is_zone ids x).1 h),
+)

@@ -16,7 +16,6 @@ use Rattle.std.proofs.lemmas.Map.Keys.{IsStrictlyIncreasing-dedup}
 use Rattle.std.proofs.lemmas.Option.{slice_get_within, same_Some}
 use Rattle.terms.proofs.ListMembers.{here, here_or, none_in, in_map, map_in, in_flat}
 use Rattle.terms.specs.Types.{Id}
-use Rattle.terms.specs.Lookups.{IsRising}
 use Rattle.terms.specs.Rising.{Rises}
 use Rattle.solve.specs.System.{holds}
 use Rattle.solve.specs.Least.{Rule, Growth, IsRule, IsLeast}
@@ -184,11 +183,8 @@ pub all_reached : (table : List Node) → Rises node_order.ghosts.cmp (λ n. n) 
     → (steps : List Step) (g : Growth) → IsGrowth table ids steps g → ((x : Id) → Contains ids x
     → Contains table (Sysmod x)) → (flags : List Bool) → IsLeast g flags → (chosen found : List Id)
     → AreFlagged table flags (length table) chosen → ((x : Id) → Contains found x ↔ Contains chosen x)
-    → IsRising found → AreReached ids steps found
-all_reached table rises ids steps g growth starts flags least chosen found flagged same rising = record {
-  rising = rising;
-  members = λ x.
-      let size : length flags ≡ length table = least.size ∙ ap length growth.start ∙ length-map table (is_start ids) in
-      let both = flagged_reached table rises ids steps g growth starts flags least chosen flagged size x in
-      (λ h. both.0 ((same x).0 h), λ h. (same x).1 (both.1 h));
-}
+    → AreReached ids steps found
+all_reached table rises ids steps g growth starts flags least chosen found flagged same = λ x.
+    let size : length flags ≡ length table = least.size ∙ ap length growth.start ∙ length-map table (is_start ids) in
+    let both = flagged_reached table rises ids steps g growth starts flags least chosen flagged size x in
+    (λ h. both.0 ((same x).0 h), λ h. (same x).1 (both.1 h))

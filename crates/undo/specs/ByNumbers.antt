@@ -1,7 +1,6 @@
 -- The steps with numbers instead of SYSMODs and elements.
 use Rattle.std.specs.Prelude.{◌≡◌, ◌↔◌, ◌<◌, ℕ, Bool, List, Some, [], ◌∷◌, ◌++◌, map, slice_get, Contains, IsTrue}
 use Rattle.terms.specs.Types.{Id}
-use Rattle.terms.specs.Lookups.{IsRising}
 use Rattle.solve.specs.System.{holds}
 use Rattle.solve.specs.Least.{Rule, Growth}
 use Rattle.undo.specs.declared.nodes.Node.{Node}
@@ -57,7 +56,6 @@ IsFlagged table flags x i = (slice_get table i ≡ Some (Sysmod x)) × IsTrue (h
 abbrev pub AreFlagged : List Node → List Bool → ℕ → List Id → Type 0
 AreFlagged table flags k found = (x : Id) → Contains found x ↔ ((i : ℕ) × (i < k) × IsFlagged table flags x i)
 
--- the ids that are reached, rising
-pub record AreReached (ids : List Id) (steps : List Step) (found : List Id) : Type 0 where
-  pub rising : IsRising found
-  pub members : (x : Id) → Contains found x ↔ IsReached ids steps (Sysmod x)
+-- the ids that are reached
+abbrev pub AreReached : List Id → List Step → List Id → Type 0
+AreReached ids steps found = (x : Id) → Contains found x ↔ IsReached ids steps (Sysmod x)

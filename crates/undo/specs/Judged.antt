@@ -7,12 +7,13 @@ use Rattle.terms.specs.Restore.{Restoring, FailsRestore, MayBeRestored, NeedsInR
 use Rattle.judge_system.specs.declared.judged.Judged.{Judged}
 use Rattle.judge_system.specs.declared.stated.Assessment.{Assessment}
 use Rattle.judge_system.specs.Judged.{AreJudged, IsJudged}
+use Rattle.judge_system.specs.TestSets.{tests_of}
 
 -- it follows the tests and needs of a RESTORE with this list
 abbrev pub IsRestoreAssessed : Restoring → List Id → List Id → Assessment → Type 0
 IsRestoreAssessed r list cands said =
     AreJudged (FailsRestore r) (MayBeRestored r list) (NeedsInRestore r (is_in list)) (Serves r.choice) cands
-    (map (λ row. row.items) said.tests.items) said.needs.items said.superseded.items
+    (map tests_of said.tests.items) said.needs.items said.superseded.items
 
 -- the same for the numbered candidates
 abbrev pub IsRestoreJudged : Restoring → List Id → List Id → Judged → Type 0

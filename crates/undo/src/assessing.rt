@@ -1,15 +1,15 @@
 //! The assessment of the candidates of a RESTORE, by their ids.
 ghost use Rattle.std.specs.Prelude.{◌≡◌, List, All, IsTrue, IfOk};
 ghost use Rattle.terms.specs.Types.{Id as AnId};
-ghost use Rattle.terms.specs.Lookups.{is_applied};
+ghost use Rattle.terms.specs.Lookups.{IsRising, is_applied};
 ghost use Rattle.terms.specs.Restore.{restore_candidates};
 ghost use Rattle.undo.specs.Judged.{IsRestoreAssessed};
 ghost use Rattle.undo.specs.Scopes.{restoring};
 
 use crate::needed::needs_in_restore;
 use crate::scope::{RestoreScope, applied_ids};
-use crate::tests::all_rows;
-use fields::{Attest, IdList};
+use crate::tests::all_failed_tests;
+use fields::IdList;
 use judge_system::Assessment;
 use std::alloc::{AllocError, Global};
 use sysmods::VerChoice;
@@ -25,11 +25,11 @@ pub(crate) fn assess(
     ids: &IdList,
 ) -> Result<Assessment, AllocError>
     requires { All (λ x. IsTrue (is_applied zone.now x)) ids.now }
-    ensures { IfOk result (λ said. (list : List AnId)
+    ensures assessed { IfOk result (λ said. (list : List AnId)
         → ids.now ≡ restore_candidates (restoring vers.now zone.now accepted.now) list
         → IsRestoreAssessed (restoring vers.now zone.now accepted.now) list ids.now said) }
+    ensures rising { IfOk result (λ said. IsRising ids.now) }
 {
-    zone.attest();
     let applied = applied_ids(alloc, zone)?;
     let scope = RestoreScope {
         vers,
@@ -37,8 +37,9 @@ pub(crate) fn assess(
         accepted,
         applied: applied.as_slice(),
     };
+    let cands = ids.as_slice();
     Ok(Assessment {
-        tests: all_rows(alloc, &scope, ids.as_slice())?,
+        tests: all_failed_tests(alloc, &scope, cands)?,
         needs: needs_in_restore(alloc, &scope, ids)?,
         superseded: Vec::new(alloc),
         bypassed: Vec::new(alloc),

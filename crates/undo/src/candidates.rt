@@ -27,11 +27,12 @@ pub fn restore_candidates(
         (HasCandidates (restoring_from global.now zone.now accepted.now) (restore_list_of list.now)) }
 {
     let listed = restore_list(alloc, global, zone, accepted, list)?;
-    let ids = IdList::from_vec(applied_among(alloc, zone, listed.as_slice())?);
+    let all = listed.as_slice();
+    let ids = IdList::from_vec(applied_among(alloc, zone, all)?);
     ids.attest();
     Ok(Candidates {
         ids,
-        left_out: left_out(alloc, zone, listed.as_slice())?,
+        left_out: left_out(alloc, zone, all)?,
     })
 }
 

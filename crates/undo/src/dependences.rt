@@ -7,7 +7,7 @@ ghost use Rattle.undo.specs.Dependences.{suppliers, dependences_of};
 ghost use Rattle.undo.specs.Needed.{HaveDep};
 
 use crate::scope::{RestoreScope, applied_among};
-use fields::{Attest, Id, IdList};
+use fields::{Id, IdList};
 use std::alloc::{AllocError, Global};
 use zones::{Zone, requisites_held};
 
@@ -21,8 +21,8 @@ fn superseders(zone: &Zone, id: Id) -> &[Id]
     }
 }
 
-// The applied SYSMODs that supply the id.
-fn suppliers(alloc: Global, zone: &Zone, id: Id) -> Result<Vec<Id>, AllocError>
+/// The applied SYSMODs that supply the id.
+pub fn suppliers(alloc: Global, zone: &Zone, id: Id) -> Result<Vec<Id>, AllocError>
     ensures { IfOk result (λ found. found.items ≡ suppliers zone.now id) }
 {
     let mut ids = vec![in alloc; id]?;
@@ -79,7 +79,6 @@ pub(crate) fn dep_pairs(
     requires { All (λ x. IsTrue (is_applied scope.now.zone.now x)) cands.now }
     ensures { IfOk result (λ pairs. HaveDep (restoring_of scope.now) cands.now pairs.items) }
 {
-    scope.zone.attest();
     let mut pairs = Vec::new(alloc);
     for by in scope.applied {
         let groups = dependences_of(alloc, scope, *by)?;

@@ -6,7 +6,7 @@ ghost use Rattle.undo.specs.Needed.{HaveElem};
 ghost use Rattle.undo.specs.Scopes.{restoring_of};
 
 use crate::scope::{RestoreScope, unaccepted};
-use fields::{Attest, Id, IdList, Name};
+use fields::{Id, IdList, Name};
 use sorted::lists::{Lists, add_to_all, listed};
 use std::alloc::{AllocError, Global};
 use std::collections::BTreeMap;
@@ -68,7 +68,6 @@ pub(crate) fn elem_pairs(
 ) -> Result<Vec<(Id, Id)>, AllocError>
     ensures { IfOk result (λ pairs. HaveElem (restoring_of scope.now) cands.now pairs.items) }
 {
-    scope.zone.attest();
     let global = scope.vers.global();
     let others = unaccepted(alloc, scope.accepted, scope.applied)?;
     let changers = changers(alloc, global, others.as_slice())?;

@@ -7,7 +7,7 @@ ghost use Rattle.undo.specs.Judged.{IsRestoreJudged};
 ghost use Rattle.undo.specs.Scopes.{restoring_from};
 
 use crate::assessing::assess;
-use fields::{Attest, IdList};
+use fields::IdList;
 use judge_system::Judged;
 use std::alloc::{AllocError, Global};
 use sysmods::{GlobalZone, Overs};
@@ -28,7 +28,6 @@ pub fn restore_system<'a>(
         → IsRestoreJudged (restoring_from global.now zone.now accepted.now) list candidates.now.ids j) }
 {
     let ids = &candidates.ids;
-    ids.attest();
     let none = IdList::new(alloc);
     let vers = choose(alloc, global, zone, &none)?;
     let said = assess(alloc, &vers, zone, accepted, ids)?;

@@ -22,5 +22,6 @@ mod steps;
 mod tests;
 
 pub use candidates::restore_candidates;
+pub use dependences::suppliers;
 pub use judging::restore_system;
 pub use scope::applied_ids;

@@ -1,14 +1,14 @@
 //! The list of a RESTORE.
-ghost use Rattle.std.specs.Prelude.{IfOk};
-ghost use Rattle.terms.specs.Types.{RestoreGroup};
-ghost use Rattle.terms.specs.Restore.{AreListed};
+ghost use Rattle.std.specs.Prelude.{◌↔◌, Contains, IfOk};
+ghost use Rattle.terms.specs.Types.{RestoreGroup, Id as AnId};
+ghost use Rattle.terms.specs.Restore.{IsListed};
 ghost use Rattle.fields.specs.Choices.{restore_list_of};
 ghost use Rattle.undo.specs.Scopes.{restoring_from};
 
 use crate::numbered::reached;
 use crate::scope::{RestoreScope, applied_ids};
 use crate::steps::all_steps;
-use fields::{Attest, IdList, RestoreList};
+use fields::{IdList, RestoreList};
 use std::alloc::{AllocError, Global};
 use sysmods::GlobalZone;
 use zones::{Zone, choose};
@@ -21,14 +21,11 @@ pub(crate) fn restore_list(
     accepted: &Zone,
     list: &RestoreList,
 ) -> Result<IdList, AllocError>
-    ensures { IfOk result
-        (AreListed (restoring_from global.now zone.now accepted.now) (restore_list_of list.now)) }
+    ensures { IfOk result (λ ids. (x : AnId) → Contains ids x
+        ↔ IsListed (restoring_from global.now zone.now accepted.now) (restore_list_of list.now) x) }
 {
     match list {
-        RestoreList::Select(ids) => {
-            ids.attest();
-            ids.try_clone(alloc)
-        }
+        RestoreList::Select(ids) => ids.try_clone(alloc),
         RestoreList::Group(ids) => group_list(alloc, global, zone, accepted, ids),
     }
 }
@@ -41,9 +38,9 @@ fn group_list(
     accepted: &Zone,
     ids: &IdList,
 ) -> Result<IdList, AllocError>
-    ensures { IfOk result (AreListed (restoring_from global.now zone.now accepted.now) (RestoreGroup ids.now)) }
+    ensures { IfOk result (λ found. (x : AnId) → Contains found x
+        ↔ IsListed (restoring_from global.now zone.now accepted.now) (RestoreGroup ids.now) x) }
 {
-    zone.attest();
     let none = IdList::new(alloc);
     let vers = choose(alloc, global, zone, &none)?;
     let applied = applied_ids(alloc, zone)?;

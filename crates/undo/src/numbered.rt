@@ -7,7 +7,7 @@ ghost use Rattle.undo.specs.ByNumbers.{AreFlagged, AreReached, Covers, IsGrowth,
 
 use crate::nodes::{Node, Step, sysmods};
 use crate::numbers::rule_of;
-use fields::{Attest, Id, IdList, Rising};
+use fields::{Id, IdList, Rising};
 use solve::{Rules, least};
 use std::alloc::{AllocError, Global};
 
@@ -85,7 +85,6 @@ pub(crate) fn reached(alloc: Global, ids: &IdList, steps: &[Step]) -> Result<IdL
     let table = Rising::from_vec(all_nodes(alloc, ids, steps)?);
     let rules = growth(alloc, &table, ids, steps)?;
     let set = least(alloc, &rules)?;
-    let found = IdList::from_vec(flagged(alloc, table.as_slice(), set.as_slice())?);
-    found.attest();
-    Ok(found)
+    let ids = flagged(alloc, table.as_slice(), set.as_slice())?;
+    Ok(IdList::from_vec(ids))
 }

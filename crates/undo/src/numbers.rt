@@ -32,8 +32,6 @@ pub(crate) fn rule_of(alloc: Global, table: &Rising<Node>, step: &Step) -> Resul
     }
     these.sort_unstable();
     these.dedup();
-    Ok(Rule {
-        these,
-        that: number(table, step.that),
-    })
+    let that = number(table, step.that);
+    Ok(Rule { these, that })
 }

@@ -1,6 +1,6 @@
 //! What RESTORE looks at.
 ghost use Rattle.std.specs.Prelude.{◌≡◌, ◌++◌, [], ◌∷◌, not, filter, map, is_some, IfOk, OnOk};
-ghost use Rattle.terms.specs.Lookups.{is_applied, is_supplied, applied_ids};
+ghost use Rattle.terms.specs.Lookups.{IsZone, is_applied, is_supplied, applied_ids};
 
 use fields::Id;
 use std::alloc::{AllocError, Global};
@@ -16,6 +16,7 @@ pub(crate) struct RestoreScope<'a, 'b> {
     pub(crate) accepted: &'a Zone,
     pub(crate) applied: &'a [Id],
     pub(crate) ghost has_applied: { applied.now ≡ applied_ids zone.now },
+    pub(crate) ghost form: { IsZone zone.now },
 }
 
 fn push_if_applied(entry: &Entry, found: &mut Vec<Id>) -> Result<(), AllocError>
@@ -30,7 +31,8 @@ fn push_if_applied(entry: &Entry, found: &mut Vec<Id>) -> Result<(), AllocError>
 
 /// The ids that are applied. An error comes where memory runs out.
 pub fn applied_ids(alloc: Global, zone: &Zone) -> Result<Vec<Id>, AllocError>
-    ensures { IfOk result (λ found. found.items ≡ applied_ids zone.now) }
+    ensures ids { IfOk result (λ found. found.items ≡ applied_ids zone.now) }
+    ensures form { IsZone zone.now }
 {
     let mut found = Vec::new(alloc);
     for entry in zone.entries() {

@@ -1,17 +1,15 @@
 //! The tests of RESTORE.
-ghost use Rattle.std.specs.Prelude.{◌≡◌, [], ◌∷◌, not, filter, map, IfOk};
+ghost use Rattle.std.specs.Prelude.{◌≡◌, not, map, IfOk};
 ghost use Rattle.std.specs.List.{list_any};
-ghost use Rattle.terms.specs.declared.codes.Test.TheVariants.{AlreadyAccepted, HasDelete, OtherLevel};
 ghost use Rattle.terms.specs.Restore.{are_alike, is_alike, may_return};
 ghost use Rattle.undo.specs.Scopes.{restoring_of};
-ghost use Rattle.judge_system.specs.Said.{AreTests};
-ghost use Rattle.undo.specs.Tests.{is_behind, fails_test};
+ghost use Rattle.undo.specs.Tests.{is_behind, failed_tests};
 
 use crate::scope::RestoreScope;
 use fields::Id;
+use judge_system::TestSet;
 use std::alloc::{AllocError, Global};
 use sysmods_values::ElemChange;
-use terms::Test;
 use zones::{Element, Zone};
 
 // Whether both zones have it applied, by the `++VER` of one number.
@@ -59,47 +57,32 @@ fn is_behind(scope: &RestoreScope<'_, '_>, change: &ElemChange) -> bool
     }
 }
 
-// Whether a candidate fails the test.
-fn fails(scope: &RestoreScope<'_, '_>, id: Id, test: Test) -> bool
-    ensures { result ≡ fails_test (restoring_of scope.now) id test }
+// Whether one of these elements is behind.
+fn any_behind(scope: &RestoreScope<'_, '_>, changes: &[ElemChange]) -> bool
+    ensures { result ≡ list_any (is_behind (restoring_of scope.now)) changes.now }
 {
-    match test {
-        Test::AlreadyAccepted => scope.accepted.supplies(id),
-        Test::HasDelete => !scope.vers.del(id).is_empty(),
-        Test::OtherLevel => scope
-            .vers
-            .global()
-            .changes_of(id)
-            .iter()
-            .any(|change| is_behind(scope, change)),
-        _ => false,
-    }
+    changes.iter().any(|change| is_behind(scope, change))
 }
 
 // The tests that a candidate fails.
-fn row_of(alloc: Global, scope: &RestoreScope<'_, '_>, id: Id) -> Result<Vec<Test>, AllocError>
-    ensures { IfOk result (λ row. row.items ≡ filter (fails_test (restoring_of scope.now) id) (AlreadyAccepted
-        ∷ HasDelete ∷ OtherLevel ∷ [])) }
+fn failed_tests(scope: &RestoreScope<'_, '_>, id: Id) -> TestSet
+    ensures { result ≡ failed_tests (restoring_of scope.now) id }
 {
-    [Test::AlreadyAccepted, Test::HasDelete, Test::OtherLevel]
-        .iter()
-        .filter(|test| fails(scope, id, **test))
-        .copied()
-        .collect(alloc)
+    TestSet {
+        already_accepted: scope.accepted.supplies(id),
+        has_delete: !scope.vers.del(id).is_empty(),
+        other_level: any_behind(scope, scope.vers.global().changes_of(id)),
+        ..TestSet::none()
+    }
 }
 
 /// The tests that each candidate fails.
-pub(crate) fn all_rows(
+pub(crate) fn all_failed_tests(
     alloc: Global,
     scope: &RestoreScope<'_, '_>,
     ids: &[Id],
-) -> Result<Vec<Vec<Test>>, AllocError>
-    ensures { IfOk result (λ rows. AreTests (fails_test (restoring_of scope.now)) ids.now
-        (map (λ row. row.items) rows.items)) }
+) -> Result<Vec<TestSet>, AllocError>
+    ensures { IfOk result (λ rows. rows.items ≡ map (failed_tests (restoring_of scope.now)) ids.now) }
 {
-    let mut rows = Vec::new(alloc);
-    for id in ids {
-        rows.push(row_of(alloc, scope, *id)?)?;
-    }
-    Ok(rows)
+    ids.iter().map(|id| failed_tests(scope, *id)).collect(alloc)
 }

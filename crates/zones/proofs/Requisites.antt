@@ -7,7 +7,7 @@ use Rattle.terms.specs.Lookups.{is_in, entry_of}
 use Rattle.terms.specs.Choice.{pre_of, req_of, ifs_of}
 use Rattle.terms.specs.Needs.{unwaived}
 use Rattle.sysmods.specs.Choices.{choice}
-use Rattle.zones.specs.declared.taking.Taking.{Taking}
+use Rattle.zones.specs.declared.zone_less.ZoneLess.{ZoneLess}
 use Rattle.zones.specs.Gone.{stays, by_ifs, binding_of}
 use Rattle.terms.proofs.Lists.{flat_if}
 
@@ -17,7 +17,7 @@ unwaived_none zone by ids none =
     ap (λ o. filter (λ z. not (is_in (option_map_or (λ e. e.waived) o []) z)) ids) (sym none)
     ∙ filter_all (λ z. not (is_in [] z)) ids (λ i d h. refl)
 
-pub binding_of_ver : (t : Taking) (x : Id) (o : Option Ver) → o ≡ choice t.vers.now x
+pub binding_of_ver : (t : ZoneLess) (x : Id) (o : Option Ver) → o ≡ choice t.vers.now x
     → unwaived t.zone.now x (option_map_or (λ v. v.pre) o [] ++ option_map_or (λ v. v.req) o []
     ++ by_ifs t (option_map_or (λ v. v.ifs) o []))
     ≡ binding_of t x

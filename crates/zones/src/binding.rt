@@ -5,8 +5,7 @@ ghost use Rattle.terms.specs.Needs.{unwaived, binding_ids};
 ghost use Rattle.sysmods.specs.Choices.{choice};
 ghost use Rattle.zones.specs.Gone.{stays, by_ifs, binding_of};
 
-use crate::left::is_left;
-use crate::taking::Taking;
+use crate::zone_less::ZoneLess;
 use fields::{Attest, Id, IdList};
 use std::alloc::{AllocError, Global};
 use sysmods::VerChoice;
@@ -24,62 +23,62 @@ pub fn requisites_held(
     ensures { IfOk result (λ ids. ids.items ≡ binding_ids (choice vers.now) zone.now (is_applied zone.now) id) }
 {
     zone.attest();
-    let taking = Taking {
+    let all = ZoneLess {
         vers,
         dels: &[],
         zone,
     };
-    binding_ids(alloc, &taking, id)
+    binding_ids(alloc, &all, id)
 }
 
 /// Its PRE and REQ and those by ++IF whose function stays, less what it waives.
-pub(crate) fn binding_ids(alloc: Global, taking: &Taking, id: Id) -> Result<Vec<Id>, AllocError>
-    ensures { IfOk result (λ ids. ids.items ≡ binding_of taking.now id) }
+pub(crate) fn binding_ids(alloc: Global, left: &ZoneLess, id: Id) -> Result<Vec<Id>, AllocError>
+    ensures { IfOk result (λ ids. ids.items ≡ binding_of left.now id) }
 {
-    match taking.vers.ver(id) {
-        Some(ver) => binding_by(alloc, taking, id, ver),
+    match left.vers.ver(id) {
+        Some(ver) => binding_by(alloc, left, id, ver),
         None => Ok(Vec::new(alloc)),
     }
 }
 
 // Those of this `++VER`.
-fn binding_by(alloc: Global, taking: &Taking, id: Id, ver: &Ver) -> Result<Vec<Id>, AllocError>
+fn binding_by(alloc: Global, left: &ZoneLess, id: Id, ver: &Ver) -> Result<Vec<Id>, AllocError>
     ensures { IfOk result (λ ids. ids.items
-        ≡ unwaived taking.now.zone.now id (ver.now.pre ++ ver.now.req ++ by_ifs taking.now ver.now.ifs)) }
+        ≡ unwaived left.now.zone.now id (ver.now.pre ++ ver.now.req ++ by_ifs left.now ver.now.ifs)) }
 {
-    let asked = asked_by(alloc, taking, ver)?;
+    let asked = asked_by(alloc, left, ver)?;
     let mut ids = Vec::new(alloc);
-    push_unwaived(taking.zone, id, asked.as_slice(), &mut ids)?;
+    push_unwaived(left.zone, id, asked.as_slice(), &mut ids)?;
     Ok(ids)
 }
 
-fn asked_by(alloc: Global, taking: &Taking, ver: &Ver) -> Result<Vec<Id>, AllocError>
-    ensures { IfOk result (λ asked. asked.items ≡ ver.now.pre ++ ver.now.req ++ by_ifs taking.now ver.now.ifs) }
+fn asked_by(alloc: Global, left: &ZoneLess, ver: &Ver) -> Result<Vec<Id>, AllocError>
+    ensures { IfOk result (λ asked. asked.items ≡ ver.now.pre ++ ver.now.req ++ by_ifs left.now ver.now.ifs) }
 {
     let mut asked = Vec::new(alloc);
     asked.extend_from_slice(ver.pre.as_slice())?;
     asked.extend_from_slice(ver.req.as_slice())?;
-    push_by_ifs(taking, ver.ifs.as_slice(), &mut asked)?;
+    push_by_ifs(left, ver.ifs.as_slice(), &mut asked)?;
     Ok(asked)
 }
 
-fn push_by_ifs(taking: &Taking, ifs: &[IfReq], asked: &mut Vec<Id>) -> Result<(), AllocError>
-    ensures { OnOk result (asked.new.items ≡ asked.old.items ++ by_ifs taking.now ifs.now) }
+fn push_by_ifs(left: &ZoneLess, ifs: &[IfReq], asked: &mut Vec<Id>) -> Result<(), AllocError>
+    ensures { OnOk result (asked.new.items ≡ asked.old.items ++ by_ifs left.now ifs.now) }
 {
     for condition in ifs {
-        push_by_if(taking, condition, asked)?;
+        push_by_if(left, condition, asked)?;
     }
     Ok(())
 }
 
 // Adds the ids of the `++IF` that its function does not waive, if the function stays.
-fn push_by_if(taking: &Taking, condition: &IfReq, asked: &mut Vec<Id>) -> Result<(), AllocError>
-    ensures { OnOk result (asked.new.items ≡ asked.old.items ++ (if stays taking.now condition.now.function
-        then unwaived taking.now.zone.now condition.now.function condition.now.req else [])) }
+fn push_by_if(left: &ZoneLess, condition: &IfReq, asked: &mut Vec<Id>) -> Result<(), AllocError>
+    ensures { OnOk result (asked.new.items ≡ asked.old.items ++ (if stays left.now condition.now.function
+        then unwaived left.now.zone.now condition.now.function condition.now.req else [])) }
 {
-    if is_left(taking.vers, taking.dels, taking.zone, condition.function) {
+    if left.has(condition.function) {
         push_unwaived(
-            taking.zone,
+            left.zone,
             condition.function,
             condition.req.as_slice(),
             asked,

@@ -2,7 +2,7 @@
 ghost use Rattle.std.specs.Prelude.{◌≡◌, ◌+◌, ◌++◌, [], ◌∷◌, IfOk, OnOk, filter, map, position, unwrap_or};
 ghost use Rattle.std.specs.Str.{bytes_eq};
 ghost use Rattle.terms.specs.Rising.{Rises};
-ghost use Rattle.terms.specs.Lookups.{is_in, is_applied};
+ghost use Rattle.terms.specs.Lookups.{IsZone, is_in, is_applied};
 ghost use Rattle.terms.specs.Choice.{fits, place, counting};
 ghost use Rattle.sysmods.specs.Choices.{number_in, choice};
 ghost use Rattle.zones.specs.Picks.{kept_pick, fitting_pick, is_further};
@@ -28,7 +28,6 @@ pub fn choose<'a>(
     ensures numbers { IfOk result (λ vers. number_in vers ≡ (λ x. place global.now zone.now cands.now x + 1)) }
 {
     global.attest();
-    zone.attest();
     let kept = table_of(kept_picks(alloc, zone)?);
     let fitting = table_of(fitting_picks(alloc, global, zone, cands)?);
     Ok(VerChoice::new(global, zone.srel(), kept, fitting))
@@ -77,7 +76,8 @@ fn kept_pick(entry: &Entry) -> Pick
 
 // Those of the applied SYSMODs.
 fn kept_picks(alloc: Global, zone: &Zone) -> Result<Vec<Pick>, AllocError>
-    ensures { IfOk result (λ picks. picks.items ≡ filter is_further (map kept_pick zone.now.entries)) }
+    ensures form { IsZone zone.now }
+    ensures picks { IfOk result (λ picks. picks.items ≡ filter is_further (map kept_pick zone.now.entries)) }
 {
     let mut picks = Vec::new(alloc);
     for entry in zone.entries() {

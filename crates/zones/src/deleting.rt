@@ -13,34 +13,14 @@ use sysmods::VerChoice;
 pub fn deletions(alloc: Global, vers: &VerChoice<'_>, ids: &[Id]) -> Result<Vec<Id>, AllocError>
     ensures { IfOk result (λ dels. dels.items ≡ deletions (choice vers.now) ids.now) }
 {
-    let mut dels = Vec::new(alloc);
-    for id in ids {
-        dels.extend_from_slice(vers.del(*id))?;
-    }
-    Ok(dels)
+    ids.iter()
+        .flat_map(|id| vers.del(*id).iter())
+        .copied()
+        .collect(alloc)
 }
 
-/// What the candidates in the chain of this one name in DELETE. Its view is the zone less these. `all` is what all
-/// candidates name there. Usually that is nothing, and then it walks no chain.
-pub fn view_deletions(
-    alloc: Global,
-    vers: &VerChoice<'_>,
-    cands: &IdList,
-    all: &[Id],
-    id: Id,
-) -> Result<Vec<Id>, AllocError>
-    requires { all.now ≡ deletions (choice vers.now) cands.now }
-    ensures { IfOk result (λ dels. dels.items ≡ deletions (choice vers.now)
-        (filter (is_in cands.now) (chain vers.now.global.now (choice vers.now) id))) }
-{
-    if all.is_empty() {
-        return Ok(Vec::new(alloc));
-    }
-    chain_deletions(alloc, vers, cands, id)
-}
-
-// What the candidates in the chain name there.
-fn chain_deletions(
+// What the candidates in the chain of this one name there.
+pub(crate) fn chain_deletions(
     alloc: Global,
     vers: &VerChoice<'_>,
     cands: &IdList,

@@ -14,22 +14,21 @@ mod candidates;
 mod counting_vers;
 mod deleting;
 mod entry;
-mod left;
 mod orphaned;
 mod scope;
-mod taking;
+mod zone_less;
 
 pub use binding::requisites_held;
 pub use bypassing::is_bypassed_hold;
 pub use candidates::Candidates;
 pub use counting_vers::{choose, fits};
-pub use deleting::{deletions, view_deletions};
+pub use deleting::deletions;
 pub use entry::{TakesOut, entry_less};
-pub use left::{element_left, is_left, supplies_left};
 pub use orphaned::orphans;
 pub use scope::Scope;
 pub use sysmods::{Chain, VerChoice};
 pub use terms::ZoneKind;
+pub use zone_less::ZoneLess;
 pub use zones_maps::{
     Applied, Element, Entry, PreparedZone, Zone, ZoneDelta, ZoneEdits, are_same, is_element,
     is_same_entry,

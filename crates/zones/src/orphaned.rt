@@ -1,5 +1,5 @@
 //! ORPHAN: what SYSMODs that stay applied lose by a DELETE.
-ghost use Rattle.std.specs.Prelude.{◌≡◌, ◌++◌, ◌&&◌, [], ◌∷◌, not, is_some, IfOk, OnOk, filter, if◌then◌else◌};
+ghost use Rattle.std.specs.Prelude.{◌≡◌, ◌++◌, ◌&&◌, [], not, is_some, IfOk, OnOk, filter, if◌then◌else◌};
 ghost use Rattle.terms.specs.Needs.{orphans};
 ghost use Rattle.terms.specs.Tests.{Setting};
 ghost use Rattle.sysmods.specs.Choices.{choice};
@@ -7,7 +7,7 @@ ghost use Rattle.zones.specs.Gone.{is_gone, loses, binding_of, lost_by};
 
 use crate::binding::binding_ids;
 use crate::entry::TakesOut;
-use crate::taking::Taking;
+use crate::zone_less::ZoneLess;
 use fields::Id;
 use std::alloc::{AllocError, Global};
 use sysmods::VerChoice;
@@ -27,15 +27,15 @@ pub fn orphans(
     if dels.is_empty() {
         return Ok(Vec::new(alloc));
     }
-    lost_ids(alloc, &Taking { vers, dels, zone })
+    lost_ids(alloc, &ZoneLess { vers, dels, zone })
 }
 
-fn lost_ids(alloc: Global, taking: &Taking) -> Result<Vec<Id>, AllocError>
-    ensures { IfOk result (λ found. found.items ≡ lost_by taking.now taking.now.zone.now.entries) }
+fn lost_ids(alloc: Global, left: &ZoneLess) -> Result<Vec<Id>, AllocError>
+    ensures { IfOk result (λ found. found.items ≡ lost_by left.now left.now.zone.now.entries) }
 {
     let mut found = Vec::new(alloc);
-    for entry in taking.zone.entries() {
-        push_lost_of(alloc, taking, entry, &mut found)?;
+    for entry in left.zone.entries() {
+        push_lost_of(alloc, left, entry, &mut found)?;
     }
     Ok(found)
 }
@@ -43,36 +43,26 @@ fn lost_ids(alloc: Global, taking: &Taking) -> Result<Vec<Id>, AllocError>
 // Adds what the entry's SYSMOD loses, if it stays applied.
 fn push_lost_of(
     alloc: Global,
-    taking: &Taking,
+    left: &ZoneLess,
     entry: &Entry,
     found: &mut Vec<Id>,
 ) -> Result<(), AllocError>
     ensures { OnOk result (found.new.items ≡ found.old.items
-        ++ (if is_some entry.now.applied && not (is_gone taking.now entry.now.id)
-        then filter (loses taking.now) (binding_of taking.now entry.now.id) else [])) }
+        ++ (if is_some entry.now.applied && not (is_gone left.now entry.now.id)
+        then filter (loses left.now) (binding_of left.now entry.now.id) else [])) }
 {
-    if entry.applied.is_some() && !taking.takes_out(entry.id) {
-        let ids = binding_ids(alloc, taking, entry.id)?;
-        push_lost(taking, ids.as_slice(), found)?;
+    if entry.applied.is_some() && !left.takes_out(entry.id) {
+        let lost = lost_of(alloc, left, entry.id)?;
+        found.extend_from_slice(lost.as_slice())?;
     }
     Ok(())
 }
 
-// Adds the requisites that are lost.
-fn push_lost(taking: &Taking, ids: &[Id], found: &mut Vec<Id>) -> Result<(), AllocError>
-    ensures { OnOk result (found.new.items ≡ found.old.items ++ filter (loses taking.now) ids.now) }
+// The requisites that the SYSMOD loses.
+fn lost_of(alloc: Global, left: &ZoneLess, id: Id) -> Result<Vec<Id>, AllocError>
+    ensures { IfOk result (λ lost. lost.items ≡ filter (loses left.now) (binding_of left.now id)) }
 {
-    for id in ids {
-        push_if_lost(taking, *id, found)?;
-    }
-    Ok(())
-}
-
-fn push_if_lost(taking: &Taking, id: Id, found: &mut Vec<Id>) -> Result<(), AllocError>
-    ensures { OnOk result (found.new.items ≡ found.old.items ++ filter (loses taking.now) (id ∷ [])) }
-{
-    if taking.loses(id) {
-        found.push(id)?;
-    }
-    Ok(())
+    let mut ids = binding_ids(alloc, left, id)?;
+    ids.retain(|id| left.loses(*id));
+    Ok(ids)
 }

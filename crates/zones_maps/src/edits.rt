@@ -5,6 +5,7 @@ ghost use Rattle.std.specs.Cmp.Lexicographic.{slice_cmp};
 ghost use Rattle.sorted.specs.declared.edits.Edit.TheVariants.{Put, Remove};
 ghost use Rattle.terms.specs.Lookups.{element_cmp, element_key, has_content, waives_applied};
 ghost use Rattle.terms.specs.Rising.{with_item};
+ghost use Rattle.zones_maps.specs.Delta.{AreEdits};
 ghost use Rattle.sorted.specs.Edits.{edit_key};
 
 use crate::entries::{Element, Entry};
@@ -22,17 +23,13 @@ pub struct ZoneEdits {
 }
 
 impl Model for ZoneEdits {
-    ghost use Rattle.std.specs.Prelude.{All, IfSome, IsTrue};
-    ghost use Rattle.zones_maps.specs.Delta.{ZoneEdits as SomeZoneEdits};
-    ghost use Rattle.sorted.specs.Edits.{edit_put};
-    ghost use Rattle.terms.specs.Lookups.{has_content, waives_applied};
+    ghost use Rattle.zones_maps.specs.Delta.{ZoneEdits as SomeZoneEdits, AreEdits};
 
     ghost Value = { SomeZoneEdits };
 
     ghost view = { λ d. record { entries = d.entries; elements = d.elements } };
 
-    ghost invariant = { λ d. All (λ e. IfSome (edit_put e) (λ x. IsTrue (has_content x))) d.entries
-        × All (λ e. IfSome (edit_put e) (λ x. IsTrue (waives_applied x))) d.entries };
+    ghost invariant = { λ d. AreEdits (record { entries = d.entries; elements = d.elements }) };
 }
 
 impl Attest for ZoneEdits {
@@ -41,8 +38,7 @@ impl Attest for ZoneEdits {
     ghost form = { AreEdits };
 
     fn attest(&self) {
-        let _ = self.entries.as_slice();
-        let _ = self.elements.as_slice();
+        let _ = &self.entries;
     }
 }
 
@@ -73,7 +69,8 @@ impl ZoneEdits {
     }
 
     pub(crate) fn entry_edits(&self) -> &Table<Edit<Entry, Id>>
-        ensures { result.now ≡ self.now.entries }
+        ensures same { result.now ≡ self.now.entries }
+        ensures form { AreEdits self.now }
     {
         &self.entries
     }

@@ -3,7 +3,7 @@ ghost use Rattle.std.specs.Prelude.{◌≡◌, ◌↔◌, [], All, IsTrue, IsSom
 ghost use Rattle.zones_maps.specs.Changed.{HasRoom, IsReady, delta_of};
 ghost use Rattle.zones_maps.specs.Delta.{IsEdited};
 ghost use Rattle.terms.specs.Types.{a_zone, is_target};
-ghost use Rattle.terms.specs.Lookups.{IsRising, entry_of, element_of, applied_of, is_applied, is_supplied};
+ghost use Rattle.terms.specs.Lookups.{IsRising, IsZone, entry_of, element_of, applied_of, is_applied, is_supplied};
 ghost use Rattle.terms.specs.Lookups.{has_content, waives_applied};
 
 use crate::delta::ZoneDelta;
@@ -26,23 +26,14 @@ pub struct Zone {
 }
 
 impl Model for Zone {
-    ghost use Rattle.std.specs.Prelude.{◌≡◌, All, IsTrue, is_some};
-    ghost use Rattle.terms.specs.Types.{Zone as AZone, is_target};
-    ghost use Rattle.terms.specs.Lookups.{has_content, waives_applied};
+    ghost use Rattle.terms.specs.Types.{Zone as AZone, a_zone};
+    ghost use Rattle.terms.specs.Lookups.{IsZone};
 
     ghost Value = { AZone };
 
-    ghost view = { λ z. record {
-      kind = z.kind;
-      srel = z.srel;
-      related = z.related;
-      entries = z.entries;
-      elements = z.elements;
-    } };
+    ghost view = { λ z. a_zone z.kind z.srel z.related z.entries z.elements };
 
-    ghost invariant = { λ z. All (λ e. IsTrue (has_content e)) z.entries
-        × All (λ e. IsTrue (waives_applied e)) z.entries
-        × (is_some z.related ≡ is_target z.kind) };
+    ghost invariant = { λ z. IsZone (a_zone z.kind z.srel z.related z.entries z.elements) };
 }
 
 /// A change of a zone that can be made without memory.
@@ -69,8 +60,7 @@ impl Attest for Zone {
     ghost form = { IsZone };
 
     fn attest(&self) {
-        let _ = self.entries.as_slice();
-        let _ = self.elements.as_slice();
+        let _ = &self.kind;
     }
 }
 
@@ -105,6 +95,8 @@ impl Zone {
         if related.is_some() != (kind == ZoneKind::Target) || !may_stand(entries.as_slice()) {
             return None;
         }
+        // So the elements rise.
+        let _ = elements.as_slice();
         Some(Zone {
             kind,
             srel,
@@ -137,7 +129,8 @@ impl Zone {
 
     /// Facts about each entry's lists. The call only goes over the entries.
     pub fn known_lists(&self)
-        ensures { All (λ e. IsRising e.supby × IsRising e.waived) self.now.entries }
+        ensures lists { All (λ e. IsRising e.supby × IsRising e.waived) self.now.entries }
+        ensures form { IsZone self.now }
     {
         for entry in self.entries() {
             entry.attest();
@@ -146,7 +139,8 @@ impl Zone {
 
     /// Its entries, rising by id.
     pub fn entries(&self) -> &[Entry]
-        ensures { result.now ≡ self.now.entries }
+        ensures same { result.now ≡ self.now.entries }
+        ensures form { IsZone self.now }
     {
         self.entries.as_slice()
     }
@@ -160,14 +154,16 @@ impl Zone {
 
     /// The entry of this id.
     pub fn entry(&self, id: Id) -> Option<&Entry>
-        ensures { option_copied result ≡ entry_of self.now id }
+        ensures found { option_copied result ≡ entry_of self.now id }
+        ensures form { IsZone self.now }
     {
         self.entries.get(id)
     }
 
     /// The element of this type and name.
     pub fn element(&self, elem_type: ElemType, name: Name) -> Option<&Element>
-        ensures { option_copied result ≡ element_of self.now elem_type name }
+        ensures found { option_copied result ≡ element_of self.now elem_type name }
+        ensures form { IsZone self.now }
     {
         self.elements.get((elem_type, name))
     }
@@ -181,7 +177,8 @@ impl Zone {
 
     /// Whether the id is applied, in a distribution zone accepted. Only an applied id supplies an FMID.
     pub fn is_applied(&self, id: Id) -> bool
-        ensures { result ≡ is_applied self.now id }
+        ensures same { result ≡ is_applied self.now id }
+        ensures form { IsZone self.now }
     {
         match self.entry(id) {
             Some(entry) => entry.applied.is_some(),
@@ -203,8 +200,6 @@ impl Zone {
     pub(crate) fn edited(&self, alloc: Global, edits: &ZoneEdits) -> Result<Zone, AllocError>
         ensures { IfOk result (IsEdited edits.now self.now) }
     {
-        self.attest();
-        edits.attest();
         Ok(Zone {
             kind: self.kind,
             srel: self.srel,
@@ -219,7 +214,6 @@ impl Zone {
         ensures { IfOk result (IsReady self.now delta.now.edits) }
     {
         let edits = delta.edits();
-        edits.attest();
         Ok(PreparedZone {
             entries: self.entries.prepare(alloc, edits.entry_edits())?,
             elements: self.elements.prepare(alloc, edits.element_edits())?,
@@ -231,7 +225,6 @@ impl Zone {
         requires { HasRoom self.old prepared }
         ensures { IsEdited (delta_of prepared) self.old self.new }
     {
-        self.attest();
         let PreparedZone { entries, elements } = prepared;
         self.entries.edit(entries);
         self.elements.edit(elements);

@@ -20,7 +20,7 @@ by_element : (c : After-deref) → AreByElement c.args.overs.now.global.now c.ar
     c.in_ok-changes.changes
 by_element c =
     subst (λ g. AreByElement g c.args.effective.now c.in_ok-changes.changes)
-    (c.global.ensures ∙ ap (λ v. v.global.now) c.vers.ensures) c.in_ok-changes.ensures
+    (c.global.ensures ∙ ap (λ v. v.global.now) c.vers-vers.ensures) c.in_ok-changes.ensures
 
 -- the item has all that change its element
 changers_are : (c : After-deref) → c.deref.result.now
@@ -35,18 +35,18 @@ changers_are c =
     (by_element c)
 
 -- the base is what is left of the zone's element
-base_is : (c : After-deref) → option_copied c.element_left-base.result
+base_is : (c : After-deref) → option_copied c.element-base.result
     ≡ element_of (zone_less c.args.overs.now.global.now (choice c.args.overs.now) c.args.deletions.now c.args.zone.now)
     c.in-Some.element.now.0 c.in-Some.element.now.1
 base_is c =
     let k = c.in-Some.element.now in
-    c.element_left-base.ensures
+    c.element-base.ensures
     ∙ ap (λ v. element_of (zone_less v.global.now (choice v) c.args.deletions.now c.args.zone.now) k.0 k.1)
-    (c.vers-in-loop-element.ensures ∙ c.loop-element.invariant.overs)
+    c.vers-vers.ensures
 
 -- over is as it was
-vers_are : (c : After-deref-in-loop-element) → c.vers-in-loop-element-2.result.now ≡ c.args.overs.now
-vers_are c = c.vers-in-loop-element-2.ensures ∙ (c.in_ok-ordered.ensures.overs ∙ c.loop-element.invariant.overs)
+vers_are : (c : After-deref-in-loop-element) → c.vers-vers.result.now ≡ c.args.overs.now
+vers_are c = c.vers-vers.ensures
 
 -- those in order are the changers
 in_order_are : (c : After-deref-in-loop-element)
@@ -67,7 +67,7 @@ unfolding zone_less
 element_after-requires-clause-base c =
     let k = c.in-Some.element.now in
     key_of_found (zone_less c.args.overs.now.global.now (choice c.args.overs.now) c.args.deletions.now
-    c.args.zone.now) k.0 k.1 (option_copied c.element_left-base.result)
+    c.args.zone.now) k.0 k.1 (option_copied c.element-base.result)
     (base_is (goal.at.element_after-requires-clause-base c).After-deref)
 
 pub element_after-requires-clause-changers : goal.element_after-requires-clause-changers
@@ -95,7 +95,7 @@ element_after-requires-clause-some c =
     let chosen = choice c.args.overs.now in
     let k = c.in-Some.element.now in
     let at = (goal.at.element_after-requires-clause-some c).After-deref in
-    subst (λ v. IsSome (option_copied c.element_left-base.result)
+    subst (λ v. IsSome (option_copied c.element-base.result)
     ⊎ Any (λ x. IsTrue (has_replacement v.global.now x k.0 k.1)) c.deref-in-loop-element.result.now)
     (sym (vers_are c))
     (elim (all_based g chosen k.0 k.1 c.args.effective.now c.deref.result.now (changers_are at)
@@ -129,7 +129,7 @@ loop-element-preserved c =
     let ids = c.args.effective.now in
     let k = c.in-Some.element.now in
     let e = c.in_ok-changed.changed in
-    let base = option_copied c.element_left-base.result in
+    let base = option_copied c.element-base.result in
     let at = (goal.at.loop-element-preserved c).After-deref in
     let then = (goal.at.loop-element-preserved c).After-deref-in-loop-element in
     record {
@@ -152,6 +152,6 @@ returns c =
     c.args.effective.now c.in_ok-changes.changes c.into_iter-element-iterator.result c.loop-element.element-iterator
     c.loop-element.elements.items c.into_iter-element-iterator.ensures.into_iter_gives.0 c.in-None.ensures.steps.0
     (subst (λ g. AreByElement g c.args.effective.now c.in_ok-changes.changes)
-    (c.global.ensures ∙ ap (λ v. v.global.now) c.vers.ensures) c.in_ok-changes.ensures)
+    (c.global.ensures ∙ ap (λ v. v.global.now) c.vers-vers.ensures) c.in_ok-changes.ensures)
     c.into_iter-element-iterator.ensures.into_iter_gives.5
     c.into_iter-element-iterator.ensures.into_iter_gives.6 c.loop-element.invariant.made

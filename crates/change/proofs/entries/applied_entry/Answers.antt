@@ -15,7 +15,7 @@ returns c =
     subst (IsAppliedEntry d p x)
     (ap {A = Entry} {B = Entry} (λ e. record e { applied = applied; delby = delby; waived = waived })
     (sym c.old.view_is))
-    (applied_from d p x c.in_ok-old.old applied delby waived c.in_ok-old.ensures
+    (applied_from d p x c.in_ok-old.old applied delby waived c.in_ok-old.ensures.entry
     (ap (λ n. Some (an_applied p.date n)) c.number.ensures) c.delby-delby.ensures
     (waived_from d p x c.listed-bypassed.result.now c.in_ok-unsupplied.field-0.items waived
     c.in_ok-unsupplied.ensures c.listed-bypassed.ensures c.from_vec-waived.ensures c.attest.ensures))

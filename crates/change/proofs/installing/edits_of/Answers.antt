@@ -20,26 +20,26 @@ pub put_entries-requires-clause-dels : goal.put_entries-requires-clause-dels
 put_entries-requires-clause-dels c =
     c.requires.dels
     ∙ ap (λ v. deletions (choice v) c.args.installing.kept.now) (sym c.vers-vers.ensures)
-    ∙ ap (deletions (choice c.vers-vers.result.now)) (sym c.as_slice.ensures.items)
+    ∙ ap (deletions (choice c.vers-vers.result.now)) (sym c.as_slice-kept.ensures.items)
 
 pub element_edits-requires-clause-order : goal.element_edits-requires-clause-order
 element_edits-requires-clause-order c =
     let i = installation_of c.args.installing in
-    let ids = c.as_slice-2.result.now in
+    let ids = c.as_slice-effective.result.now in
     effective_ordered i ids
-    (members_are i c.args.dels.now c.args.plan.now ids c.requires.plan c.as_slice-2.ensures.items)
-    c.as_slice-2.ensures.rising c.requires.order
+    (members_are i c.args.dels.now c.args.plan.now ids c.requires.plan c.as_slice-effective.ensures.items)
+    c.as_slice-effective.ensures.rising c.requires.order
 
 pub element_edits-requires-clause-some : goal.element_edits-requires-clause-some
 element_edits-requires-clause-some c = λ type name changed.
     let is = c.args.installing in
     let g = is.overs.global.now in
     let i = installation_of is in
-    let ids = c.as_slice-2.result.now in
+    let ids = c.as_slice-effective.result.now in
     subst (λ z. IsSome (element_of z type name) ⊎ Any (λ x. IsTrue (has_replacement g x type name)) ids)
     (ap (λ dels. zone_less g (choice is.overs) dels is.zone.now) (sym c.requires.dels))
     (effective_base i ids
-    (members_are i c.args.dels.now c.args.plan.now ids c.requires.plan c.as_slice-2.ensures.items)
+    (members_are i c.args.dels.now c.args.plan.now ids c.requires.plan c.as_slice-effective.ensures.items)
     c.requires.base type name changed)
 
 pub edit_elements-requires-clause-rising : goal.edit_elements-requires-clause-rising
@@ -58,33 +58,33 @@ returns-clause-installs c =
     let plan = c.args.plan.now in
     let dels = c.args.dels.now in
     let d : Deleting = record {
-      vers = c.vers-vers.result;
-      zone = is.zone;
-      kept = c.as_slice.result;
-      dels = c.args.dels;
+      left = record { vers = c.vers-vers.result; dels = c.args.dels; zone = is.zone };
+      kept = c.as_slice-kept.result;
     } in
     let i : List Id → Installation = λ ids. installation g by (number_in vers) zone ids is.bypassed.now is.date in
     let dels_are : dels ≡ deletions by d.kept.now =
     c.requires.dels ∙ ap (λ v. deletions (choice v) is.kept.now) (sym c.vers-vers.ensures)
-    ∙ ap (deletions by) (sym c.as_slice.ensures.items) in
+    ∙ ap (deletions by) (sym c.as_slice-kept.ensures.items) in
     let planned : IsPlan (i d.kept.now) dels plan =
-    subst (λ ids. IsPlan (i ids) dels plan) (sym c.as_slice.ensures.items)
+    subst (λ ids. IsPlan (i ids) dels plan) (sym c.as_slice-kept.ensures.items)
     (subst (λ v. IsPlan (installation_by v is) dels plan) (sym c.vers-vers.ensures) c.requires.plan) in
     let made = c.in_ok-edits.ensures in
     subst (λ v. (new : Zone) → IsEdited c.edit_elements.new.zone_edits zone new
     → HasInstalled (installation_by v is) new)
     c.vers-vers.ensures
     (subst (λ ids. (new : Zone) → IsEdited c.edit_elements.new.zone_edits zone new → HasInstalled (i ids) new)
-    c.as_slice.ensures.items
-    (installs d is.bypassed.now is.date (rw c.global.ensures at c.attest-2.ensures) c.attest.ensures
-    c.known_lists.ensures dels_are plan c.new-zone_edits.result c.put_entries.new.zone_edits
+    c.as_slice-kept.ensures.items
+    (installs d is.bypassed.now is.date (rw c.global.ensures at c.attest.ensures)
+    c.known_lists.ensures.form c.known_lists.ensures.lists dels_are plan c.new-zone_edits.result
+    c.put_entries.new.zone_edits
     c.edit_elements.new.zone_edits c.in_ok-edits.edits made.elements planned c.in_ok-put_entries.ensures
     (made.after (i d.kept.now) (record {
       global = ap (λ v. v.global.now) c.vers-vers.ensures;
       choice = ap choice c.vers-vers.ensures;
       cleared_is = ap (λ ds. zone_less g by ds zone) (sym dels_are)
           ∙ ap (λ v. zone_less v.global.now (choice v) dels zone) c.vers-vers.ensures;
-      members = members_are (i d.kept.now) dels plan c.as_slice-2.result.now planned c.as_slice-2.ensures.items;
+      members = members_are (i d.kept.now) dels plan c.as_slice-effective.result.now planned
+          c.as_slice-effective.ensures.items;
     }))
     made.edits_are
     (subst (λ es. HasEditedElements zone es c.put_entries.new.zone_edits c.edit_elements.new.zone_edits)

@@ -9,5 +9,6 @@ returns c = record {
   edits_are = c.in_ok-put_elements.ensures
       ∙ ap (λ edits. with_elements edits c.in_ok-elements.elements.items)
       (c.in_ok-remove_elements.ensures
-      ∙ ap (λ none. less_elements c.args.deleting.now none c.args.deleting.now.zone.now.elements) c.new-edits.ensures);
+      ∙ ap (λ none. less_elements c.args.deleting.now none c.args.deleting.now.left.zone.now.elements)
+      c.new-edits.ensures);
 }

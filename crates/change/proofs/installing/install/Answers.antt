@@ -5,19 +5,17 @@ use Rattle.terms.specs.Install.{HasInstalled}
 use Rattle.sysmods.specs.Choices.{choice}
 use Rattle.zones_maps.specs.Delta.{IsEdited}
 use Rattle.zones_maps.specs.Differing.{EachChanges}
-use Rattle.change.specs.Plans.{installation_of, IsPlan}
+use Rattle.change.specs.Plans.{installation_of}
 use Rattle.change.proofs.installing.install.Goals as goal
 
 pub edits_of-requires-clause-dels : goal.edits_of-requires-clause-dels
 edits_of-requires-clause-dels c =
-    c.as_slice-3.ensures.value ∙ c.in_ok-dels.ensures
+    c.as_slice-dels.ensures.value ∙ c.in_ok-dels.ensures
     ∙ ap (deletions (choice c.vers.result.now)) c.as_slice.ensures.items
     ∙ ap (λ v. deletions (choice v) c.args.installing.kept.now) c.vers.ensures
 
 pub edits_of-requires-clause-plan : goal.edits_of-requires-clause-plan
-edits_of-requires-clause-plan c =
-    subst (λ dels. IsPlan (installation_of c.args.installing) dels c.in_ok-plan.plan)
-    (c.as_slice-2.ensures.value ∙ sym c.as_slice-3.ensures.value) c.in_ok-plan.ensures
+edits_of-requires-clause-plan c = c.in_ok-plan.ensures
 
 pub returns-clause-installs : goal.returns-clause-installs
 returns-clause-installs c =

@@ -9,7 +9,7 @@ use Rattle.terms.specs.Lookups.{element_cmp, element_key}
 use Rattle.terms.specs.Rising.{with_item}
 use Rattle.terms.proofs.ElementOrder.{cmp_keys}
 use Rattle.terms.proofs.Placing.{with_item_agree}
-use Rattle.change.specs.Deleting.{is_cut}
+use Rattle.zones.specs.Gone.{is_cut}
 use Rattle.change.specs.Puts.{less_element}
 use Rattle.zones_maps.specs.Differing.{ElementEdit}
 use Rattle.change.proofs.Removed.{removed_none, removed_next}
@@ -19,7 +19,7 @@ use Rattle.change.proofs.installing.remove_elements.Goals as goal
 pub returns-then-is_empty : goal.returns-then-is_empty
 returns-then-is_empty c =
     removed_none c.args.deleting.now (nil_from_length _ (eqb-true _ _ (sym c.if-is_empty.ensures))) c.args.edits.now
-    c.args.deleting.now.zone.now.elements
+    c.args.deleting.now.left.zone.now.elements
 
 pub loop-element-preserved : goal.loop-element-preserved
 loop-element-preserved c =
@@ -28,7 +28,7 @@ loop-element-preserved c =
     let with_edit = λ (v : ElementEdit). with_item element_cmp (edit_key element_key) old v in
     let element = c.element.inside in
     let removed = with_edit (Remove (element_key c.element-item.result)) in
-    let cut = ap (λ (e : Element). is_cut d e.fmid) c.element.view_is in
+    let cut = ap (λ (e : Element). is_cut d.left e.fmid) c.element.view_is in
     let one : c.if-deletes.edits ≡ less_element d old c.element-item.result = elim c.if-deletes.branch [
       | then-deletes+in_ok-put w ↦ w.edits-is ∙ w.in_ok-put.ensures.ok
           ∙ with_item_agree _ element_cmp cmp_keys (edit_key element_key) old

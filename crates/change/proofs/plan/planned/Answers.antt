@@ -28,17 +28,17 @@ returns c =
     (λ h. takes.0 (un.0 h), λ h. un.1 (takes.1 h)) in
     subst₂ (λ v xs. IsPlan (installation_by v c.args.installing.now) dels (record {
       effective = xs;
-      superseders = c.in_ok-grouped.field-0;
-      bypassed = c.in_ok-grouped-2.field-0;
+      superseders = c.in_ok-superseders.superseders;
+      bypassed = c.in_ok-bypassed.bypassed;
       touched = touched;
       date = i.date;
     })) c.vers-vers.ensures (sym c.ids.view_is)
-    (is_plan i dels effective touched pairs c.in_ok-grouped.field-0
-    c.in_ok-grouped-2.field-0 effect c.in_ok-ids.ensures.superseded
+    (is_plan i dels effective touched pairs c.in_ok-superseders.superseders
+    c.in_ok-bypassed.bypassed effect c.in_ok-ids.ensures.superseded
     (subst (λ ids. (x : Id) → Contains touched x ↔ Contains ids x)
-    (ap₂ (λ xs ys. (map (λ p. p.0) xs ++ ys) ++ at_stake i.zone dels) c.as_slice-2.ensures.value
+    (ap₂ (λ xs ys. (map (λ p. p.0) xs ++ ys) ++ at_stake i.zone dels) c.as_slice-superseded.ensures.value
     c.as_slice.ensures.items)
     c.in_ok-touched.ensures)
-    (subst (λ ps. AreGrouped ps c.in_ok-grouped.field-0) c.as_slice-3.ensures.value
-    c.in_ok-grouped.ensures)
-    c.in_ok-grouped-2.ensures)
+    (subst (λ ps. AreGrouped ps c.in_ok-superseders.superseders) c.as_slice-superseded.ensures.value
+    c.in_ok-superseders.ensures)
+    c.in_ok-bypassed.ensures)

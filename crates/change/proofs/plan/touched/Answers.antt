@@ -34,7 +34,7 @@ returns c =
     subst (λ ids. (x : Id) → Contains c.from_vec-2.result x ↔ Contains ids x)
     (c.loop-entry.invariant
     ∙ ap (λ es. c.extend_from_slice-2.new.self.items ++ map (λ e. e.id) es)
-    (take_all c.loop-entry.entry-index entries (omega arith) ∙ c.entries-entry-items.ensures)
+    (take_all c.loop-entry.entry-index entries (omega arith) ∙ c.entries-entry-items.ensures.same)
     ∙ ap (λ ids. ids ++ map (λ e. e.id) c.args.zone.now.entries)
     (c.in_ok-extend_from_slice-2.ensures.items ∙ ap (λ ids. ids ++ dels)
     (c.in_ok-extend_from_slice.ensures.items ∙ ap (λ ids. ids ++ c.args.effective.now) (c.loop-pair.invariant

@@ -11,7 +11,7 @@ use Rattle.change.proofs.restoring.put_back.Goals as goal
 pub returns-then-are_same : goal.returns-then-are_same
 returns-then-are_same c =
     puts_none c.args.zone.now c.args.accepted.now c.args.key c.args.zone_edits.now (option_copied c.element.result)
-    (option_copied c.element-wanted.result) c.element.ensures c.element-wanted.ensures
+    (option_copied c.element-wanted.result) c.element.ensures.found c.element-wanted.ensures.found
     (c.are_same.ensures.0 c.if-are_same.true)
 
 pub returns-in_ok-try_clone-in-Some : goal.returns-in_ok-try_clone-in-Some
@@ -23,11 +23,11 @@ returns-in_ok-try_clone-in-Some c =
     let copy = c.in_ok-try_clone-in-Some.ensures in
     let found : there ≡ Some c.in-Some.element.now = ap option_copied c.in-Some.is in
     let key : element_key c.in-Some.element.now ≡ (k.0, k.1) =
-    subst (λ o. IfSome o (λ e. element_key e ≡ (k.0, k.1))) (sym c.element-wanted.ensures ∙ found)
+    subst (λ o. IfSome o (λ e. element_key e ≡ (k.0, k.1))) (sym c.element-wanted.ensures.found ∙ found)
     (key_found c.args.accepted.now k.0 k.1) in
     on_ok_weaker c.put_element.result (λ is.
     puts_one c.args.zone.now c.args.accepted.now k c.args.zone_edits.now c.put_element.new.self here there
-    c.element.ensures c.element-wanted.ensures other (record {
+    c.element.ensures.found c.element-wanted.ensures.found other (record {
       edit = Put c.in_ok-try_clone-in-Some.field-0;
       entries = ap (λ (d : ZoneEdits). d.entries) is;
       elements = ap (λ (d : ZoneEdits). d.elements) is;
@@ -42,7 +42,7 @@ returns-in-None c =
     let other : here ≢ there = λ same. true≢false (sym (c.are_same.ensures.1 same) ∙ c.if-are_same.false) in
     on_ok_weaker c.remove_element.result (λ is.
     puts_one c.args.zone.now c.args.accepted.now c.args.key c.args.zone_edits.now c.remove_element.new.self here there
-    c.element.ensures c.element-wanted.ensures other (record {
+    c.element.ensures.found c.element-wanted.ensures.found other (record {
       edit = Remove (c.args.key.0, c.args.key.1);
       entries = ap (λ (d : ZoneEdits). d.entries) is;
       elements = ap (λ (d : ZoneEdits). d.elements) is;

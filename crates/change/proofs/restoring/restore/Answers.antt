@@ -12,7 +12,8 @@ use Rattle.change.proofs.restoring.restore.Goals as goal
 use Rattle.change.proofs.restoring.restore.Goals.{In_ok-put_all_back}
 
 pub take_all_off-requires : goal.take_all_off-requires
-take_all_off-requires c = subst (All (λ e. IsTrue (waives_applied e))) (sym c.entries.ensures) c.attest.ensures.waived
+take_all_off-requires c = subst (All (λ e. IsTrue (waives_applied e))) (sym c.entries.ensures.same)
+    c.entries.ensures.form.waived
 
 pub put_all_back-requires : goal.put_all_back-requires
 put_all_back-requires c =
@@ -23,7 +24,7 @@ taken_off : (c : In_ok-put_all_back) → c.take_all_off.new.zone_edits
     ≡ fold (take_off (is_in c.args.kept.now)) c.new-zone_edits.result c.args.zone.now.entries
 taken_off c =
     c.in_ok-take_all_off.ensures
-    ∙ ap (fold (take_off (is_in c.args.kept.now)) c.new-zone_edits.result) c.entries.ensures
+    ∙ ap (fold (take_off (is_in c.args.kept.now)) c.new-zone_edits.result) c.entries.ensures.same
 
 put_back : (c : In_ok-put_all_back) → ArePutBack c.args.zone.now c.args.accepted.now c.in_ok-changed.changed.items
     c.take_all_off.new.zone_edits c.put_all_back.new.zone_edits
@@ -40,7 +41,7 @@ returns-clause-restores c =
     → (new : Zone) → IsChanged delta c.args.zone.now new → Restores r kept new)
     (λ delta made r of. subst (λ edits. (new : Zone) → IsEdited edits c.args.zone.now new → Restores r kept new)
     (sym made.0)
-    (restored g c.args.zone.now c.args.accepted.now kept c.attest.ensures _ _ _
+    (restored g c.args.zone.now c.args.accepted.now kept c.entries.ensures.form _ _ _
     c.new-zone_edits.ensures.entries (taken_off at) _ c.in_ok-changed.ensures (put_back at) r of))
     c.of.ensures
 
@@ -49,6 +50,6 @@ returns-clause-differs c =
     let at = (goal.at.returns-clause-differs c).In_ok-put_all_back in
     IfOk-weaker c.of.result _ (λ delta. EachChanges c.args.zone.now delta.edits)
     (λ delta made. subst (EachChanges c.args.zone.now) (sym made.0)
-    (each_changes c.args.global.now c.args.zone.now c.args.accepted.now c.args.kept.now c.attest.ensures _ _ _
+    (each_changes c.args.global.now c.args.zone.now c.args.accepted.now c.args.kept.now c.entries.ensures.form _ _ _
     c.new-zone_edits.ensures.entries (taken_off at) _ c.in_ok-changed.ensures (put_back at)))
     c.of.ensures

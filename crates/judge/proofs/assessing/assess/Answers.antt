@@ -5,6 +5,7 @@ use Rattle.sysmods.specs.declared.ver_choice.VerChoice.{VerChoice}
 use Rattle.sysmods.specs.Choices.{choice}
 use Rattle.sysmods.specs.Overs.{AreOver}
 use Rattle.zones.specs.Scopes.{choice_of, setting_with}
+use Rattle.judge_system.specs.TestSets.{tests_of}
 use Rattle.judge_needs.specs.Pairs.{AreSuperseded}
 use Rattle.judge.proofs.SaidOf.{install_judged}
 use Rattle.judge.proofs.Survivors.{survivors_are}
@@ -15,7 +16,7 @@ returns-clause-said c =
     let scope = c.args.scope.now in
     let related = option_copied c.args.related in
     let s : Setting = setting_with scope related in
-    let rows = map (λ row. row.items) c.in_ok-tests.field-0.tests.items in
+    let rows = map tests_of c.in_ok-tests.field-0.tests.items in
     let are : AreSurvivors s c.in_ok-survivors.survivors =
     survivors_are s rows c.in_ok-tests.ensures.tests c.in_ok-survivors.survivors c.in_ok-survivors.ensures.rising
     (rw c.as_slice.ensures.value at c.in_ok-survivors.ensures.members) in

@@ -1,26 +1,21 @@
-use Rattle.std.proofs.Common.{All, IsTrue, ◌∙◌, ap, List, sym, subst, subst₂}
+use Rattle.std.proofs.Common.{◌∙◌, ap, List, sym, subst, subst₂}
 use Rattle.std.proofs.lemmas.List.{length-map}
 use Rattle.std.specs.Prelude.{option_copied}
 use Rattle.terms.specs.Types.{Id}
-use Rattle.terms.specs.Candidates.{is_installable}
 use Rattle.sysmods.specs.declared.ver_choice.VerChoice.{VerChoice}
 use Rattle.sysmods.specs.Choices.{choice, number_in}
 use Rattle.sysmods.specs.Overs.{AreOver}
+use Rattle.judge_system.specs.TestSets.{tests_of}
 use Rattle.judge_system.proofs.Judging.{rows_of}
 use Rattle.judge.specs.Installs.{IsInstallJudged}
 use Rattle.judge.proofs.Chosen.{same_setting}
 use Rattle.judge.proofs.SaidOf.{install_numbered}
 use Rattle.judge.proofs.installing.install_system.Goals as goal
 
-pub assess-requires : goal.assess-requires
-assess-requires c =
-    subst (λ g. All (λ x. IsTrue (is_installable g c.args.zone.now x)) c.args.candidates.now.ids)
-    (sym c.in_ok-vers.ensures.global) c.requires
-
 pub new-requires-clause-rows : goal.new-requires-clause-rows
 new-requires-clause-rows c =
     let said = c.in_ok-said.field-0.said in
-    sym (length-map said.tests.items (λ row. row.items))
+    sym (length-map said.tests.items tests_of)
     ∙ rows_of _ _ _ _ _ _ _ _ c.in_ok-said.ensures.said.are_judged
 
 pub returns-clause-judged : goal.returns-clause-judged
@@ -32,7 +27,7 @@ returns-clause-judged c =
     subst (λ s. IsInstallJudged s j)
     (same_setting zone related ids c.args.bypass.now c.args.global.now c.in_ok-vers.vers.global.now
     (choice c.in_ok-vers.vers) c.in_ok-vers.ensures.global c.in_ok-vers.ensures.counting)
-    (install_numbered _ c.in_ok-said.field-0.said c.in_ok-said.ensures.said c.attest.ensures j
+    (install_numbered _ c.in_ok-said.field-0.said c.in_ok-said.ensures.said (rw c.as_slice.ensures.items at c.as_slice.ensures.rising) j
     c.in_ok-judged.ensures.numbered)
 
 pub returns-clause-numbers : goal.returns-clause-numbers

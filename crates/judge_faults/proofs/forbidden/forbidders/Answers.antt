@@ -21,4 +21,4 @@ returns c =
     let items = c.entries-entry-items.result.now in
     let whole : length items ≤ c.loop-entry.entry-index = omega arith in
     subst (λ l. AreForbidders c.args.vers.now.global.now (choice c.args.vers.now) l c.loop-entry.forbidders)
-    (take_all c.loop-entry.entry-index items whole ∙ c.entries-entry-items.ensures) c.loop-entry.invariant
+    (take_all c.loop-entry.entry-index items whole ∙ c.entries-entry-items.ensures.same) c.loop-entry.invariant

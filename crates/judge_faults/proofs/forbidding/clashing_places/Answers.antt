@@ -4,9 +4,6 @@ use Rattle.judge_faults.specs.Sharing.{Marks}
 use Rattle.judge_faults.proofs.Naming.{IsByNpreBefore, before_next, before_all, clashing_both}
 use Rattle.judge_faults.proofs.forbidding.clashing_places.Goals as goal
 
-pub shared_places-requires : goal.shared_places-requires
-shared_places-requires c = record { lengths = c.requires.lengths; fits = c.requires.fits }
-
 pub loop-i-preserved : goal.loop-i-preserved
 loop-i-preserved c =
     before_next c.args.ids.now c.args.faults.now (choice c.vers-vers.result.now) c.loop-i.i c.in_ok-marked.marked.keys

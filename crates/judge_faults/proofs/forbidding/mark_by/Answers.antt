@@ -9,9 +9,6 @@ use Rattle.judge_faults.proofs.forbidding.mark_by.Goals as goal
 pub own_at-requires : goal.own_at-requires
 own_at-requires c = omega (arith, c.requires.below, c.requires.are.lengths)
 
-pub overflow_cast-place : goal.overflow_cast-place
-overflow_cast-place c = omega (arith, c.requires.below, c.requires.are.fits)
-
 pub loop-other-preserved : goal.loop-other-preserved
 loop-other-preserved c =
     one_next c.args.ids.now c.args.faults.now c.args.place c.index-ids-place.result c.npre-named.result.now

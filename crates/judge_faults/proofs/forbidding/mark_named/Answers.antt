@@ -1,18 +1,11 @@
-use Rattle.std.proofs.Common.{◌≡◌, ◌∙◌, arith, refl, true, true≢false, subst, sym}
+use Rattle.std.proofs.Common.{◌≡◌, ◌∙◌, refl, true, true≢false, subst, sym}
 use Rattle.std.specs.Str.{bytes_eq}
-use Rattle.std.proofs.lemmas.Option.{slice_get_within}
 use Rattle.terms.proofs.TextOrder.{same_itself}
 use Rattle.std.specs.Prelude.{nat_eq}
 use Rattle.std.proofs.lemmas.Bool.{eqb-true}
 use Rattle.judge_faults.proofs.Marks.{marks_insert}
 use Rattle.judge_faults.proofs.Naming.{either_marked, named_none, named_there}
 use Rattle.judge_faults.proofs.forbidding.mark_named.Goals as goal
-
-pub overflow_cast-other : goal.overflow_cast-other
-overflow_cast-other c =
-    let ids = c.args.ids.now in
-    let there = (c.passing_place.ensures c.in-Some.other).0 c.in-Some.is in
-    omega (arith, c.requires.fits, slice_get_within ids c.in-Some.other c.args.named there.at)
 
 pub returns : goal.returns
 returns c =

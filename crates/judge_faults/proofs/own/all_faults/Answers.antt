@@ -1,7 +1,6 @@
 use Rattle.std.proofs.Common.{◌∙◌, length, ap, arith}
 use Rattle.std.specs.Prelude.{option_copied}
-use Rattle.terms.specs.Deleted.{deletions}
-use Rattle.zones.specs.Scopes.{choice_of, setting_with}
+use Rattle.zones.specs.Scopes.{setting_with}
 use Rattle.judge_faults.specs.Own.{HasFaults}
 use Rattle.terms.proofs.BesideLists.{beside_next, beside_through}
 use Rattle.judge_faults.proofs.own.all_faults.Goals as goal
@@ -9,8 +8,6 @@ use Rattle.judge_faults.proofs.own.all_faults.Goals as goal
 pub own_faults-requires : goal.own_faults-requires
 own_faults-requires c = record {
   overs = c.loop-id.invariant.same ∙ c.requires;
-  dels = c.as_slice-dels.ensures.value ∙ c.in_ok-all_dels.ensures
-      ∙ ap (deletions (choice_of c.args.scope.now)) c.as_slice.ensures.items;
   forbidders = c.in_ok-forbidders.ensures;
 }
 

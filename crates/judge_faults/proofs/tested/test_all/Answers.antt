@@ -1,29 +1,16 @@
-use Rattle.std.proofs.Common.{◌∙◌, All, ap, arith, length, subst, sym}
-use Rattle.terms.specs.Candidates.{is_installable}
-use Rattle.std.specs.Prelude.{IsTrue, option_copied}
+use Rattle.std.proofs.Common.{◌∙◌, ap, length}
+use Rattle.std.specs.Prelude.{option_copied}
 use Rattle.terms.specs.Global.{IsGlobal}
 use Rattle.zones.specs.Scopes.{global_of, setting_with}
-use Rattle.judge_faults.proofs.Few.{few}
+use Rattle.judge_system.specs.TestSets.{tests_of}
 use Rattle.judge_faults.proofs.Deleting.{own_still, eight}
 use Rattle.judge_faults.proofs.Places.{are_failed}
 use Rattle.judge_faults.proofs.tested.test_all.Goals as goal
-
-pub prove-unreachable-requires : goal.prove-unreachable-requires
-prove-unreachable-requires c =
-    let g = global_of c.args.scope.now in
-    let zone = c.args.scope.now.zone.now in
-    omega (
-      arith,
-      c.if-prove.true,
-      few g zone (rw c.global.ensures at c.attest.ensures) c.as_slice-list.result.now c.as_slice-list.ensures.rising
-          (subst (All (λ x. IsTrue (is_installable g zone x))) (sym c.as_slice-list.ensures.items) c.requires),
-    )
 
 pub clashing_places-requires : goal.clashing_places-requires
 clashing_places-requires c = record {
   rising = c.as_slice-list.ensures.rising;
   lengths = ap length c.as_slice-2.ensures.value ∙ c.in_ok-faults.ensures.2.lengths;
-  fits = omega (arith, c.if-prove.false);
 }
 
 pub returns-clause-tests : goal.returns-clause-tests
@@ -40,5 +27,5 @@ returns-clause-tests c =
     are_failed s form rising faults
     (own_still s form alone faults c.in_ok-alone.ensures.faults told.0 told.1 told.2)
     (eight s form alone faults c.in_ok-alone.ensures.faults told.0 told.1 told.2)
-    c.in_ok-clashing.clashing.keys clashing (λ row. row.items) c.in_ok-tests.tests.items
+    c.in_ok-clashing.clashing.keys clashing tests_of c.in_ok-tests.tests.items
     (rw c.as_slice-3.ensures.value at c.in_ok-tests.ensures)

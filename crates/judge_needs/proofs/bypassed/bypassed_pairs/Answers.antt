@@ -13,16 +13,14 @@ loop-id-preserved c =
     let ids = c.as_slice.result.now in
     let old = c.loop-id.pairs.items in
     let new = c.add_pairs.new.pairs.items in
-    let own = λ (x : Id). Contains (bypassed_ids (setting_of c.args.scope.now) x) in
-    let same : (z : Id) → Contains ids z ↔ own x z = subst (λ scope. (z : Id) → Contains ids z
-    ↔ Contains (bypassed_ids (setting_of scope) x) z) c.in_ok-conditions.ensures
-    (rw c.as_slice.ensures.value c.in_ok-ids.ensures) in
+    let own = λ (x : Id). Contains (bypassed_ids (setting_of c.args.conditions.now.scope) x) in
+    let same : (z : Id) → Contains ids z ↔ own x z = rw c.as_slice.ensures.value c.in_ok-ids.ensures in
     pairs_next own c.as_slice-id-items.result.now c.loop-id.id-index x old new (omega arith) c.id-item.is
     (pairs_alike x (Contains ids) (own x) old new same c.in_ok-add_pairs.ensures) c.loop-id.invariant
 
 pub returns : goal.returns
 returns c =
     let whole : length c.as_slice-id-items.result.now ≤ c.loop-id.id-index = omega arith in
-    subst (λ l. AreBypassed (setting_of c.args.scope.now) l c.loop-id.pairs.items)
+    subst (λ l. AreBypassed (setting_of c.args.conditions.now.scope) l c.loop-id.pairs.items)
     (take_all c.loop-id.id-index c.as_slice-id-items.result.now whole ∙ c.as_slice-id-items.ensures.items)
     c.loop-id.invariant

@@ -4,7 +4,7 @@ use Rattle.std.proofs.lemmas.Iterator.Adapters.{items_from_extend}
 use Rattle.std.proofs.lemmas.Iterator.Consumers.{YieldsList-at, YieldsList-from_filter}
 use Rattle.std.proofs.lemmas.Result.{on_ok_weaker}
 use Rattle.judge_system.specs.Said.{a_need}
-use Rattle.judge_needs.specs.Left.{left_of}
+use Rattle.zones.specs.Gone.{left_of}
 use Rattle.judge_needs.specs.Needed.{is_open}
 use Rattle.judge_needs.proofs.AllNeeds.{of_kind_holds}
 use Rattle.judge_needs.proofs.needed.add_asked.Goals as goal
@@ -12,7 +12,7 @@ use Rattle.judge_needs.proofs.needed.add_asked.Goals as goal
 pub returns : goal.returns
 returns c =
     let left = left_of c.args.left.now in
-    let b = c.args.left.now.scope.bypass.now in
+    let b = c.args.scope.now.bypass.now in
     let kind = c.args.kind in
     let asked = c.args.asked.now in
     let need = a_need c.args.of kind in

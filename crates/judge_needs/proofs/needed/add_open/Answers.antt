@@ -1,12 +1,9 @@
-use Rattle.std.proofs.Common.{◌∙◌, [], ap, subst, sym, Contains}
-use Rattle.std.specs.Prelude.{◌↔◌}
+use Rattle.std.proofs.Common.{◌∙◌, ap, subst, sym}
 use Rattle.std.proofs.lemmas.Result.{on_ok_weaker}
 use Rattle.terms.specs.declared.codes.NeedKind.TheVariants.{Fmid, Pre, Req, Ifreq, HoldError, Orphan}
-use Rattle.terms.specs.Types.{Id}
 use Rattle.terms.specs.Lookups.{IsRising, at_most_one}
-use Rattle.terms.specs.Needs.{asked}
+use Rattle.zones.specs.Gone.{left_of}
 use Rattle.zones.specs.Scopes.{setting_of}
-use Rattle.judge_needs.specs.Left.{left_of}
 use Rattle.judge_needs.specs.Needed.{AddsPart, IsOfKind}
 use Rattle.judge_needs.proofs.AllNeeds.{all_parts, one_of, one_rises, same_asked}
 use Rattle.judge_needs.proofs.needed.add_open.Goals as goal
@@ -18,19 +15,16 @@ add_asked-requires c =
 
 pub returns : goal.returns
 returns c =
-    let s = setting_of c.args.left.now.scope in
+    let s = setting_of c.args.conditions.now.scope in
     let x = c.args.id in
     let left = left_of c.args.left.now in
-    let b = c.args.left.now.scope.bypass.now in
+    let b = s.bypass in
     let none = c.args.needs.now.items in
     let fmid = c.add_asked.new.needs.items in
     let pre = c.add_asked-2.new.needs.items in
     let req = c.add_asked-3.new.needs.items in
     let ifreq = c.add_asked-4.new.needs.items in
     let hold = c.add_asked-5.new.needs.items in
-    let by_ifs : (z : Id) → Contains c.in_ok-by_ifs.by_ifs z ↔ Contains (asked s [] x Ifreq) z =
-    subst (λ scope. (z : Id) → Contains c.in_ok-by_ifs.by_ifs z ↔ Contains (asked (setting_of scope) [] x Ifreq) z)
-    c.requires c.in_ok-by_ifs.ensures in
     on_ok_weaker c.add_asked-6.result
     (λ orphan. all_parts s c.args.survivors.now left x none fmid pre req ifreq hold c.add_asked-6.new.needs.items
     (subst (λ l. AddsPart x (IsOfKind left b Fmid l) none fmid)
@@ -38,7 +32,7 @@ returns c =
     c.in_ok-add_asked.ensures)
     (subst (λ l. AddsPart x (IsOfKind left b Pre l) fmid pre) c.pre.ensures.items c.in_ok-add_asked-2.ensures)
     (subst (λ l. AddsPart x (IsOfKind left b Req l) pre req) c.req.ensures.items c.in_ok-add_asked-3.ensures)
-    (same_asked left b Ifreq x _ _ _ _ (rw c.as_slice-2.ensures.items by_ifs) c.in_ok-add_asked-4.ensures)
+    (same_asked left b Ifreq x _ _ _ _ (rw c.as_slice-2.ensures.items c.in_ok-by_ifs.ensures) c.in_ok-add_asked-4.ensures)
     (same_asked left b HoldError x _ _ _ _ (rw c.as_slice-3.ensures.items c.in_ok-reasons.ensures)
     c.in_ok-add_asked-5.ensures)
     (same_asked left b Orphan x _ _ _ _ (rw c.as_slice-4.ensures.items c.in_ok-lost.ensures) orphan))

@@ -1,6 +1,6 @@
 use Rattle.std.proofs.Common.{take}
+use Rattle.zones.specs.Gone.{left_of}
 use Rattle.zones.specs.Scopes.{setting_of}
-use Rattle.judge_needs.specs.Left.{left_of}
 use Rattle.judge_needs.specs.Needed.{AreNeedsOf}
 use Rattle.judge_needs.proofs.needed.needs_of.Given as goal
 

@@ -3,12 +3,12 @@ use Rattle.std.specs.Prelude.{All}
 use Rattle.solve.proofs.Added.{row_at_read}
 use Rattle.judge_system.proofs.failures.failure_at.Goals as goal
 
-pub failure_of-requires : goal.failure_of-requires
-failure_of-requires c =
+pub ids_at-requires : goal.ids_at-requires
+ids_at-requires c =
     let found = c.args.found.now in
     let n = c.args.place in
     subst (All (λ m. m < length c.args.ids.now))
-    (row_at_read found.causers.now n c.index-found-place-3.result c.deref-3.result.now
-    (omega (arith, c.requires.within, c.requires.found.causers)) c.index-found-place-3.is
-    (c.deref-3.ensures.value ∙ ap (λ row. row.items) (sym c.index-found-place-3.is)))
+    (row_at_read found.causers.now n c.index-found-place-2.result c.as_slice-places.result.now
+    (omega (arith, c.requires.within, c.requires.found.causers)) c.index-found-place-2.is
+    (c.as_slice-places.ensures.value ∙ ap (λ row. row.items) (sym c.index-found-place-2.is)))
     (c.requires.found.within n)

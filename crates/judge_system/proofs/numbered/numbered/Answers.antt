@@ -1,8 +1,8 @@
 use Rattle.judge_system.proofs.numbered.numbered.Goals as goal
 
-pub returns-clause-system : goal.returns-clause-system
-returns-clause-system c = record {
+pub returns : goal.returns
+returns c = record {
   pairs = c.in_ok-served.served.keys;
   served = c.in_ok-served.ensures;
-  needs = c.in_ok-system.ensures.needs;
+  needs = c.in_ok-system.ensures;
 }

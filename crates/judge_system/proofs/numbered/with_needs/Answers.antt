@@ -12,8 +12,8 @@ loop-i-preserved c =
     c.need_at-need.result c.loop-i.system c.number_need.new.system c.need_at-need.ensures c.in_ok-number_need.ensures
     c.loop-i.invariant
 
-pub returns-clause-needs : goal.returns-clause-needs
-returns-clause-needs c =
+pub returns : goal.returns
+returns c =
     let whole : length c.args.stated.now ≤ c.loop-i.i = omega arith in
     subst (λ l. HasNeeds c.args.ids.now.keys c.args.served.now.keys c.args.eligible.items l c.loop-i.system)
     (take_all c.loop-i.i c.args.stated.now whole) c.loop-i.invariant

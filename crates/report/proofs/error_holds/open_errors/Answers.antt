@@ -31,5 +31,5 @@ returns c =
     let f = open_in c.args.global.now c.args.zone.now in
     c.loop-entry.invariant
     ∙ ap (flat_map f) (take_all c.loop-entry.entry-index c.entries-entry-items.result.now (omega arith)
-    ∙ c.entries-entry-items.ensures)
+    ∙ c.entries-entry-items.ensures.same)
     ∙ open_entries c.args.global.now c.args.zone.now c.args.zone.now.entries

@@ -1,23 +1,16 @@
-use Rattle.std.proofs.Common.{◌∷◌, [], ◌++◌, ◌∙◌, ap, refl, take, take_all}
+use Rattle.std.proofs.Common.{◌∷◌, [], ◌++◌, ◌∙◌, ℕ, List, ap, ap₂, sym, take, take_all}
 use Rattle.std.specs.Prelude.{codes}
 use Rattle.std.specs.List.{flat_map}
 use Rattle.std.proofs.lemmas.List.Folds.{flat_map-map}
-use Rattle.terms.specs.declared.codes.Test.TheVariants.{HeldBySystem}
+use Rattle.terms.specs.declared.codes.Test.{Test}
 use Rattle.terms.specs.Spelling.{test_text, need_text}
-use Rattle.machine.specs.Report.{detail_line}
+use Rattle.machine.specs.Outcome.{OpenNeed}
+use Rattle.machine.specs.Report.{detail_line, failure_text}
+use Rattle.judge_system.specs.TestSets.{tests_of}
+use Rattle.judge_system.specs.Views.{need_view, failure_view}
 use Rattle.report.proofs.Paging.{paged_then, paged_as}
 use Rattle.report.proofs.Texts.{flat_map_more}
 use Rattle.report.proofs.lines.put_failure.Goals as goal
-
-pub loop-test-preserved : goal.loop-test-preserved
-loop-test-preserved g c =
-    let tests = c.as_slice-test-items.result.now in
-    paged_as _ _ _ _ _ _
-    (ap (λ t. flat_map (λ t. detail_line (codes "TEST" ∷ test_text t ∷ [])) (take c.loop-test.test-index tests)
-    ++ detail_line (codes "TEST" ∷ t ∷ [])) c.test_text.ensures
-    ∙ flat_map_more (λ t. detail_line (codes "TEST" ∷ test_text t ∷ [])) tests c.loop-test.test-index
-    HeldBySystem c.loop-test-test.true)
-    (paged_then _ _ _ _ _ _ _ _ c.loop-test.invariant c.put_words.ensures.paged)
 
 pub loop-need-preserved : goal.loop-need-preserved
 loop-need-preserved g c =
@@ -28,7 +21,7 @@ loop-need-preserved g c =
     (take c.loop-need.need-index needs) ++ detail_line (codes "NEED" ∷ need_text n.kind ∷ n.id ∷ [])) c.need-item.is
     ∙ flat_map_more (λ n. detail_line (codes "NEED" ∷ need_text n.kind ∷ n.id ∷ [])) needs c.loop-need.need-index
     c.need-item.result c.loop-need-test.true))
-    (paged_then _ _ _ _ _ _ _ _ c.loop-need.invariant c.put_words-in-loop-need.ensures.paged)
+    (paged_then _ _ _ _ _ _ _ _ c.loop-need.invariant c.put_words.ensures.paged)
 
 pub loop-causer-preserved : goal.loop-causer-preserved
 loop-causer-preserved g c =
@@ -40,17 +33,26 @@ loop-causer-preserved g c =
     c.causer-item.result c.loop-causer-test.true)
     (paged_then _ _ _ _ _ _ _ _ c.loop-causer.invariant c.put_words-in-loop-causer.ensures.paged)
 
+abbrev told : Test → List ℕ
+told t = detail_line (codes "TEST" ∷ test_text t ∷ [])
+
+abbrev needed : OpenNeed → List ℕ
+needed n = detail_line (codes "NEED" ∷ need_text n.kind ∷ n.id ∷ [])
+
+abbrev caused : List ℕ → List ℕ
+caused id = detail_line (codes "CAUSER" ∷ id ∷ [])
+
 pub returns : goal.returns
 returns g c =
-    paged_as _ _ _ _ _ _
-    (rw (
-      take_all c.loop-test.test-index c.as_slice-test-items.result.now c.loop-test-test.false,
-      take_all c.loop-need.need-index c.as_slice-need-items.result.now c.loop-need-test.false,
-      take_all c.loop-causer.causer-index c.as_slice-causer-items.result.now c.loop-causer-test.false,
-      c.as_slice-test-items.ensures.value,
-      c.as_slice-need-items.ensures.value,
-      c.as_slice-causer-items.ensures.value,
-      flat_map-map,
-    ) refl)
+    let f = c.args.failure.now in
+    paged_as _ _ _ _ _ (failure_text (failure_view f))
+    (ap₂ (λ needs causers. (flat_map told (tests_of f.tests) ++ needs) ++ causers)
+    (ap (flat_map (λ n. needed (need_view n)))
+    (take_all c.loop-need.need-index c.as_slice-need-items.result.now c.loop-need-test.false
+    ∙ c.as_slice-need-items.ensures.value)
+    ∙ sym (flat_map-map needed need_view f.needs.items))
+    (ap (flat_map caused)
+    (take_all c.loop-causer.causer-index c.as_slice-causer-items.result.now c.loop-causer-test.false
+    ∙ c.as_slice-causer-items.ensures.value)))
     (paged_then _ _ _ _ _ _ _ _
-    (paged_then _ _ _ _ _ _ _ _ c.loop-test.invariant c.loop-need.invariant) c.loop-causer.invariant)
+    (paged_then _ _ _ _ _ _ _ _ c.put_tests.ensures c.loop-need.invariant) c.loop-causer.invariant)

@@ -1,15 +1,10 @@
 use Rattle.std.proofs.Common.{◌∷◌, [], take}
 use Rattle.std.specs.Prelude.{codes}
 use Rattle.std.specs.List.{flat_map}
-use Rattle.terms.specs.Spelling.{test_text, need_text}
+use Rattle.terms.specs.Spelling.{need_text}
 use Rattle.machine.specs.Report.{detail_line}
 use Rattle.report.specs.Paged.{Paged}
 use Rattle.report.proofs.lines.put_failure.Given as goal
-
-abbrev pub invariant-loop-test : goal.invariant-loop-test
-invariant-loop-test g l =
-    Paged g.W.Sink l.initial.page l.page
-    (flat_map (λ t. detail_line (codes "TEST" ∷ test_text t ∷ [])) (take l.test-index l.test-items))
 
 abbrev pub invariant-loop-need : goal.invariant-loop-need
 invariant-loop-need g l =

@@ -20,7 +20,8 @@ loop-entry-preserved g c =
     ++ line_text (EntryLine kind e)) c.entry-item.is
     ∙ flat_map_more (λ e. line_text (EntryLine kind e)) entries c.loop-entry.entry-index c.entry-item.result
     c.loop-entry-test.true)
-    (paged_then _ _ _ _ _ _ _ _ c.loop-entry.invariant c.put_entry.ensures)
+    (paged_then _ _ _ _ _ _ _ _ c.loop-entry.invariant
+    (paged_as _ _ _ _ _ _ c.entry_words.ensures c.put_words.ensures.paged))
 
 pub loop-element-preserved : goal.loop-element-preserved
 loop-element-preserved g c =
@@ -45,7 +46,7 @@ returns g c =
     (paged_as _ _ _ _ _ _
     (ap (flat_map (λ e. line_text (EntryLine z.kind e)))
     (take_all c.loop-entry.entry-index c.entries-entry-items.result.now c.loop-entry-test.false
-    ∙ c.entries-entry-items.ensures)
+    ∙ c.entries-entry-items.ensures.same)
     ∙ sym (flat_map-map line_text (λ e. EntryLine z.kind e) z.entries)) c.loop-entry.invariant)
     (paged_as _ _ _ _ _ _
     (ap (flat_map (λ e. flat_map line_text (element_lines c.args.text e)))

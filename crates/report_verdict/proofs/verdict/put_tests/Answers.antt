@@ -1,24 +1,26 @@
-use Rattle.std.proofs.Common.{◌++◌, ◌∙◌, ap, append_assoc, arith, get_or, take, take_all}
+use Rattle.std.proofs.Common.{◌++◌, ◌∙◌, ap, append_assoc, append-nil, sym}
 use Rattle.std.specs.List.{flat_map}
-use Rattle.terms.specs.declared.codes.Test.TheVariants.{HeldBySystem}
-use Rattle.report.proofs.Texts.{flat_map_more}
 use Rattle.report_verdict.specs.Verdict.{test_told}
 use Rattle.report_verdict.specs.Grounds.{basis_of}
 use Rattle.report_verdict.proofs.verdict.put_tests.Goals as goal
 
+pub loop-failed-init : goal.loop-failed-init
+loop-failed-init c =
+    ap (λ l. c.args.text.now.items ++ flat_map (test_told (basis_of c.args.grounds.now)) l)
+    (c.into_iter-failed-iterator.ensures.into_iter_gives ∙ c.iter-failed-items.ensures)
+
 pub loop-failed-preserved : goal.loop-failed-preserved
 loop-failed-preserved c =
     let told = test_told (basis_of c.args.grounds.now) in
-    let tests = c.args.tests.now in
-    let i = c.loop-failed.failed-index in
-    let old = c.args.text.now.items in
-    c.in_ok-put_test.ensures
-    ∙ ap (λ t. t ++ told (get_or tests i HeldBySystem)) c.loop-failed.invariant
-    ∙ append_assoc old (flat_map told (take i tests)) (told (get_or tests i HeldBySystem))
-    ∙ ap (λ l. old ++ l) (flat_map_more told tests i HeldBySystem c.loop-failed-test.true)
+    let old = c.loop-failed.text.items in
+    let failed = c.in-Some.failed in
+    let rest = c.next.new.self in
+    ap (λ t. t ++ flat_map told rest) c.in_ok-put_test.ensures
+    ∙ append_assoc old (told failed) (flat_map told rest)
+    ∙ ap (λ l. old ++ flat_map told l) (sym c.in-Some.ensures.steps) ∙ c.loop-failed.invariant
 
 pub returns : goal.returns
 returns c =
-    c.loop-failed.invariant
-    ∙ ap (λ l. c.args.text.now.items ++ flat_map (test_told (basis_of c.args.grounds.now)) l)
-    (take_all c.loop-failed.failed-index c.args.tests.now (omega arith))
+    let told = test_told (basis_of c.args.grounds.now) in
+    let text = c.loop-failed.text.items in
+    sym (append-nil text) ∙ ap (λ l. text ++ flat_map told l) (sym c.in-None.ensures.steps.0) ∙ c.loop-failed.invariant

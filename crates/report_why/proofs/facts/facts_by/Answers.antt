@@ -28,5 +28,5 @@ returns c =
     c.in_ok-changes.ensures
     (subst₂ (λ g zone. AreNeeded g zone x (map fact_view needed)) (sym c.requires.global) (sym c.requires.zone)
     (c.in_ok-needed.ensures g zone
-    (all_needed g (counting g zone []) zone c.as_slice.result.now c.attest.ensures refl
+    (all_needed g (counting g zone []) zone c.as_slice.result.now c.args.lookups.now.zone_is refl
     (c.as_slice.ensures.value ∙ c.args.lookups.now.needed_is))))) c.joined-3.ensures

@@ -25,4 +25,4 @@ returns c =
     ∙ functions_forbid s x (is_applied (view_of s x)) c.args.asking.now.applied.now
     ∙ ap (λ l. filter (forbids s x) (filter (is_applied (view_of s x)) l)) c.args.asking.now.applied_is
     ∙ ap (filter (forbids s x)) (sym (applied_left s.global s.choice
-    (deletions s.choice (filter (is_in s.cands) (chain s.global s.choice x))) s.zone c.attest.ensures)))
+    (deletions s.choice (filter (is_in s.cands) (chain s.global s.choice x))) s.zone c.args.asking.now.zone_is)))

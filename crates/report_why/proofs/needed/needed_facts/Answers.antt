@@ -1,5 +1,6 @@
 use Rattle.std.proofs.Common.{◌∙◌, [], ap, arith, map, subst, sym, take_all, Contains}
 use Rattle.std.specs.List.{flat_map}
+use Rattle.terms.specs.Lookups.{IsRising}
 use Rattle.report.specs.Facts.{NeededFact}
 use Rattle.report_why.specs.Needed.{needing}
 use Rattle.report.proofs.Texts.{grown_more}
@@ -17,7 +18,7 @@ returns c = λ g zone all.
     (take_all c.loop-pair.pair-index c.args.pairs.now (omega arith)) in
     record {
       ids = ids;
-      rising = c.attest.ensures;
+      rising = subst (λ l. IsRising l) c.as_slice-by-items.ensures.items c.as_slice-by-items.ensures.rising;
       needed = λ y. (
         λ h. (all c.args.id y).0 (subst (λ l. Contains l y) found ((c.from_vec-needing.ensures y).0 h)),
         λ n. (c.from_vec-needing.ensures y).1 (subst (λ l. Contains l y) (sym found) ((all c.args.id y).1 n)),

@@ -43,6 +43,6 @@ returns c =
     ∙ ap (λ ids. old ++ (own ++ flat_map stated ids))
     (ap (filter other) a.applied_is
     ∙ sym (filter_twice (is_applied (view_in a)) (λ y. not (bytes_eq a.id y)) (applied_ids zone))
-    ∙ ap (filter (λ y. not (bytes_eq a.id y))) (sym (applied_left g ch seen zone c.attest.ensures)))
+    ∙ ap (filter (λ y. not (bytes_eq a.id y))) (sym (applied_left g ch seen zone a.zone_is)))
     ∙ ap (λ b. old ++ (own ++ cond b (flat_map stated (others_applied (setting_in a) a.id)) []))
     (c.if-not-is_function.ensures ∙ ap (λ g. is_function g a.id) c.global.ensures))

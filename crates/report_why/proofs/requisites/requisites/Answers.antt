@@ -1,7 +1,7 @@
 use Rattle.std.proofs.Common.{◌≡◌, ◌∙◌, [], ◌∷◌, List, Option, None, Some, map, ap, refl, subst, Contains}
 use Rattle.std.specs.Prelude.{◌↔◌, MatchOption}
 use Rattle.terms.specs.declared.codes.NeedKind.TheVariants.{Fmid, Pre, Req, Orphan}
-use Rattle.terms.specs.Lookups.{at_most_one}
+use Rattle.terms.specs.Lookups.{IsRising, at_most_one}
 use Rattle.report.specs.Facts.{a_requisite}
 use Rattle.terms.proofs.TextOrder.{same_itself}
 use Rattle.report_why.specs.Asking.{setting_in}
@@ -18,7 +18,7 @@ returns c =
     let x = c.args.asking.now.id in (
       c.from_vec-lost.result,
       record {
-        rising = c.attest.ensures;
+        rising = subst (λ l. IsRising l) c.as_slice-2.ensures.items c.as_slice-2.ensures.rising;
         members = λ z. subst (λ ids. Contains c.from_vec-lost.result z ↔ Contains ids z)
             (c.in_ok-losses.ensures s refl refl refl ∙ rw (same_itself x) refl) (c.from_vec-lost.ensures z);
       },

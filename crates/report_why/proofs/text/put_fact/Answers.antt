@@ -1,4 +1,4 @@
-use Rattle.std.proofs.Common.{refl}
+use Rattle.std.proofs.Common.{◌∷◌, ◌++◌, ap, refl}
 use Rattle.std.specs.Prelude.{codes}
 use Rattle.std.proofs.lemmas.Result.{IfOk-equal}
 use Rattle.report_why.proofs.TextParts.{flag_is}
@@ -10,7 +10,9 @@ returns-in-Standing c =
     (rw (c.as_bytes.ensures.same, c.type_word.ensures, c.standing_text.ensures) refl))
 
 pub returns-in-Entry : goal.returns-in-Entry
-returns-in-Entry c = rw c.in-Entry.is c.put_entry.ensures
+returns-in-Entry c =
+    rw c.in-Entry.is (IfOk-equal c.append_words-in-Entry.result c.append_words-in-Entry.new.text.items _ _
+    c.append_words-in-Entry.ensures (ap (λ t. c.args.text.now.items ++ 32 ∷ 32 ∷ t) c.entry_words.ensures))
 
 pub returns-in-Ver : goal.returns-in-Ver
 returns-in-Ver c = rw c.in-Ver.is c.put_ver.ensures

@@ -1,10 +1,10 @@
-use Rattle.std.proofs.Common.{◌≡◌, ◌∙◌, ◌++◌, List, Result, Ok, Err, Some, OnOk, refl, sym, ap, subst}
+use Rattle.std.proofs.Common.{◌≡◌, ◌∙◌, ◌++◌, List, Option, None, Result, Ok, Err, Some, OnOk, refl, sym, ap, subst}
 use Rattle.std.specs.Prelude.{is_ok, IfErr, OnErr, option_map, if◌then◌else◌}
 use Rattle.std.proofs.lemmas.Option.{same_Some}
 use Rattle.std.proofs.lemmas.Result.{on_ok_weaker}
-use Rattle.terms.specs.Types.{Sysmod, Global}
+use Rattle.terms.specs.Types.{Text, Sysmod, Global}
 use Rattle.terms.specs.Global.{IsSysmod, Receives}
-use Rattle.machine.specs.Outcome.{OfKind, Received, StatusLine}
+use Rattle.machine.specs.Outcome.{OfKind, Received, StatusLine, Status as OutcomeStatus}
 use Rattle.machine.specs.Receiving.{sourced, receive_status}
 use Rattle.report.specs.declared.outcome.ReportLine.{ReportLine}
 use Rattle.report.specs.declared.outcome.ReportLine.TheVariants.{Status}
@@ -25,9 +25,18 @@ appended (Err e) new old more is = tt
 abbrev line : In_ok-push → ReportLine
 line c = Status c.sysmod.inside.id (Kind c.sysmod.inside.kind) c.in_ok-status_of.field-0
 
+-- one more source does not change the line
+same_line : (o : Option Text) (s : Sysmod) (status : OutcomeStatus)
+    → StatusLine (sourced o s).id (OfKind (sourced o s).kind) status ≡ StatusLine s.id (OfKind s.kind) status
+same_line None s status = refl
+same_line (Some source) s status = refl
+
 printed : (c : In_ok-push) → line_view (line c)
     ≡ StatusLine c.args.sysmod.id (OfKind c.args.sysmod.kind) (status_view c.in_ok-status_of.field-0)
-printed c = ap (λ (r : Sysmod). StatusLine r.id (OfKind r.kind) (status_view c.in_ok-status_of.field-0)) c.sysmod.view_is
+printed c =
+    let status = status_view c.in_ok-status_of.field-0 in
+    ap (λ (r : Sysmod). StatusLine r.id (OfKind r.kind) status) (c.sysmod.view_is ∙ c.in_ok-sysmod.ensures)
+    ∙ same_line c.args.source.now c.args.sysmod status
 
 pub returns-in-Ok : goal.returns-in-Ok
 returns-in-Ok c =
@@ -46,7 +55,7 @@ returns-in-Ok c =
     on_ok_weaker c.append.result (λ written.
     sysmod_taken c.args.source.now g new c.args.sysmod (line p) c.args.taken.now now c.in_ok-push.ensures.items own
     (subst (λ s. AreEditsOf s own) c.in_ok-sysmod.ensures c.in_ok-edits.ensures) written
-    (subst IsSysmod c.in_ok-sysmod.ensures c.attest.ensures)
+    (subst IsSysmod (c.sysmod.view_is ∙ c.in_ok-sysmod.ensures) c.sysmod.invariant)
     (printed p ∙ ap (StatusLine c.args.sysmod.id (OfKind c.args.sysmod.kind)) (sym (same_Some Received status told))) came)
     (appended c.append.result c.append.new.self.items c.args.taken.now.edits.items own c.append.ensures.items)
 

@@ -13,7 +13,8 @@ pub listed_lines-requires : goal.listed_lines-requires
 listed_lines-requires c =
     let has = c.in_ok-candidates.ensures in
     let decided = c.in_ok-decided.decided in
-    failed_rises _ has.listed c.in_ok-candidates.candidates.ids c.attest.ensures decided.kept decided.failed.items
+    failed_rises _ has.listed c.in_ok-candidates.candidates.ids has.are_listed.rising has.ids decided.kept
+    decided.failed.items
     (c.in_ok-decided.ensures has.listed has.ids)
 
 pub returns-clause-restores : goal.returns-clause-restores

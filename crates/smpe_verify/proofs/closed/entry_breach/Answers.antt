@@ -25,10 +25,10 @@ returns-in-Some c =
     ∙ stops breach c.entries-entry-items.result.now c.loop-entry.entry-index e (OfEntry e.id fault) (omega arith)
     c.entry-item.is
     (ap (option_map (OfEntry e.id)) (sym c.in_ok-found.ensures ∙ some)) c.loop-entry.invariant
-    ∙ ap (first_of breach) c.entries-entry-items.ensures
+    ∙ ap (first_of breach) c.entries-entry-items.ensures.same
 
 pub returns : goal.returns
 returns c =
     let breach = entry_breach c.args.vers.now.global.now (choice c.args.vers.now) c.args.zone.now in
     ends breach c.entries-entry-items.result.now c.loop-entry.entry-index (omega arith) c.loop-entry.invariant
-    ∙ ap (first_of breach) c.entries-entry-items.ensures
+    ∙ ap (first_of breach) c.entries-entry-items.ensures.same

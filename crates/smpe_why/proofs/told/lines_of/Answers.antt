@@ -9,5 +9,5 @@ returns c =
     let new = changed_zone edits zone in (
       c.new-date.result,
       new,
-      c.in_ok-delta.ensures.installs new (zone_changes edits zone c.attest-2.ensures c.attest.ensures),
+      c.in_ok-delta.ensures.installs new (zone_changes edits zone c.attest.ensures c.args.lookups.now.zone_is),
     )

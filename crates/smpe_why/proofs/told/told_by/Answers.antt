@@ -23,12 +23,12 @@ returns c =
     let related = option_copied c.args.related in
     let selection = c.in_ok-selection.selection in
     let bypass = c.question.inside.bypass.now in
-    let lines : c.as_slice.result.now ≡ c.in_ok-lines.lines.items = c.as_slice.ensures.value in
+    let lines : c.as_slice-lines.result.now ≡ c.in_ok-lines.lines.items = c.as_slice-lines.ensures.value in
     subst (λ (a : Inquiry). IfOk c.told_in_turn.result (λ told. AreToldBy g zone related a c.args.ids.now
     told.text.items told.status)) c.question.view_is
     (IfOk-weaker c.told_in_turn.result _ _ (λ told in_turn. record {
       cands = c.in_ok-candidates.field-0.ids;
-      lines = map line_view c.as_slice.result.now;
+      lines = map line_view c.as_slice-lines.result.now;
       prints = record {
         selection = selection;
         selects = c.in_ok-selection.ensures;

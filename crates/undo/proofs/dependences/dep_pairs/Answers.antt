@@ -25,7 +25,7 @@ loop-by-preserved c =
 
 pub returns : goal.returns
 returns c =
-    have_dep_holds (restoring_of c.args.scope.now) c.attest.ensures c.args.cands.now c.requires
+    have_dep_holds (restoring_of c.args.scope.now) c.args.scope.now.form c.args.cands.now c.requires
     c.loop-by.pairs.items
     (c.loop-by.invariant ∙ ap (flat_map (dependents (restoring_of c.args.scope.now) (is_in c.args.cands.now)))
     (take_all c.loop-by.by-index c.args.scope.now.applied.now (omega arith) ∙ c.args.scope.now.has_applied))

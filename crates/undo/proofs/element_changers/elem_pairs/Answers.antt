@@ -23,7 +23,7 @@ returns c =
     let all = c.in_ok-changers.changers in
     let found = c.loop-id.pairs.items in
     let cands = c.args.cands.now in
-    have_elem_holds (restoring_of c.args.scope.now) c.attest.ensures c.in_ok-others.others.items
+    have_elem_holds (restoring_of c.args.scope.now) c.args.scope.now.form c.in_ok-others.others.items
     (rw c.args.scope.now.has_applied at c.in_ok-others.ensures) all
     (rw (c.as_slice.ensures.value, c.global-global.ensures) at c.in_ok-changers.ensures) cands found
     (subst (λ g. found ≡ flat_map (beside g all) cands) c.global-global.ensures

@@ -6,6 +6,7 @@ use Rattle.terms.specs.Restore.{Restoring, restore_candidates}
 use Rattle.terms.specs.Types.{Id}
 use Rattle.terms.proofs.Searches.{filter_all}
 use Rattle.judge_system.specs.declared.stated.Assessment.{Assessment}
+use Rattle.judge_system.specs.TestSets.{tests_of}
 use Rattle.judge_system.proofs.Judging.{judged_of, rows_of}
 use Rattle.undo.specs.Judged.{IsRestoreAssessed, IsRestoreJudged}
 use Rattle.undo.specs.Scopes.{restoring}
@@ -20,19 +21,19 @@ own_said r ids said says applied = says ids (sym (filter_all (is_applied r.zone)
 
 pub new-requires-2-clause-rows : goal.new-requires-2-clause-rows
 new-requires-2-clause-rows c =
-    sym (length-map c.in_ok-said.said.tests.items (λ row. row.items))
+    sym (length-map c.in_ok-said.said.tests.items tests_of)
     ∙ rows_of _ _ _ _ _ _ _ _ (own_said (restoring c.in_ok-vers.vers c.args.zone.now c.args.accepted.now)
-    c.args.candidates.now.ids c.in_ok-said.said c.in_ok-said.ensures c.requires)
+    c.args.candidates.now.ids c.in_ok-said.said c.in_ok-said.ensures.assessed c.requires)
 
 pub new-requires-2-clause-of : goal.new-requires-2-clause-of
 new-requires-2-clause-of c =
     (own_said (restoring c.in_ok-vers.vers c.args.zone.now c.args.accepted.now) c.args.candidates.now.ids
-    c.in_ok-said.said c.in_ok-said.ensures c.requires).of
+    c.in_ok-said.said c.in_ok-said.ensures.assessed c.requires).of
 
 pub new-requires-2-clause-by : goal.new-requires-2-clause-by
 new-requires-2-clause-by c =
     (own_said (restoring c.in_ok-vers.vers c.args.zone.now c.args.accepted.now) c.args.candidates.now.ids
-    c.in_ok-said.said c.in_ok-said.ensures c.requires).by
+    c.in_ok-said.said c.in_ok-said.ensures.assessed c.requires).by
 
 pub returns : goal.returns
 returns c = λ list are.
@@ -45,5 +46,5 @@ returns c = λ list are.
     (c.in_ok-vers.ensures.counting ∙ ap (counting g zone) c.new-none.ensures) in
     subst (λ r. IsRestoreJudged r list ids j) setting
     (judged_of _ _ _ _ ids c.in_ok-said.said
-    (c.in_ok-said.ensures list (subst (λ r. ids ≡ restore_candidates r list) (sym setting) are))
-    c.attest.ensures j c.in_ok-judged.ensures.numbered)
+    (c.in_ok-said.ensures.assessed list (subst (λ r. ids ≡ restore_candidates r list) (sym setting) are))
+    c.in_ok-said.ensures.rising j c.in_ok-judged.ensures.numbered)

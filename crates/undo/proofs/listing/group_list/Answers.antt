@@ -1,8 +1,9 @@
 use Rattle.std.proofs.Common.{◌∙◌, ap, subst}
 use Rattle.std.proofs.lemmas.Result.{IfOk-weaker}
-use Rattle.terms.specs.Types.{RestoreGroup}
+use Rattle.std.specs.Prelude.{◌↔◌, Contains}
+use Rattle.terms.specs.Types.{Id, RestoreGroup}
 use Rattle.terms.specs.Choice.{counting}
-use Rattle.terms.specs.Restore.{AreListed}
+use Rattle.terms.specs.Restore.{IsListed}
 use Rattle.undo.specs.Scopes.{restoring, restoring_from}
 use Rattle.undo.specs.Steps.{as_steps}
 use Rattle.undo.specs.ByNumbers.{AreReached}
@@ -19,9 +20,9 @@ returns c =
     let vers = c.in_ok-vers.vers in
     let steps = ap as_steps c.as_slice-2.ensures.value ∙ c.in_ok-steps.ensures in
     IfOk-weaker c.reached.result (AreReached ids (as_steps c.as_slice-2.result.now))
-    (AreListed (restoring_from g zone accepted) (RestoreGroup ids))
-    (λ found h. subst (λ r. AreListed r (RestoreGroup ids) found)
+    (λ found. (x : Id) → Contains found x ↔ IsListed (restoring_from g zone accepted) (RestoreGroup ids) x)
+    (λ found h. subst (λ r. (x : Id) → Contains found x ↔ IsListed r (RestoreGroup ids) x)
     (restoring_is vers g zone accepted c.in_ok-vers.ensures.global
     (c.in_ok-vers.ensures.counting ∙ ap (counting g zone) c.new-none.ensures))
-    (listed_from (restoring vers zone accepted) c.attest.ensures ids found
+    (listed_from (restoring vers zone accepted) c.in_ok-applied.ensures.form ids found
     (subst (λ l. AreReached ids l found) steps h))) c.reached.ensures

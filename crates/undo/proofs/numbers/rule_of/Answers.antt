@@ -30,7 +30,7 @@ returns-clause-numbered c =
       these = are_places table c.args.step.now.these.items found unique
           (c.loop-node.invariant ∙ ap (map (λ n. Some n))
           (take_all c.loop-node.node-index nodes.result.now (omega arith) ∙ nodes.ensures.value)) members;
-      that = c.number-2.ensures;
+      that = c.number-that.ensures;
     }
 
 pub returns-clause-valid : goal.returns-clause-valid
@@ -38,7 +38,7 @@ returns-clause-valid c =
     let sorted = c.sort_unstable.new.self.items in
     let unique = c.dedup.new.self.items in
     let numbered : IsNumbered c.args.table.now (as_step c.args.step.now)
-    record { these = unique; that = c.number-2.result } = returns-clause-numbered c in
+    record { these = unique; that = c.number-that.result } = returns-clause-numbered c in
     let rising : AllPairs (λ a b. a < b) unique =
     rw (dedup_is nat_eq sorted unique c.dedup.ensures.filtered)
     (unique_rising sorted c.sort_unstable.ensures.sorted) in

@@ -11,5 +11,5 @@ returns-then-is_applied c =
     let r = restoring_of c.args.scope.now in
     let e = c.args.element.now in
     let there : is_applied r.zone e.fmid ≡ true =
-    ap (λ v. is_applied r.zone v.fmid) (sym c.element.view_is) ∙ sym c.is_applied.ensures ∙ c.if-is_applied.true in
+    ap (λ v. is_applied r.zone v.fmid) (sym c.element.view_is) ∙ sym c.is_applied.ensures.same ∙ c.if-is_applied.true in
     c.are_alike.ensures ∙ sym (returns_by r e ∙ ap (λ b. b && are_alike r.zone r.accepted e) there)

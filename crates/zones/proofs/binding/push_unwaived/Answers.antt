@@ -11,6 +11,6 @@ on_ok (Err e) new old more is = tt
 
 pub returns-in-None : goal.returns-in-None
 returns-in-None c =
-    rw (unwaived_none c.args.zone.now c.args.by c.args.ids.now c.in-None.ensures)
+    rw (unwaived_none c.args.zone.now c.args.by c.args.ids.now c.in-None.ensures.found)
     (on_ok c.extend_from_slice.result c.extend_from_slice.new.self.items c.args.found.now.items c.args.ids.now
     c.extend_from_slice.ensures.items)

@@ -9,8 +9,8 @@ use Rattle.zones.proofs.counting_vers.choose.Goals as goal
 
 pub table_of-kept-requires : goal.table_of-kept-requires
 table_of-kept-requires c =
-    rw c.in_ok-kept_picks.ensures (picks_rise (λ (e : Entry). e.id) kept_pick (λ e. refl) c.args.zone.now.entries
-    c.attest-2.ensures.entries)
+    rw c.in_ok-kept_picks.ensures.picks (picks_rise (λ (e : Entry). e.id) kept_pick (λ e. refl) c.args.zone.now.entries
+    c.in_ok-kept_picks.ensures.form.entries)
 
 pub table_of-fitting-requires : goal.table_of-fitting-requires
 table_of-fitting-requires c =
@@ -20,10 +20,10 @@ table_of-fitting-requires c =
 numbers : (c : goal.After-new) → (x : Id)
     → number_in c.new.result x ≡ place c.args.global.now c.args.zone.now c.args.cands.now x + 1
 numbers c x =
-    let kept = c.new.ensures.kept ∙ c.table_of-kept.ensures ∙ c.in_ok-kept_picks.ensures in
+    let kept = c.new.ensures.kept ∙ c.table_of-kept.ensures ∙ c.in_ok-kept_picks.ensures.picks in
     let fitting = c.new.ensures.fitting ∙ c.table_of-fitting.ensures ∙ c.in_ok-fitting_picks.ensures in
     rw (kept, fitting)
-    (numbers_are c.args.global.now c.args.zone.now c.args.cands.now c.attest.ensures c.attest-2.ensures x)
+    (numbers_are c.args.global.now c.args.zone.now c.args.cands.now c.attest.ensures c.in_ok-kept_picks.ensures.form x)
 
 pub returns-clause-counting : goal.returns-clause-counting
 returns-clause-counting c = fun_ext (λ x.

@@ -4,4 +4,4 @@ use Rattle.zones.proofs.orphaned.lost_ids.Given as goal
 
 -- what the SYSMODs of the entries so far lose
 abbrev pub invariant-loop-entry : goal.invariant-loop-entry
-invariant-loop-entry l = l.found.items ≡ lost_by l.taking (take l.entry-index l.entry-items)
+invariant-loop-entry l = l.found.items ≡ lost_by l.left (take l.entry-index l.entry-items)

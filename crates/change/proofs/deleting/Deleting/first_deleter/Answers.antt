@@ -8,7 +8,8 @@ use Rattle.terms.proofs.Ids.{is_in_from_Contains}
 use Rattle.terms.specs.Choice.{del_of}
 use Rattle.terms.specs.Deleted.{is_deleted}
 use Rattle.terms.specs.Lookups.{is_function, is_in}
-use Rattle.change.specs.Deleting.{choice_of, global_of, is_function_gone, is_gone, first_deleter, first_meeting}
+use Rattle.zones.specs.Gone.{is_gone}
+use Rattle.change.specs.Deleting.{choice_of, global_of, is_function_gone, first_deleter, first_meeting}
 use Rattle.change.specs.Deleting.{first_naming}
 use Rattle.change.proofs.Leaving.{named_by_none}
 use Rattle.change.proofs.deleting.Deleting.first_deleter.Goals.{After-contains}
@@ -43,16 +44,16 @@ by_name c =
     let stays : is_function_gone d x ≡ false = elim c.else-is_function.branch [
       | else-is_function-via-then-is_function+else-takes_out w ↦
           ap₂ (λ a b. a && b) (of ∙ w.if-is_function.true) (sym w.takes_out.ensures ∙ w.if-takes_out.false)
-      | else-is_function-via-else-is_function w ↦ ap (λ a. a && is_gone d x) (of ∙ w.if-is_function.false)
+      | else-is_function-via-else-is_function w ↦ ap (λ a. a && is_gone d.left x) (of ∙ w.if-is_function.false)
     ] in
     sym (ap (λ b. if b then first_meeting d x else first_naming d x) stays)
 
 pub returns-then-not-contains : goal.returns-then-not-contains
 returns-then-not-contains c =
     let d = c.args.self.now in
-    let among : c.contains.result ≡ is_in d.dels.now c.args.id = search (rules, tests) in
+    let among : c.contains.result ≡ is_in d.left.dels.now c.args.id = search (rules, tests) in
     sym (named_by_none (choice_of d) d.kept.now c.args.id
-    (λ h. true≢false (sym (is_in_from_Contains d.dels.now c.args.id
+    (λ h. true≢false (sym (is_in_from_Contains d.left.dels.now c.args.id
     (subst (λ ids. Contains ids c.args.id) (sym c.requires) h)) ∙ sym among ∙ c.if-not-contains.true)))
     ∙ by_name (goal.at.returns-then-not-contains c).After-contains
 

@@ -20,15 +20,15 @@ returns c =
     let zone = scope.zone.now in
     let ids = scope.ids.now in
     let x = c.args.id in
-    let dels = c.as_slice-2.result.now in
+    let dels = c.as_slice-dels.result.now in
     let left = zone_less g ch dels zone in
     let own = if_reqs ch (is_there left ids) x in
-    let seen : dels ≡ deletions ch (filter (is_in ids) (chain g ch x)) = c.as_slice-2.ensures.value
-    ∙ c.in_ok-dels.ensures in
+    let seen : dels ≡ deletions ch (filter (is_in ids) (chain g ch x)) = c.as_slice-dels.ensures.value
+    ∙ c.in_ok-deleted.ensures in
     subst (λ l. (z : Id) → Contains c.from_vec.result z ↔ Contains l z)
     (c.in_ok-extend_from_slice.ensures.items
-    ∙ ap (λ l. l ++ c.as_slice-3.result.now) c.in_ok-found.ensures
-    ∙ ap (λ l. own ++ l) (c.as_slice-3.ensures.value ∙ c.in_ok-stated.ensures)
+    ∙ ap (λ l. l ++ c.as_slice.result.now) c.in_ok-found.ensures
+    ∙ ap (λ l. own ++ l) (c.as_slice.ensures.value ∙ c.in_ok-stated.ensures)
     ∙ ap (λ l. own ++ cond (is_function g x)
     (map (λ (r : StatedRequisite). r.id) (filter (λ r. is_applied left r.by) l)) [])
     (self.are_stated x)

@@ -5,8 +5,8 @@ use Rattle.std.proofs.lemmas.Iterator.Consumers.{YieldsList-at, YieldsList-from_
 use Rattle.std.proofs.lemmas.Result.{IfOk-weaker}
 use Rattle.terms.specs.Types.{Global}
 use Rattle.terms.specs.Lookups.{is_applied, is_function}
+use Rattle.zones.specs.Gone.{left_of}
 use Rattle.judge_needs.specs.declared.stated.StatedRequisite.{StatedRequisite}
-use Rattle.judge_needs.specs.Left.{left_of}
 use Rattle.judge_needs.proofs.conditions.Conditions.stated_for.Goals as goal
 
 pub returns : goal.returns

@@ -19,12 +19,11 @@ returns-clause-numbered c = record {
   tests_are = refl;
   needs_are = refl;
   bypassed_are = refl;
-  valid = c.in_ok-system.ensures.valid;
   system = rw (
     c.in_ok-ids.ensures.ids,
     c.as_slice-2.ensures.value,
     c.as_slice-3.ensures.value,
     c.in_ok-eligible.ensures,
     c.as_slice.ensures.value,
-  ) at c.in_ok-system.ensures.system;
+  ) at c.in_ok-system.ensures;
 }

@@ -12,9 +12,9 @@ loop-entry-preserved c =
     c.entry-item.result c.loop-entry-test.true c.loop-entry.invariant
     (subst (λ (e : Entry). IsRising e.supby × IsRising e.waived) c.entry-item.is c.attest.ensures)
 
-pub returns : goal.returns
-returns c =
+pub returns-clause-lists : goal.returns-clause-lists
+returns-clause-lists c =
     let all : take c.loop-entry.entry-index c.entries-entry-items.result.now ≡ c.entries-entry-items.result.now =
     take_all c.loop-entry.entry-index c.entries-entry-items.result.now (omega arith) in
     subst (λ (es : List Entry). All (λ e. IsRising e.supby × IsRising e.waived) es)
-    (all ∙ c.entries-entry-items.ensures) c.loop-entry.invariant
+    (all ∙ c.entries-entry-items.ensures.same) c.loop-entry.invariant

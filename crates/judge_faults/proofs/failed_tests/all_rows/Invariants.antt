@@ -1,7 +1,0 @@
-use Rattle.std.proofs.Common.{◌≡◌, take}
-use Rattle.terms.specs.Beside.{Beside}
-use Rattle.judge_faults.specs.Rows.{row_of}
-use Rattle.judge_faults.proofs.failed_tests.all_rows.Given as goal
-
-abbrev pub invariant-loop-i : goal.invariant-loop-i
-invariant-loop-i l = Beside (λ n own row. row.items ≡ row_of l.clashing.keys n own) (take l.i l.faults) l.rows.items

@@ -1,9 +1,0 @@
-use Rattle.std.proofs.Common.{◌-◌, ◌^◌}
-use Rattle.report_why.proofs.SearchBack.{IsSearching}
-use Rattle.report_why.proofs.superseders.with_superseders.Given as goal
-
-abbrev pub invariant-loop-gone : goal.invariant-loop-gone
-invariant-loop-gone l = IsSearching l.fn.vers l.fn.id l.seen.keys l.gone
-
-abbrev pub decreases-loop-gone : goal.decreases-loop-gone
-decreases-loop-gone l = 2 ^ 63 - l.gone
