@@ -3,13 +3,13 @@
 use fields::spelling::{need_text, test_text, type_text};
 use fields::{Id, ZoneName};
 use judge::Judged;
-use judge_system::{Failure, OpenNeed, RequisiteOf};
+use judge_system::{Failure, OpenNeed, RequisiteOf, TestSet};
 use report::{Header, Out, Outcome, ReportLine, errsysmods, write_report};
 use sorted::Edit;
 use std::alloc::{AllocError, Global};
 use std::test::Fail;
 use sysmods::GlobalZone;
-use terms::{CommandWord, NotChosen, Test};
+use terms::{CommandWord, NotChosen};
 use zones::{Candidates, Zone, ZoneDelta};
 
 // A line of these words.
@@ -72,22 +72,22 @@ pub(crate) fn put_needs(needs: &[RequisiteOf], text: &mut Vec<u8>) -> Result<(),
 /// A line for each test that a candidate fails, in the order of the candidates' numbers.
 pub(crate) fn put_failed_tests(judged: &Judged<'_>, text: &mut Vec<u8>) -> Result<(), AllocError> {
     for (id, tests) in judged.ids.iter().zip(judged.tests.iter()) {
-        put_tests(*id, tests.as_slice(), text)?;
+        put_tests(*id, *tests, text)?;
     }
     Ok(())
 }
 
-fn put_tests(id: Id, tests: &[Test], text: &mut Vec<u8>) -> Result<(), AllocError> {
-    for test in tests {
-        put_words(&[b"FAILS", id.as_bytes(), test_text(*test)], text)?;
+fn put_tests(id: Id, tests: TestSet, text: &mut Vec<u8>) -> Result<(), AllocError> {
+    for test in tests.iter() {
+        put_words(&[b"FAILS", id.as_bytes(), test_text(test)], text)?;
     }
     Ok(())
 }
 
 // The tests that a candidate fails, what it needs in vain, and who causes it.
 fn put_failure(failure: &Failure, text: &mut Vec<u8>) -> Result<(), AllocError> {
-    for test in failure.tests.as_slice() {
-        put_line(b"  TEST", test_text(*test), text)?;
+    for test in failure.tests.iter() {
+        put_line(b"  TEST", test_text(test), text)?;
     }
     for need in failure.needs.as_slice() {
         let OpenNeed { kind, id } = *need;
