@@ -2,7 +2,7 @@
 ghost use Rattle.std.specs.Prelude.{◌≡◌, ◌↔◌, ◌||◌, [], filter, map, Contains, IfOk, if◌then◌else◌};
 ghost use Rattle.terms.specs.declared.codes.NeedKind.TheVariants.{Ifreq};
 ghost use Rattle.terms.specs.Types.{Id as AnId};
-ghost use Rattle.terms.specs.Lookups.{is_applied, is_function};
+ghost use Rattle.terms.specs.Lookups.{IsZone, is_applied, is_function};
 ghost use Rattle.terms.specs.Conditions.{if_reqs};
 ghost use Rattle.terms.specs.Needs.{asked};
 ghost use Rattle.judge_needs.specs.Conditions.{AreStated, is_there, requisites_of};
@@ -10,7 +10,7 @@ ghost use Rattle.zones.specs.Gone.{left_of};
 ghost use Rattle.zones.specs.Scopes.{global_of, choice_of, setting_of};
 
 use crate::stated::{Stated, all_stated};
-use fields::{Attest, Id, IdList};
+use fields::{Id, IdList};
 use sorted::lists::listed;
 use std::alloc::{AllocError, Global};
 use zones::{Scope, ZoneLess};
@@ -20,6 +20,7 @@ use zones::{Scope, ZoneLess};
 pub struct Conditions<'a, 'b> {
     pub scope: Scope<'a, 'b>,
     stated: Stated,
+    ghost is_zone: { IsZone scope.zone.now },
     ghost are_stated: { AreStated (choice_of scope) scope.zone.now stated },
 }
 
@@ -82,7 +83,6 @@ impl<'a, 'b> Conditions<'a, 'b> {
             ↔ Contains (asked (setting_of self.now.scope) [] id Ifreq) z) }
     {
         let scope = &self.scope;
-        scope.zone.attest();
         let deleted = scope.view_deletions(alloc, id)?;
         let dels = deleted.as_slice();
         let left = ZoneLess {

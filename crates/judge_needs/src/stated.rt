@@ -2,6 +2,7 @@
 ghost use Rattle.std.specs.Prelude.{◌≡◌, [], map, filter, OnOk, IfOk, if◌then◌else◌};
 ghost use Rattle.std.specs.List.{flat_map};
 ghost use Rattle.std.specs.Str.{bytes_eq};
+ghost use Rattle.terms.specs.Lookups.{IsZone};
 ghost use Rattle.judge_needs.specs.Conditions.{AddsMore, AreStated, a_requisite};
 ghost use Rattle.zones.specs.Scopes.{choice_of};
 
@@ -61,7 +62,8 @@ fn add_conditions(
 
 /// What all applied SYSMODs state.
 pub(crate) fn all_stated(alloc: Global, scope: &Scope<'_, '_>) -> Result<Stated, AllocError>
-    ensures { IfOk result (AreStated (choice_of scope.now) scope.now.zone.now) }
+    ensures form { IsZone scope.now.zone.now }
+    ensures stated { IfOk result (AreStated (choice_of scope.now) scope.now.zone.now) }
 {
     let mut stated = BTreeMap::new(alloc);
     for entry in scope.zone.entries() {

@@ -1,7 +1,6 @@
 -- Ids of a list that have a reason, each with it.
-use Rattle.std.proofs.Common.{◌≡◌, ◌<◌, ◌+◌, ℕ, length, take, get_or, ◌⊎◌, inl, inr, Bool, true, false, List, [], ◌∷◌}
-use Rattle.std.proofs.Common.{◌++◌, map, filter, cond, Option, None, Some, is_some, Contains, IsTrue, refl, sym, subst}
-use Rattle.std.proofs.Common.{ap, ◌∙◌, ◌↔◌}
+use Rattle.std.proofs.Common.{◌≡◌, ◌⊎◌, inl, inr, Bool, true, false, List, [], ◌∷◌, map, filter, cond, Option, None, Some}
+use Rattle.std.proofs.Common.{is_some, Contains, IsTrue, refl, sym, subst, ap, ◌∙◌, ◌↔◌}
 use Rattle.std.specs.List.{filter_map, cons_option}
 use Rattle.terms.specs.declared.not_chosen.NotChosen.{NotChosen}
 use Rattle.terms.specs.Types.{Id}
@@ -9,9 +8,6 @@ use Rattle.terms.specs.Lookups.{is_in, is_before, IsRising}
 use Rattle.terms.specs.Candidates.{not_chosen}
 use Rattle.terms.proofs.Ids.{Contains_from_is_in}
 use Rattle.terms.proofs.ListMembers.{here, there, here_or, none_in}
-use Rattle.std.specs.Option.{option_to_list}
-use Rattle.std.proofs.lemmas.List.{take_more}
-use Rattle.std.proofs.lemmas.List.Elements.{filter_map-append}
 use Rattle.std.proofs.lemmas.List.Kept.{AllPairs-filter}
 use Rattle.select.specs.Scopes.{Selecting, named_ids}
 use Rattle.select.specs.Reasons.{beside, reason_in, with_reason}
@@ -33,19 +29,6 @@ module _ (scope : Selecting) where
           (filter has_reason xs)
       by rest None = rest
       by rest (Some why) = ap (λ ys. x ∷ ys) rest
-
-  -- at one id more
-  pub found_next : (xs : List Id) (i : ℕ) (x : Id) (old new : List (Id × NotChosen)) → i < length xs → x ≡ get_or xs i x
-      → new ≡ old ++ option_to_list (with_reason scope x) → old ≡ found (take i xs) → new ≡ found (take (i + 1) xs)
-  found_next xs i x old new below at is was =
-      is ∙ ap (λ ps. ps ++ option_to_list (with_reason scope x)) was
-      ∙ ap (λ ps. found (take i xs) ++ ps) (one (with_reason scope x))
-      ∙ sym (ap found (take_more xs i x below ∙ ap (λ y. take i xs ++ y ∷ []) (sym at))
-      ∙ filter_map-append (with_reason scope) (take i xs) (x ∷ []))
-    where
-      one : (o : Option (Id × NotChosen)) → option_to_list o ≡ cons_option o []
-      one None = refl
-      one (Some p) = refl
 
   pub found_rising : (xs : List Id) → IsRising xs → IsRising (map (λ f. f.0) (found xs))
   found_rising xs rising = subst IsRising (sym (firsts xs)) (AllPairs-filter (λ x y. IsTrue (is_before x y)) has_reason

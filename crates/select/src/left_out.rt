@@ -1,7 +1,6 @@
 //! Why ids that SELECT and GROUP name are not candidates.
-ghost use Rattle.std.specs.Prelude.{◌≡◌, ◌↔◌, ◌++◌, ◌||◌, not, Some, Contains, IfOk, OnOk, map};
+ghost use Rattle.std.specs.Prelude.{◌≡◌, ◌↔◌, ◌||◌, not, Some, Contains, IfOk, map};
 ghost use Rattle.std.specs.List.{filter_map};
-ghost use Rattle.std.specs.Option.{option_to_list};
 ghost use Rattle.terms.specs.declared.not_chosen.NotChosen.{NotChosen as Reason};
 ghost use Rattle.terms.specs.Types.{Id as AnId};
 ghost use Rattle.terms.specs.Lookups.{IsRising, is_in};
@@ -40,17 +39,12 @@ fn why_not(scope: &Selecting, id: Id) -> Option<NotChosen>
     }
 }
 
-fn push_with_reason(
-    scope: &Selecting,
-    id: Id,
-    found: &mut Vec<(Id, NotChosen)>,
-) -> Result<(), AllocError>
-    ensures { OnOk result (found.new.items ≡ found.old.items ++ option_to_list (with_reason scope.now id)) }
+// The id with its reason, if it has one.
+fn with_reason(scope: &Selecting, id: Id) -> Option<(Id, NotChosen)>
+    ensures { result ≡ with_reason scope.now id }
 {
-    if let Some(why) = why_not(scope, id) {
-        found.push((id, why))?;
-    }
-    Ok(())
+    let why = why_not(scope, id)?;
+    Some((id, why))
 }
 
 // The ids that have a reason, each with its reason.
@@ -61,11 +55,9 @@ fn with_reasons(
 ) -> Result<Vec<(Id, NotChosen)>, AllocError>
     ensures { IfOk result (λ found. found.items ≡ filter_map (with_reason scope.now) ids.now) }
 {
-    let mut found = Vec::new(alloc);
-    for id in ids {
-        push_with_reason(scope, *id, &mut found)?;
-    }
-    Ok(found)
+    ids.iter()
+        .filter_map(|id| with_reason(scope, *id))
+        .collect(alloc)
 }
 
 /// The ids of SELECT and GROUP that are neither excluded nor open, rising, each with the reason.

@@ -1,12 +1,12 @@
 //! The requisites that bind an applied SYSMOD.
-ghost use Rattle.std.specs.Prelude.{◌≡◌, ◌++◌, [], ◌∷◌, not, IfOk, OnOk, filter, if◌then◌else◌};
-ghost use Rattle.terms.specs.Lookups.{is_in, is_applied};
+ghost use Rattle.std.specs.Prelude.{◌≡◌, ◌++◌, [], IfOk, OnOk, if◌then◌else◌};
+ghost use Rattle.terms.specs.Lookups.{is_applied, waived_of};
 ghost use Rattle.terms.specs.Needs.{unwaived, binding_ids};
 ghost use Rattle.sysmods.specs.Choices.{choice};
 ghost use Rattle.zones.specs.Gone.{stays, by_ifs, binding_of};
 
 use crate::zone_less::ZoneLess;
-use fields::{Attest, Id, IdList};
+use fields::{Attest, Id};
 use std::alloc::{AllocError, Global};
 use sysmods::VerChoice;
 use sysmods_values::{IfReq, Ver};
@@ -35,40 +35,26 @@ pub fn requisites_held(
 pub(crate) fn binding_ids(alloc: Global, left: &ZoneLess, id: Id) -> Result<Vec<Id>, AllocError>
     ensures { IfOk result (λ ids. ids.items ≡ binding_of left.now id) }
 {
-    match left.vers.ver(id) {
-        Some(ver) => binding_by(alloc, left, id, ver),
-        None => Ok(Vec::new(alloc)),
-    }
-}
-
-// Those of this `++VER`.
-fn binding_by(alloc: Global, left: &ZoneLess, id: Id, ver: &Ver) -> Result<Vec<Id>, AllocError>
-    ensures { IfOk result (λ ids. ids.items
-        ≡ unwaived left.now.zone.now id (ver.now.pre ++ ver.now.req ++ by_ifs left.now ver.now.ifs)) }
-{
+    let Some(ver) = left.vers.ver(id) else {
+        return Ok(Vec::new(alloc));
+    };
     let asked = asked_by(alloc, left, ver)?;
     let mut ids = Vec::new(alloc);
     push_unwaived(left.zone, id, asked.as_slice(), &mut ids)?;
     Ok(ids)
 }
 
+// Those of this `++VER`, waived or not.
 fn asked_by(alloc: Global, left: &ZoneLess, ver: &Ver) -> Result<Vec<Id>, AllocError>
     ensures { IfOk result (λ asked. asked.items ≡ ver.now.pre ++ ver.now.req ++ by_ifs left.now ver.now.ifs) }
 {
     let mut asked = Vec::new(alloc);
     asked.extend_from_slice(ver.pre.as_slice())?;
     asked.extend_from_slice(ver.req.as_slice())?;
-    push_by_ifs(left, ver.ifs.as_slice(), &mut asked)?;
-    Ok(asked)
-}
-
-fn push_by_ifs(left: &ZoneLess, ifs: &[IfReq], asked: &mut Vec<Id>) -> Result<(), AllocError>
-    ensures { OnOk result (asked.new.items ≡ asked.old.items ++ by_ifs left.now ifs.now) }
-{
-    for condition in ifs {
-        push_by_if(left, condition, asked)?;
+    for condition in ver.ifs.as_slice() {
+        push_by_if(left, condition, &mut asked)?;
     }
-    Ok(())
+    Ok(asked)
 }
 
 // Adds the ids of the `++IF` that its function does not waive, if the function stays.
@@ -87,31 +73,20 @@ fn push_by_if(left: &ZoneLess, condition: &IfReq, asked: &mut Vec<Id>) -> Result
     Ok(())
 }
 
+// What the SYSMOD waives.
+fn waived(zone: &Zone, by: Id) -> &[Id]
+    ensures { result.now ≡ waived_of zone.now by }
+{
+    match zone.entry(by) {
+        Some(entry) => entry.waived.as_slice(),
+        None => &[],
+    }
+}
+
 // Adds the ids that the SYSMOD does not waive.
 fn push_unwaived(zone: &Zone, by: Id, ids: &[Id], found: &mut Vec<Id>) -> Result<(), AllocError>
     ensures { OnOk result (found.new.items ≡ found.old.items ++ unwaived zone.now by ids.now) }
 {
-    match zone.entry(by) {
-        Some(entry) => push_others(&entry.waived, ids, found),
-        None => found.extend_from_slice(ids),
-    }
-}
-
-// Adds the ids that are not in the list.
-fn push_others(list: &IdList, ids: &[Id], found: &mut Vec<Id>) -> Result<(), AllocError>
-    ensures { OnOk result (found.new.items ≡ found.old.items ++ filter (λ z. not (is_in list.now z)) ids.now) }
-{
-    for id in ids {
-        push_if_other(list, *id, found)?;
-    }
-    Ok(())
-}
-
-fn push_if_other(list: &IdList, id: Id, found: &mut Vec<Id>) -> Result<(), AllocError>
-    ensures { OnOk result (found.new.items ≡ found.old.items ++ filter (λ z. not (is_in list.now z)) (id ∷ [])) }
-{
-    if !list.contains(id) {
-        found.push(id)?;
-    }
-    Ok(())
+    let waived = waived(zone, by);
+    found.extend(ids.iter().filter(|id| !waived.contains(*id)).map(|id| *id))
 }
