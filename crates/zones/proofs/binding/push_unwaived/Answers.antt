@@ -2,6 +2,7 @@ use Rattle.std.proofs.Common.{Bool, ◌++◌, ◌∙◌, ap, not, filter, map, r
 use Rattle.std.proofs.lemmas.Iterator.{YieldsList-from_map, YieldsList-from_slice}
 use Rattle.std.proofs.lemmas.Iterator.Adapters.{items_from_extend}
 use Rattle.std.proofs.lemmas.Iterator.Consumers.{YieldsList-at, YieldsList-from_filter}
+use Rattle.std.proofs.lemmas.List.{map-id}
 use Rattle.std.proofs.lemmas.Result.{on_ok_weaker}
 use Rattle.terms.specs.Types.{Id}
 use Rattle.terms.specs.Lookups.{is_in, waived_of}
