@@ -71,11 +71,11 @@ pub(crate) fn named_ids(alloc: Global, selection: &Selection) -> Result<Vec<Id>,
 fn received_ids(alloc: Global, global: &GlobalZone) -> Result<Vec<Id>, AllocError>
     ensures { IfOk result (λ ids. ids.items ≡ map (λ s. s.id) global.now.sysmods) }
 {
-    global
-        .sysmods()
-        .iter()
-        .map(|sysmod| sysmod.id)
-        .collect(alloc)
+    let mut ids = Vec::new(alloc);
+    for sysmod in global.sysmods() {
+        ids.push(sysmod.id)?;
+    }
+    Ok(ids)
 }
 
 // The ids that may be in the start: those named, or all received ones if the command chooses by mass.
