@@ -108,7 +108,7 @@ fn drop_at<T: Keyed + Drop>(rest: &mut VecDeque<T>, key: T::Key)
         return;
     };
     if first.key() == key {
-        let _ = rest.pop_front();
+        drop(rest.pop_front());
     }
 }
 
