@@ -82,8 +82,8 @@ module _ (i : Installation) (zone : Zone) (es : List Element) (after : AreElemen
           let m = map_in put es d there in
           let key : element_key m.0 ≡ (type, name) =
           same_key (element_key m.0) (type, name) (ap (λ o. element_eq (put_key o) (type, name)) m.2 ∙ at) in
-          let changes = All-contains (λ e. (x : Id) × TakesEffect i x × IsTrue (has_change i.global x e.elem_type e.name))
-          es m.0 after.only m.1 in
+          let changes = All-contains
+          (λ e. (x : Id) × TakesEffect i x × IsTrue (has_change i.global x e.elem_type e.name)) es m.0 after.only m.1 in
           absurd (true≢false (sym changes.2
           ∙ ap (λ (k : Key). has_change i.global changes.0 k.0 k.1) key ∙ none changes.0 changes.1))
 

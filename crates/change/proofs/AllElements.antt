@@ -157,7 +157,8 @@ keys_rise (k ∷ ks) sorted =
         → All (λ l. IsTrue (is_lt (element_cmp k l))) ls
     all_from [] all = All-nil (λ l. IsTrue (is_lt (element_cmp k l)))
     all_from (l ∷ ls) all =
-        All-cons (λ l. IsTrue (is_lt (element_cmp k l))) l ls (ap is_lt (sym (cmp_keys k l) ∙ all.0)) (all_from ls all.1)
+        All-cons (λ l. IsTrue (is_lt (element_cmp k l))) l ls (ap is_lt (sym (cmp_keys k l) ∙ all.0))
+        (all_from ls all.1)
 
 abbrev pub Item : Type 0
 Item = Key × Vec Id Heap

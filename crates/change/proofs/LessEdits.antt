@@ -166,13 +166,14 @@ module _ (is_gone : Id → Bool) where
             edit_turns some,
           )
           by false none =
-              let held : IsTrue (has_content e) = All_find (λ v. IsTrue (has_content v)) (λ v. bytes_eq v.id e.id) zone.entries
-              e z.held found in
+              let held : IsTrue (has_content e) = All_find (λ v. IsTrue (has_content v)) (λ v. bytes_eq v.id e.id)
+              zone.entries e z.held found in
               let waives : IsTrue (waives_applied e) = All_find (λ v. IsTrue (waives_applied v))
               (λ v. bytes_eq v.id e.id) zone.entries e z.waived found in
               inl (
                 ap (λ b. (if b then record zone_edits {
-                  entries = with_item (slice_cmp nat_cmp) (edit_key (λ v. v.id)) zone_edits.entries (less_edit is_gone e);
+                  entries = with_item (slice_cmp nat_cmp) (edit_key (λ v. v.id)) zone_edits.entries
+                      (less_edit is_gone e);
                 } else zone_edits).entries) none,
                 less_wanted ∙ ap (λ v. passing has_content (Some v)) (unlost e waives none)
                     ∙ ap (λ b. if b then Some e else None) held ∙ sym found,
@@ -223,7 +224,8 @@ module _ (is_gone : Id → Bool) where
 
   -- one entry more
   pub one_more : (zone_edits : ZoneEdits) (es : List Entry) (k : ℕ) (x : Entry) → k < length es → x ≡ get_or es k x
-      → take_off is_gone (fold (take_off is_gone) zone_edits (take k es)) x ≡ fold (take_off is_gone) zone_edits (take (k + 1) es)
+      → take_off is_gone (fold (take_off is_gone) zone_edits (take k es)) x
+      ≡ fold (take_off is_gone) zone_edits (take (k + 1) es)
   one_more zone_edits es k x below at =
       sym (ap (fold (take_off is_gone) zone_edits) (take_more es k x below ∙ ap (λ y. take k es ++ y ∷ []) (sym at))
       ∙ fold-append (take_off is_gone) zone_edits (take k es) (x ∷ []))

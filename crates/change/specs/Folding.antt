@@ -1,18 +1,12 @@
 -- What the SYSMODs that change one element make of it, one after the other in the order of over.
-use Rattle.std.specs.Prelude.{◌≡◌, ◌≢◌, ◌⊎◌, ◌↔◌, ◌&&◌, ◌==◌, ◌++◌, ℕ, Bool, List, [], ◌∷◌, Option, None, Some, IsTrue}
-use Rattle.std.specs.Prelude.{Contains}
-use Rattle.std.specs.Str.{bytes_eq}
+use Rattle.std.specs.Prelude.{◌≡◌, ◌≢◌, ◌⊎◌, ◌↔◌, ◌++◌, ℕ, List, [], ◌∷◌, Option, None, Some, IsTrue, Contains}
 use Rattle.terms.specs.declared.kinds.ElemType.{ElemType}
-use Rattle.terms.specs.Types.{Text, Id, Lines, type_number, Action, Replaces, Updates, Change, Global, Element}
+use Rattle.terms.specs.Types.{Text, Id, Lines, Action, Replaces, Updates, Change, Global, Element}
 use Rattle.terms.specs.Lookups.{IsRising, change_of, has_change, element_of}
 use Rattle.terms.specs.Choice.{Choice}
 use Rattle.terms.specs.Over.{IsOver, owner}
 use Rattle.terms.specs.Texts.{IsNumbered, IsMerge, line_at, given, Touches}
 use Rattle.terms.specs.Install.{Installation, TakesEffect, cleared}
-
--- whether a statement is for the element of this type and name
-abbrev pub is_for : ElemType → Text → Change → Bool
-is_for type name h = (type_number h.elem_type == type_number type) && bytes_eq h.name name
 
 -- the element that a replacement by r makes
 abbrev pub replacement : Id → Id → ElemType → Text → Text → Text → Lines → Element

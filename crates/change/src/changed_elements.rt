@@ -13,7 +13,7 @@ ghost use Rattle.change.specs.Elements.{AreElementsAfter, IsInstallOf};
 
 use crate::folding::element_after;
 use crate::grouping::changes_by_element;
-use crate::ordering::in_order;
+use crate::ordering::sort_by_over;
 use fields::Id;
 use std::alloc::{AllocError, Global};
 use sysmods::Overs;
@@ -49,7 +49,7 @@ pub(crate) fn elements_after(
     let mut elements = Vec::new(alloc);
     for (element, changers) in &changes {
         let base = left.element(element.0, element.1);
-        let ordered = in_order(alloc, overs, changers)?;
+        let ordered = sort_by_over(alloc, overs, changers)?;
         let changed = element_after(alloc, vers, base, element.0, element.1, &ordered)?;
         elements.push(changed)?;
     }

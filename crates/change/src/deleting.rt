@@ -17,7 +17,7 @@ pub(crate) struct Deleting<'a, 'b> {
 }
 
 impl<'a, 'b> Deleting<'a, 'b> {
-    /// Its DELBY: the one that is there, otherwise the first SYSMOD that deletes it.
+    /// The DELBY of the id after the install: the one that the zone has, otherwise the first SYSMOD that deletes it.
     pub(crate) fn delby(&self, id: Id) -> Option<Id>
         requires { AreDeletions self.now }
         ensures { result ≡ delby_left self.now id }
@@ -28,8 +28,8 @@ impl<'a, 'b> Deleting<'a, 'b> {
         }
     }
 
-    // For a function that is taken out, the first kept SYSMOD whose DELETE meets its chain. For any other id, the
-    // first one that names it.
+    // For a function that DELETE takes out, the first kept SYSMOD whose DELETE meets its chain. For any other id, the
+    // first kept SYSMOD that names the id in DELETE.
     fn first_deleter(&self, id: Id) -> Option<Id>
         requires { AreDeletions self.now }
         ensures { result ≡ first_deleter self.now id }
@@ -42,7 +42,7 @@ impl<'a, 'b> Deleting<'a, 'b> {
                 .copied()
                 .find(|k| vers.meets(id, vers.del(*k)));
         }
-        // Few ids are ever named.
+        // Few ids are ever named in DELETE, so this spares the search.
         if !self.left.dels.contains(&id) {
             return None;
         }
@@ -53,8 +53,8 @@ impl<'a, 'b> Deleting<'a, 'b> {
     }
 }
 
-/// The entry in what is left; it may be empty.
-pub(crate) fn left_entry(alloc: Global, left: &ZoneLess, id: Id) -> Result<Entry, AllocError>
+/// The id's entry in the zone less the deletions. It is empty if the zone has none.
+pub(crate) fn entry_left(alloc: Global, left: &ZoneLess, id: Id) -> Result<Entry, AllocError>
     ensures entry { IfOk result (λ e. e ≡ old_entry (left_of left.now) id) }
     ensures form { IsZone left.now.zone.now }
 {

@@ -1,4 +1,4 @@
-//! Edits are added if they change something.
+//! Edits of a zone, which are added only if they change something.
 ghost use Rattle.std.specs.Prelude.{◌≡◌, [], IsTrue, OnOk};
 ghost use Rattle.terms.specs.Lookups.{element_cmp, element_key, has_content, waives_applied};
 ghost use Rattle.terms.specs.Rising.{Rises};
@@ -10,9 +10,9 @@ use fields::{Id, Name};
 use sorted::Edit;
 use std::alloc::AllocError;
 use terms::ElemType;
-use zones::{Element, Entry, Zone, ZoneEdits, is_element, is_same_entry};
+use zones::{Element, Entry, Zone, ZoneEdits, is_same_as_existing, is_same_entry};
 
-/// What is put or removed of elements.
+/// Puts an element, or removes the element of a type and a name.
 pub(crate) type ElementEdit = Edit<Element, (ElemType, Name)>;
 
 /// Puts the entry, unless the zone already has the same one.
@@ -47,7 +47,7 @@ pub(crate) fn remove_entry(
     zone_edits.remove_entry(id)
 }
 
-/// Makes those of the edits that change something.
+/// Adds those of the edits that change something.
 pub(crate) fn edit_elements(
     zone: &Zone,
     edits: Vec<ElementEdit>,
@@ -73,7 +73,7 @@ fn edit_element(
 {
     match edit {
         Edit::Put(element) => {
-            if is_element(&element, zone.element(element.elem_type, element.name)) {
+            if is_same_as_existing(&element, zone.element(element.elem_type, element.name)) {
                 return Ok(());
             }
             zone_edits.put_element(element)

@@ -22,8 +22,8 @@ pub(crate) struct Effective {
     pub(crate) superseded: Vec<(Id, Id)>,
 }
 
-/// Those of these kept SYSMODs.
-pub(crate) fn taking_effect(
+/// Finds which of the kept SYSMODs take effect, and what these supersede.
+pub(crate) fn find_effective(
     alloc: Global,
     vers: &VerChoice<'_>,
     kept: &IdList,
@@ -32,8 +32,8 @@ pub(crate) fn taking_effect(
     ensures superseded { IfOk result (λ e. ArePaired (choice vers.now) e.ids e.superseded.items) }
 {
     let seen = all_superseded(alloc, vers, kept)?;
-    let ids = IdList::from_vec(without(alloc, kept.as_slice(), &seen)?);
-    let superseded = with_superseders(alloc, vers, ids.as_slice())?;
+    let ids = IdList::from_vec(unseen_among(alloc, kept.as_slice(), &seen)?);
+    let superseded = superseded_pairs(alloc, vers, ids.as_slice())?;
     Ok(Effective { ids, superseded })
 }
 
@@ -47,22 +47,22 @@ fn all_superseded(
 {
     let mut seen = IndexSet::new(alloc);
     for id in kept.as_slice() {
-        see_named(vers, *id, &mut seen)?;
+        insert_sups(vers, *id, &mut seen)?;
     }
     let mut gone = 0;
     while gone < seen.len() {
         let id = seen.as_slice()[gone];
         // What a kept one names has been seen already.
         if !kept.contains(id) {
-            see_named(vers, id, &mut seen)?;
+            insert_sups(vers, id, &mut seen)?;
         }
         gone += 1;
     }
     Ok(seen)
 }
 
-// Adds what the SYSMOD names in SUP.
-fn see_named(vers: &VerChoice<'_>, id: Id, seen: &mut IndexSet<Id>) -> Result<(), AllocError>
+// Inserts the ids that the SYSMOD names in SUP.
+fn insert_sups(vers: &VerChoice<'_>, id: Id, seen: &mut IndexSet<Id>) -> Result<(), AllocError>
     ensures { OnOk result (AddsAll seen.old.keys (sup_of (choice vers.now) id) seen.new.keys) }
 {
     for other in vers.sup(id) {
@@ -71,7 +71,8 @@ fn see_named(vers: &VerChoice<'_>, id: Id, seen: &mut IndexSet<Id>) -> Result<()
     Ok(())
 }
 
-fn without(alloc: Global, ids: &[Id], seen: &IndexSet<Id>) -> Result<Vec<Id>, AllocError>
+// The ids that have not been seen, in their order.
+fn unseen_among(alloc: Global, ids: &[Id], seen: &IndexSet<Id>) -> Result<Vec<Id>, AllocError>
     ensures { IfOk result (λ left. left.items ≡ filter (λ x. not (is_in seen.now.keys x)) ids.now) }
 {
     ids.iter()
@@ -80,8 +81,8 @@ fn without(alloc: Global, ids: &[Id], seen: &IndexSet<Id>) -> Result<Vec<Id>, Al
         .collect(alloc)
 }
 
-// Each id that one of these SYSMODs supersedes, with that one.
-fn with_superseders(
+// Pairs of an id and one of these SYSMODs that supersedes it.
+fn superseded_pairs(
     alloc: Global,
     vers: &VerChoice<'_>,
     ids: &[Id],

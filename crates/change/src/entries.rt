@@ -5,7 +5,7 @@ ghost use Rattle.change.specs.Deleting.{AreDeletions};
 ghost use Rattle.change.specs.Entries.{is_open, IsAppliedEntry, IsOtherEntry};
 ghost use Rattle.change.specs.Entries.{HasPutEntries};
 
-use crate::deleting::{Deleting, left_entry};
+use crate::deleting::{Deleting, entry_left};
 use crate::differing::{put_entry, remove_entry};
 use crate::plan::Plan;
 use fields::{Attest, Id, IdList};
@@ -52,10 +52,9 @@ fn applied_entry(
     requires { AreDeletions deleting.now }
     ensures { IfOk result (IsAppliedEntry deleting.now plan.now id) }
 {
-    let old = left_entry(alloc, &deleting.left, id)?;
+    let old = entry_left(alloc, &deleting.left, id)?;
     let bypassed = listed(&plan.bypassed, id);
-    let waived = IdList::from_vec(unsupplied(alloc, deleting, plan, bypassed)?);
-    waived.attest();
+    let waived = IdList::from_vec(unsupplied_among(alloc, deleting, plan, bypassed)?);
     let delby = deleting.delby(id);
     let applied = Some(Applied {
         date: plan.date,
@@ -69,8 +68,8 @@ fn applied_entry(
     })
 }
 
-// Those of these ids that nothing supplies after the install.
-fn unsupplied(
+// The ids among these that nothing supplies after the install.
+fn unsupplied_among(
     alloc: Global,
     deleting: &Deleting,
     plan: &Plan,
@@ -79,13 +78,13 @@ fn unsupplied(
     ensures { IfOk result (λ left. left.items ≡ filter (is_open deleting.now plan.now) ids.now) }
 {
     ids.iter()
-        .filter(|id| is_open(deleting, plan, **id))
+        .filter(|id| is_unsupplied(deleting, plan, **id))
         .copied()
         .collect(alloc)
 }
 
 // Whether nothing supplies the id after the install.
-fn is_open(deleting: &Deleting, plan: &Plan, id: Id) -> bool
+fn is_unsupplied(deleting: &Deleting, plan: &Plan, id: Id) -> bool
     ensures { result ≡ is_open deleting.now plan.now id }
 {
     !plan.effective.contains(id)
@@ -99,7 +98,7 @@ fn other_entry(alloc: Global, deleting: &Deleting, plan: &Plan, id: Id) -> Resul
     ensures entry { IfOk result (IsOtherEntry deleting.now plan.now id) }
     ensures form { IsZone deleting.now.left.zone.now }
 {
-    let old = left_entry(alloc, &deleting.left, id)?;
+    let old = entry_left(alloc, &deleting.left, id)?;
     let mut supby = Vec::from_slice(alloc, old.supby.as_slice())?;
     supby.extend_from_slice(listed(&plan.superseders, id))?;
     let supby = IdList::from_vec(supby);

@@ -1,13 +1,13 @@
 //! What the SYSMODs that change one element make of it, one after the other in the order of over.
 ghost use Rattle.std.specs.Prelude.{◌≡◌, ◌<◌, ◌+◌, ◌⊎◌, All, AllPairs, Any, IsTrue, IsFalse, IsSome, IfOk, IfSome};
-ghost use Rattle.std.specs.Prelude.{IfNone, Some, drop, length, option_copied, position};
+ghost use Rattle.std.specs.Prelude.{IfNone, Some, drop, length, option_copied};
 ghost use Rattle.sysmods.specs.Choices.{choice};
 ghost use Rattle.terms.specs.Changes.{has_replacement};
 ghost use Rattle.terms.specs.Install.{Installation, HasElementAfter};
 ghost use Rattle.terms.specs.Lookups.{IsRising, change_of, has_change};
 ghost use Rattle.terms.specs.Over.{IsOver};
 ghost use Rattle.terms.specs.Texts.{IsNumbered};
-ghost use Rattle.change.specs.Folding.{AreChangers, IsFolded, IsMadeBy, IsUpdateOf, is_for};
+ghost use Rattle.change.specs.Folding.{AreChangers, IsFolded, IsMadeBy, IsUpdateOf};
 
 use fields::{Attest, Id, IdList, Name};
 use sorted::TryClone;
@@ -40,12 +40,12 @@ pub(crate) fn element_after(
 {
     vers.global().attest();
     match last_replacement(vers.global(), elem_type, name, changers) {
-        Some(place) => folded(alloc, vers, None, elem_type, name, &changers[place..]),
+        Some(place) => fold_changes(alloc, vers, None, elem_type, name, &changers[place..]),
         None => {
             let base = base.unwrap();
             base.umids.attest();
             let copy = base.try_clone(alloc)?;
-            folded(alloc, vers, Some(copy), elem_type, name, changers)
+            fold_changes(alloc, vers, Some(copy), elem_type, name, changers)
         }
     }
 }
@@ -57,7 +57,6 @@ fn last_replacement(
     name: Name,
     changers: &[Id],
 ) -> Option<usize>
-    requires { All (λ x. IsTrue (has_change global.now x elem_type name)) changers.now }
     ensures within { IfSome result (λ place. place < length changers.now) }
     ensures replaces { IfSome result
         (λ place. Any (λ x. IsTrue (has_replacement global.now x elem_type name)) (drop place changers.now)) }
@@ -67,7 +66,7 @@ fn last_replacement(
 {
     let mut place = changers.len();
     while place > 0 {
-        if replaces(global, changers[place - 1], elem_type, name) {
+        if global.has_replacement(changers[place - 1], elem_type, name) {
             return Some(place - 1);
         }
         place -= 1;
@@ -75,19 +74,8 @@ fn last_replacement(
     None
 }
 
-// Whether the SYSMOD, which changes the element, replaces it.
-fn replaces(global: &GlobalZone, id: Id, elem_type: ElemType, name: Name) -> bool
-    requires { IsTrue (has_change global.now id elem_type name) }
-    ensures { result ≡ has_replacement global.now id elem_type name }
-{
-    match change_of(global, id, elem_type, name).action {
-        Action::Replaces { .. } => true,
-        Action::Updates { .. } => false,
-    }
-}
-
 // What these SYSMODs make of the old element, if there is one.
-fn folded(
+fn fold_changes(
     alloc: Global,
     vers: &VerChoice<'_>,
     start: Option<Element>,
@@ -109,7 +97,7 @@ fn folded(
     let mut element = start;
     for id in changers {
         let change = change_of(vers.global(), *id, elem_type, name);
-        element = changed(alloc, vers.owner(*id), *id, change, element)?;
+        element = apply_change(alloc, vers.owner(*id), *id, change, element)?;
     }
     Ok(element.unwrap())
 }
@@ -121,21 +109,11 @@ fn change_of(global: &GlobalZone, id: Id, elem_type: ElemType, name: Name) -> &E
     ensures elem_type { result.now.elem_type ≡ elem_type }
     ensures name { result.now.name ≡ name }
 {
-    let sysmod = global.get(id).unwrap();
-    let place = find_change(sysmod.changes.as_slice(), elem_type, name).unwrap();
-    &sysmod.changes[place]
+    global.change_of(id, elem_type, name).unwrap()
 }
 
-// The place of the statement for the element.
-fn find_change(changes: &[ElemChange], elem_type: ElemType, name: Name) -> Option<usize>
-    ensures place { result ≡ position (is_for elem_type name) changes.now }
-    ensures within { IfSome result (λ i. i < length changes.now) }
-{
-    changes.iter().position(|change| change.elem_type == elem_type && change.name == name)
-}
-
-// The element after one statement that changes it.
-fn changed(
+// The element after one statement that changes it. `old` is the element before. Without one, an update leaves none.
+fn apply_change(
     alloc: Global,
     owner: Id,
     id: Id,
@@ -164,14 +142,14 @@ fn changed(
             text: Vec::from_slice(alloc, lines.as_slice())?,
         })),
         Action::Updates { update } => match old {
-            Some(element) => Ok(Some(updated(alloc, id, update, element)?)),
+            Some(element) => Ok(Some(apply_update(alloc, id, update, element)?)),
             None => Ok(None),
         },
     }
 }
 
 // The element after an update by the SYSMOD.
-fn updated(alloc: Global, id: Id, update: &Update, old: Element) -> Result<Element, AllocError>
+fn apply_update(alloc: Global, id: Id, update: &Update, old: Element) -> Result<Element, AllocError>
     requires { IsNumbered old.text }
     ensures { IfOk result (IsUpdateOf id update.now old) }
 {

@@ -19,7 +19,7 @@ use crate::changed_elements::elements_after;
 use crate::deleting::Deleting;
 use crate::differing::{ElementEdit, edit_elements};
 use crate::entries::put_entries;
-use crate::plan::{Plan, planned};
+use crate::plan::{Plan, make_plan};
 use fields::{Attest, Id, IdList, YyDdd};
 use sorted::{Edit, Table};
 use std::alloc::{AllocError, Global};
@@ -62,10 +62,10 @@ pub fn install(alloc: Global, installing: Installing<'_, '_>) -> Result<Installe
     let zone = installing.zone;
     let dels = deletions(alloc, installing.overs.vers(), installing.kept.as_slice())?;
     let dels = dels.as_slice();
-    let plan = planned(alloc, &installing, dels)?;
+    let plan = make_plan(alloc, &installing, dels)?;
     let zone_edits = edits_of(alloc, installing, dels, &plan)?;
     Ok(Installed {
-        delta: ZoneDelta::of(alloc, zone_edits, zone)?,
+        delta: ZoneDelta::from_edits(alloc, zone_edits, zone)?,
         effective: plan.effective,
     })
 }
@@ -88,7 +88,7 @@ fn edits_of(
     ensures differs { IfOk result (EachChanges installing.entry.zone.now) }
 {
     let zone = installing.zone;
-    zone.known_lists();
+    zone.attest_lists();
     let vers = installing.overs.vers();
     vers.global().attest();
     let kept = installing.kept.as_slice();
@@ -124,7 +124,7 @@ fn element_edits(
     ensures { IfOk result (AreElementEdits deleting.now overs.old effective.now) }
 {
     let mut edits = Table::new(alloc);
-    remove_elements(deleting, &mut edits)?;
+    remove_deleted_elements(deleting, &mut edits)?;
     let elements = elements_after(
         alloc,
         overs,
@@ -137,7 +137,10 @@ fn element_edits(
 }
 
 // Removes the elements whose owner's chain contains one of the deletions. Usually nothing is deleted.
-fn remove_elements(deleting: &Deleting, edits: &mut Table<ElementEdit>) -> Result<(), AllocError>
+fn remove_deleted_elements(
+    deleting: &Deleting,
+    edits: &mut Table<ElementEdit>,
+) -> Result<(), AllocError>
     ensures { OnOk result (edits.new ≡ less_elements deleting.now edits.old deleting.now.left.zone.now.elements) }
 {
     if deleting.left.dels.is_empty() {

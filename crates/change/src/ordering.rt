@@ -7,9 +7,9 @@ use fields::Id;
 use std::alloc::{AllocError, Global};
 use sysmods::Overs;
 
-/// The ids, any two of which over orders, so that each later one is over each earlier one. It asks once about an id
+/// Sorts ids, any two of which over orders, so that each later one is over each earlier one. It asks once about an id
 /// that is over all before it, and about any other as often as it takes to halve them.
-pub(crate) fn in_order(
+pub(crate) fn sort_by_over(
     alloc: Global,
     overs: &mut Overs<'_, '_>,
     ids: &[Id],
@@ -21,7 +21,7 @@ pub(crate) fn in_order(
 {
     let mut ordered = Vec::new(alloc);
     for id in ids {
-        let place = place_of(alloc, overs, &ordered, *id)?;
+        let place = find_place(alloc, overs, &ordered, *id)?;
         ordered.insert(place, *id)?;
     }
     Ok(ordered)
@@ -29,7 +29,7 @@ pub(crate) fn in_order(
 
 // The place of an id among others, which over orders: after the last one that it is over. It tests the last one first,
 // and then halves the rest.
-fn place_of(
+fn find_place(
     alloc: Global,
     overs: &mut Overs<'_, '_>,
     ordered: &[Id],

@@ -23,8 +23,8 @@ pub fn pairs_of(
         .collect(alloc)
 }
 
-/// The second ids by their first ids.
-pub(crate) fn grouped(alloc: Global, pairs: &[(Id, Id)]) -> Result<Lists<Id, Id>, AllocError>
+/// Lists for each first id its second ids.
+pub(crate) fn group_pairs(alloc: Global, pairs: &[(Id, Id)]) -> Result<Lists<Id, Id>, AllocError>
     ensures { IfOk result (AreGrouped pairs.now) }
 {
     let mut groups = BTreeMap::new(alloc);

@@ -4,9 +4,9 @@ ghost use Rattle.terms.specs.Types.{Id as AnId};
 ghost use Rattle.change.specs.Deleting.{at_stake};
 ghost use Rattle.change.specs.Plans.{IsPlan, installation_of};
 
-use crate::effective::{Effective, taking_effect};
+use crate::effective::{Effective, find_effective};
 use crate::installing::Installing;
-use crate::pairs::grouped;
+use crate::pairs::group_pairs;
 use fields::{Attest, Id, IdList, YyDdd};
 use sorted::lists::Lists;
 use std::alloc::{AllocError, Global};
@@ -23,8 +23,8 @@ pub(crate) struct Plan {
     pub(crate) date: YyDdd,
 }
 
-/// The plan of an install with these deletions.
-pub(crate) fn planned(
+/// Plans an install with these deletions: what takes effect, what that supersedes, and which entries may change.
+pub(crate) fn make_plan(
     alloc: Global,
     installing: &Installing<'_, '_>,
     dels: &[Id],
@@ -33,11 +33,11 @@ pub(crate) fn planned(
 {
     let vers = installing.overs.vers();
     vers.global().attest();
-    let Effective { ids, superseded } = taking_effect(alloc, vers, installing.kept)?;
+    let Effective { ids, superseded } = find_effective(alloc, vers, installing.kept)?;
     let superseded = superseded.as_slice();
-    let touched = touched(alloc, ids.as_slice(), superseded, installing.zone, dels)?;
-    let superseders = grouped(alloc, superseded)?;
-    let bypassed = grouped(alloc, installing.bypassed)?;
+    let touched = touched_ids(alloc, ids.as_slice(), superseded, installing.zone, dels)?;
+    let superseders = group_pairs(alloc, superseded)?;
+    let bypassed = group_pairs(alloc, installing.bypassed)?;
     Ok(Plan {
         effective: ids,
         superseders,
@@ -49,7 +49,7 @@ pub(crate) fn planned(
 
 // The ids whose entries may change: those that take effect, what they supersede, and if something is deleted all that
 // is deleted or has an entry. Usually nothing is.
-fn touched(
+fn touched_ids(
     alloc: Global,
     effective: &[Id],
     superseded: &[(Id, Id)],

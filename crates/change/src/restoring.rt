@@ -14,7 +14,7 @@ use sorted::TryClone;
 use std::alloc::{AllocError, Global};
 use sysmods::GlobalZone;
 use terms::ElemType;
-use zones::{Entry, Zone, ZoneDelta, ZoneEdits, are_same, entry_less};
+use zones::{Entry, Zone, ZoneDelta, ZoneEdits, are_same_elements, entry_less};
 
 /// What changes in a target zone when the kept SYSMODs are taken off it. Elements that they change become those of the
 /// distribution zone. Each edit changes something.
@@ -32,13 +32,13 @@ pub fn restore(
 {
     let mut zone_edits = ZoneEdits::new(alloc);
     take_all_off(alloc, kept, zone.entries(), &mut zone_edits)?;
-    let changed = changed_in_order(alloc, global, kept)?;
+    let changed = changed_keys_in_order(alloc, global, kept)?;
     put_all_back(alloc, zone, accepted, changed.as_slice(), &mut zone_edits)?;
-    ZoneDelta::of(alloc, zone_edits, zone)
+    ZoneDelta::from_edits(alloc, zone_edits, zone)
 }
 
 // The types and names of the elements that the SYSMODs change, in order, as often as one changes them.
-fn changed_in_order(
+fn changed_keys_in_order(
     alloc: Global,
     global: &GlobalZone,
     ids: &IdList,
@@ -47,14 +47,14 @@ fn changed_in_order(
 {
     let mut changed = Vec::new(alloc);
     for id in ids.as_slice() {
-        push_keys(global, *id, &mut changed)?;
+        push_changed_keys(global, *id, &mut changed)?;
     }
     changed.sort_unstable();
     Ok(changed)
 }
 
 // Adds the types and names of the elements that the SYSMOD changes.
-fn push_keys(
+fn push_changed_keys(
     global: &GlobalZone,
     id: Id,
     keys: &mut Vec<(ElemType, Name)>,
@@ -71,19 +71,21 @@ fn push_keys(
 }
 
 // Whether the entry's SYSMOD is kept and applied, or a kept one supersedes it.
-fn loses(kept: &IdList, entry: &Entry) -> bool
+fn loses_kept(kept: &IdList, entry: &Entry) -> bool
     ensures { result ≡ loses (is_in kept.now) entry.now }
 {
-    (kept.contains(entry.id) && entry.applied.is_some()) || has_any(kept, entry.supby.as_slice())
+    (kept.contains(entry.id) && entry.applied.is_some())
+        || is_any_kept(kept, entry.supby.as_slice())
 }
 
-fn has_any(kept: &IdList, ids: &[Id]) -> bool
+// Whether one of the ids is kept.
+fn is_any_kept(kept: &IdList, ids: &[Id]) -> bool
     ensures { result ≡ list_any (is_in kept.now) ids.now }
 {
     ids.iter().any(|id| kept.contains(*id))
 }
 
-// Takes the kept SYSMODs out of these entries.
+// Takes the kept SYSMODs out of each of these entries.
 fn take_all_off(
     alloc: Global,
     kept: &IdList,
@@ -99,7 +101,7 @@ fn take_all_off(
     Ok(())
 }
 
-// Takes the kept SYSMODs out of the entry.
+// Takes the kept SYSMODs out of the entry, and removes it if that leaves it empty.
 fn take_off(
     alloc: Global,
     kept: &IdList,
@@ -109,7 +111,7 @@ fn take_off(
     requires { IsTrue (waives_applied entry.now) }
     ensures { OnOk result (zone_edits.new ≡ take_off (is_in kept.now) zone_edits.old entry.now) }
 {
-    if !loses(kept, entry) {
+    if !loses_kept(kept, entry) {
         return Ok(());
     }
     let less = entry_less(alloc, kept, entry)?;
@@ -147,7 +149,7 @@ fn put_back(
     ensures { OnOk result (PutsBack zone.now accepted.now key zone_edits.old zone_edits.new) }
 {
     let wanted = accepted.element(key.0, key.1);
-    if are_same(zone.element(key.0, key.1), wanted) {
+    if are_same_elements(zone.element(key.0, key.1), wanted) {
         return Ok(());
     }
     match wanted {

@@ -3,6 +3,8 @@ ghost use Rattle.std.specs.Prelude.{◌≡◌, ◌≢◌, ◌==◌, ◌<◌, ◌
 ghost use Rattle.terms.specs.Forms.{is_word_byte};
 ghost use Rattle.cntl.specs.Walks.{IsAt, is_inner, WalksOn};
 
+use rec80::is_part_of_word;
+
 /// The state of the walk.
 #[derive(Clone, Copy)]
 pub enum At<'n> {
@@ -14,19 +16,8 @@ pub enum At<'n> {
     Other,
 }
 
-fn is_part_of_word(byte: u8) -> bool
-    ensures { result ≡ is_word_byte byte }
-{
-    byte.is_ascii_uppercase()
-        || byte.is_ascii_digit()
-        || byte == b'$'
-        || byte == b'#'
-        || byte == b'@'
-        || byte == b'+'
-}
-
-// After a character of a word.
-fn behind_part<'n>(left: &'n [u8], byte: u8) -> At<'n>
+// The state after a character of a word, in a run that agrees with the name so far. `left` is what the run still lacks.
+fn step_in_name<'n>(left: &'n [u8], byte: u8) -> At<'n>
     ensures at { (name run : List ℕ) → run ++ left.now ≡ name → IsAt name result (run ++ byte ∷ []) }
     ensures outer { is_inner result ≡ false }
 {
@@ -40,8 +31,8 @@ fn behind_part<'n>(left: &'n [u8], byte: u8) -> At<'n>
     }
 }
 
-// After a character that belongs to no word.
-fn behind_run<'n>(byte: u8, name: &'n [u8]) -> At<'n>
+// The state after a character that belongs to no word: an inner list begins, or the next run may.
+fn start_run<'n>(byte: u8, name: &'n [u8]) -> At<'n>
     ensures at { IsAt name.now result [] }
     ensures inner { is_inner result ≡ (byte == 40) }
 {
@@ -52,8 +43,8 @@ fn behind_run<'n>(byte: u8, name: &'n [u8]) -> At<'n>
     }
 }
 
-/// After the byte, if the run up to here is not the name or continues.
-pub fn behind<'n>(at: &At<'n>, byte: u8, name: &'n [u8]) -> At<'n>
+/// The state after the byte, if the run up to here is not the name or continues with the byte.
+pub fn step<'n>(at: &At<'n>, byte: u8, name: &'n [u8]) -> At<'n>
     ensures { (run : List ℕ) → 0 < length name.now → IsAt name.now at.now run
         → (run ≡ name.now → is_word_byte byte ≡ true) → WalksOn name.now at.now run byte result }
 {
@@ -67,16 +58,16 @@ pub fn behind<'n>(at: &At<'n>, byte: u8, name: &'n [u8]) -> At<'n>
         }
         At::Part(left) => {
             if is_part_of_word(byte) {
-                behind_part(left, byte)
+                step_in_name(left, byte)
             } else {
-                behind_run(byte, name)
+                start_run(byte, name)
             }
         }
         At::Other => {
             if is_part_of_word(byte) {
                 At::Other
             } else {
-                behind_run(byte, name)
+                start_run(byte, name)
             }
         }
     }

@@ -1,5 +1,5 @@
 //! The operand BYPASS and its members.
-ghost use Rattle.std.specs.Prelude.{◌↔◌, ℕ, Bool, List, IsTrue, codes, IfOk, IfErr, OnErr};
+ghost use Rattle.std.specs.Prelude.{ℕ, Bool, List, codes, IfOk, IfErr, OnErr};
 ghost use Rattle.terms.specs.Types as terms;
 ghost use Rattle.terms.specs.Forms.{IsClass, IsReason};
 ghost use Rattle.terms.specs.Words as grammar;
@@ -29,30 +29,25 @@ fn member_flag(list: &Text<'_>, name: &[u8]) -> Result<bool, BadOperand>
     flag(&named_member(list, name))
 }
 
-fn suits_kind(kind: HoldKind, reason: Reason) -> bool
-    ensures { IsTrue result ↔ IsReason kind reason }
-{
-    match kind {
-        HoldKind::Error => reason.is_id(),
-        HoldKind::System | HoldKind::User => true,
-    }
-}
-
 // The reasons in the list of a member, which are those of holds of this kind.
-fn reason_list(alloc: Global, kind: HoldKind, member: &Word<'_>) -> Result<ReasonList, OperandError>
+fn read_reason_list(
+    alloc: Global,
+    kind: HoldKind,
+    member: &Word<'_>,
+) -> Result<ReasonList, OperandError>
     ensures ok { IfOk result (λ list. HasSorted (IsReason kind) (word_of member.now) list × IsShort list) }
     ensures bad { IfErr result (λ e. Excludes e ((values : List (List ℕ))
         × (HasSorted (IsReason kind) (word_of member.now) values × IsShort values))) }
 {
     let reasons = short_list::<Reason>(alloc, member)?;
-    if !reasons.iter().all(|reason| suits_kind(kind, *reason)) {
+    if !reasons.iter().all(|reason| reason.suits(kind)) {
         return Err(OperandError::Bad);
     }
     Ok(reasons)
 }
 
 // The reasons of the member of that name, or all of them if it has no list.
-fn reasons(
+fn read_reasons(
     alloc: Global,
     kind: HoldKind,
     list: &Text<'_>,
@@ -69,10 +64,11 @@ fn reasons(
     if member.list.is_none() {
         return Ok(Reasons::Any);
     }
-    Ok(Reasons::These(reason_list(alloc, kind, &member)?))
+    Ok(Reasons::These(read_reason_list(alloc, kind, &member)?))
 }
 
-fn classes(alloc: Global, list: &Text<'_>) -> Result<ClassList, OperandError>
+// The classes of HOLDCLASS, none if it is absent.
+fn read_classes(alloc: Global, list: &Text<'_>) -> Result<ClassList, OperandError>
     ensures ok { (ms : List grammar.Word) → HasMembers (text_of list.now) ms
         → IfOk result (λ classes. HasShort IsClass (operand (codes "HOLDCLASS") ms) classes) }
     ensures bad { (ms : List grammar.Word) → HasMembers (text_of list.now) ms → IfErr result (λ e. Excludes e
@@ -85,7 +81,7 @@ fn classes(alloc: Global, list: &Text<'_>) -> Result<ClassList, OperandError>
 }
 
 // The values of the members of the list.
-fn bypassed(alloc: Global, list: &Text<'_>) -> Result<Bypass, OperandError>
+fn read_members(alloc: Global, list: &Text<'_>) -> Result<Bypass, OperandError>
     ensures ok { (ms : List grammar.Word) → HasMembers (text_of list.now) ms → IfOk result (λ b. HasBypassed ms b) }
     ensures bad { (ms : List grammar.Word) → HasMembers (text_of list.now) ms
         → IfErr result (λ e. Excludes e ((b : terms.Bypass) × HasBypassed ms b)) }
@@ -96,17 +92,21 @@ fn bypassed(alloc: Global, list: &Text<'_>) -> Result<Bypass, OperandError>
         ifreq: member_flag(list, b"IFREQ")?,
         same_id: member_flag(list, b"ID")?,
         applycheck: member_flag(list, b"APPLYCHECK")?,
-        holderror: reasons(alloc, HoldKind::Error, list, b"HOLDERROR")?,
-        holdsystem: reasons(alloc, HoldKind::System, list, b"HOLDSYSTEM")?,
-        holduser: reasons(alloc, HoldKind::User, list, b"HOLDUSER")?,
-        holdclass: classes(alloc, list)?,
+        holderror: read_reasons(alloc, HoldKind::Error, list, b"HOLDERROR")?,
+        holdsystem: read_reasons(alloc, HoldKind::System, list, b"HOLDSYSTEM")?,
+        holduser: read_reasons(alloc, HoldKind::User, list, b"HOLDUSER")?,
+        holdclass: read_classes(alloc, list)?,
     })
 }
 
 /// The value of BYPASS, none of whose members occurs twice. Without BYPASS nothing is bypassed. Returns `Memory` if
 /// memory runs out, and `Bad` if BYPASS has no list, or a member that the command's BYPASS may not have, or a member of
 /// another form.
-pub fn bypass(alloc: Global, word: CommandWord, words: &[Word<'_>]) -> Result<Bypass, OperandError>
+pub fn read_bypass(
+    alloc: Global,
+    word: CommandWord,
+    words: &[Word<'_>],
+) -> Result<Bypass, OperandError>
     ensures ok { AreSingle word (words_of words.now)
         → IfOk result (λ b. HasBypass word (operand (codes "BYPASS") (words_of words.now)) b) }
     ensures bad { IfErr result (λ e. Excludes e
@@ -121,5 +121,5 @@ pub fn bypass(alloc: Global, word: CommandWord, words: &[Word<'_>]) -> Result<By
     if !are_members(members_of(word), &list) {
         return Err(OperandError::Bad);
     }
-    bypassed(alloc, &list)
+    read_members(alloc, &list)
 }

@@ -56,7 +56,7 @@ pub fn read_command(alloc: Global, words: &Words<'_>) -> Result<Command, Command
     if is_unchosen(word, &operands) {
         return Err(CommandReadError::Fault(CommandCode::NoSingleList));
     }
-    let Some(named) = operands.named(operands_of(word)) else {
+    let Some(named) = operands.words_named(operands_of(word)) else {
         return Err(CommandReadError::Fault(CommandCode::BadCommandOperand));
     };
     match read_operands(alloc, word, named) {

@@ -17,7 +17,7 @@ pub fn has_double(word: CommandWord, operands: &Operands<'_>) -> bool
     if operands.has_twice(operands_of(word)) {
         return true;
     }
-    match operands.list_behind(b"BYPASS") {
+    match operands.list_after(b"BYPASS") {
         Some(list) => any_run_twice(members_of(word), &list),
         None => false,
     }

@@ -10,15 +10,16 @@ ghost use Rattle.fields.specs.Choices.{restore_list_of};
 ghost use Rattle.cntl.specs.Views.{command_of};
 ghost use Rattle.cntl.specs.Singles.{AreSingle};
 
-use crate::bypassed::bypass;
+use crate::bypassed::read_bypass;
 use crate::command::{Command, Install};
-use crate::operand_values::{flag_of, optional_list, short_list, some_ids};
+use crate::operand_values::{flag_of, optional_list, required_ids, short_list};
 use fields::{Id, ReceiveWhat, RestoreList, Selection, Source, ZoneName};
 use rec80::{BadOperand, OperandError, Word, operand, optional, required};
 use std::alloc::Global;
 use terms::CommandWord;
 
-fn receive(words: &[Word<'_>]) -> Result<ReceiveWhat, BadOperand>
+// What RECEIVE reads. It reads both files if the command names neither.
+fn read_receive(words: &[Word<'_>]) -> Result<ReceiveWhat, BadOperand>
     ensures ok { IfOk result (λ what. HasReceive (words_of words.now) what) }
     ensures bad { OnErr result ((what : terms.ReceiveWhat) → HasReceive (words_of words.now) what → ⊥) }
 {
@@ -32,7 +33,8 @@ fn receive(words: &[Word<'_>]) -> Result<ReceiveWhat, BadOperand>
     })
 }
 
-fn selection(alloc: Global, words: &[Word<'_>]) -> Result<Selection, OperandError>
+// What APPLY or ACCEPT chooses.
+fn read_selection(alloc: Global, words: &[Word<'_>]) -> Result<Selection, OperandError>
     ensures ok { IfOk result (λ s. HasSelection (words_of words.now) s) }
     ensures bad { IfErr result (λ e. Excludes e ((s : terms.Selection) × HasSelection (words_of words.now) s)) }
 {
@@ -60,13 +62,18 @@ fn selection(alloc: Global, words: &[Word<'_>]) -> Result<Selection, OperandErro
     })
 }
 
-fn install(alloc: Global, word: CommandWord, words: &[Word<'_>]) -> Result<Install, OperandError>
+// The operands of APPLY or ACCEPT.
+fn read_install(
+    alloc: Global,
+    word: CommandWord,
+    words: &[Word<'_>],
+) -> Result<Install, OperandError>
     ensures ok { AreSingle word (words_of words.now) → IfOk result (λ i. HasInstall word (words_of words.now) i) }
     ensures bad { IfErr result (λ e. Excludes e ((i : terms.Install) × HasInstall word (words_of words.now) i)) }
 {
     let check = flag_of(words, b"CHECK")?;
-    let selection = selection(alloc, words)?;
-    let bypass = bypass(alloc, word, words)?;
+    let selection = read_selection(alloc, words)?;
+    let bypass = read_bypass(alloc, word, words)?;
     Ok(Install {
         selection,
         bypass,
@@ -74,8 +81,8 @@ fn install(alloc: Global, word: CommandWord, words: &[Word<'_>]) -> Result<Insta
     })
 }
 
-// The ids of SELECT or of GROUP; exactly one of them is present.
-fn restore_list(alloc: Global, words: &[Word<'_>]) -> Result<RestoreList, OperandError>
+// The ids of SELECT or of GROUP, exactly one of which must be present.
+fn read_restore_list(alloc: Global, words: &[Word<'_>]) -> Result<RestoreList, OperandError>
     ensures ok { IfOk result (λ list. HasRestoreList (words_of words.now) (restore_list_of list)) }
     ensures bad { IfErr result (λ e. Excludes e ((list : terms.RestoreList)
         × HasRestoreList (words_of words.now) list)) }
@@ -106,12 +113,16 @@ pub fn read_operands(
             Some(zone) => Ok(Command::Set(zone)),
             None => Err(OperandError::Bad),
         },
-        CommandWord::Receive => Ok(Command::Receive(receive(words)?)),
-        CommandWord::Reject => Ok(Command::Reject(some_ids(alloc, words, b"SELECT")?)),
-        CommandWord::Apply => Ok(Command::Apply(install(alloc, CommandWord::Apply, words)?)),
-        CommandWord::Accept => Ok(Command::Accept(install(alloc, CommandWord::Accept, words)?)),
+        CommandWord::Receive => Ok(Command::Receive(read_receive(words)?)),
+        CommandWord::Reject => Ok(Command::Reject(required_ids(alloc, words, b"SELECT")?)),
+        CommandWord::Apply => Ok(Command::Apply(read_install(alloc, CommandWord::Apply, words)?)),
+        CommandWord::Accept => Ok(Command::Accept(read_install(
+            alloc,
+            CommandWord::Accept,
+            words,
+        )?)),
         CommandWord::Restore => Ok(Command::Restore {
-            list: restore_list(alloc, words)?,
+            list: read_restore_list(alloc, words)?,
             check: flag_of(words, b"CHECK")?,
         }),
         CommandWord::List => Ok(Command::List {

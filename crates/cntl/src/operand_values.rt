@@ -11,7 +11,7 @@ use fields::{Id, IdList, Rising};
 use rec80::{BadOperand, Member, OperandError, Word, flag, operand, rising};
 use std::alloc::Global;
 
-/// How many members a list may have.
+/// The most members that a list may have.
 const MOST: usize = 1000;
 
 /// Whether there is an operand of that name, which has no list. Returns an error if it has one.
@@ -57,7 +57,7 @@ pub fn optional_list<T: Member>(
 
 /// The ids of an operand that must be present. Returns `Memory` if memory runs out, and `Bad` if the operand is absent,
 /// or has no list of ids, more than 1,000 of them, or one of them twice.
-pub fn some_ids(alloc: Global, words: &[Word<'_>], name: &[u8]) -> Result<IdList, OperandError>
+pub fn required_ids(alloc: Global, words: &[Word<'_>], name: &[u8]) -> Result<IdList, OperandError>
     ensures ok { IfOk result (λ list. HasSome IsId (operand name.now (words_of words.now)) list) }
     ensures bad { IfErr result (λ e. Excludes e ((list : List (List ℕ))
         × HasSome IsId (operand name.now (words_of words.now)) list)) }

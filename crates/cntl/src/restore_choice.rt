@@ -14,8 +14,8 @@ pub fn is_unchosen(word: CommandWord, operands: &Operands<'_>) -> bool
     let CommandWord::Restore = word else {
         return false;
     };
-    let has_group = operands.is_there(b"GROUP");
-    if operands.is_there(b"SELECT") {
+    let has_group = operands.has_word(b"GROUP");
+    if operands.has_word(b"SELECT") {
         has_group
     } else {
         !has_group

@@ -6,11 +6,11 @@ ghost use Rattle.terms.specs.Operands.{is_often};
 ghost use Rattle.terms.proofs.OperandWords.{count};
 ghost use Rattle.rec80.specs.Cursors.{text_of};
 
-use crate::at::{At, behind, ends_before, is_whole};
+use crate::at::{At, ends_before, is_whole, step};
 use rec80::Text;
 
 // The text after the first run that is the name.
-fn behind_name<'a>(list: &Text<'a>, name: &[u8]) -> Option<Text<'a>>
+fn skip_past_name<'a>(list: &Text<'a>, name: &[u8]) -> Option<Text<'a>>
     ensures found { IfSome result (λ after. 0 < length name.now → count name.now (runs_from false [] (text_of list.now))
         ≡ 1 + count name.now (runs_from false [] (text_of after))) }
     ensures none { IfNone result (0 < length name.now
@@ -22,19 +22,20 @@ fn behind_name<'a>(list: &Text<'a>, name: &[u8]) -> Option<Text<'a>>
         if ends_before(&at, byte) {
             return Some(rest);
         }
-        at = behind(&at, byte, name);
+        at = step(&at, byte, name);
         rest = next;
     }
     if is_whole(&at) { Some(rest) } else { None }
 }
 
+// Whether at least two runs are the name.
 fn runs_twice(list: &Text<'_>, name: &[u8]) -> bool
     ensures { 0 < length name.now → result ≡ is_often 2 (runs_from false [] (text_of list.now)) name.now }
 {
-    let Some(after) = behind_name(list, name) else {
+    let Some(after) = skip_past_name(list, name) else {
         return false;
     };
-    behind_name(&after, name).is_some()
+    skip_past_name(&after, name).is_some()
 }
 
 /// Whether one of the names, none of which is empty, occurs twice.

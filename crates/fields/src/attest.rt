@@ -4,7 +4,7 @@
 pub trait Attest {
     ghost form: { Self → Type 0 };
 
-    /// The fact holds. The call does nothing.
+    /// Tells the proof of the caller that the fact holds. It does nothing at run time.
     fn attest(&self)
         ensures { form self.now };
 }

@@ -1,10 +1,12 @@
 //! What APPLY and ACCEPT disregard.
 ghost use Rattle.std.specs.Prelude.{◌≡◌, false};
 ghost use Rattle.terms.specs.CommandForms.{no_bypass};
+ghost use Rattle.terms.specs.Needs.{is_bypassed};
 
 use crate::{ClassList, ReasonList};
 use std::alloc::Global;
 use std::marker::Model;
+use terms::NeedKind;
 
 /// The reasons of holds that HOLDERROR, HOLDSYSTEM or HOLDUSER covers: those of its list, or all if it has no list.
 #[derive(Drop)]
@@ -62,6 +64,18 @@ impl Bypass {
             holdsystem: Reasons::None,
             holduser: Reasons::None,
             holdclass: ClassList::new(alloc),
+        }
+    }
+
+    /// Whether PRE, REQ or IFREQ in it covers needs of the kind.
+    pub fn covers(&self, kind: NeedKind) -> bool
+        ensures { result ≡ is_bypassed self.now kind }
+    {
+        match kind {
+            NeedKind::Pre => self.pre,
+            NeedKind::Req => self.req,
+            NeedKind::Ifreq => self.ifreq,
+            _ => false,
         }
     }
 }

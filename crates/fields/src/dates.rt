@@ -44,12 +44,12 @@ impl Attest for YyDdd {
 }
 
 impl YyDdd {
-    /// The date of this text, if it has the form.
+    /// The date that the text spells, if it is two digits of a year, a period and a day from 001 to 366.
     pub fn read(text: &[u8]) -> Option<YyDdd>
         ensures form { IsSome result ↔ IsDottedDate text.now }
         ensures same { IfSome result (λ read. read ≡ text.now) }
     {
-        if !is_dotted(text) {
+        if !is_dotted_date(text) {
             return None;
         }
         Some(YyDdd {
@@ -85,13 +85,15 @@ impl YyDdd {
     }
 }
 
+// The last digit of the number, as a character.
 fn last_digit(n: u16) -> u8
     ensures { result ≡ last_digit n }
 {
     b'0' + (n % 10) as u8
 }
 
-fn is_dotted(text: &[u8]) -> bool
+// Whether the text is `yy.ddd`.
+fn is_dotted_date(text: &[u8]) -> bool
     ensures { IsTrue result ↔ IsDottedDate text.now }
 {
     text.len() == 6 && are_digits(&text[..2], 2) && text[2] == b'.' && is_day(&text[3..])

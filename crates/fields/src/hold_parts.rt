@@ -1,12 +1,13 @@
 //! The parts of a hold.
 ghost use Rattle.std.specs.Prelude.{◌≡◌, ◌↔◌, IsSome, IfSome, IsTrue};
-ghost use Rattle.terms.specs.Forms.{IsClass, IsId, IsDate};
+ghost use Rattle.terms.specs.Forms.{IsClass, IsId, IsReason, IsDate};
 
-use crate::forms::{are_digits, is_day, is_run};
+use crate::forms::{are_digits, is_day, is_run_of_id_bytes};
 use crate::ids::Id;
 use crate::padded::Short;
 use crate::rising_lists::Field;
 use std::marker::Model;
+use terms::HoldKind;
 
 /// The reason of a hold, for an ERROR hold an id. A contract sees it as its bytes.
 #[derive(Clone, Copy, Debug, PartialEq, Eq, PartialOrd, Ord, Hash)]
@@ -34,12 +35,12 @@ impl Field for Reason {
 }
 
 impl Reason {
-    /// The value of this text, if it has the form.
+    /// The reason that the text spells, if it has 1 to 7 characters of ids.
     pub fn read(text: &[u8]) -> Option<Reason>
         ensures form { IsSome result ↔ IsClass text.now }
         ensures same { IfSome result (λ read. read ≡ text.now) }
     {
-        if !is_run(text, 1, 7) {
+        if !is_run_of_id_bytes(text, 1, 7) {
             return None;
         }
         Some(Reason {
@@ -59,7 +60,17 @@ impl Reason {
     pub fn is_id(&self) -> bool
         ensures { IsTrue result ↔ IsId self.now }
     {
-        is_run(self.as_bytes(), 7, 7)
+        is_run_of_id_bytes(self.as_bytes(), 7, 7)
+    }
+
+    /// Whether a hold of the kind may have this reason. Only an ERROR hold asks for an id.
+    pub fn suits(self, kind: HoldKind) -> bool
+        ensures { IsTrue result ↔ IsReason kind self }
+    {
+        match kind {
+            HoldKind::Error => self.is_id(),
+            HoldKind::System | HoldKind::User => true,
+        }
     }
 
     /// The id that it is, if it has the form of one.
@@ -97,7 +108,7 @@ impl Field for HoldDate {
 }
 
 impl HoldDate {
-    /// The value of this text, if it has the form.
+    /// The date that the text spells, if it is two digits of a year and a day from 001 to 366.
     pub fn read(text: &[u8]) -> Option<HoldDate>
         ensures form { IsSome result ↔ IsDate text.now }
         ensures same { IfSome result (λ read. read ≡ text.now) }
@@ -119,6 +130,7 @@ impl HoldDate {
     }
 }
 
+// Whether the text is `yyddd`.
 fn is_date(text: &[u8]) -> bool
     ensures { IsTrue result ↔ IsDate text.now }
 {

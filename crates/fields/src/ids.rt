@@ -2,7 +2,7 @@
 ghost use Rattle.std.specs.Prelude.{◌≡◌, ◌↔◌, IsSome, IfSome};
 ghost use Rattle.terms.specs.Forms.{IsId, IsSource, IsClass};
 
-use crate::forms::is_run;
+use crate::forms::is_run_of_id_bytes;
 use crate::padded::Short;
 use crate::rising_lists::Field;
 use std::marker::Model;
@@ -33,12 +33,12 @@ impl Field for Id {
 }
 
 impl Id {
-    /// The value of this text, if it has the form.
+    /// The id that the text spells, if it has seven characters, each of which an id may have.
     pub fn read(text: &[u8]) -> Option<Id>
         ensures form { IsSome result ↔ IsId text.now }
         ensures same { IfSome result (λ read. read ≡ text.now) }
     {
-        if !is_run(text, 7, 7) {
+        if !is_run_of_id_bytes(text, 7, 7) {
             return None;
         }
         Some(Id {
@@ -81,12 +81,12 @@ impl Field for Source {
 }
 
 impl Source {
-    /// The value of this text, if it has the form.
+    /// The source id that the text spells, if it has 1 to 64 characters of ids.
     pub fn read(text: &[u8]) -> Option<Source>
         ensures form { IsSome result ↔ IsSource text.now }
         ensures same { IfSome result (λ read. read ≡ text.now) }
     {
-        if !is_run(text, 1, 64) {
+        if !is_run_of_id_bytes(text, 1, 64) {
             return None;
         }
         Some(Source {
@@ -129,12 +129,12 @@ impl Field for Class {
 }
 
 impl Class {
-    /// The value of this text, if it has the form.
+    /// The class that the text spells, if it has 1 to 7 characters of ids.
     pub fn read(text: &[u8]) -> Option<Class>
         ensures form { IsSome result ↔ IsClass text.now }
         ensures same { IfSome result (λ read. read ≡ text.now) }
     {
-        if !is_run(text, 1, 7) {
+        if !is_run_of_id_bytes(text, 1, 7) {
             return None;
         }
         Some(Class {

@@ -3,7 +3,7 @@ ghost use Rattle.std.specs.Prelude.{◌≡◌, ◌↔◌, IsSome, IfSome, IsTrue
 ghost use Rattle.terms.specs.Forms.{IsName, IsZoneName, IsSrel};
 
 use crate::attest::Attest;
-use crate::forms::{are_digits, is_digit, is_letter, is_run};
+use crate::forms::{are_digits, is_digit, is_letter, is_run_of_id_bytes};
 use crate::padded::Short;
 use crate::rising_lists::Field;
 use std::marker::Model;
@@ -34,12 +34,12 @@ impl Field for Name {
 }
 
 impl Name {
-    /// The value of this text, if it has the form.
+    /// The name that the text spells, if it has 1 to 8 characters of ids and begins with no digit.
     pub fn read(text: &[u8]) -> Option<Name>
         ensures form { IsSome result ↔ IsName text.now }
         ensures same { IfSome result (λ read. read ≡ text.now) }
     {
-        if !(is_run(text, 1, 8) && !is_digit(text[0])) {
+        if !(is_run_of_id_bytes(text, 1, 8) && !is_digit(text[0])) {
             return None;
         }
         Some(Name {
@@ -92,12 +92,12 @@ impl Attest for ZoneName {
 }
 
 impl ZoneName {
-    /// The value of this text, if it has the form.
+    /// The name that the text spells, if it has 1 to 7 characters of ids and begins with a letter.
     pub fn read(text: &[u8]) -> Option<ZoneName>
         ensures form { IsSome result ↔ IsZoneName text.now }
         ensures same { IfSome result (λ read. read ≡ text.now) }
     {
-        if !(is_run(text, 1, 7) && is_letter(text[0])) {
+        if !(is_run_of_id_bytes(text, 1, 7) && is_letter(text[0])) {
             return None;
         }
         Some(ZoneName {
@@ -157,7 +157,7 @@ impl Attest for Srel {
 }
 
 impl Srel {
-    /// The value of this text, if it has the form.
+    /// The SREL that the text spells, if it is a letter and three digits.
     pub fn read(text: &[u8]) -> Option<Srel>
         ensures form { IsSome result ↔ IsSrel text.now }
         ensures same { IfSome result (λ read. read ≡ text.now) }
@@ -179,6 +179,7 @@ impl Srel {
     }
 }
 
+// Whether the text is a letter and three digits.
 fn is_srel(text: &[u8]) -> bool
     ensures { IsTrue result ↔ IsSrel text.now }
 {

@@ -38,6 +38,7 @@ impl<const N: usize> Model for Short<N> {
 }
 
 impl<const N: usize> Short<N> {
+    // The text, in place.
     pub(crate) fn new(text: &[u8]) -> Self
         requires fits { length text.now ≤ N }
         requires short { N < 2 ^ 8 }
@@ -51,6 +52,7 @@ impl<const N: usize> Short<N> {
         }
     }
 
+    // Its bytes, without the padding.
     pub(crate) fn as_bytes(&self) -> &[u8]
         ensures { result.now ≡ self.now }
     {

@@ -130,7 +130,7 @@ impl<T: Field> Rising<T> {
             (λ fits. self.new ≡ (if fits then self.old ++ item ∷ [] else self.old)) }
         ensures err { OnErr result (self.new ≡ self.old) }
     {
-        let fits = stands_last(self.items.as_slice(), item);
+        let fits = comes_after_all(self.items.as_slice(), item);
         if fits {
             self.items.push(item)?;
         }
@@ -146,9 +146,10 @@ impl<T: Field> Rising<T> {
         })
     }
 
-    /// Sorts the items and removes duplicates.
+    /// The list of these items. It sorts them and removes duplicates.
     pub fn from_vec(mut items: Vec<T>) -> Self
-        ensures { (x : T) → Contains result x ↔ Contains items.items x }
+        ensures members { (x : T) → Contains result x ↔ Contains items.items x }
+        ensures rising { Rises T.cmp (λ x. x) result }
     {
         items.sort_unstable();
         items.dedup();
@@ -157,7 +158,7 @@ impl<T: Field> Rising<T> {
 }
 
 // Whether all items, which rise, come before this one.
-fn stands_last<T: Field>(items: &[T], item: T) -> bool
+fn comes_after_all<T: Field>(items: &[T], item: T) -> bool
     requires { Rises T.cmp (λ x. x) items.now }
     ensures { IsTrue result ↔ All (λ x. IsTrue (is_lt (T.cmp x item))) items.now }
 {

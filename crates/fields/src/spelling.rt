@@ -1,6 +1,6 @@
 //! How kinds, types and codes are spelled in files, tables and reports. Each has one word, which is both written and
 //! read.
-ghost use Rattle.std.specs.Prelude.{◌≡◌, ◌≢◌, IfSome, IfNone};
+ghost use Rattle.std.specs.Prelude.{◌≡◌, ◌≢◌, ◌++◌, codes, IfSome, IfNone};
 ghost use Rattle.terms.specs.declared.kinds.Kind.{Kind};
 ghost use Rattle.terms.specs.declared.kinds.HoldKind.{HoldKind};
 ghost use Rattle.terms.specs.declared.kinds.ElemType.{ElemType};
@@ -9,10 +9,11 @@ ghost use Rattle.terms.specs.declared.codes.CommandWord.{CommandWord};
 ghost use Rattle.terms.specs.Spelling.{kind_text, hold_text, type_text, zone_kind_text, statement_code_text};
 ghost use Rattle.terms.specs.Spelling.{command_code_text, word_text};
 ghost use Rattle.terms.specs.Spelling.{test_text, need_text, refusal_text};
+ghost use Rattle.terms.specs.Statements.{statement_text};
 
 use terms::{
-    CommandCode, CommandWord, ElemType, HoldKind, IdRefusal, Kind, NeedKind, StatementCode, Test,
-    ZoneKind,
+    CommandCode, CommandWord, ElemType, HoldKind, IdRefusal, Kind, NeedKind, StatementCode,
+    StatementWord, Test, ZoneKind,
 };
 
 /// The word for a SYSMOD's type.
@@ -118,6 +119,23 @@ pub fn read_zone_kind(text: &[u8]) -> Option<ZoneKind>
         Some(ZoneKind::Distribution)
     } else {
         None
+    }
+}
+
+/// The word with which a statement begins, without its `++`.
+pub fn statement_text(word: StatementWord) -> &'static [u8]
+    ensures { codes "++" ++ result.now ≡ statement_text word }
+{
+    match word {
+        StatementWord::Header(kind) => kind_text(kind),
+        StatementWord::Ver => b"VER",
+        StatementWord::If => b"IF",
+        StatementWord::Hold => b"HOLD",
+        StatementWord::Release => b"RELEASE",
+        StatementWord::Assign => b"ASSIGN",
+        StatementWord::Replace(elem_type) => type_text(elem_type),
+        StatementWord::UpdateMac => b"MACUPD",
+        StatementWord::UpdateSrc => b"SRCUPD",
     }
 }
 

@@ -26,7 +26,7 @@ impl VerNumber {
     /// The number of the first `++VER`.
     pub const FIRST: VerNumber = VerNumber { value: 1 };
 
-    /// This number.
+    /// The number with this value.
     pub fn new(value: usize) -> VerNumber
         requires first { 1 ≤ value }
         requires fits { value < 2 ^ 63 }
@@ -36,7 +36,7 @@ impl VerNumber {
     }
 
     /// The number of the `++VER` at this place, counted from 0.
-    pub fn behind(place: usize) -> VerNumber
+    pub fn at_place(place: usize) -> VerNumber
         requires { place + 1 < 2 ^ 63 }
         ensures { result ≡ place + 1 }
     {

@@ -1,5 +1,5 @@
 -- Lists of the same texts.
-use Rattle.std.proofs.Common.{◌≡◌, ◌∙◌, [], ℕ, List, Bor, map, ap, sym, IsTrue, Contains, subst₂}
+use Rattle.std.proofs.Common.{◌≡◌, ◌∙◌, ℕ, List, Bor, map, ap, IsTrue, Contains, subst₂}
 use Rattle.std.specs.List.{All}
 use Rattle.std.proofs.lemmas.List.Elements.{All-contains, All-map}
 use Rattle.terms.proofs.Ids.{Contains_from_is_in}
@@ -15,12 +15,9 @@ among f ones others all x at =
     (All-map (λ x. IsTrue (is_in others x)) f ones all) at)
 
 -- what is lent of a vector has its texts
-pub lent : {xs ys : List (Bor (List ℕ))} {ts : List Text} → xs ≡ ys → map (λ x. x.now) ys ≡ ts → map (λ x. x.now) xs ≡ ts
+pub lent : {xs ys : List (Bor (List ℕ))} {ts : List Text} → xs ≡ ys → map (λ x. x.now) ys ≡ ts
+    → map (λ x. x.now) xs ≡ ts
 lent e f = ap (map (λ x. x.now)) e ∙ f
-
-pub none_left : {xs ys : List (Bor (List ℕ))} {ts : List Text} → xs ≡ ys → map (λ x. x.now) ys ≡ ts
-    → map (λ x. x.now) xs ≡ [] → ts ≡ []
-none_left e f g = sym f ∙ sym (ap (map (λ x. x.now)) e) ∙ g
 
 -- the same of equal lists
 pub turned : {ones same others texts : List Text} → ones ≡ same → others ≡ texts → AreThese ones others

@@ -1,5 +1,6 @@
 -- Lists that grow as a loop goes over another one.
-use Rattle.std.proofs.Common.{◌≡◌, ◌≢◌, ◌<◌, ◌+◌, ℕ, Bool, true, false, List, [], ◌++◌, ◌∷◌, length, take, get_or, map, filter}
+use Rattle.std.proofs.Common.{◌≡◌, ◌≢◌, ◌<◌, ◌+◌, ℕ, Bool, true, false, List, [], ◌++◌, ◌∷◌, length, take, get_or, map}
+use Rattle.std.proofs.Common.{filter}
 use Rattle.std.proofs.Common.{cond, sym, ap, subst, ◌∙◌, append-nil}
 use Rattle.std.specs.List.{All, flat_map}
 use Rattle.std.proofs.lemmas.List.{length-map, take_more, map-append}

@@ -1,5 +1,7 @@
--- What a command says that a shop's command asks for, operand by operand. The words are those of IBM z/OS SMP/E Commands.
-use Rattle.std.specs.Prelude.{◌≡◌, ◌≢◌, ◌↔◌, ◌||◌, ◌⊎◌, Bool, true, false, not, List, [], ◌∷◌, Option, Some, None, All, Contains}
+-- What a command says that a shop's command asks for, operand by operand. The words are those of IBM z/OS SMP/E
+-- Commands.
+use Rattle.std.specs.Prelude.{◌≡◌, ◌≢◌, ◌↔◌, ◌||◌, ◌⊎◌, Bool, true, false, not, List, [], ◌∷◌, Option, Some, None, All}
+use Rattle.std.specs.Prelude.{Contains}
 use Rattle.std.specs.Prelude.{IsTrue, codes, Vec}
 use Rattle.std.specs.declared.alloc.Global.{Global}
 use Rattle.terms.specs.Types.{Text, Reasons, NoReason, AnyReason, TheseReasons, Bypass, Selection, Install, RestoreList}

@@ -1,13 +1,13 @@
 -- The operands of a shop's commands: those that have one of some names, and the members of their lists.
-use Rattle.std.specs.Prelude.{◌==◌, ◌||◌, ◌&&◌, ◌-◌, ℕ, Bool, false, not, List, [], ◌∷◌, ◌++◌, Option, Some, None}
-use Rattle.std.specs.Prelude.{if◌then◌else◌, filter, map, is_none, length, nat_lt, nat_eq, take, drop, Vec, codes}
+use Rattle.std.specs.Prelude.{◌==◌, ◌||◌, ◌&&◌, ◌-◌, Bool, false, not, List, [], ◌∷◌, ◌++◌}
+use Rattle.std.specs.Prelude.{if◌then◌else◌, filter, map, is_none, length, nat_lt, nat_eq, take, drop, codes}
 use Rattle.std.specs.List.{list_any, flat_map, slice_split, starts_with}
 use Rattle.std.specs.Str.{bytes_eq}
-use Rattle.std.specs.declared.alloc.Global.{Global}
 use Rattle.terms.specs.declared.kinds.Kind.{Kind}
 use Rattle.terms.specs.declared.kinds.Kind.TheVariants.{Apar, Usermod}
 use Rattle.terms.specs.Types.{Text}
 use Rattle.terms.specs.Lookups.{is_in}
+use Rattle.intake_read.specs.Stated.{value_text}
 use Rattle.intake_read.specs.declared.items.WideOperand.{WideOperand}
 use Rattle.intake_asked.specs.declared.known.KnownSysmod.{KnownSysmod}
 
@@ -25,14 +25,10 @@ has names operands = list_any (λ o. is_called names o) operands
 abbrev pub stands_alone : List Text → List WideOperand → Bool
 stands_alone names operands = list_any (λ o. is_called names o && is_none o.value) operands
 
-abbrev pub list_in : Option (Vec ℕ Global) → Text
-list_in None = []
-list_in (Some list) = list.items
-
 -- the members of the operands of these names
 abbrev pub listed : List Text → List WideOperand → List Text
 listed names operands =
-    flat_map (λ o. if is_called names o then members (list_in o.value) else []) operands
+    flat_map (λ o. if is_called names o then members (value_text o.value) else []) operands
 
 -- ---- names, as SMP/E spells and abbreviates them
 

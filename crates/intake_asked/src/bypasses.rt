@@ -5,111 +5,111 @@ ghost use Rattle.terms.specs.Types.{TheseReasons};
 ghost use Rattle.intake_asked.specs.Words.{has, listed};
 ghost use Rattle.intake_asked.specs.Said.{AreThese, SaysReasons, SaysBypass};
 
-use crate::operands::{has, listed, stands_alone};
-use crate::same::are_these;
+use crate::operands::{has_operand, has_operand_without_list, members_of_operands};
+use crate::same::are_wanted_texts;
 use fields::{Bypass, Class, Reason, Reasons};
 use intake_read::WideOperand;
 use std::alloc::{AllocError, Global};
 
-// Whether the flags are those that are asked for.
-fn are_flags(bypassed: &[WideOperand], said: &Bypass) -> bool
-    ensures pre { IsTrue result → said.now.pre ≡ has (codes "PRE" ∷ []) bypassed.now }
-    ensures req { IsTrue result → said.now.req ≡ has (codes "REQ" ∷ []) bypassed.now }
-    ensures ifreq { IsTrue result → said.now.ifreq ≡ has (codes "IFREQ" ∷ []) bypassed.now }
-    ensures same_id { IsTrue result → said.now.same_id ≡ has (codes "ID" ∷ []) bypassed.now }
-    ensures applycheck { IsTrue result → said.now.applycheck ≡ has (codes "APPLYCHECK" ∷ []) bypassed.now }
+// Whether the flags are set for which BYPASS has a member, and no others.
+fn says_flags(bypassed: &[WideOperand], bypass: &Bypass) -> bool
+    ensures pre { IsTrue result → bypass.now.pre ≡ has (codes "PRE" ∷ []) bypassed.now }
+    ensures req { IsTrue result → bypass.now.req ≡ has (codes "REQ" ∷ []) bypassed.now }
+    ensures ifreq { IsTrue result → bypass.now.ifreq ≡ has (codes "IFREQ" ∷ []) bypassed.now }
+    ensures same_id { IsTrue result → bypass.now.same_id ≡ has (codes "ID" ∷ []) bypassed.now }
+    ensures applycheck { IsTrue result → bypass.now.applycheck ≡ has (codes "APPLYCHECK" ∷ []) bypassed.now }
 {
-    said.pre == has(&[b"PRE"], bypassed)
-        && said.req == has(&[b"REQ"], bypassed)
-        && said.ifreq == has(&[b"IFREQ"], bypassed)
-        && said.same_id == has(&[b"ID"], bypassed)
-        && said.applycheck == has(&[b"APPLYCHECK"], bypassed)
+    bypass.pre == has_operand(&[b"PRE"], bypassed)
+        && bypass.req == has_operand(&[b"REQ"], bypassed)
+        && bypass.ifreq == has_operand(&[b"IFREQ"], bypassed)
+        && bypass.same_id == has_operand(&[b"ID"], bypassed)
+        && bypass.applycheck == has_operand(&[b"APPLYCHECK"], bypassed)
 }
 
-// Whether these are the reasons that members of these names list.
-fn are_listed(
+// Whether the members of these names have lists, and these name just the reasons.
+fn says_list(
     alloc: Global,
     names: &[&[u8]],
     bypassed: &[WideOperand],
-    said: &[Reason],
+    reasons: &[Reason],
 ) -> Result<bool, AllocError>
     ensures { IfOk result (λ are. IsTrue are
-        → SaysReasons (map (λ name. name.now) names.now) bypassed.now (TheseReasons said.now)) }
+        → SaysReasons (map (λ name. name.now) names.now) bypassed.now (TheseReasons reasons.now)) }
 {
-    if !has(names, bypassed) {
+    if !has_operand(names, bypassed) {
         return Ok(false);
     }
-    if stands_alone(names, bypassed) {
+    if has_operand_without_list(names, bypassed) {
         return Ok(false);
     }
-    let wanted = listed(alloc, names, bypassed)?;
-    let are = are_these(alloc, said, &wanted)?;
-    Ok(are)
+    let wanted = members_of_operands(alloc, names, bypassed)?;
+    are_wanted_texts(alloc, reasons, &wanted)
 }
 
-// Whether the reasons are those of the members of these names.
-fn are_reasons(
+// Whether the choice of reasons is that of the members of these names: none without such a member, any if a member has
+// no list, or else those that they list.
+fn says_reasons(
     alloc: Global,
     names: &[&[u8]],
     bypassed: &[WideOperand],
-    said: &Reasons,
+    reasons: &Reasons,
 ) -> Result<bool, AllocError>
     ensures { IfOk result (λ are. IsTrue are
-        → SaysReasons (map (λ name. name.now) names.now) bypassed.now (reasons_in said.now)) }
+        → SaysReasons (map (λ name. name.now) names.now) bypassed.now (reasons_in reasons.now)) }
 {
-    match said {
-        Reasons::None => Ok(!has(names, bypassed)),
-        Reasons::Any => Ok(stands_alone(names, bypassed)),
-        Reasons::These(reasons) => {
-            let are = are_listed(alloc, names, bypassed, reasons.as_slice())?;
-            Ok(are)
-        }
+    match reasons {
+        Reasons::None => Ok(!has_operand(names, bypassed)),
+        Reasons::Any => Ok(has_operand_without_list(names, bypassed)),
+        Reasons::These(list) => says_list(alloc, names, bypassed, list.as_slice()),
     }
 }
 
-// Whether the classes are those of HOLDCLASS.
-fn are_classes(alloc: Global, bypassed: &[WideOperand], said: &[Class]) -> Result<bool, AllocError>
+// Whether the classes are just those that HOLDCLASS lists.
+fn says_classes(
+    alloc: Global,
+    bypassed: &[WideOperand],
+    classes: &[Class],
+) -> Result<bool, AllocError>
     ensures { IfOk result (λ are. IsTrue are
-        → AreThese said.now (listed (codes "HOLDCLASS" ∷ []) bypassed.now)) }
+        → AreThese classes.now (listed (codes "HOLDCLASS" ∷ []) bypassed.now)) }
 {
-    let wanted = listed(alloc, &[b"HOLDCLASS"], bypassed)?;
-    let are = are_these(alloc, said, &wanted)?;
-    Ok(are)
+    let wanted = members_of_operands(alloc, &[b"HOLDCLASS"], bypassed)?;
+    are_wanted_texts(alloc, classes, &wanted)
 }
 
-/// Whether just that is disregarded which the members of BYPASS ask for.
+/// Whether `bypass` disregards just what the members of a shop's BYPASS ask for.
 pub(crate) fn says_bypass(
     alloc: Global,
     bypassed: &[WideOperand],
-    said: &Bypass,
+    bypass: &Bypass,
 ) -> Result<bool, AllocError>
-    ensures { IfOk result (λ says. IsTrue says → SaysBypass bypassed.now said.now) }
+    ensures { IfOk result (λ says. IsTrue says → SaysBypass bypassed.now bypass.now) }
 {
-    let errors = are_reasons(
+    let errors = says_reasons(
         alloc,
         &[b"HOLDERROR", b"HOLDERR"],
         bypassed,
-        &said.holderror,
+        &bypass.holderror,
     )?;
     if !errors {
         return Ok(false);
     }
-    let systems = are_reasons(
+    let systems = says_reasons(
         alloc,
         &[b"HOLDSYSTEM", b"HOLDSYS"],
         bypassed,
-        &said.holdsystem,
+        &bypass.holdsystem,
     )?;
     if !systems {
         return Ok(false);
     }
-    let users = are_reasons(alloc, &[b"HOLDUSER"], bypassed, &said.holduser)?;
+    let users = says_reasons(alloc, &[b"HOLDUSER"], bypassed, &bypass.holduser)?;
     if !users {
         return Ok(false);
     }
-    let classes = are_classes(alloc, bypassed, said.holdclass.as_slice())?;
+    let classes = says_classes(alloc, bypassed, bypass.holdclass.as_slice())?;
     if !classes {
         return Ok(false);
     }
-    Ok(are_flags(bypassed, said))
+    Ok(says_flags(bypassed, bypass))
 }

@@ -5,7 +5,6 @@ ghost use Rattle.terms.specs.CommandForms.{command_word};
 ghost use Rattle.terms.specs.Lookups.{is_in};
 ghost use Rattle.terms.specs.Spelling.{word_text};
 ghost use Rattle.intake_asked.specs.KnownWords.{known_operands, known_members};
-ghost use Rattle.terms.specs.Types.{RestoreSelect, RestoreGroup};
 ghost use Rattle.cntl.specs.Views.{command_of};
 ghost use Rattle.intake_asked.specs.Words.{has, stands_alone, listed, select_names, check_names};
 ghost use Rattle.intake_asked.specs.Said.{AreThese, one_of, is_no_decision, SaysInstall, SaysRestored, SaysReceive};
@@ -13,10 +12,10 @@ ghost use Rattle.intake_asked.specs.Said.{SaysOperands, Says, AreSaid};
 
 use crate::bypasses::says_bypass;
 use crate::known::KnownSysmod;
-use crate::lists::{grouped, select_names, selected};
+use crate::lists::{grouped_ids, select_names, selected_ids};
 use crate::names::{known_members, known_operands};
-use crate::operands::{are_called, has, listed, stands_alone};
-use crate::same::{are_none, are_these, is_this};
+use crate::operands::{has_operand, has_operand_without_list, have_names, members_of_operands};
+use crate::same::{are_none, are_wanted_texts, is_only_wanted_text};
 use crate::scan::WideCommand;
 use crate::selections::says_selection;
 use cntl::{Command, Install};
@@ -27,6 +26,7 @@ use rec80::is_among;
 use std::alloc::{AllocError, Global};
 use terms::CommandWord;
 
+// The word with which a command of this kind begins.
 fn word_of(command: &Command) -> CommandWord
     ensures { result ≡ command_word (command_of command.now) }
 {
@@ -42,233 +42,202 @@ fn word_of(command: &Command) -> CommandWord
     }
 }
 
-/// Whether the word is that of a command that changes no decision: return codes keep no command from running here, and
-/// there is no log.
-pub fn is_no_decision(word: &[u8]) -> bool
+/// Whether the word is RESETRC, LOG or DEBUG. Such a command changes no decision: return codes keep no command from
+/// running here, and there is no log.
+pub fn changes_no_decision(word: &[u8]) -> bool
     ensures { result ≡ is_no_decision word.now }
 {
     is_among(&[b"RESETRC", b"LOG", b"DEBUG"], word)
 }
 
+// Whether `check` is true just if the operands have CHECK.
 fn says_check(operands: &[WideOperand], check: bool) -> bool
     ensures { IsTrue result → check ≡ stands_alone check_names operands.now }
 {
-    check == stands_alone(&[b"CHECK", b"C"], operands)
+    check == has_operand_without_list(&[b"CHECK", b"C"], operands)
 }
 
+// Whether an APPLY or an ACCEPT chooses and disregards just what the shop's command asks for.
 fn says_install(
     alloc: Global,
     known: &Option<Vec<KnownSysmod>>,
     wide: &WideCommand,
-    said: &Install,
+    install: &Install,
 ) -> Result<bool, AllocError>
-    ensures { IfOk result (λ says. IsTrue says → SaysInstall known.now wide.now said.now) }
+    ensures { IfOk result (λ says. IsTrue says → SaysInstall known.now wide.now install.now) }
 {
     let operands = wide.operands.as_slice();
-    if !says_check(operands, said.check) {
+    if !says_check(operands, install.check) {
         return Ok(false);
     }
-    let selection = says_selection(alloc, known, operands, &said.selection)?;
+    let selection = says_selection(alloc, known, operands, &install.selection)?;
     if !selection {
         return Ok(false);
     }
-    let bypass = says_bypass(alloc, wide.bypassed.as_slice(), &said.bypass)?;
+    let bypass = says_bypass(alloc, wide.bypassed.as_slice(), &install.bypass)?;
     Ok(bypass)
 }
 
-// Whether just that is received which the operands ask for.
-fn says_kinds(operands: &[WideOperand], said: &ReceiveWhat) -> bool
-    ensures sysmods { IsTrue result → said.now.sysmods
+// Whether the RECEIVE takes SYSMODs if SYSMODS is there or HOLDDATA is not, and holds likewise.
+fn says_kinds(operands: &[WideOperand], receive: &ReceiveWhat) -> bool
+    ensures sysmods { IsTrue result → receive.now.sysmods
         ≡ (has (codes "SYSMODS" ∷ codes "SYSMOD" ∷ []) operands.now || not (has (codes "HOLDDATA" ∷ []) operands.now)) }
-    ensures holddata { IsTrue result → said.now.holddata
+    ensures holddata { IsTrue result → receive.now.holddata
         ≡ (has (codes "HOLDDATA" ∷ []) operands.now || not (has (codes "SYSMODS" ∷ codes "SYSMOD" ∷ []) operands.now)) }
 {
-    let sysmods = has(&[b"SYSMODS", b"SYSMOD"], operands);
-    let holddata = has(&[b"HOLDDATA"], operands);
-    are_kinds(said, sysmods, holddata)
+    let sysmods = has_operand(&[b"SYSMODS", b"SYSMOD"], operands);
+    let holddata = has_operand(&[b"HOLDDATA"], operands);
+    receive.sysmods == (sysmods || !holddata) && receive.holddata == (holddata || !sysmods)
 }
 
-fn are_kinds(said: &ReceiveWhat, sysmods: bool, holddata: bool) -> bool
-    ensures sysmods { IsTrue result → said.now.sysmods ≡ (sysmods || not holddata) }
-    ensures holddata { IsTrue result → said.now.holddata ≡ (holddata || not sysmods) }
-{
-    said.sysmods == is_asked(sysmods, holddata) && said.holddata == is_asked(holddata, sysmods)
-}
-
-// Whether the one is asked for, or neither is.
-fn is_asked(one: bool, other: bool) -> bool
-    ensures { result ≡ (one || not other) }
-{
-    one || !other
-}
-
+// Whether a RECEIVE takes just what the operands ask for, from the source that they name.
 fn says_receive(
     alloc: Global,
     operands: &[WideOperand],
-    said: &ReceiveWhat,
+    receive: &ReceiveWhat,
 ) -> Result<bool, AllocError>
-    ensures { IfOk result (λ says. IsTrue says → SaysReceive operands.now said.now) }
+    ensures { IfOk result (λ says. IsTrue says → SaysReceive operands.now receive.now) }
 {
-    if !says_kinds(operands, said) {
+    if !says_kinds(operands, receive) {
         return Ok(false);
     }
-    let source = says_source(alloc, operands, &said.source)?;
-    Ok(source)
+    says_source(alloc, operands, &receive.source)
 }
 
+// Whether the source ids are just those of SOURCEID: one or none.
 fn says_source(
     alloc: Global,
     operands: &[WideOperand],
-    said: &Option<Source>,
+    source_id: &Option<Source>,
 ) -> Result<bool, AllocError>
     ensures { IfOk result (λ says. IsTrue says
-        → AreThese (one_of said.now) (listed (codes "SOURCEID" ∷ []) operands.now)) }
+        → AreThese (one_of source_id.now) (listed (codes "SOURCEID" ∷ []) operands.now)) }
 {
-    let wanted = listed(alloc, &[b"SOURCEID"], operands)?;
-    let Some(source) = said else {
+    let wanted = members_of_operands(alloc, &[b"SOURCEID"], operands)?;
+    let Some(source) = source_id else {
         return Ok(are_none(&wanted));
     };
-    let is = is_this(alloc, source, &wanted)?;
-    Ok(is)
+    is_only_wanted_text(alloc, source, &wanted)
 }
 
-fn says_ids(alloc: Global, operands: &[WideOperand], said: &[Id]) -> Result<bool, AllocError>
-    ensures { IfOk result (λ says. IsTrue says → AreThese said.now (listed select_names operands.now)) }
+// Whether the ids are just those of SELECT.
+fn says_ids(alloc: Global, operands: &[WideOperand], ids: &[Id]) -> Result<bool, AllocError>
+    ensures { IfOk result (λ says. IsTrue says → AreThese ids.now (listed select_names operands.now)) }
 {
-    let wanted = listed(alloc, select_names(), operands)?;
-    let are = are_these(alloc, said, &wanted)?;
-    Ok(are)
+    let wanted = members_of_operands(alloc, select_names(), operands)?;
+    are_wanted_texts(alloc, ids, &wanted)
 }
 
-fn says_zone(alloc: Global, operands: &[WideOperand], said: ZoneName) -> Result<bool, AllocError>
+// Whether the zone is the one that BDY names.
+fn says_zone(alloc: Global, operands: &[WideOperand], zone: ZoneName) -> Result<bool, AllocError>
     ensures { IfOk result (λ says. IsTrue says
-        → AreThese (said ∷ []) (listed (codes "BDY" ∷ codes "BOUNDARY" ∷ []) operands.now)) }
+        → AreThese (zone ∷ []) (listed (codes "BDY" ∷ codes "BOUNDARY" ∷ []) operands.now)) }
 {
-    let wanted = listed(alloc, &[b"BDY", b"BOUNDARY"], operands)?;
-    let is = is_this(alloc, &said, &wanted)?;
-    Ok(is)
+    let wanted = members_of_operands(alloc, &[b"BDY", b"BOUNDARY"], operands)?;
+    is_only_wanted_text(alloc, &zone, &wanted)
 }
 
-// Whether RESTORE has just these ids in SELECT.
-fn restores_selected(
+// Whether the ids are just the stated ones, and no other ids are stated.
+fn are_only_in(
     alloc: Global,
-    operands: &[WideOperand],
-    said: &[Id],
+    ids: &[Id],
+    stated: &[&[u8]],
+    other: &[&[u8]],
 ) -> Result<bool, AllocError>
-    ensures { IfOk result (λ says. IsTrue says → SaysRestored operands.now (RestoreSelect said.now)) }
+    ensures { IfOk result (λ are. IsTrue are → AreThese ids.now (map (λ id. id.now) stated.now)
+        × (map (λ id. id.now) other.now ≡ [])) }
 {
-    let grouped = grouped(alloc, operands)?;
-    if !are_none(&grouped) {
+    if !are_none(other) {
         return Ok(false);
     }
-    let selected = selected(alloc, operands)?;
-    let are = are_these(alloc, said, &selected)?;
-    Ok(are)
+    are_wanted_texts(alloc, ids, stated)
 }
 
-// The same of GROUP.
-fn restores_grouped(
+// Whether the operands have just the ids of the list of a RESTORE: in SELECT or in GROUP, as the list says.
+fn says_restore_list(
     alloc: Global,
     operands: &[WideOperand],
-    said: &[Id],
+    list: &RestoreList,
 ) -> Result<bool, AllocError>
-    ensures { IfOk result (λ says. IsTrue says → SaysRestored operands.now (RestoreGroup said.now)) }
+    ensures { IfOk result (λ says. IsTrue says → SaysRestored operands.now (restore_list_of list.now)) }
 {
-    let selected = selected(alloc, operands)?;
-    if !are_none(&selected) {
-        return Ok(false);
-    }
-    let grouped = grouped(alloc, operands)?;
-    let are = are_these(alloc, said, &grouped)?;
-    Ok(are)
-}
-
-fn says_restored(
-    alloc: Global,
-    operands: &[WideOperand],
-    said: &RestoreList,
-) -> Result<bool, AllocError>
-    ensures { IfOk result (λ says. IsTrue says → SaysRestored operands.now (restore_list_of said.now)) }
-{
-    match said {
-        RestoreList::Select(ids) => {
-            let says = restores_selected(alloc, operands, ids.as_slice())?;
-            Ok(says)
-        }
-        RestoreList::Group(ids) => {
-            let says = restores_grouped(alloc, operands, ids.as_slice())?;
-            Ok(says)
-        }
+    let selected = selected_ids(alloc, operands)?;
+    let grouped = grouped_ids(alloc, operands)?;
+    match list {
+        RestoreList::Select(ids) => are_only_in(alloc, ids.as_slice(), &selected, &grouped),
+        RestoreList::Group(ids) => are_only_in(alloc, ids.as_slice(), &grouped, &selected),
     }
 }
 
+// Whether a RESTORE with this list and this `check` says just what the operands ask for.
 fn says_restore(
     alloc: Global,
     operands: &[WideOperand],
-    said: &RestoreList,
+    list: &RestoreList,
     check: bool,
 ) -> Result<bool, AllocError>
-    ensures { IfOk result (λ says. IsTrue says → SaysRestored operands.now (restore_list_of said.now)
+    ensures { IfOk result (λ says. IsTrue says → SaysRestored operands.now (restore_list_of list.now)
         × (check ≡ stands_alone check_names operands.now)) }
 {
     if !says_check(operands, check) {
         return Ok(false);
     }
-    let says = says_restored(alloc, operands, said)?;
-    Ok(says)
+    says_restore_list(alloc, operands, list)
 }
 
+// Whether the operands of the command say just what those of the shop's command ask for.
 fn says_operands(
     alloc: Global,
     known: &Option<Vec<KnownSysmod>>,
     wide: &WideCommand,
-    said: &Command,
+    command: &Command,
 ) -> Result<bool, AllocError>
-    ensures { IfOk result (λ says. IsTrue says → SaysOperands known.now wide.now (command_of said.now)) }
+    ensures { IfOk result (λ says. IsTrue says → SaysOperands known.now wide.now (command_of command.now)) }
 {
     let operands = wide.operands.as_slice();
-    match said {
+    match command {
         Command::Set(zone) => says_zone(alloc, operands, *zone),
         Command::Receive(what) => says_receive(alloc, operands, what),
         Command::Reject(ids) => says_ids(alloc, operands, ids.as_slice()),
         Command::Apply(install) => says_install(alloc, known, wide, install),
         Command::Accept(install) => says_install(alloc, known, wide, install),
         Command::Restore { list, check } => says_restore(alloc, operands, list, *check),
-        Command::List { text } => Ok(*text == has(&[b"TEXT"], operands)),
-        Command::Report => Ok(has(&[b"ERRSYSMODS"], operands)),
+        Command::List { text } => Ok(*text == has_operand(&[b"TEXT"], operands)),
+        Command::Report => Ok(has_operand(&[b"ERRSYSMODS"], operands)),
     }
 }
 
+// Whether the shop's command begins with this word.
 fn has_word(wide: &WideCommand, word: CommandWord) -> bool
     ensures { IsTrue result → wide.now.head.name.items ≡ word_text word }
 {
     wide.head.name.as_slice() == word_text(word)
 }
 
-// Whether it has no operands but those that such a command may have.
+// Whether the shop's command has no operands but those that a command of the word may have.
 fn has_known_operands(wide: &WideCommand, word: CommandWord) -> bool
     ensures { IsTrue result → All (λ o. IsTrue (is_in (known_operands word) o.name.items)) wide.now.operands.items }
 {
-    are_called(known_operands(word), wide.operands.as_slice())
+    have_names(known_operands(word), wide.operands.as_slice())
 }
 
-// The same of the members of its BYPASS.
+// Whether the BYPASS of the shop's command has no members but those that it may have in a command of the word.
 fn has_known_members(wide: &WideCommand, word: CommandWord) -> bool
     ensures { IsTrue result → All (λ o. IsTrue (is_in (known_members word) o.name.items)) wide.now.bypassed.items }
 {
-    are_called(known_members(word), wide.bypassed.as_slice())
+    have_names(known_members(word), wide.bypassed.as_slice())
 }
 
-/// Whether the command says just what this one of a shop asks for.
+/// Whether the command says just what the shop's command `wide` asks for.
 pub fn says(
     alloc: Global,
     known: &Option<Vec<KnownSysmod>>,
     wide: &WideCommand,
-    said: &Command,
+    command: &Command,
 ) -> Result<bool, AllocError>
-    ensures { IfOk result (λ says. IsTrue says → Says known.now wide.now (command_of said.now)) }
+    ensures { IfOk result (λ says. IsTrue says → Says known.now wide.now (command_of command.now)) }
 {
-    let word = word_of(said);
+    let word = word_of(command);
     if !has_word(wide, word) {
         return Ok(false);
     }
@@ -278,29 +247,22 @@ pub fn says(
     if !has_known_members(wide, word) {
         return Ok(false);
     }
-    let says = says_operands(alloc, known, wide, said)?;
-    Ok(says)
+    says_operands(alloc, known, wide, command)
 }
 
-fn decides_nothing(wide: &WideCommand) -> bool
-    ensures { result ≡ is_no_decision wide.now.head.name.items }
-{
-    is_no_decision(wide.head.name.as_slice())
-}
-
-/// Whether the commands say, one after the other, just what these of a shop ask for, but for those that change no
-/// decision.
+/// Whether the commands say, one after the other, just what the shop's commands `wide` ask for. Of these the ones that
+/// change no decision are passed over.
 pub fn are_said(
     alloc: Global,
     known: &Option<Vec<KnownSysmod>>,
     wide: &[WideCommand],
-    said: &[Command],
+    commands: &[Command],
 ) -> Result<bool, AllocError>
-    ensures { IfOk result (λ are. IsTrue are → AreSaid known.now wide.now (map command_of said.now)) }
+    ensures { IfOk result (λ are. IsTrue are → AreSaid known.now wide.now (map command_of commands.now)) }
 {
-    let mut left = said;
+    let mut left = commands;
     for command in wide {
-        if decides_nothing(command) {
+        if changes_no_decision(command.head.name.as_slice()) {
             continue;
         }
         let Some((first, rest)) = left.split_first() else {

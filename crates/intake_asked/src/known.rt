@@ -1,5 +1,6 @@
 //! The SYSMODs that a list names, with their types and source ids.
 
+use fields::spelling::read_kind;
 use fields::{Id, Source};
 use std::alloc::{AllocError, Global};
 use terms::Kind;
@@ -20,14 +21,14 @@ pub enum KnownList {
     BadLine(usize),
 }
 
-/// The SYSMODs of the list.
+/// Reads the list. Returns `BadLine` for the first line that is not in form.
 pub fn read_known(alloc: Global, bytes: &[u8]) -> Result<KnownList, AllocError> {
     let mut sysmods = Vec::new(alloc);
     for (place, line) in bytes.split(|byte| *byte == b'\n').enumerate() {
-        if says_nothing(line) {
+        if is_blank_or_remark(line) {
             continue;
         }
-        match known_sysmod(alloc, line)? {
+        match read_known_sysmod(alloc, line)? {
             Some(sysmod) => sysmods.push(sysmod)?,
             None if place == 0 => {}
             None => return Ok(KnownList::BadLine(place.saturating_add(1))),
@@ -36,28 +37,20 @@ pub fn read_known(alloc: Global, bytes: &[u8]) -> Result<KnownList, AllocError> 
     Ok(KnownList::Sysmods(sysmods))
 }
 
-fn is_between(byte: u8) -> bool {
+// Whether the character stands between the words of a line.
+fn separates_words(byte: u8) -> bool {
     matches!(byte, b' ' | b',' | b'|' | b'"' | b'\t' | b'\r')
 }
 
-fn says_nothing(line: &[u8]) -> bool {
-    line.iter()
-        .all(|byte| is_between(*byte) || matches!(byte, b'-' | b'+'))
+// Whether the line says nothing of a SYSMOD: it is blank, or a line of dashes.
+fn is_blank_or_remark(line: &[u8]) -> bool {
+    line.iter().all(|byte| separates_words(*byte) || matches!(byte, b'-' | b'+'))
 }
 
-fn kind_of(word: &[u8]) -> Option<Kind> {
-    match word {
-        b"FUNCTION" => Some(Kind::Function),
-        b"PTF" => Some(Kind::Ptf),
-        b"APAR" => Some(Kind::Apar),
-        b"USERMOD" => Some(Kind::Usermod),
-        _ => None,
-    }
-}
-
-fn known_sysmod(alloc: Global, line: &[u8]) -> Result<Option<KnownSysmod>, AllocError> {
+// The SYSMOD of a line, or `None` if the line is not in form.
+fn read_known_sysmod(alloc: Global, line: &[u8]) -> Result<Option<KnownSysmod>, AllocError> {
     let mut words: Vec<&[u8]> = Vec::new(alloc);
-    for word in line.split(|byte| is_between(*byte)) {
+    for word in line.split(|byte| separates_words(*byte)) {
         if !word.is_empty() {
             words.push(word)?;
         }
@@ -65,7 +58,7 @@ fn known_sysmod(alloc: Global, line: &[u8]) -> Result<Option<KnownSysmod>, Alloc
     let [id, kind, listed @ ..] = words.as_slice() else {
         return Ok(None);
     };
-    let (Some(id), Some(kind)) = (Id::read(*id), kind_of(*kind)) else {
+    let (Some(id), Some(kind)) = (Id::read(*id), read_kind(*kind)) else {
         return Ok(None);
     };
     let mut sources = Vec::new(alloc);

@@ -5,7 +5,7 @@ ghost use Rattle.intake_asked.specs.Words.{selected, grouped, excluded, kept_out
 ghost use Rattle.intake_asked.specs.Words.{select_names, group_names, groupextend_names};
 
 use crate::known::KnownSysmod;
-use crate::operands::{listed, stands_alone};
+use crate::operands::{has_operand_without_list, members_of_operands};
 use intake_read::WideOperand;
 use rec80::is_among;
 use std::alloc::{AllocError, Global};
@@ -18,6 +18,7 @@ pub(crate) fn select_names() -> &'static [&'static [u8]]
     &[b"SELECT", b"S"]
 }
 
+// GROUP and its abbreviation.
 fn group_names() -> &'static [&'static [u8]]
     ensures { map (λ name. name.now) result.now ≡ group_names }
 {
@@ -31,38 +32,42 @@ pub(crate) fn groupextend_names() -> &'static [&'static [u8]]
     &[b"GROUPEXTEND", b"GEXT"]
 }
 
-/// The ids of SELECT, unless GROUP takes them.
-pub(crate) fn selected(alloc: Global, operands: &[WideOperand]) -> Result<Vec<&[u8]>, AllocError>
+/// The ids of SELECT, or none if a GROUP without a list takes them.
+pub(crate) fn selected_ids(
+    alloc: Global,
+    operands: &[WideOperand],
+) -> Result<Vec<&[u8]>, AllocError>
     ensures { IfOk result (λ ids. map (λ id. id.now) ids.items ≡ selected operands.now) }
 {
-    if stands_alone(group_names(), operands) {
+    if has_operand_without_list(group_names(), operands) {
         return Ok(Vec::new(alloc));
     }
-    listed(alloc, select_names(), operands)
+    members_of_operands(alloc, select_names(), operands)
 }
 
-// The ids that GROUP takes from SELECT.
-fn taken(alloc: Global, operands: &[WideOperand]) -> Result<Vec<&[u8]>, AllocError>
+// The ids of SELECT if a GROUP without a list takes them, or else none.
+fn ids_of_grouped_select(alloc: Global, operands: &[WideOperand]) -> Result<Vec<&[u8]>, AllocError>
     ensures { IfOk result (λ ids. map (λ id. id.now) ids.items
         ≡ (if stands_alone group_names operands.now then listed select_names operands.now else [])) }
 {
-    if !stands_alone(group_names(), operands) {
+    if !has_operand_without_list(group_names(), operands) {
         return Ok(Vec::new(alloc));
     }
-    listed(alloc, select_names(), operands)
+    members_of_operands(alloc, select_names(), operands)
 }
 
-/// The ids of GROUP.
-pub(crate) fn grouped(alloc: Global, operands: &[WideOperand]) -> Result<Vec<&[u8]>, AllocError>
+/// The ids of GROUP, with those that it takes from SELECT if it has no list.
+pub(crate) fn grouped_ids(alloc: Global, operands: &[WideOperand]) -> Result<Vec<&[u8]>, AllocError>
     ensures { IfOk result (λ ids. map (λ id. id.now) ids.items ≡ grouped operands.now) }
 {
-    let mut ids = listed(alloc, group_names(), operands)?;
-    let mut more = taken(alloc, operands)?;
+    let mut ids = members_of_operands(alloc, group_names(), operands)?;
+    let mut more = ids_of_grouped_select(alloc, operands)?;
     ids.append(&mut more)?;
     Ok(ids)
 }
 
-fn is_kept_out(members: &[&[u8]], kind: Kind) -> bool
+// Whether GROUPEXTEND with these members keeps SYSMODs of the kind out.
+fn is_kind_kept_out(members: &[&[u8]], kind: Kind) -> bool
     ensures { result ≡ is_kept_out (map (λ member. member.now) members.now) kind }
 {
     match kind {
@@ -72,8 +77,8 @@ fn is_kept_out(members: &[&[u8]], kind: Kind) -> bool
     }
 }
 
-// The known SYSMODs of the types that are kept out.
-fn of_types<'a>(
+// The ids of the known SYSMODs that GROUPEXTEND with these members keeps out by their kinds.
+fn known_ids_of_kinds<'a>(
     alloc: Global,
     known: &'a [KnownSysmod],
     members: &[&[u8]],
@@ -83,7 +88,7 @@ fn of_types<'a>(
 {
     let mut ids = Vec::new(alloc);
     for sysmod in known {
-        if !is_kept_out(members, sysmod.kind) {
+        if !is_kind_kept_out(members, sysmod.kind) {
             continue;
         }
         ids.push(sysmod.id.as_bytes())?;
@@ -91,8 +96,8 @@ fn of_types<'a>(
     Ok(ids)
 }
 
-// Those of them that are not named.
-fn unnamed<'a>(
+// The ids without those that are named.
+fn without_named<'a>(
     alloc: Global,
     ids: &[&'a [u8]],
     named: &[&[u8]],
@@ -110,32 +115,32 @@ fn unnamed<'a>(
     Ok(left)
 }
 
-// The known SYSMODs that GROUPEXTEND keeps out.
-fn kept_out<'a>(
+// The ids of the known SYSMODs that GROUPEXTEND keeps out: neither SELECT nor GROUP names them.
+fn ids_kept_out<'a>(
     alloc: Global,
     known: &'a [KnownSysmod],
     operands: &[WideOperand],
 ) -> Result<Vec<&'a [u8]>, AllocError>
     ensures { IfOk result (λ ids. map (λ id. id.now) ids.items ≡ kept_out known.now operands.now) }
 {
-    let members = listed(alloc, groupextend_names(), operands)?;
-    let ids = of_types(alloc, known, &members)?;
-    let mut named = listed(alloc, select_names(), operands)?;
-    let mut grouped = listed(alloc, group_names(), operands)?;
+    let members = members_of_operands(alloc, groupextend_names(), operands)?;
+    let ids = known_ids_of_kinds(alloc, known, &members)?;
+    let mut named = members_of_operands(alloc, select_names(), operands)?;
+    let mut grouped = members_of_operands(alloc, group_names(), operands)?;
     named.append(&mut grouped)?;
-    unnamed(alloc, &ids, &named)
+    without_named(alloc, &ids, &named)
 }
 
 /// The ids that are excluded: those of EXCLUDE, and those that GROUPEXTEND keeps out.
-pub(crate) fn excluded<'a>(
+pub(crate) fn ids_excluded<'a>(
     alloc: Global,
     known: &'a [KnownSysmod],
     operands: &'a [WideOperand],
 ) -> Result<Vec<&'a [u8]>, AllocError>
     ensures { IfOk result (λ ids. map (λ id. id.now) ids.items ≡ excluded known.now operands.now) }
 {
-    let mut ids = listed(alloc, &[b"EXCLUDE", b"E"], operands)?;
-    let mut more = kept_out(alloc, known, operands)?;
+    let mut ids = members_of_operands(alloc, &[b"EXCLUDE", b"E"], operands)?;
+    let mut more = ids_kept_out(alloc, known, operands)?;
     ids.append(&mut more)?;
     Ok(ids)
 }

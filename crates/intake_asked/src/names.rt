@@ -100,7 +100,7 @@ const ACCEPT_MEMBERS: &[&[u8]] = &[
     b"HOLDFIXCAT",
 ];
 
-/// The operands that a shop's command may have, those that change no decision too.
+/// The operands that a shop's command of this word may have, those that change no decision too.
 pub(crate) fn known_operands(word: CommandWord) -> &'static [&'static [u8]]
     ensures { map (λ name. name.now) result.now ≡ known_operands word }
 {
@@ -115,7 +115,7 @@ pub(crate) fn known_operands(word: CommandWord) -> &'static [&'static [u8]]
     }
 }
 
-/// The members that its BYPASS may have.
+/// The members that the BYPASS of a shop's command of this word may have.
 pub(crate) fn known_members(word: CommandWord) -> &'static [&'static [u8]]
     ensures { map (λ name. name.now) result.now ≡ known_members word }
 {

@@ -1,56 +1,53 @@
 //! Operands that have one of some names, and the members of their lists.
-ghost use Rattle.std.specs.Prelude.{◌≡◌, ◌↔◌, ◌==◌, ◌||◌, ◌&&◌, is_none, IsTrue, IfOk, All, map, filter, if◌then◌else◌, [], nat_lt, length};
+ghost use Rattle.std.specs.Prelude.{◌≡◌, ◌↔◌, ◌==◌, ◌||◌, ◌&&◌, is_none, IsTrue, IfOk, All, map, filter};
+ghost use Rattle.std.specs.Prelude.{if◌then◌else◌, [], nat_lt, length};
 ghost use Rattle.std.specs.List.{slice_split};
-ghost use Rattle.intake_asked.specs.Words.{is_called, has, stands_alone, list_in, members, listed};
+ghost use Rattle.intake_read.specs.Stated.{value_text};
+ghost use Rattle.intake_asked.specs.Words.{is_called, has, stands_alone, members, listed};
 
 use intake_read::WideOperand;
 use rec80::is_among;
 use std::alloc::{AllocError, Global};
 
-fn is_called(names: &[&[u8]], operand: &WideOperand) -> bool
+// Whether the operand has one of the names.
+fn has_name(names: &[&[u8]], operand: &WideOperand) -> bool
     ensures { result ≡ is_called (map (λ name. name.now) names.now) operand.now }
 {
     is_among(names, operand.name.as_slice())
 }
 
 /// Whether an operand has one of the names.
-pub(crate) fn has(names: &[&[u8]], operands: &[WideOperand]) -> bool
+pub(crate) fn has_operand(names: &[&[u8]], operands: &[WideOperand]) -> bool
     ensures { result ≡ has (map (λ name. name.now) names.now) operands.now }
 {
-    operands.iter().any(|operand| is_called(names, operand))
+    operands.iter().any(|operand| has_name(names, operand))
 }
 
-fn is_alone(names: &[&[u8]], operand: &WideOperand) -> bool
+// Whether the operand has one of the names and no list.
+fn is_without_list(names: &[&[u8]], operand: &WideOperand) -> bool
     ensures { result ≡ (is_called (map (λ name. name.now) names.now) operand.now && is_none operand.now.value) }
 {
-    is_called(names, operand) && operand.value.is_none()
+    has_name(names, operand) && operand.value.is_none()
 }
 
-/// Whether such an operand has no list.
-pub(crate) fn stands_alone(names: &[&[u8]], operands: &[WideOperand]) -> bool
+/// Whether an operand of one of the names has no list.
+pub(crate) fn has_operand_without_list(names: &[&[u8]], operands: &[WideOperand]) -> bool
     ensures { result ≡ stands_alone (map (λ name. name.now) names.now) operands.now }
 {
-    operands.iter().any(|operand| is_alone(names, operand))
+    operands
+        .iter()
+        .any(|operand| is_without_list(names, operand))
 }
 
 /// Whether each operand has one of the names.
-pub(crate) fn are_called(names: &[&[u8]], operands: &[WideOperand]) -> bool
+pub(crate) fn have_names(names: &[&[u8]], operands: &[WideOperand]) -> bool
     ensures { IsTrue result ↔ All (λ operand. IsTrue (is_called (map (λ name. name.now) names.now) operand))
         operands.now }
 {
-    operands.iter().all(|operand| is_called(names, operand))
+    operands.iter().all(|operand| has_name(names, operand))
 }
 
-fn list_in(operand: &WideOperand) -> &[u8]
-    ensures { result.now ≡ list_in operand.now.value }
-{
-    match &operand.value {
-        Some(list) => list.as_slice(),
-        None => b"",
-    }
-}
-
-// What stands between blanks and commas.
+// The parts of a list between its blanks and commas, empty ones too.
 fn parts(alloc: Global, list: &[u8]) -> Result<Vec<&[u8]>, AllocError>
     ensures { IfOk result (λ found. map (λ part. part.now) found.items
         ≡ slice_split (λ b. b == 32 || b == 44) list.now) }
@@ -58,14 +55,15 @@ fn parts(alloc: Global, list: &[u8]) -> Result<Vec<&[u8]>, AllocError>
     list.split(|b| *b == b' ' || *b == b',').collect(alloc)
 }
 
+// Whether the part is not empty.
 fn is_filled(part: &[u8]) -> bool
     ensures { result ≡ nat_lt 0 (length part.now) }
 {
     !part.is_empty()
 }
 
-// Those that are not empty.
-fn filled<'a>(alloc: Global, parts: &[&'a [u8]]) -> Result<Vec<&'a [u8]>, AllocError>
+// The parts that are not empty.
+fn nonempty_parts<'a>(alloc: Global, parts: &[&'a [u8]]) -> Result<Vec<&'a [u8]>, AllocError>
     ensures { IfOk result (λ found. map (λ part. part.now) found.items
         ≡ filter (λ part. nat_lt 0 (length part)) (map (λ part. part.now) parts.now)) }
 {
@@ -79,41 +77,42 @@ fn filled<'a>(alloc: Global, parts: &[&'a [u8]]) -> Result<Vec<&'a [u8]>, AllocE
     Ok(found)
 }
 
-// The members of a list.
+// The members of a list, which blanks and commas separate.
 fn members(alloc: Global, list: &[u8]) -> Result<Vec<&[u8]>, AllocError>
     ensures { IfOk result (λ found. map (λ member. member.now) found.items ≡ members list.now) }
 {
-    filled(alloc, &parts(alloc, list)?)
+    nonempty_parts(alloc, &parts(alloc, list)?)
 }
 
-fn members_of<'a>(
+// The members of the operand, or an empty list if it has none of the names.
+fn operand_members<'a>(
     alloc: Global,
     names: &[&[u8]],
     operand: &'a WideOperand,
 ) -> Result<Vec<&'a [u8]>, AllocError>
     ensures { IfOk result (λ found. map (λ member. member.now) found.items
-        ≡ (if is_called (map (λ name. name.now) names.now) operand.now then members (list_in operand.now.value)
+        ≡ (if is_called (map (λ name. name.now) names.now) operand.now then members (value_text operand.now.value)
         else [])) }
 {
-    if !is_called(names, operand) {
+    if !has_name(names, operand) {
         return Ok(Vec::new(alloc));
     }
-    members(alloc, list_in(operand))
+    members(alloc, operand.text())
 }
 
 /// The members of the operands of these names.
-pub(crate) fn listed<'a>(
+pub(crate) fn members_of_operands<'a>(
     alloc: Global,
     names: &[&[u8]],
     operands: &'a [WideOperand],
 ) -> Result<Vec<&'a [u8]>, AllocError>
-    ensures { IfOk result (λ found. map (λ member. member.now) found.items
+    ensures { IfOk result (λ all. map (λ member. member.now) all.items
         ≡ listed (map (λ name. name.now) names.now) operands.now) }
 {
-    let mut found = Vec::new(alloc);
+    let mut all = Vec::new(alloc);
     for operand in operands {
-        let mut more = members_of(alloc, names, operand)?;
-        found.append(&mut more)?;
+        let mut more = operand_members(alloc, names, operand)?;
+        all.append(&mut more)?;
     }
-    Ok(found)
+    Ok(all)
 }

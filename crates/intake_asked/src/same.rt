@@ -59,7 +59,7 @@ impl Worded for ZoneName {
 }
 
 /// The texts of the values.
-pub(crate) fn words_of<T: Worded>(alloc: Global, values: &[T]) -> Result<Vec<&[u8]>, AllocError>
+pub(crate) fn texts_of<T: Worded>(alloc: Global, values: &[T]) -> Result<Vec<&[u8]>, AllocError>
     ensures { IfOk result (λ words. map (λ word. word.now) words.items ≡ map T.text values.now) }
 {
     let mut words = Vec::with_capacity(alloc, values.len())?;
@@ -69,37 +69,37 @@ pub(crate) fn words_of<T: Worded>(alloc: Global, values: &[T]) -> Result<Vec<&[u
     Ok(words)
 }
 
-// Whether each of the one texts is among the others.
-fn are_among(ones: &[&[u8]], others: &[&[u8]]) -> bool
-    ensures { IsTrue result ↔ All (λ one. IsTrue (is_in (map (λ other. other.now) others.now) one.now)) ones.now }
+// Whether each of the texts is among the others.
+fn are_among(texts: &[&[u8]], others: &[&[u8]]) -> bool
+    ensures { IsTrue result ↔ All (λ text. IsTrue (is_in (map (λ other. other.now) others.now) text.now)) texts.now }
 {
-    ones.iter().all(|one| is_among(others, one))
+    texts.iter().all(|text| is_among(others, text))
 }
 
-// Whether both have the same texts.
-fn are_just(ones: &[&[u8]], others: &[&[u8]]) -> bool
-    ensures { IsTrue result → AreThese (map (λ one. one.now) ones.now) (map (λ other. other.now) others.now) }
+// Whether both lists have the same texts, in whatever order.
+fn have_same_texts(texts: &[&[u8]], others: &[&[u8]]) -> bool
+    ensures { IsTrue result → AreThese (map (λ text. text.now) texts.now) (map (λ other. other.now) others.now) }
 {
-    if !are_among(ones, others) {
+    if !are_among(texts, others) {
         return false;
     }
-    are_among(others, ones)
+    are_among(others, texts)
 }
 
-/// Whether the values are just the texts that are wanted.
-pub(crate) fn are_these<T: Worded>(
+/// Whether the texts of the values are just the wanted ones, in whatever order.
+pub(crate) fn are_wanted_texts<T: Worded>(
     alloc: Global,
     values: &[T],
     wanted: &[&[u8]],
 ) -> Result<bool, AllocError>
     ensures { IfOk result (λ are. IsTrue are → AreThese (map T.text values.now) (map (λ word. word.now) wanted.now)) }
 {
-    let words = words_of(alloc, values)?;
-    Ok(are_just(words.as_slice(), wanted))
+    let words = texts_of(alloc, values)?;
+    Ok(have_same_texts(words.as_slice(), wanted))
 }
 
-/// Whether the value alone is wanted.
-pub(crate) fn is_this<T: Worded>(
+/// Whether the wanted texts are only the text of the value.
+pub(crate) fn is_only_wanted_text<T: Worded>(
     alloc: Global,
     value: &T,
     wanted: &[&[u8]],
@@ -108,10 +108,10 @@ pub(crate) fn is_this<T: Worded>(
 {
     let mut words = Vec::new(alloc);
     words.push(value.word())?;
-    Ok(are_just(words.as_slice(), wanted))
+    Ok(have_same_texts(words.as_slice(), wanted))
 }
 
-/// Whether there is no text.
+/// Whether there is no text. The contract says so for the texts behind the references.
 pub(crate) fn are_none(texts: &[&[u8]]) -> bool
     ensures { IsTrue result → map (λ text. text.now) texts.now ≡ [] }
 {

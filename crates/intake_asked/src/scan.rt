@@ -25,10 +25,10 @@ pub enum CommandEnd {
 #[derive(Drop)]
 pub struct WideCommand {
     pub place: CardPlace,
-    /// Its word, where it has one, and what stands in parentheses directly behind it.
+    /// Its word, where it has one, and what stands in parentheses directly after it.
     pub head: WideOperand,
     pub operands: Vec<WideOperand>,
-    /// The words of BYPASS's list, each with the list behind it, all at the place of BYPASS.
+    /// The words of BYPASS's list, each with the list after it, all at the place of BYPASS.
     pub bypassed: Vec<WideOperand>,
     pub end: CommandEnd,
     /// It has words in lower case.
@@ -56,12 +56,14 @@ pub struct WideCommands {
     pub comments: Vec<CommandComment>,
 }
 
-// Whether the scanner is in a comment.
+/// Where the scanner is.
 #[derive(Clone, Copy, Debug, PartialEq, Eq)]
 enum Within {
     Words,
+    /// After a slash, which may begin a comment.
     Slash,
     Comment,
+    /// After an asterisk in a comment, which may end it.
     Star,
 }
 
@@ -90,11 +92,11 @@ pub fn wide_commands(alloc: Global, cards: &[Card]) -> Result<WideCommands, Allo
     let mut scanner = CommandScanner::new(alloc);
     let mut cut = Vec::new(alloc);
     for card in cards {
-        scanner.begin_card(&card.text[..COLUMNS])?;
+        scanner.keep_comment_text(&card.text[..COLUMNS])?;
         for byte in &card.text[..COLUMNS] {
-            scanner.take(*byte, card.place)?;
+            scanner.take_byte(*byte, card.place)?;
         }
-        scanner.take(b' ', card.place)?;
+        scanner.take_byte(b' ', card.place)?;
         if card.ends_comment && scanner.is_in_comment() {
             scanner.close_comment()?;
         } else if card.is_cut && !scanner.is_in_comment() {
@@ -102,9 +104,9 @@ pub fn wide_commands(alloc: Global, cards: &[Card]) -> Result<WideCommands, Allo
         }
     }
     let comments = std::mem::replace(&mut scanner.comments, Vec::new(alloc));
-    let mut commands = scanner.end_of_file()?;
+    let mut commands = scanner.into_commands()?;
     for command in commands.iter_mut() {
-        command.bypassed = bypassed(alloc, &command.operands)?;
+        command.bypassed = bypass_members(alloc, &command.operands)?;
     }
     Ok(WideCommands {
         commands,
@@ -113,32 +115,34 @@ pub fn wide_commands(alloc: Global, cards: &[Card]) -> Result<WideCommands, Allo
     })
 }
 
-fn bypassed(alloc: Global, operands: &[WideOperand]) -> Result<Vec<WideOperand>, AllocError> {
-    let mut bypassed = Vec::new(alloc);
+// The members of all BYPASS operands.
+fn bypass_members(alloc: Global, operands: &[WideOperand]) -> Result<Vec<WideOperand>, AllocError> {
+    let mut members = Vec::new(alloc);
     for operand in operands {
         if operand.name.as_slice() == b"BYPASS".as_slice() {
-            let mut words = words_in(alloc, operand)?;
-            bypassed.append(&mut words)?;
+            let mut words = read_bypass_list(alloc, operand)?;
+            members.append(&mut words)?;
         }
     }
-    Ok(bypassed)
+    Ok(members)
 }
 
-// The words of BYPASS's list, each with the list behind it, all at the place of BYPASS.
-fn words_in(alloc: Global, bypass: &WideOperand) -> Result<Vec<WideOperand>, AllocError> {
+// The words of BYPASS's list, each with the list after it, all at the place of BYPASS.
+fn read_bypass_list(alloc: Global, bypass: &WideOperand) -> Result<Vec<WideOperand>, AllocError> {
     let place = bypass.place;
     let mut scanner = CommandScanner::new(alloc);
     for byte in bypass.text() {
         if *byte == b'.' && scanner.depth == 0 {
             scanner.put_in_word(*byte, place)?;
         } else {
-            scanner.put(*byte, place)?;
+            scanner.put_byte(*byte, place)?;
         }
     }
     Ok(scanner.words)
 }
 
 impl CommandScanner {
+    // A scanner that has taken no card.
     fn new(alloc: Global) -> CommandScanner {
         CommandScanner {
             alloc,
@@ -155,16 +159,17 @@ impl CommandScanner {
         }
     }
 
+    // Whether a comment is open.
     fn is_in_comment(&self) -> bool {
         matches!(self.within, Within::Comment | Within::Star)
     }
 
-    // The next card. What it has of a comment that opens inside a command on an earlier one is kept.
-    fn begin_card(&mut self, text: &[u8]) -> Result<(), AllocError> {
+    // Keeps what the next card has of a comment that opened inside a command on an earlier card.
+    fn keep_comment_text(&mut self, text: &[u8]) -> Result<(), AllocError> {
         if !self.is_in_comment() || self.words.is_empty() {
             return Ok(());
         }
-        let text = before_end(text);
+        let text = without_comment_end(text);
         if !self.swallowed.is_empty() && !text.is_empty() {
             self.swallowed.push(b' ')?;
         }
@@ -172,6 +177,7 @@ impl CommandScanner {
         Ok(())
     }
 
+    // Ends the comment. If it had text on later cards inside a command, the text is kept.
     fn close_comment(&mut self) -> Result<(), AllocError> {
         self.within = Within::Words;
         if self.swallowed.is_empty() {
@@ -190,38 +196,38 @@ impl CommandScanner {
         Ok(())
     }
 
-    // The next character of a card.
-    fn take(&mut self, byte: u8, place: CardPlace) -> Result<(), AllocError> {
+    // Takes the next character of a card.
+    fn take_byte(&mut self, byte: u8, place: CardPlace) -> Result<(), AllocError> {
         match self.within {
-            Within::Comment => self.within = in_comment(byte),
+            Within::Comment => self.within = after_comment_byte(byte),
             Within::Star if byte == b'/' => self.close_comment()?,
-            Within::Star => self.within = behind_star(byte),
+            Within::Star => self.within = after_comment_byte(byte),
             Within::Slash if byte == b'*' => {
                 self.within = Within::Comment;
                 self.comment = place;
-                self.put(b' ', place)?;
+                self.put_byte(b' ', place)?;
             }
             Within::Slash => {
-                self.put(b'/', place)?;
-                self.begin(byte, place)?;
+                self.put_byte(b'/', place)?;
+                self.take_outside_comment(byte, place)?;
             }
-            Within::Words => self.begin(byte, place)?,
+            Within::Words => self.take_outside_comment(byte, place)?,
         }
         Ok(())
     }
 
-    // A character outside comments, which may begin one.
-    fn begin(&mut self, byte: u8, place: CardPlace) -> Result<(), AllocError> {
+    // Takes a character outside comments, which may begin one.
+    fn take_outside_comment(&mut self, byte: u8, place: CardPlace) -> Result<(), AllocError> {
         if byte == b'/' {
             self.within = Within::Slash;
             return Ok(());
         }
         self.within = Within::Words;
-        self.put(byte, place)
+        self.put_byte(byte, place)
     }
 
-    // A character that belongs to no comment.
-    fn put(&mut self, byte: u8, place: CardPlace) -> Result<(), AllocError> {
+    // Adds a character that belongs to no comment.
+    fn put_byte(&mut self, byte: u8, place: CardPlace) -> Result<(), AllocError> {
         if byte.is_ascii_lowercase() {
             self.has_lower_case = true;
         }
@@ -244,6 +250,7 @@ impl CommandScanner {
         }
     }
 
+    // Adds a character to the word, or begins a word with it.
     fn put_in_word(&mut self, byte: u8, place: CardPlace) -> Result<(), AllocError> {
         if !self.in_word {
             self.begin_word(place)?;
@@ -255,6 +262,7 @@ impl CommandScanner {
         Ok(())
     }
 
+    // Begins a word at this place.
     fn begin_word(&mut self, place: CardPlace) -> Result<(), AllocError> {
         self.words.push(WideOperand {
             place,
@@ -264,7 +272,7 @@ impl CommandScanner {
         Ok(())
     }
 
-    // The list belongs to the word before it, or to none where that one has a list.
+    // Begins a list. It belongs to the word before it, or to none if that word has a list.
     fn open_list(&mut self, place: CardPlace) -> Result<(), AllocError> {
         self.in_word = false;
         self.depth = 1;
@@ -281,7 +289,7 @@ impl CommandScanner {
         Ok(())
     }
 
-    // One blank stands for blanks side by side, and none at either end of the list.
+    // Adds a character to the list. One blank stands for blanks side by side, and none for those at either end.
     fn put_in_list(&mut self, byte: u8) -> Result<(), AllocError> {
         match byte {
             b'(' => self.depth = self.depth.saturating_add(1),
@@ -308,15 +316,16 @@ impl CommandScanner {
         Ok(())
     }
 
+    // Ends the command by its period.
     fn end_command(&mut self, place: CardPlace) -> Result<(), AllocError> {
         self.in_word = false;
-        self.finish(CommandEnd::Period)?;
+        self.end_begun_command(CommandEnd::Period)?;
         self.ended = Some(place);
         Ok(())
     }
 
-    // What is begun is a command that ends so. A period alone is none.
-    fn finish(&mut self, end: CommandEnd) -> Result<(), AllocError> {
+    // Makes a command of the words so far, with this end. A period by itself is no command.
+    fn end_begun_command(&mut self, end: CommandEnd) -> Result<(), AllocError> {
         let words = std::mem::replace(&mut self.words, Vec::new(self.alloc));
         let mut words = words.into_iter();
         let Some(head) = words.next() else {
@@ -345,7 +354,8 @@ impl CommandScanner {
         Ok(())
     }
 
-    fn end_of_file(mut self) -> Result<Vec<WideCommand>, AllocError> {
+    // Ends the last command, and returns all commands.
+    fn into_commands(mut self) -> Result<Vec<WideCommand>, AllocError> {
         let end = match self.within {
             Within::Comment | Within::Star => CommandEnd::OpenComment(self.comment),
             _ if self.depth > 0 => CommandEnd::OpenParenthesis,
@@ -355,12 +365,13 @@ impl CommandScanner {
             let comment = self.comment;
             self.begin_word(comment)?;
         }
-        self.finish(end)?;
+        self.end_begun_command(end)?;
         Ok(self.commands)
     }
 }
 
-fn in_comment(byte: u8) -> Within {
+// The state after a character of a comment that does not end it.
+fn after_comment_byte(byte: u8) -> Within {
     if byte == b'*' {
         Within::Star
     } else {
@@ -368,16 +379,8 @@ fn in_comment(byte: u8) -> Within {
     }
 }
 
-fn behind_star(byte: u8) -> Within {
-    if byte == b'*' {
-        Within::Star
-    } else {
-        Within::Comment
-    }
-}
-
-// What stands before the end of a comment.
-fn before_end(text: &[u8]) -> &[u8] {
+// The text before the end of a comment, or the whole text if no comment ends in it.
+fn without_comment_end(text: &[u8]) -> &[u8] {
     for place in 0..text.len() {
         if let Some((front, rest)) = text.split_at_checked(place) {
             if rest.starts_with(b"*/") {

@@ -5,16 +5,16 @@ ghost use Rattle.intake_asked.specs.Words.{groupextend_names};
 ghost use Rattle.intake_asked.specs.Said.{known_in, AreThese, SaysLists, SaysSelection};
 
 use crate::known::KnownSysmod;
-use crate::lists::{excluded, grouped, groupextend_names, selected};
-use crate::operands::{has, listed};
-use crate::same::are_these;
+use crate::lists::{grouped_ids, groupextend_names, ids_excluded, selected_ids};
+use crate::operands::{has_operand, members_of_operands};
+use crate::same::are_wanted_texts;
 use crate::sources::sources;
 use fields::{Id, Selection, Source};
 use intake_read::WideOperand;
 use std::alloc::{AllocError, Global};
 
-/// The SYSMODs that are known, or none.
-pub(crate) fn known_in(known: &Option<Vec<KnownSysmod>>) -> &[KnownSysmod]
+/// The known SYSMODs, or an empty list if none are given.
+pub(crate) fn known_or_none(known: &Option<Vec<KnownSysmod>>) -> &[KnownSysmod]
     ensures { result.now ≡ known_in known.now }
 {
     match known {
@@ -23,85 +23,80 @@ pub(crate) fn known_in(known: &Option<Vec<KnownSysmod>>) -> &[KnownSysmod]
     }
 }
 
-// Whether the types that are chosen are those that are asked for, and GROUPEXTEND too.
-fn are_types(operands: &[WideOperand], said: &Selection) -> bool
+// Whether the types, and GROUPEXTEND, are chosen just if an operand asks for them.
+fn says_types(operands: &[WideOperand], selection: &Selection) -> bool
     ensures functions { IsTrue result
-        → said.now.functions ≡ has (codes "FUNCTIONS" ∷ codes "FUNCTION" ∷ []) operands.now }
-    ensures ptfs { IsTrue result → said.now.ptfs ≡ has (codes "PTFS" ∷ codes "PTF" ∷ []) operands.now }
-    ensures apars { IsTrue result → said.now.apars ≡ has (codes "APARS" ∷ codes "APAR" ∷ []) operands.now }
+        → selection.now.functions ≡ has (codes "FUNCTIONS" ∷ codes "FUNCTION" ∷ []) operands.now }
+    ensures ptfs { IsTrue result → selection.now.ptfs ≡ has (codes "PTFS" ∷ codes "PTF" ∷ []) operands.now }
+    ensures apars { IsTrue result → selection.now.apars ≡ has (codes "APARS" ∷ codes "APAR" ∷ []) operands.now }
     ensures usermods { IsTrue result
-        → said.now.usermods ≡ has (codes "USERMODS" ∷ codes "USERMOD" ∷ []) operands.now }
-    ensures groupextend { IsTrue result → said.now.groupextend ≡ has groupextend_names operands.now }
+        → selection.now.usermods ≡ has (codes "USERMODS" ∷ codes "USERMOD" ∷ []) operands.now }
+    ensures groupextend { IsTrue result → selection.now.groupextend ≡ has groupextend_names operands.now }
 {
-    said.functions == has(&[b"FUNCTIONS", b"FUNCTION"], operands)
-        && said.ptfs == has(&[b"PTFS", b"PTF"], operands)
-        && said.apars == has(&[b"APARS", b"APAR"], operands)
-        && said.usermods == has(&[b"USERMODS", b"USERMOD"], operands)
-        && said.groupextend == has(groupextend_names(), operands)
+    selection.functions == has_operand(&[b"FUNCTIONS", b"FUNCTION"], operands)
+        && selection.ptfs == has_operand(&[b"PTFS", b"PTF"], operands)
+        && selection.apars == has_operand(&[b"APARS", b"APAR"], operands)
+        && selection.usermods == has_operand(&[b"USERMODS", b"USERMOD"], operands)
+        && selection.groupextend == has_operand(groupextend_names(), operands)
 }
 
-// Whether the ids are those of SELECT.
-fn are_selected(alloc: Global, operands: &[WideOperand], said: &[Id]) -> Result<bool, AllocError>
-    ensures { IfOk result (λ are. IsTrue are → AreThese said.now (selected operands.now)) }
+// Whether the ids are just those of SELECT, unless GROUP takes these.
+fn says_select(alloc: Global, operands: &[WideOperand], ids: &[Id]) -> Result<bool, AllocError>
+    ensures { IfOk result (λ are. IsTrue are → AreThese ids.now (selected operands.now)) }
 {
-    let wanted = selected(alloc, operands)?;
-    let are = are_these(alloc, said, &wanted)?;
-    Ok(are)
+    let wanted = selected_ids(alloc, operands)?;
+    are_wanted_texts(alloc, ids, &wanted)
 }
 
-// Whether the ids are those of GROUP.
-fn are_grouped(alloc: Global, operands: &[WideOperand], said: &[Id]) -> Result<bool, AllocError>
-    ensures { IfOk result (λ are. IsTrue are → AreThese said.now (grouped operands.now)) }
+// Whether the ids are just those of GROUP, with those that it takes from SELECT.
+fn says_group(alloc: Global, operands: &[WideOperand], ids: &[Id]) -> Result<bool, AllocError>
+    ensures { IfOk result (λ are. IsTrue are → AreThese ids.now (grouped operands.now)) }
 {
-    let wanted = grouped(alloc, operands)?;
-    let are = are_these(alloc, said, &wanted)?;
-    Ok(are)
+    let wanted = grouped_ids(alloc, operands)?;
+    are_wanted_texts(alloc, ids, &wanted)
 }
 
-// Whether the ids are those that are excluded.
-fn are_excluded(
+// Whether the ids are just those that EXCLUDE names or GROUPEXTEND keeps out.
+fn says_exclude(
     alloc: Global,
     known: &[KnownSysmod],
     operands: &[WideOperand],
-    said: &[Id],
+    ids: &[Id],
 ) -> Result<bool, AllocError>
-    ensures { IfOk result (λ are. IsTrue are → AreThese said.now (excluded known.now operands.now)) }
+    ensures { IfOk result (λ are. IsTrue are → AreThese ids.now (excluded known.now operands.now)) }
 {
-    let wanted = excluded(alloc, known, operands)?;
-    let are = are_these(alloc, said, &wanted)?;
-    Ok(are)
+    let wanted = ids_excluded(alloc, known, operands)?;
+    are_wanted_texts(alloc, ids, &wanted)
 }
 
-// Whether the ids are those of FORFMID.
-fn are_of_fmids(alloc: Global, operands: &[WideOperand], said: &[Id]) -> Result<bool, AllocError>
-    ensures { IfOk result (λ are. IsTrue are → AreThese said.now (listed (codes "FORFMID" ∷ []) operands.now)) }
+// Whether the ids are just those of FORFMID.
+fn says_forfmid(alloc: Global, operands: &[WideOperand], ids: &[Id]) -> Result<bool, AllocError>
+    ensures { IfOk result (λ are. IsTrue are → AreThese ids.now (listed (codes "FORFMID" ∷ []) operands.now)) }
 {
-    let wanted = listed(alloc, &[b"FORFMID"], operands)?;
-    let are = are_these(alloc, said, &wanted)?;
-    Ok(are)
+    let wanted = members_of_operands(alloc, &[b"FORFMID"], operands)?;
+    are_wanted_texts(alloc, ids, &wanted)
 }
 
-// Whether the source ids are those that SOURCEID names.
-fn are_sources(
+// Whether the source ids are just those that SOURCEID names, and each member of SOURCEID names some.
+fn says_sources(
     alloc: Global,
     known: &[KnownSysmod],
     operands: &[WideOperand],
-    said: &[Source],
+    source_ids: &[Source],
 ) -> Result<bool, AllocError>
-    ensures same { IfOk result (λ are. IsTrue are → AreThese said.now (sources known.now operands.now)) }
+    ensures same { IfOk result (λ are. IsTrue are → AreThese source_ids.now (sources known.now operands.now)) }
     ensures known { IfOk result (λ are. IsTrue are → All (λ m. sources_of known.now m ≢ [])
         (listed (codes "SOURCEID" ∷ []) operands.now)) }
 {
-    let members = listed(alloc, &[b"SOURCEID"], operands)?;
+    let members = members_of_operands(alloc, &[b"SOURCEID"], operands)?;
     let Some(wanted) = sources(alloc, known, &members)? else {
         return Ok(false);
     };
-    let are = are_these(alloc, said, &wanted)?;
-    Ok(are)
+    are_wanted_texts(alloc, source_ids, &wanted)
 }
 
-// Whether it is known whom GROUPEXTEND keeps out, or it keeps out nobody.
-fn is_known_enough(
+// Whether the SYSMODs are known that GROUPEXTEND keeps out, or it keeps out none.
+fn is_enough_known(
     alloc: Global,
     known: &Option<Vec<KnownSysmod>>,
     operands: &[WideOperand],
@@ -111,55 +106,54 @@ fn is_known_enough(
     if known.is_some() {
         return Ok(true);
     }
-    Ok(listed(alloc, groupextend_names(), operands)?.is_empty())
+    Ok(members_of_operands(alloc, groupextend_names(), operands)?.is_empty())
 }
 
-// Whether the lists of ids are those that are asked for.
-fn are_named(
+// Whether SELECT, GROUP, EXCLUDE and FORFMID have just the ids that the operands ask for.
+fn says_lists(
     alloc: Global,
     known: &[KnownSysmod],
     operands: &[WideOperand],
-    said: &Selection,
+    selection: &Selection,
 ) -> Result<bool, AllocError>
-    ensures { IfOk result (λ are. IsTrue are → SaysLists known.now operands.now said.now) }
+    ensures { IfOk result (λ are. IsTrue are → SaysLists known.now operands.now selection.now) }
 {
-    let select = are_selected(alloc, operands, said.select.as_slice())?;
+    let select = says_select(alloc, operands, selection.select.as_slice())?;
     if !select {
         return Ok(false);
     }
-    let group = are_grouped(alloc, operands, said.group.as_slice())?;
+    let group = says_group(alloc, operands, selection.group.as_slice())?;
     if !group {
         return Ok(false);
     }
-    let exclude = are_excluded(alloc, known, operands, said.exclude.as_slice())?;
+    let exclude = says_exclude(alloc, known, operands, selection.exclude.as_slice())?;
     if !exclude {
         return Ok(false);
     }
-    let forfmid = are_of_fmids(alloc, operands, said.forfmid.as_slice())?;
-    Ok(forfmid)
+    says_forfmid(alloc, operands, selection.forfmid.as_slice())
 }
 
-/// Whether just that is chosen which the operands ask for.
+/// Whether the selection chooses just what the operands ask for.
 pub(crate) fn says_selection(
     alloc: Global,
     known: &Option<Vec<KnownSysmod>>,
     operands: &[WideOperand],
-    said: &Selection,
+    selection: &Selection,
 ) -> Result<bool, AllocError>
-    ensures { IfOk result (λ says. IsTrue says → SaysSelection known.now operands.now said.now) }
+    ensures { IfOk result (λ says. IsTrue says → SaysSelection known.now operands.now selection.now) }
 {
-    let list = known_in(known);
-    let named = are_named(alloc, list, operands, said)?;
-    if !named {
+    let list = known_or_none(known);
+    let lists = says_lists(alloc, list, operands, selection)?;
+    if !lists {
         return Ok(false);
     }
-    let sources = are_sources(alloc, list, operands, said.sourceid.as_slice())?;
+    let sources = says_sources(alloc, list, operands, selection.sourceid.as_slice())?;
     if !sources {
         return Ok(false);
     }
-    let enough = is_known_enough(alloc, known, operands)?;
+    let enough = is_enough_known(alloc, known, operands)?;
     if !enough {
         return Ok(false);
     }
-    Ok(are_types(operands, said))
+    Ok(says_types(operands, selection))
 }

@@ -5,11 +5,12 @@ ghost use Rattle.std.specs.List.{flat_map, starts_with};
 ghost use Rattle.intake_asked.specs.Words.{is_starred, sources_of};
 
 use crate::known::KnownSysmod;
-use crate::same::words_of;
+use crate::same::texts_of;
 use std::alloc::{AllocError, Global};
 
-// What a member has before the asterisk at its end, if there is one.
-fn front_of(member: &[u8]) -> Option<&[u8]>
+// The text before the asterisk at the end of a member, which names all source ids that begin so. Returns `None` for a
+// member without that asterisk.
+fn pattern_prefix(member: &[u8]) -> Option<&[u8]>
     ensures some { IfSome result (λ front. (is_starred member.now ≡ true)
         × (front.now ≡ take (length member.now - 1) member.now)) }
     ensures none { IfNone result (is_starred member.now ≡ false) }
@@ -23,53 +24,58 @@ fn known_sources(alloc: Global, known: &[KnownSysmod]) -> Result<Vec<&[u8]>, All
 {
     let mut all = Vec::new(alloc);
     for sysmod in known {
-        let mut more = words_of(alloc, sysmod.sources.as_slice())?;
+        let mut more = texts_of(alloc, sysmod.sources.as_slice())?;
         all.append(&mut more)?;
     }
     Ok(all)
 }
 
-// Those that begin so.
-fn beginning<'a>(alloc: Global, all: &[&'a [u8]], front: &[u8]) -> Result<Vec<&'a [u8]>, AllocError>
-    ensures { IfOk result (λ found. map (λ one. one.now) found.items
-        ≡ filter (λ s. starts_with nat_eq s front.now) (map (λ one. one.now) all.now)) }
+// The source ids that begin with the text.
+fn sources_with_prefix<'a>(
+    alloc: Global,
+    all: &[&'a [u8]],
+    front: &[u8],
+) -> Result<Vec<&'a [u8]>, AllocError>
+    ensures { IfOk result (λ matches. map (λ source. source.now) matches.items
+        ≡ filter (λ s. starts_with nat_eq s front.now) (map (λ source. source.now) all.now)) }
 {
-    let mut found = Vec::new(alloc);
-    for one in all {
-        if !one.starts_with(front) {
+    let mut matches = Vec::new(alloc);
+    for source in all {
+        if !source.starts_with(front) {
             continue;
         }
-        found.push(*one)?;
+        matches.push(*source)?;
     }
-    Ok(found)
+    Ok(matches)
 }
 
-// The source ids that a member names.
-fn sources_of<'a>(
+// The source ids that a member names: itself, or the known ones that begin with the text before its asterisk.
+fn sources_of_member<'a>(
     alloc: Global,
     known: &'a [KnownSysmod],
     member: &'a [u8],
 ) -> Result<Vec<&'a [u8]>, AllocError>
     ensures { IfOk result (λ found. map (λ one. one.now) found.items ≡ sources_of known.now member.now) }
 {
-    match front_of(member) {
+    match pattern_prefix(member) {
         Some(front) => {
             let all = known_sources(alloc, known)?;
-            beginning(alloc, &all, front)
+            sources_with_prefix(alloc, &all, front)
         }
-        None => one_of(alloc, member),
+        None => single_source(alloc, member),
     }
 }
 
-fn one_of(alloc: Global, text: &[u8]) -> Result<Vec<&[u8]>, AllocError>
-    ensures { IfOk result (λ found. map (λ one. one.now) found.items ≡ text.now ∷ []) }
+// A list of only this text.
+fn single_source(alloc: Global, text: &[u8]) -> Result<Vec<&[u8]>, AllocError>
+    ensures { IfOk result (λ list. map (λ source. source.now) list.items ≡ text.now ∷ []) }
 {
-    let mut found = Vec::new(alloc);
-    found.push(text)?;
-    Ok(found)
+    let mut list = Vec::new(alloc);
+    list.push(text)?;
+    Ok(list)
 }
 
-/// The source ids that the members name. Returns nothing if a member names none.
+/// The source ids that the members name. Returns `None` if a member names no known one.
 pub(crate) fn sources<'a>(
     alloc: Global,
     known: &'a [KnownSysmod],
@@ -81,7 +87,7 @@ pub(crate) fn sources<'a>(
 {
     let mut all = Vec::new(alloc);
     for member in members {
-        let mut more = sources_of(alloc, known, *member)?;
+        let mut more = sources_of_member(alloc, known, *member)?;
         if more.as_slice().is_empty() {
             return Ok(None);
         }

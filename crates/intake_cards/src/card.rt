@@ -23,7 +23,7 @@ pub enum Tail {
 }
 
 // Whether all bytes are blanks.
-fn is_blank(bytes: &[u8]) -> bool {
+fn are_blanks(bytes: &[u8]) -> bool {
     bytes.iter().all(|byte| *byte == b' ')
 }
 
@@ -36,7 +36,7 @@ impl Card {
     /// Columns 73 to 80.
     pub fn tail(&self) -> Tail {
         let tail = &self.text[72..];
-        if is_blank(tail) {
+        if are_blanks(tail) {
             return Tail::Blank;
         }
         if tail
@@ -51,7 +51,7 @@ impl Card {
 
     /// Whether columns 1 to 72 are blank.
     pub fn is_blank(&self) -> bool {
-        is_blank(self.columns())
+        are_blanks(self.columns())
     }
 
     /// Whether a statement begins in it: `++` in columns 1 and 2.
@@ -59,9 +59,10 @@ impl Card {
         self.text[0] == b'+' && self.text[1] == b'+'
     }
 
-    /// Whether it ends the data of a job and nothing else: `/*` or `$$` in columns 1 and 2.
+    /// Whether it only marks the end of the data in a job: `/*` or `$$` in columns 1 and 2, and blanks after them.
     pub(crate) fn is_delimiter(&self) -> bool {
-        (self.text.starts_with(b"/*") || self.text.starts_with(b"$$")) && is_blank(&self.text[2..])
+        (self.text.starts_with(b"/*") || self.text.starts_with(b"$$"))
+            && are_blanks(&self.text[2..])
     }
 
     /// Whether each column has a blank or a printable character of ASCII.

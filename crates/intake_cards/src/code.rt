@@ -38,18 +38,10 @@ impl Code {
     }
 
     /// Whether the byte pads a file after its last line: NUL, and in ASCII the end of file of older systems.
-    pub(crate) fn pads(self, byte: u8) -> bool {
+    pub(crate) fn is_padding(self, byte: u8) -> bool {
         match self {
             Code::Ascii => byte == 0 || byte == 0x1A,
             Code::Ibm1047 | Code::Ibm037 => byte == 0,
-        }
-    }
-
-    /// Its blank.
-    pub(crate) fn blank(self) -> u8 {
-        match self {
-            Code::Ascii => b' ',
-            Code::Ibm1047 | Code::Ibm037 => 0x40,
         }
     }
 }

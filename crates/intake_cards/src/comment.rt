@@ -11,20 +11,20 @@ const ON_CARD: usize = 71;
 const STRIDE: usize = 73;
 
 /// The words of the text with blanks between, as they are on cards: if a word would run over the end of a card,
-/// more blanks move it to the next one, and a word that is longer than a card is cut in pieces. So what this answers
-/// is read as it is when it was printed.
-pub fn laid_out(alloc: Global, text: &[u8]) -> Result<Vec<u8>, AllocError> {
+/// more blanks move it to the next one, and a word that is longer than a card is cut in pieces. So reading the cards
+/// of `put_comment` gives the same text again.
+pub fn lay_out_comment(alloc: Global, text: &[u8]) -> Result<Vec<u8>, AllocError> {
     let mut laid = Vec::with_capacity(alloc, text.len())?;
     for word in text.split(|b| *b == b' ') {
         for piece in word.chunks(ON_CARD) {
-            lay(&mut laid, piece)?;
+            append_word(&mut laid, piece)?;
         }
     }
     Ok(laid)
 }
 
-// Adds the word after the others.
-fn lay(laid: &mut Vec<u8>, word: &[u8]) -> Result<(), AllocError> {
+// Adds a word that is no longer than a card, after one blank, or after as many blanks as lead to the next card.
+fn append_word(laid: &mut Vec<u8>, word: &[u8]) -> Result<(), AllocError> {
     if !laid.is_empty() {
         laid.push(b' ')?;
     }
@@ -40,16 +40,16 @@ fn lay(laid: &mut Vec<u8>, word: &[u8]) -> Result<(), AllocError> {
 
 /// Puts the text on cards of its own, in parentheses.
 pub fn put_comment(cards: &mut PrintedCards, text: &[u8]) -> Result<(), AllocError> {
-    cards.word(b"COMMENT(")?;
+    cards.add_word(b"COMMENT(")?;
     for piece in text.chunks(STRIDE) {
-        cards.begin(b" ")?;
-        cards.text(on_card(piece))?;
+        cards.begin_card(b" ")?;
+        cards.add_across_columns(without_gap(piece))?;
     }
-    cards.joined(b")")
+    cards.add_directly(b")")
 }
 
-// The part of a piece that is on a card.
-fn on_card(piece: &[u8]) -> &[u8] {
+// The part of a piece that its card shows: all but the two blanks before the next card.
+fn without_gap(piece: &[u8]) -> &[u8] {
     match piece.split_at_checked(ON_CARD) {
         Some((front, _)) => front,
         None => piece,

@@ -7,7 +7,7 @@ mod card;
 mod code;
 mod comment;
 mod errors;
-mod guessed;
+mod guess;
 mod line;
 mod place;
 mod printed;
@@ -21,7 +21,7 @@ mod words;
 
 pub use card::{Card, Tail};
 pub use code::{Code, Layout};
-pub use comment::{laid_out, put_comment};
+pub use comment::{lay_out_comment, put_comment};
 pub use errors::CardError;
 pub use line::NO_LATIN;
 pub use place::CardPlace;

@@ -21,6 +21,7 @@ pub(crate) struct CutLine {
 }
 
 impl CutLine {
+    // A line of blanks.
     fn new() -> CutLine {
         CutLine {
             text: [b' '; 80],
@@ -36,7 +37,7 @@ impl CutLine {
         }
     }
 
-    // Puts the letter into the column, which counts from 0.
+    // Puts the letter into the column, which counts from 0. After column 80 it only notes what kind of text there is.
     fn put(&mut self, column: usize, letter: u8) {
         match self.text.get_mut(column) {
             Some(there) => *there = letter,
@@ -73,6 +74,7 @@ pub(crate) fn cut_line(line: &[u8], code: Code) -> CutLine {
     cut
 }
 
+// The letters of the text as columns.
 fn cut_text(text: &str) -> CutLine {
     let mut cut = CutLine::new();
     cut.ends_comment = text.as_bytes().trim_ascii_end().ends_with(b"*/");

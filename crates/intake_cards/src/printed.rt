@@ -26,7 +26,7 @@ impl PrintedCards {
         }
     }
 
-    // How many columns of the last card are filled, and 0 where none is begun.
+    // How many columns of the last card are filled, or 0 if no card is begun.
     fn column(&self) -> usize
         ensures { result < 80 }
     {
@@ -44,48 +44,48 @@ impl PrintedCards {
     }
 
     /// Begins a card with the text.
-    pub fn begin(&mut self, text: &[u8]) -> Result<(), AllocError> {
+    pub fn begin_card(&mut self, text: &[u8]) -> Result<(), AllocError> {
         self.end_card()?;
         self.bytes.extend_from_slice(text)?;
         Ok(())
     }
 
     /// Adds a blank and the word, or begins a card with the word if it does not fit into 71 columns.
-    pub fn word(&mut self, word: &[u8]) -> Result<(), AllocError> {
+    pub fn add_word(&mut self, word: &[u8]) -> Result<(), AllocError> {
         if word.len() < LAST && self.column() + word.len() < LAST {
             self.bytes.push(b' ')?;
             self.bytes.extend_from_slice(word)?;
             return Ok(());
         }
-        self.begin(word)
+        self.begin_card(word)
     }
 
     /// Adds the text directly, or begins a card with it if it does not fit into 71 columns.
-    pub fn joined(&mut self, text: &[u8]) -> Result<(), AllocError> {
+    pub fn add_directly(&mut self, text: &[u8]) -> Result<(), AllocError> {
         if text.len() <= LAST && self.column() + text.len() <= LAST {
             self.bytes.extend_from_slice(text)?;
             return Ok(());
         }
-        self.begin(text)
+        self.begin_card(text)
     }
 
-    /// Adds the text directly, wherever it ends.
-    pub fn text(&mut self, text: &[u8]) -> Result<(), AllocError> {
+    /// Adds the text directly, even if it runs over column 71.
+    pub fn add_across_columns(&mut self, text: &[u8]) -> Result<(), AllocError> {
         self.bytes.extend_from_slice(text)?;
         Ok(())
     }
 
     /// Adds a word with one member in parentheses.
-    pub fn value(&mut self, word: &[u8], member: &[u8]) -> Result<(), AllocError> {
-        self.word(word)?;
-        self.listed(member)
+    pub fn add_value(&mut self, word: &[u8], member: &[u8]) -> Result<(), AllocError> {
+        self.add_word(word)?;
+        self.add_in_parentheses(member)
     }
 
-    /// Puts one member in parentheses.
-    pub fn listed(&mut self, member: &[u8]) -> Result<(), AllocError> {
-        self.joined(b"(")?;
-        self.joined(member)?;
-        self.joined(b")")
+    /// Adds one member in parentheses.
+    pub fn add_in_parentheses(&mut self, member: &[u8]) -> Result<(), AllocError> {
+        self.add_directly(b"(")?;
+        self.add_directly(member)?;
+        self.add_directly(b")")
     }
 
     /// The bytes of all cards.

@@ -2,8 +2,8 @@
 use crate::card::Card;
 use crate::code::{Code, Layout};
 use crate::errors::CardError;
-use crate::guessed::{
-    guessed_code, guessed_layout, has_bare_returns, shown_fault, without_padding,
+use crate::guess::{
+    guess_code, guess_layout, has_bare_returns, unreadable_format, without_padding,
 };
 use crate::line::{CutLine, PastColumns, cut_line};
 use crate::place::CardPlace;
@@ -41,7 +41,7 @@ pub struct CardNote {
 pub struct Cards {
     /// How it is laid out, as it was asked for or as the bytes tell.
     pub form: Layout,
-    /// Its code, likewise.
+    /// Its code, as it was asked for or as the bytes tell.
     pub code: Code,
     pub cards: Vec<Card>,
     /// One for each oddity that a card has.
@@ -53,7 +53,7 @@ pub struct Cards {
 pub struct CardReader<'a> {
     /// How the file is laid out, as it was asked for or as the bytes tell.
     pub form: Layout,
-    /// Its code, likewise.
+    /// Its code, as it was asked for or as the bytes tell.
     pub code: Code,
     /// The number of the file among those that are read.
     file: usize,
@@ -67,11 +67,15 @@ pub struct CardReader<'a> {
     delimiter: Option<CardPlace>,
 }
 
-// Notes the oddity of the card at that place.
-fn note(notes: &mut Vec<CardNote>, oddity: CardOddity, place: CardPlace) -> Result<(), AllocError> {
-    for known in notes.iter_mut() {
-        if known.oddity == oddity {
-            known.cards = known.cards.saturating_add(1);
+// Notes the oddity of the card at that place: counts one more card with it, or begins a note.
+fn note_oddity(
+    notes: &mut Vec<CardNote>,
+    oddity: CardOddity,
+    place: CardPlace,
+) -> Result<(), AllocError> {
+    for earlier in notes.iter_mut() {
+        if earlier.oddity == oddity {
+            earlier.cards = earlier.cards.saturating_add(1);
             return Ok(());
         }
     }
@@ -89,14 +93,14 @@ fn note_characters(notes: &mut Vec<CardNote>, card: &Card) -> Result<(), AllocEr
         return Ok(());
     }
     if card.text.contains(&b'\t') {
-        note(notes, CardOddity::Tab, card.place)?;
+        note_oddity(notes, CardOddity::Tab, card.place)?;
     }
     if card
         .text
         .iter()
         .any(|byte| *byte != b'\t' && !(0x20 <= *byte && *byte <= 0x7E))
     {
-        note(notes, CardOddity::NotPrintable, card.place)?;
+        note_oddity(notes, CardOddity::NotPrintable, card.place)?;
     }
     Ok(())
 }
@@ -121,30 +125,30 @@ impl<'a> CardReader<'a> {
         form: Option<Layout>,
         code: Option<Code>,
     ) -> Result<CardReader<'a>, CardError> {
-        if let Some(fault) = shown_fault(bytes) {
+        if let Some(fault) = unreadable_format(bytes) {
             return Err(fault);
         }
-        let marked = bytes.strip_prefix(b"\xEF\xBB\xBF");
-        let text = marked.unwrap_or(bytes);
-        let code = code.unwrap_or(guessed_code(text));
-        let form = form.unwrap_or(guessed_layout(text, code));
+        let after_mark = bytes.strip_prefix(b"\xEF\xBB\xBF");
+        let text = after_mark.unwrap_or(bytes);
+        let code = code.unwrap_or(guess_code(text));
+        let form = form.unwrap_or(guess_layout(text, code));
         if form == Layout::Text && code == Code::Ascii && has_bare_returns(text) {
             return Err(CardError::CarriageReturns);
         }
-        let solid = solid(text, form, code);
-        if form == Layout::Records && solid.len() % 80 != 0 {
+        let content = without_file_padding(text, form, code);
+        if form == Layout::Records && content.len() % 80 != 0 {
             return Err(CardError::ShortRecord {
-                bytes: solid.len() % 80,
+                bytes: content.len() % 80,
             });
         }
         Ok(CardReader {
             form,
             code,
             file,
-            rest: solid,
+            rest: content,
             cards: 0,
-            has_mark: marked.is_some(),
-            has_padding: solid.len() < text.len(),
+            has_mark: after_mark.is_some(),
+            has_padding: content.len() < text.len(),
             delimiter: None,
         })
     }
@@ -171,16 +175,16 @@ impl<'a> CardReader<'a> {
         Some(cut_line(line, self.code))
     }
 
-    // The next card, with notes on what it has that is no card's.
-    fn noted_card(&mut self, notes: &mut Vec<CardNote>) -> Result<Option<Card>, AllocError> {
+    // The next line or record as a card. Notes what it has that is no card's.
+    fn read_card(&mut self, notes: &mut Vec<CardNote>) -> Result<Option<Card>, AllocError> {
         let Some(line) = self.next_line() else {
             return Ok(None);
         };
         let card = card_of(self.place(), &line);
         match line.past {
             PastColumns::Nothing => {}
-            PastColumns::Blanks => note(notes, CardOddity::BlanksBehind80, card.place)?,
-            PastColumns::More => note(notes, CardOddity::LongLine, card.place)?,
+            PastColumns::Blanks => note_oddity(notes, CardOddity::BlanksBehind80, card.place)?,
+            PastColumns::More => note_oddity(notes, CardOddity::LongLine, card.place)?,
         }
         note_characters(notes, &card)?;
         Ok(Some(card))
@@ -200,18 +204,18 @@ impl<'a> CardReader<'a> {
         true
     }
 
-    /// The next card, or nothing after the last one. A delimiter after the last other card, and blank cards after it,
-    /// are left out. Notes what the cards have that is no card's.
+    /// The next card, or nothing after the last one. If a delimiter is the last card but for blank ones, the cards end
+    /// before it. Notes what the cards have that is no card's.
     pub fn next_card(&mut self, notes: &mut Vec<CardNote>) -> Result<Option<Card>, AllocError> {
         if self.has_mark && self.cards == 0 {
             let first = CardPlace {
                 file: self.file,
                 card: 1,
             };
-            note(notes, CardOddity::ByteOrderMark, first)?;
+            note_oddity(notes, CardOddity::ByteOrderMark, first)?;
             self.has_mark = false;
         }
-        let Some(card) = self.noted_card(notes)? else {
+        let Some(card) = self.read_card(notes)? else {
             return Ok(None);
         };
         if !card.is_delimiter() || !self.is_rest_blank() {
@@ -219,20 +223,20 @@ impl<'a> CardReader<'a> {
         }
         self.delimiter = Some(card.place);
         for _ in 0..usize::MAX {
-            if self.noted_card(notes)?.is_none() {
+            if self.read_card(notes)?.is_none() {
                 break;
             }
         }
         Ok(None)
     }
 
-    /// Notes what follows the last card.
+    /// Notes the padding and the delimiter that follow the last card.
     pub fn note_end(&self, notes: &mut Vec<CardNote>) -> Result<(), AllocError> {
         if self.has_padding {
-            note(notes, CardOddity::Padding, self.place())?;
+            note_oddity(notes, CardOddity::Padding, self.place())?;
         }
         if let Some(place) = self.delimiter {
-            note(notes, CardOddity::Delimiter, place)?;
+            note_oddity(notes, CardOddity::Delimiter, place)?;
         }
         Ok(())
     }
@@ -258,7 +262,7 @@ fn first_record(bytes: &[u8]) -> (&[u8], &[u8]) {
     }
 }
 
-// The line without its end.
+// The line without the byte that ends it, and without a carriage return before that.
 fn without_end(ended: &[u8], code: Code) -> &[u8] {
     let Some((last, line)) = ended.split_last() else {
         return ended;
@@ -269,8 +273,8 @@ fn without_end(ended: &[u8], code: Code) -> &[u8] {
     line.strip_suffix(b"\r").unwrap_or(line)
 }
 
-// The bytes that are lines or records, without what pads the file. Records stay whole.
-fn solid<'a>(bytes: &'a [u8], layout: Layout, code: Code) -> &'a [u8] {
+// The bytes without what pads the file. If they are records, padding that belongs to the last record stays.
+fn without_file_padding<'a>(bytes: &'a [u8], layout: Layout, code: Code) -> &'a [u8] {
     let front = without_padding(bytes, code);
     if layout == Layout::Text {
         return front;

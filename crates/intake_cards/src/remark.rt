@@ -47,7 +47,7 @@ impl Deed {
 }
 
 impl Remark<'_> {
-    /// Whether what is told leaves out something that may be asked for.
+    /// Whether a user may miss what the remark is about: something is left out or refused. FIXCAT holds are not missed.
     pub fn matters(&self) -> bool {
         match self.deed {
             Deed::Carried | Deed::Dropped => false,
@@ -56,8 +56,8 @@ impl Remark<'_> {
         }
     }
 
-    /// Whether it tells the same of a statement of the same word.
-    pub(crate) fn says_the_same(&self, other: &Remark<'_>) -> bool {
+    /// Whether both remarks tell the same, of the same operand, about statements of one word.
+    pub(crate) fn is_like(&self, other: &Remark<'_>) -> bool {
         self.deed == other.deed
             && self.reason == other.reason
             && self.statement == other.statement
@@ -68,7 +68,7 @@ impl Remark<'_> {
     pub fn line(&self, alloc: Global, file: &str, unit: &str) -> Result<Vec<u8>, AllocError> {
         let card = self.place.card;
         let mut line = format!(in alloc; "{file} {unit} {card}: ")?.into_bytes();
-        let about = line.len();
+        let front = line.len();
         line.extend_from_slice(self.statement)?;
         if !self.id.is_empty() {
             line.extend_from_slice(b"(")?;
@@ -79,7 +79,7 @@ impl Remark<'_> {
             line.extend_from_slice(b" ")?;
             line.extend_from_slice(self.operand)?;
         }
-        if line.len() > about {
+        if line.len() > front {
             line.extend_from_slice(b": ")?;
         }
         line.extend_from_slice(self.deed.words().as_bytes())?;

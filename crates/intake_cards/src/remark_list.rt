@@ -69,10 +69,10 @@ impl RemarkList {
     /// Adds a remark after the others.
     pub fn push(&mut self, remark: &Remark<'_>) -> Result<(), AllocError> {
         let start = self.words.len();
-        let statement = self.put(remark.statement)?;
-        let id = self.put(remark.id)?;
-        let operand = self.put(remark.operand)?;
-        let text = self.put(remark.text)?;
+        let statement = self.add_word(remark.statement)?;
+        let id = self.add_word(remark.id)?;
+        let operand = self.add_word(remark.operand)?;
+        let text = self.add_word(remark.text)?;
         self.heads.push(RemarkHead {
             place: remark.place,
             start,
@@ -87,7 +87,7 @@ impl RemarkList {
     }
 
     // Adds a word after the others, and returns its length. Of a word of more than 4 GB only the beginning counts.
-    fn put(&mut self, word: &[u8]) -> Result<u32, AllocError> {
+    fn add_word(&mut self, word: &[u8]) -> Result<u32, AllocError> {
         let counted = match word.split_at_checked(u32::MAX as usize) {
             Some((front, _)) => front,
             None => word,

@@ -1,4 +1,4 @@
-//! How remarks are gathered.
+//! The remarks of a run, as they are gathered.
 
 use crate::place::CardPlace;
 use crate::reason::RemarkReason;
@@ -48,32 +48,32 @@ pub struct Remarks {
     pub forbidding: usize,
 }
 
-/// A remark by its place in the list, and how many more say the same.
+/// A remark by its place in the list, and how many more are like it.
 #[derive(Clone, Copy)]
 struct Cause {
     place: usize,
     more: usize,
 }
 
-// Of the remarks that say the same of statements of one word the first, with how many more there are.
+// The first of the remarks that are alike, for each kind of them, with how many more there are.
 fn causes_of(alloc: Global, list: &RemarkList) -> Result<Vec<Cause>, AllocError> {
     let mut causes: Vec<Cause> = Vec::new(alloc);
     for place in 0..list.len() {
         let Some(remark) = list.get(place) else {
             continue;
         };
-        if !add_to_causes(list, causes.as_mut_slice(), &remark) {
+        if !count_in_cause(list, causes.as_mut_slice(), &remark) {
             causes.push(Cause { place, more: 0 })?;
         }
     }
     Ok(causes)
 }
 
-// Counts the remark where one of the causes says the same, and answers whether one does.
-fn add_to_causes(list: &RemarkList, causes: &mut [Cause], remark: &Remark<'_>) -> bool {
+// Counts the remark in the cause whose remark is like it. Returns whether there is one.
+fn count_in_cause(list: &RemarkList, causes: &mut [Cause], remark: &Remark<'_>) -> bool {
     for cause in causes.iter_mut() {
         if let Some(first) = list.get(cause.place) {
-            if first.says_the_same(remark) {
+            if first.is_like(remark) {
                 cause.more = cause.more.saturating_add(1);
                 return true;
             }
@@ -113,22 +113,9 @@ impl Remarks {
             statement.extend_from_slice(b"++")?;
             statement.extend_from_slice(subject.word)?;
         }
-        self.put(subject, statement.as_slice(), operand, deed, reason, text)
-    }
-
-    // Adds the remark on the statement of this word, with its plus signs.
-    fn put(
-        &mut self,
-        subject: &Subject<'_>,
-        statement: &[u8],
-        operand: &[u8],
-        deed: Deed,
-        reason: RemarkReason,
-        text: &[u8],
-    ) -> Result<(), AllocError> {
         self.list.push(&Remark {
             place: subject.place,
-            statement,
+            statement: statement.as_slice(),
             id: subject.id,
             operand,
             deed,
@@ -163,7 +150,7 @@ impl Remarks {
         self.tell(alloc, subject, operand, Deed::Dropped, reason, text)
     }
 
-    /// Adds the others after these, and their counts.
+    /// Adds the others after these, with their stand-ins.
     pub fn append(&mut self, mut others: Remarks) -> Result<(), AllocError> {
         self.stand_ins = self.stand_ins.saturating_add(others.stand_ins);
         self.named.append(&mut others.named)?;
@@ -171,8 +158,8 @@ impl Remarks {
         self.list.append(others.list)
     }
 
-    /// Puts the remarks of a SYSMOD that is left out behind these: of those that say the same of statements of one word
-    /// the first, with how many there are.
+    /// Adds the remarks of a SYSMOD that is left out after these: of remarks that are alike only the first one, whose
+    /// text is then the number of the others.
     pub fn append_causes(&mut self, alloc: Global, others: Remarks) -> Result<(), AllocError> {
         let causes = causes_of(alloc, &others.list)?;
         for cause in causes.iter() {
@@ -180,16 +167,17 @@ impl Remarks {
                 continue;
             };
             let more = cause.more;
-            let often = format!(in alloc; "{more} more")?;
+            let count_text = format!(in alloc; "{more} more")?;
             if more > 0 {
-                remark.text = often.as_bytes();
+                remark.text = count_text.as_bytes();
             }
             self.list.push(&remark)?;
         }
         Ok(())
     }
 
-    /// Says that what was to be left out is dropped: what it belongs to is carried in another way.
+    /// Turns each remark that a SYSMOD is left out into one that the operand or statement is dropped, because the
+    /// SYSMOD is carried in another way.
     pub fn drop_in_place_of_leaving_out(&mut self) {
         self.list.drop_in_place_of_leaving_out();
     }

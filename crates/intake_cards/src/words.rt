@@ -34,10 +34,10 @@ enum State {
     Gap,
     Word,
     List,
-    /// Behind a slash, outside words.
+    /// After a slash, outside words.
     Slash,
     Comment,
-    /// Behind an asterisk in a comment.
+    /// After an asterisk in a comment.
     Star,
 }
 
@@ -79,8 +79,8 @@ pub fn is_word_byte(byte: u8) -> bool {
     byte.is_ascii_alphanumeric() || matches!(byte, b'$' | b'#' | b'@' | b'+' | b'_' | b'-')
 }
 
-// Whether the list of the word is text, in which everything stands for itself.
-fn has_text(word: &[u8]) -> bool {
+// Whether the list after this word is text, in which `/*` begins no comment.
+fn takes_text(word: &[u8]) -> bool {
     matches!(word, b"COMMENT" | b"DESC" | b"DESCRIPTION")
 }
 
@@ -104,7 +104,7 @@ impl CardScanner {
         }
     }
 
-    /// What is open behind the cards that were taken.
+    /// What is open after the cards that were taken.
     pub fn open(&self) -> Open {
         match self.state {
             State::Comment | State::Star => Open::Comment(self.comment_place),
@@ -146,37 +146,41 @@ impl CardScanner {
     }
 
     /// Takes columns of a card, up to column 72.
-    pub fn take(&mut self, place: CardPlace, columns: &[u8]) -> Result<(), AllocError> {
+    pub fn take_columns(&mut self, place: CardPlace, columns: &[u8]) -> Result<(), AllocError> {
         for byte in columns {
-            self.byte(place, *byte)?;
+            self.take_byte(place, *byte)?;
         }
         self.end_card(place)
     }
 
     /// Takes columns 1 to 72 of a card.
     pub fn take_card(&mut self, card: &Card) -> Result<(), AllocError> {
-        self.take(card.place, card.columns())
+        self.take_columns(card.place, card.columns())
     }
 
-    fn byte(&mut self, place: CardPlace, byte: u8) -> Result<(), AllocError> {
+    // Takes the next character, in the state that the one before left.
+    fn take_byte(&mut self, place: CardPlace, byte: u8) -> Result<(), AllocError> {
         match self.state {
-            State::Gap => self.in_gap(place, byte),
-            State::Word => self.in_word(place, byte),
-            State::List => self.in_list(place, byte),
-            State::Slash => self.behind_slash(place, byte),
+            State::Gap => self.take_in_gap(place, byte),
+            State::Word => self.take_in_word(place, byte),
+            State::List => self.take_in_list(place, byte),
+            State::Slash => self.take_after_slash(place, byte),
             State::Comment => {
-                self.in_comment(byte);
+                self.take_in_comment(byte);
                 Ok(())
             }
-            State::Star => self.behind_star(byte),
+            State::Star => {
+                self.take_after_star(byte);
+                Ok(())
+            }
         }
     }
 
-    // What the end of a card ends.
+    // Ends what cannot go on over the end of a card: a word, or the beginning or end of a comment.
     fn end_card(&mut self, place: CardPlace) -> Result<(), AllocError> {
         match self.state {
             State::Word => self.end_word(place)?,
-            State::Slash => self.stray_slash(place)?,
+            State::Slash => self.push_slash(place)?,
             State::Star => self.state = State::Comment,
             _ => {}
         }
@@ -185,51 +189,56 @@ impl CardScanner {
         Ok(())
     }
 
-    fn push(&mut self, place: CardPlace, token: Token) -> Result<(), AllocError> {
+    // Adds a piece.
+    fn push_piece(&mut self, place: CardPlace, token: Token) -> Result<(), AllocError> {
         self.pieces.push(CardPiece { place, token })?;
         Ok(())
     }
 
-    fn in_gap(&mut self, place: CardPlace, byte: u8) -> Result<(), AllocError> {
+    // Takes a character outside words, lists and comments.
+    fn take_in_gap(&mut self, place: CardPlace, byte: u8) -> Result<(), AllocError> {
         match byte {
             b' ' | b',' | b'\t' => {}
             b'/' => self.state = State::Slash,
             b'.' => {
                 self.has_period = true;
-                self.push(place, Token::Period)?;
+                self.push_piece(place, Token::Period)?;
             }
             b'(' => self.open_list(place),
-            b')' => self.push(place, Token::Closing)?,
+            b')' => self.push_piece(place, Token::Closing)?,
             _ => {
                 if is_word_byte(byte) {
                     self.state = State::Word;
-                    self.word_byte(byte)?;
+                    self.push_word_byte(byte)?;
                 } else {
-                    self.push(place, Token::Stray(byte))?;
+                    self.push_piece(place, Token::Stray(byte))?;
                 }
             }
         }
         Ok(())
     }
 
-    fn word_byte(&mut self, byte: u8) -> Result<(), AllocError> {
+    // Adds a character to the word, in upper case.
+    fn push_word_byte(&mut self, byte: u8) -> Result<(), AllocError> {
         self.has_lower = self.has_lower || byte.is_ascii_lowercase();
         self.text.push(byte.to_ascii_uppercase())?;
         Ok(())
     }
 
-    fn in_word(&mut self, place: CardPlace, byte: u8) -> Result<(), AllocError> {
+    // Takes a character after one of a word, which goes on or ends before it.
+    fn take_in_word(&mut self, place: CardPlace, byte: u8) -> Result<(), AllocError> {
         if is_word_byte(byte) {
-            return self.word_byte(byte);
+            return self.push_word_byte(byte);
         }
         self.end_word(place)?;
-        self.in_gap(place, byte)
+        self.take_in_gap(place, byte)
     }
 
+    // Makes a piece of the word.
     fn end_word(&mut self, place: CardPlace) -> Result<(), AllocError> {
         self.state = State::Gap;
         let word = mem::replace(&mut self.text, Vec::new(self.alloc));
-        self.push(place, Token::Word(word))
+        self.push_piece(place, Token::Word(word))
     }
 
     // Begins a list. It is text if the word before it says so.
@@ -241,17 +250,18 @@ impl CardScanner {
         self.at_margin = true;
         self.is_text = match self.pieces.last() {
             Some(piece) => match &piece.token {
-                Token::Word(word) => has_text(word.as_slice()),
+                Token::Word(word) => takes_text(word.as_slice()),
                 _ => false,
             },
             None => false,
         };
     }
 
-    fn in_list(&mut self, place: CardPlace, byte: u8) -> Result<(), AllocError> {
+    // Takes a character inside parentheses.
+    fn take_in_list(&mut self, place: CardPlace, byte: u8) -> Result<(), AllocError> {
         match byte {
             b' ' | b'\t' => {
-                self.list_blank();
+                self.count_list_blank();
                 Ok(())
             }
             b'/' if !self.is_text => {
@@ -260,25 +270,26 @@ impl CardScanner {
             }
             b'(' => {
                 self.depth = self.depth.saturating_add(1);
-                self.list_byte(byte)
+                self.push_list_byte(byte)
             }
             b')' if self.depth == 1 => self.end_list(),
             b')' => {
                 self.depth = self.depth.saturating_sub(1);
-                self.list_byte(byte)
+                self.push_list_byte(byte)
             }
-            _ => self.list_byte(byte),
+            _ => self.push_list_byte(byte),
         }
     }
 
-    fn list_blank(&mut self) {
+    // Counts a blank of the list that is text if more text follows in the card.
+    fn count_list_blank(&mut self) {
         if !self.at_margin {
             self.blanks = self.blanks.saturating_add(1);
         }
     }
 
-    // Adds a character that is no blank to the list, behind the blanks before it.
-    fn list_byte(&mut self, byte: u8) -> Result<(), AllocError> {
+    // Adds a character that is no blank to the list, after the blanks that were counted.
+    fn push_list_byte(&mut self, byte: u8) -> Result<(), AllocError> {
         if !self.text.is_empty() {
             for _ in 0..self.blanks {
                 self.text.push(b' ')?;
@@ -290,63 +301,61 @@ impl CardScanner {
         Ok(())
     }
 
+    // Makes a piece of the list.
     fn end_list(&mut self) -> Result<(), AllocError> {
         self.depth = 0;
         self.state = State::Gap;
         let list = mem::replace(&mut self.text, Vec::new(self.alloc));
-        self.push(self.list_place, Token::List(list))
+        self.push_piece(self.list_place, Token::List(list))
     }
 
-    fn behind_slash(&mut self, place: CardPlace, byte: u8) -> Result<(), AllocError> {
+    // Takes the character after a slash: an asterisk begins a comment, and before any other the slash is by itself.
+    fn take_after_slash(&mut self, place: CardPlace, byte: u8) -> Result<(), AllocError> {
         if byte == b'*' {
             self.state = State::Comment;
             self.comment_place = place;
             return Ok(());
         }
-        self.stray_slash(place)?;
+        self.push_slash(place)?;
         if self.depth > 0 {
-            self.in_list(place, byte)
+            self.take_in_list(place, byte)
         } else {
-            self.in_gap(place, byte)
+            self.take_in_gap(place, byte)
         }
     }
 
-    // Takes the slash before for itself.
-    fn stray_slash(&mut self, place: CardPlace) -> Result<(), AllocError> {
+    // Adds the slash by itself: it begins no comment.
+    fn push_slash(&mut self, place: CardPlace) -> Result<(), AllocError> {
         if self.depth > 0 {
             self.state = State::List;
-            self.list_byte(b'/')
+            self.push_list_byte(b'/')
         } else {
             self.state = State::Gap;
-            self.push(place, Token::Stray(b'/'))
+            self.push_piece(place, Token::Stray(b'/'))
         }
     }
 
-    fn in_comment(&mut self, byte: u8) {
+    // Takes a character of a comment.
+    fn take_in_comment(&mut self, byte: u8) {
         if byte == b'*' {
             self.state = State::Star;
         }
     }
 
-    fn behind_star(&mut self, byte: u8) -> Result<(), AllocError> {
+    // Takes the character after an asterisk in a comment: a slash ends the comment.
+    fn take_after_star(&mut self, byte: u8) {
         match byte {
-            b'/' => {
-                self.end_comment();
-                Ok(())
-            }
-            b'*' => Ok(()),
-            _ => {
-                self.state = State::Comment;
-                Ok(())
-            }
+            b'/' => self.end_comment(),
+            b'*' => {}
+            _ => self.state = State::Comment,
         }
     }
 
-    /// Goes on behind a comment, which is a blank in a list.
+    /// Goes on after a comment, which is a blank in a list.
     pub fn end_comment(&mut self) {
         if self.depth > 0 {
             self.state = State::List;
-            self.list_blank();
+            self.count_list_blank();
         } else {
             self.state = State::Gap;
         }

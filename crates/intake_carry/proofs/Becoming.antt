@@ -11,7 +11,7 @@ use Rattle.intake_read.specs.declared.items.WideHold.{WideHold}
 use Rattle.intake_read.specs.declared.items.WideHoldKind.{WideHoldKind}
 use Rattle.intake_read.specs.declared.items.WideHoldKind.TheVariants.{Error, System, User, Fixcat}
 use Rattle.intake_carry.specs.Become.{Become}
-use Rattle.intake_carry.specs.Holds.{placed_at, wide_kind, IsHold, IsHoldKey, IsInternal, HoldBecomes}
+use Rattle.intake_carry.specs.Holds.{placed_at, wide_kind, IsHold, IsInternal, HoldBecomes}
 use Rattle.intake_carry.specs.Holds.{IsInside, IsOutside}
 use Rattle.intake_carry.specs.declared.placed.PlacedItem.{PlacedItem}
 use Rattle.mcs.specs.declared.hold_item.HoldItem.TheVariants.{Hold}
@@ -88,11 +88,7 @@ hold_put own stated hold old new placed after is internal inside outside = by ho
           o.0 ∙ ap (λ hs. record old { holds = hs }) (sym holds),
         )
 
--- a hold is of the kind SYSTEM just if it is stated so
-pub system_stated : (k : HoldKind) (stated : Option WideHoldKind) → stated ≡ Some (wide_kind k) → k ≡ kind.System
-    → stated ≡ Some System
-system_stated k stated e s = rw s at e
-
+-- a hold that is stated to be of the kind SYSTEM is of it
 pub system_carried : (k : HoldKind) (stated : Option WideHoldKind) → stated ≡ Some (wide_kind k)
     → stated ≡ Some System → k ≡ kind.System
 system_carried kind.System stated e s = refl
@@ -104,15 +100,6 @@ system_carried kind.User stated e s = absurd (by (sym e ∙ s))
   where
     by : Some User ≡ Some System → ⊥
     by f = cc
-
--- a hold is internal just if it is stated so
-pub internal_stated : (stated : WideHold) (key : terms.Release) (own : Option terms.Id) (b : Bool) → IsHoldKey stated key
-    → (IsTrue b → (key.kind ≡ kind.System) × (own ≡ Some key.id))
-    → ((key.kind ≡ kind.System) × (own ≡ Some key.id) → IsTrue b) → IsTrue b ↔ IsInternal own stated
-internal_stated stated key own b is only always = (
-  λ t. (system_stated key.kind stated.kind is.kind_is (only t).0, (only t).1 ∙ ap Some is.id_is),
-  λ i. always (system_carried key.kind stated.kind is.kind_is i.0, i.1 ∙ ap Some (sym is.id_is)),
-)
 
 -- without a SYSMOD around it, a hold is external
 pub not_inside : (hold : terms.Hold) (stated : WideHold) → (IsTrue hold.internal ↔ IsInternal None stated)

@@ -1,5 +1,6 @@
 -- The keys of holds, one more each time.
-use Rattle.std.proofs.Common.{◌≡◌, ◌∙◌, ◌&&◌, ◌==◌, ◌<◌, ◌≤◌, ◌+◌, Bool, true, false, ℕ, List, [], ◌++◌, ◌∷◌, take, length}
+use Rattle.std.proofs.Common.{◌≡◌, ◌∙◌, ◌&&◌, ◌==◌, ◌<◌, ◌≤◌, ◌+◌, Bool, true, false, ℕ, List, [], ◌++◌, ◌∷◌, take}
+use Rattle.std.proofs.Common.{length}
 use Rattle.std.proofs.Common.{get_or, ap, sym, refl, subst, append_assoc, append-nil, cond}
 use Rattle.std.specs.Prelude.{◌||◌}
 use Rattle.std.specs.List.{flat_map, list_any}

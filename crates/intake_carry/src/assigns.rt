@@ -1,8 +1,8 @@
 //! `++ASSIGN`.
-ghost use Rattle.std.specs.Prelude.{◌≡◌, ◌++◌, IfOk, map};
+ghost use Rattle.std.specs.Prelude.{◌≡◌, ◌++◌, OnOk, map};
 ghost use Rattle.mcs.specs.declared.file.Item.TheVariants as item;
 
-use crate::odd::{is_odd, leave_out_odd};
+use crate::odd::{has_odd, leave_out_odd};
 use fields::{Id, Source};
 use intake_cards::{RemarkReason, Remarks, Subject};
 use intake_read::{WideAssign, WideFile};
@@ -16,24 +16,24 @@ const MOST_IDS: usize = 1000;
 /// The source of the SYSMODs with stand-ins.
 const STAND_IN: &[u8] = b"STANDIN";
 
-// Appends one assignment for each 1,000 ids.
-fn put_each(
+// Appends an assignment for each 1,000 ids, which are the most that one may have.
+fn push_in_parts(
     alloc: Global,
     assigns: &mut Vec<Assign>,
     source: Source,
     ids: &[Id],
 ) -> Result<(), AllocError> {
-    for some in ids.chunks(MOST_IDS) {
+    for part in ids.chunks(MOST_IDS) {
         assigns.push(Assign {
             source,
-            to: Vec::from_slice(alloc, some)?,
+            to: Vec::from_slice(alloc, part)?,
         })?;
     }
     Ok(())
 }
 
-// The ids in their order, none twice. One without the form of an id gets a remark.
-fn ids_of(
+// The ids in their order, each once. A remark says which text is no id, and which id is named again.
+fn distinct_ids(
     alloc: Global,
     remarks: &mut Remarks,
     subject: &Subject<'_>,
@@ -55,33 +55,36 @@ fn ids_of(
     Ok(ids)
 }
 
-// Tells of the operands that an `++ASSIGN` may not have, and of those that it lacks. The answer is whether it is whole.
-fn has_operands(
+// Checks the operands of an `++ASSIGN`: remarks on those that it may not have, and on those that it lacks. Returns
+// whether there is nothing to remark. If `source` is empty, SOURCEID is missing.
+fn check_assign(
     alloc: Global,
     remarks: &mut Remarks,
     subject: &Subject<'_>,
+    source: &[u8],
     stated: &WideAssign,
 ) -> Result<bool, AllocError> {
     let odd = stated.odd.as_slice();
     leave_out_odd(alloc, remarks, subject, odd)?;
-    let lacks_source = subject.id.is_empty() && !is_odd(odd, b"SOURCEID");
+    let lacks_source = source.is_empty() && !has_odd(odd, b"SOURCEID");
     if lacks_source {
         remarks.leave_out(alloc, subject, b"SOURCEID", RemarkReason::Missing, b"")?;
     }
-    let lacks_ids = stated.to.is_empty() && !is_odd(odd, b"TO");
+    let lacks_ids = stated.to.is_empty() && !has_odd(odd, b"TO");
     if lacks_ids {
         remarks.leave_out(alloc, subject, b"TO", RemarkReason::Missing, b"")?;
     }
     Ok(odd.is_empty() && !lacks_source && !lacks_ids)
 }
 
-// The source that an `++ASSIGN` names, or nothing if it names none that is known here, which is told.
-fn source_of(
+// The source that an `++ASSIGN` states, read in upper case. Returns `None`, with a remark, if it has not the form of a
+// source id.
+fn read_source(
     alloc: Global,
     remarks: &mut Remarks,
     subject: &Subject<'_>,
+    stated: &[u8],
 ) -> Result<Option<Source>, AllocError> {
-    let stated = subject.id;
     let upper = stated.to_ascii_uppercase(alloc)?;
     let Some(source) = Source::read(upper.as_slice()) else {
         if stated.contains(&b'.') {
@@ -97,35 +100,37 @@ fn source_of(
     Ok(Some(source))
 }
 
-// Appends what an `++ASSIGN` says. What is left out or differs is told.
-fn put_assign(
+// Carries an `++ASSIGN`: appends its assignments, if its operands are in order. Remarks say what is left out and what
+// differs.
+fn carry_assign(
     alloc: Global,
     remarks: &mut Remarks,
     assigns: &mut Vec<Assign>,
     stated: &WideAssign,
 ) -> Result<(), AllocError> {
+    let stated_source: &[u8] = match &stated.source {
+        Some(text) => text.as_slice(),
+        None => b"",
+    };
     let subject = Subject {
         place: stated.place,
         word: b"ASSIGN",
-        id: match &stated.source {
-            Some(text) => text.as_slice(),
-            None => b"",
-        },
+        id: stated_source,
     };
-    if !has_operands(alloc, remarks, &subject, stated)? {
+    if !check_assign(alloc, remarks, &subject, stated_source, stated)? {
         return Ok(());
     }
-    let Some(source) = source_of(alloc, remarks, &subject)? else {
+    let Some(source) = read_source(alloc, remarks, &subject, stated_source)? else {
         return Ok(());
     };
-    let ids = ids_of(alloc, remarks, &subject, stated.to.as_slice())?;
+    let ids = distinct_ids(alloc, remarks, &subject, stated.to.as_slice())?;
     if ids.len() > MOST_IDS {
         remarks.tell_carried(alloc, &subject, b"TO", RemarkReason::Split, b"")?;
     }
-    put_each(alloc, assigns, source, ids.as_slice())
+    push_in_parts(alloc, assigns, source, ids.as_slice())
 }
 
-/// The assignments of the files, and that of the SYSMODs with stand-ins.
+/// The assignments of the files, and after them those of the source STANDIN, to the SYSMODs with stand-ins.
 pub(crate) fn assigns_of(
     alloc: Global,
     remarks: &mut Remarks,
@@ -134,11 +139,11 @@ pub(crate) fn assigns_of(
     let mut assigns = Vec::new(alloc);
     for file in files {
         for stated in file.assigns.iter() {
-            put_assign(alloc, remarks, &mut assigns, stated)?;
+            carry_assign(alloc, remarks, &mut assigns, stated)?;
         }
     }
     if let Some(source) = Source::read(STAND_IN) {
-        put_each(
+        push_in_parts(
             alloc,
             &mut assigns,
             source,
@@ -148,26 +153,12 @@ pub(crate) fn assigns_of(
     Ok(assigns)
 }
 
-// The assignments as items.
-fn assign_items(alloc: Global, assigns: Vec<Assign>) -> Result<Vec<Item>, AllocError>
-    ensures { IfOk result (λ items. items.items ≡ map item.Assign assigns.items) }
+/// Adds the assignments after the items.
+pub(crate) fn append_assigns(items: &mut Vec<Item>, assigns: Vec<Assign>) -> Result<(), AllocError>
+    ensures { OnOk result (items.new.items ≡ items.old.items ++ map item.Assign assigns.items) }
 {
-    let mut items = Vec::with_capacity(alloc, assigns.len())?;
     for assign in assigns {
         items.push(Item::Assign(assign))?;
     }
-    Ok(items)
-}
-
-/// The items, then the assignments.
-pub(crate) fn with_assigns(
-    alloc: Global,
-    mut items: Vec<Item>,
-    assigns: Vec<Assign>,
-) -> Result<Vec<Item>, AllocError>
-    ensures { IfOk result (λ all. all.items ≡ items.items ++ map item.Assign assigns.items) }
-{
-    let mut more = assign_items(alloc, assigns)?;
-    items.append(&mut more)?;
-    Ok(items)
+    Ok(())
 }

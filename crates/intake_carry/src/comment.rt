@@ -1,13 +1,14 @@
-//! COMMENT of a hold.
+//! COMMENT of a hold. Some shops draw a box around its text: rows of asterisks above and below, and an asterisk at
+//! either end of each line, as in `**** * SEE APAR * * UA00001 * ****`. The asterisks are left away here.
 
-use intake_cards::{RemarkReason, Remarks, Subject, laid_out};
+use intake_cards::{RemarkReason, Remarks, Subject, lay_out_comment};
 use std::alloc::{AllocError, Global};
 
 /// The most characters that a COMMENT may have.
 const LONGEST: usize = 200;
 
-// What stands for a character of a COMMENT.
-fn carried(byte: u8) -> u8 {
+// The character that stands for one of a COMMENT: brackets for parentheses, and `?` for what no record may have.
+fn replacement(byte: u8) -> u8 {
     match byte {
         b'(' => b'[',
         b')' => b']',
@@ -16,28 +17,29 @@ fn carried(byte: u8) -> u8 {
     }
 }
 
+// Whether it is a parenthesis.
 fn is_parenthesis(byte: u8) -> bool {
     byte == b'(' || byte == b')'
 }
 
 // The first 200 characters, without blanks at their end.
-fn cut(text: &[u8]) -> &[u8] {
+fn cut_at_limit(text: &[u8]) -> &[u8] {
     match text.split_at_checked(LONGEST) {
         Some((front, _)) => front.trim_ascii_end(),
         None => text,
     }
 }
 
-// Whether it is an asterisk, or a row of them, as boxes have.
-fn is_box(word: &[u8]) -> bool {
+// Whether the word is an edge of a box: an asterisk, or a row of them.
+fn is_box_edge(word: &[u8]) -> bool {
     !word.is_empty() && word.iter().all(|b| *b == b'*')
 }
 
-// The text without the rows and sides of boxes.
-fn without_boxes(alloc: Global, text: &[u8]) -> Result<Vec<u8>, AllocError> {
+// The text without the edges of boxes, and without blanks at its beginning.
+fn without_box_edges(alloc: Global, text: &[u8]) -> Result<Vec<u8>, AllocError> {
     let mut kept = Vec::with_capacity(alloc, text.len())?;
-    for word in text.split(|b| *b == b' ') {
-        if is_box(word) {
+    for word in text.split(|byte| *byte == b' ') {
+        if is_box_edge(word) {
             continue;
         }
         if !kept.is_empty() {
@@ -48,8 +50,9 @@ fn without_boxes(alloc: Global, text: &[u8]) -> Result<Vec<u8>, AllocError> {
     Ok(kept)
 }
 
-/// The text as it is carried, or nothing where none is left. How it differs is told, with the whole text.
-pub(crate) fn comment_of(
+/// The text of a COMMENT as it is carried, with a remark on how it differs. Returns `None` if none is stated, or, with
+/// a remark, if nothing is left of it.
+pub(crate) fn read_comment(
     alloc: Global,
     remarks: &mut Remarks,
     subject: &Subject<'_>,
@@ -59,31 +62,28 @@ pub(crate) fn comment_of(
         return Ok(None);
     };
     let text = stated.as_slice();
-    let mut changed = Vec::with_capacity(alloc, text.len())?;
-    for byte in &without_boxes(alloc, text)? {
-        changed.push(carried(*byte))?;
+    let mut words = Vec::with_capacity(alloc, text.len())?;
+    for byte in &without_box_edges(alloc, text)? {
+        words.push(replacement(*byte))?;
     }
-    let laid = laid_out(alloc, changed.as_slice())?;
-    let short = cut(laid.as_slice());
-    if short.is_empty() {
+    let layout = lay_out_comment(alloc, words.as_slice())?;
+    let comment = cut_at_limit(layout.as_slice());
+    if comment.is_empty() {
         remarks.tell_dropped(alloc, subject, b"COMMENT", RemarkReason::BadValue, text)?;
         return Ok(None);
     }
-    if let Some(reason) = difference(text, laid.as_slice()) {
+    if let Some(reason) = comment_difference(text, layout.as_slice()) {
         remarks.tell_carried(alloc, subject, b"COMMENT", reason, text)?;
     }
-    match String::from_utf8(Vec::from_slice(alloc, short)?) {
-        Ok(comment) => Ok(Some(comment)),
-        Err(_) => Ok(None),
-    }
+    Ok(Some(String::from_utf8_lossy(alloc, comment)?))
 }
 
-// The first of the ways in which a COMMENT differs.
-fn difference(stated: &[u8], laid: &[u8]) -> Option<RemarkReason> {
-    if laid.len() > LONGEST {
+// The first way in which the COMMENT as it is laid out differs from the stated one, or `None` if it does not differ.
+fn comment_difference(stated: &[u8], layout: &[u8]) -> Option<RemarkReason> {
+    if layout.len() > LONGEST {
         return Some(RemarkReason::CutComment);
     }
-    if stated.split(|b| *b == b' ').any(is_box) {
+    if stated.split(|b| *b == b' ').any(is_box_edge) {
         return Some(RemarkReason::Box);
     }
     if stated.iter().any(|b| is_parenthesis(*b)) {
@@ -92,7 +92,7 @@ fn difference(stated: &[u8], laid: &[u8]) -> Option<RemarkReason> {
     if stated.iter().any(|b| !(0x20..=0x7e).contains(b)) {
         return Some(RemarkReason::Unprintable);
     }
-    if laid != stated {
+    if layout != stated {
         return Some(RemarkReason::Blanks);
     }
     None

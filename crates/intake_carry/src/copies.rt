@@ -12,14 +12,17 @@ struct SysmodCopy {
     place: CardPlace,
 }
 
-/// The copies that are not carried: of one id the copy of the highest REWORK is, the first of equals.
+/// The copies of SYSMODs that are not carried. Of the copies of one SYSMOD the one with the highest REWORK is carried,
+/// or the first of those that have it.
 #[derive(Drop)]
 pub(crate) struct OtherCopies {
+    /// Where these copies begin.
     places: BTreeSet<CardPlace>,
+    /// The SYSMODs that the files have more than once.
     ids: BTreeSet<Id>,
 }
 
-// The number, or the most that there is where it is greater.
+// The number that the digits spell, or the greatest if it is greater; 0 if there are other characters.
 fn number_of(text: &[u8]) -> u64 {
     let mut number = 0u64;
     for byte in text {
@@ -32,8 +35,8 @@ fn number_of(text: &[u8]) -> u64 {
     number
 }
 
-// The level that REWORK states, or 0 where it states none.
-fn rework_of(sysmod: &WideSysmod) -> u64 {
+// The level that REWORK states, or 0 if the SYSMOD has no REWORK.
+fn rework_level(sysmod: &WideSysmod) -> u64 {
     for operand in sysmod.dropped.iter() {
         if operand.name.as_slice() == b"REWORK".as_slice() {
             return number_of(operand.text());
@@ -43,7 +46,7 @@ fn rework_of(sysmod: &WideSysmod) -> u64 {
 }
 
 impl OtherCopies {
-    /// Those of the files.
+    /// The copies of SYSMODs of the files that are not carried.
     pub(crate) fn of_files(alloc: Global, files: &[WideFile]) -> Result<OtherCopies, AllocError> {
         let mut best = BTreeMap::new(alloc);
         let mut others = OtherCopies {
@@ -52,14 +55,15 @@ impl OtherCopies {
         };
         for file in files {
             for sysmod in file.sysmods.iter() {
-                others.add(&mut best, sysmod)?;
+                others.note_copy(&mut best, sysmod)?;
             }
         }
         Ok(others)
     }
 
-    // Adds a SYSMOD: of it and the best one so far, the other is not carried.
-    fn add(
+    // Notes one more copy of a SYSMOD. Of this copy and the best one so far the better one is kept in `best`, and the
+    // other one is noted as not carried. A SYSMOD whose id has not the form of one is skipped.
+    fn note_copy(
         &mut self,
         best: &mut BTreeMap<Id, SysmodCopy>,
         sysmod: &WideSysmod,
@@ -68,7 +72,7 @@ impl OtherCopies {
             return Ok(());
         };
         let copy = SysmodCopy {
-            rework: rework_of(sysmod),
+            rework: rework_level(sysmod),
             place: sysmod.place,
         };
         let Some(before) = best.get(&id).copied() else {
@@ -85,13 +89,13 @@ impl OtherCopies {
         Ok(())
     }
 
-    /// Whether it is a copy that is not carried.
+    /// Whether the SYSMOD is a copy that is not carried.
     pub(crate) fn has(&self, sysmod: &WideSysmod) -> bool {
         self.places.contains(&sysmod.place)
     }
 
-    /// Whether the files have the SYSMOD more than once.
-    pub(crate) fn are_of(&self, id: &[u8]) -> bool {
+    /// Whether the files have the SYSMOD of this id more than once.
+    pub(crate) fn has_several(&self, id: &[u8]) -> bool {
         match Id::read(id) {
             Some(id) => self.ids.contains(&id),
             None => false,

@@ -8,7 +8,7 @@ use thiserror::Error;
 pub(crate) enum HoldError {
     #[error("out of memory")]
     Memory,
-    /// It can't be said as RECEIVE takes it, as `tell_refusals` tells.
+    /// It has no key: its id, kind, reason or FMID cannot be read. `refuse_statements` remarks on it.
     #[error("a hold can't be carried")]
     BadHold,
 }

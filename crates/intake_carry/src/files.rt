@@ -1,5 +1,5 @@
 //! The statements of files.
-ghost use Rattle.std.specs.Prelude.{◌≡◌, ◌++◌, IfOk, IsFalse, List, map};
+ghost use Rattle.std.specs.Prelude.{◌≡◌, ◌++◌, IfOk, IsFalse, List, OnOk, map};
 ghost use Rattle.terms.specs.Types as terms;
 ghost use Rattle.mcs.specs.declared.file.Item.TheVariants as item;
 ghost use Rattle.intake_read.specs.declared.items.WideHold.{WideHold};
@@ -7,17 +7,17 @@ ghost use Rattle.intake_carry.specs.Become.{Become};
 ghost use Rattle.intake_carry.specs.Carried.{item_in, AreInOrder, SysmodBecomes, FileBecomes, FilesBecome};
 ghost use Rattle.intake_carry.specs.Outside.{AreCarried};
 
-use crate::assigns::{assigns_of, with_assigns};
+use crate::assigns::{append_assigns, assigns_of};
 use crate::copies::OtherCopies;
 use crate::errors::HoldError;
 use crate::held_copies::without_held;
-use crate::names::name_stand_ins;
+use crate::names::sort_and_check_stand_ins;
 use crate::narrowed::{NarrowError, Narrowed};
 use crate::notes::{tell_notes, tell_swallowed};
 use crate::outside::{FileRemarks, OutsideHolds};
-use crate::placed::{PlacedItem, in_order, placed_releases};
-use crate::refusals::tell_refusals;
-use crate::sysmods::{CarriedPart, part_of};
+use crate::placed::{PlacedItem, carry_releases, items_in_order};
+use crate::refusals::refuse_statements;
+use crate::sysmods::{CarriedPart, carry_with_holds};
 use intake_cards::Remarks;
 use intake_read::WideFile;
 use intake_sysmod::{Options, Users, tell_others};
@@ -31,23 +31,36 @@ pub(crate) struct CarriedItems {
     pub outside: Vec<PlacedItem>,
 }
 
-// With what becomes of one SYSMOD more.
-fn with_part(gathered: CarriedItems, part: CarriedPart) -> Result<CarriedItems, AllocError>
-    ensures items { IfOk result (λ all. all.items.items ≡ gathered.items.items ++ item_in part.sysmod) }
-    ensures outside { IfOk result (λ all. all.outside.items ≡ gathered.outside.items ++ part.outside.items) }
-{
-    let mut items = gathered.items;
-    let mut outside = gathered.outside;
-    let mut more = part.outside;
-    outside.append(&mut more)?;
-    if let Some(sysmod) = part.sysmod {
-        items.push(Item::Sysmod(sysmod))?;
+impl CarriedItems {
+    // Adds one more SYSMOD, if it is carried, and its holds for the hold file.
+    fn push(&mut self, part: CarriedPart) -> Result<(), AllocError>
+        ensures items { OnOk result (self.new.items.items ≡ self.old.items.items ++ item_in part.sysmod) }
+        ensures outside { OnOk result (self.new.outside.items ≡ self.old.outside.items ++ part.outside.items) }
+    {
+        let CarriedPart {
+            sysmod,
+            mut outside,
+        } = part;
+        self.outside.append(&mut outside)?;
+        if let Some(sysmod) = sysmod {
+            self.items.push(Item::Sysmod(sysmod))?;
+        }
+        Ok(())
     }
-    Ok(CarriedItems { items, outside })
+
+    // Adds the others after these.
+    fn append(&mut self, mut other: CarriedItems) -> Result<(), AllocError>
+        ensures items { OnOk result (self.new.items.items ≡ self.old.items.items ++ other.items.items) }
+        ensures outside { OnOk result (self.new.outside.items ≡ self.old.outside.items ++ other.outside.items) }
+    {
+        self.items.append(&mut other.items)?;
+        self.outside.append(&mut other.outside)?;
+        Ok(())
+    }
 }
 
-// The SYSMODs of a file, and their holds.
-fn sysmods_of(
+// The SYSMODs of a file, and their holds. Returns `BadHold` if a hold has no key, `Memory` if memory runs out.
+fn carry_sysmods(
     alloc: Global,
     options: &Options,
     users: &Users<'_>,
@@ -55,48 +68,23 @@ fn sysmods_of(
     remarks: &mut Remarks,
     file: &WideFile,
 ) -> Result<CarriedItems, HoldError>
-    ensures { IfOk result (λ all. Become (SysmodBecomes options.now.decide users.now) file.now.sysmods.items all.items.items
-        all.outside.items) }
+    ensures { IfOk result (λ all. Become (SysmodBecomes options.now.decide users.now) file.now.sysmods.items
+        all.items.items all.outside.items) }
 {
     let mut gathered = CarriedItems {
         items: Vec::new(alloc),
         outside: Vec::new(alloc),
     };
     for stated in file.sysmods.iter() {
-        let part = part_of(alloc, options, users, copies, remarks, stated)?;
-        gathered = with_part(gathered, part)?;
+        let part = carry_with_holds(alloc, options, users, copies, remarks, stated)?;
+        gathered.push(part)?;
     }
     Ok(gathered)
 }
 
-// These items, then those of others.
-fn joined(one: CarriedItems, other: CarriedItems) -> Result<CarriedItems, AllocError>
-    ensures items { IfOk result (λ all. all.items.items ≡ one.items.items ++ other.items.items) }
-    ensures outside { IfOk result (λ all. all.outside.items ≡ one.outside.items ++ other.outside.items) }
-{
-    let mut items = one.items;
-    let mut outside = one.outside;
-    let mut more_items = other.items;
-    let mut more = other.outside;
-    items.append(&mut more_items)?;
-    outside.append(&mut more)?;
-    Ok(CarriedItems { items, outside })
-}
-
-// With these holds and releases in the hold file.
-fn with_outside(gathered: CarriedItems, more: Vec<PlacedItem>) -> Result<CarriedItems, AllocError>
-    ensures items { IfOk result (λ all. all.items.items ≡ gathered.items.items) }
-    ensures outside { IfOk result (λ all. all.outside.items ≡ gathered.outside.items ++ more.items) }
-{
-    let items = gathered.items;
-    let mut outside = gathered.outside;
-    let mut more = more;
-    outside.append(&mut more)?;
-    Ok(CarriedItems { items, outside })
-}
-
-// What a file has of SYSMODs and releases. What is told of its holds outside SYSMODs stands between.
-fn of_file(
+// The SYSMODs and the releases of a file. The remarks on its holds outside SYSMODs are put between the remarks on both.
+// Returns `BadHold` if a hold or a release has no key, `Memory` if memory runs out.
+fn carry_file(
     alloc: Global,
     options: &Options,
     users: &Users<'_>,
@@ -109,16 +97,17 @@ fn of_file(
 {
     tell_notes(alloc, remarks, file.notes.as_slice())?;
     tell_swallowed(alloc, remarks, file.swallowed.as_slice())?;
-    let gathered = sysmods_of(alloc, options, users, copies, remarks, file)?;
+    let mut gathered = carry_sysmods(alloc, options, users, copies, remarks, file)?;
     let _ = tell_others(alloc, options, remarks, file.others.as_slice())?;
     remarks.append(held.next_file(alloc))?;
-    let releases = placed_releases(alloc, remarks, file.releases.as_slice())?;
-    let gathered = with_outside(gathered, releases)?;
+    let mut releases = carry_releases(alloc, remarks, file.releases.as_slice())?;
+    gathered.outside.append(&mut releases)?;
     Ok(gathered)
 }
 
-// What the files have of SYSMODs and releases.
-fn of_files(
+// The SYSMODs and the releases of all files. Returns `BadHold` if a hold or a release has no key, `Memory` if memory
+// runs out.
+fn carry_files(
     alloc: Global,
     options: &Options,
     users: &Users<'_>,
@@ -135,15 +124,15 @@ fn of_files(
         outside: Vec::new(alloc),
     };
     for file in files {
-        let more = of_file(alloc, options, users, copies, remarks, held, file)?;
-        gathered = joined(gathered, more)?;
+        let more = carry_file(alloc, options, users, copies, remarks, held, file)?;
+        gathered.append(more)?;
     }
     Ok(gathered)
 }
 
-// Tells of the holds and releases that can't be carried, and answers whether there are any besides those that were found
-// when they were read.
-fn are_refused(
+// Remarks on the holds and releases that cannot be carried, with those remarks that were made as the files were read.
+// Returns whether there are any besides the holds outside SYSMODs, which were refused as they were read.
+fn refuse_files(
     alloc: Global,
     remarks: &mut Remarks,
     refusals: &mut FileRemarks,
@@ -152,15 +141,16 @@ fn are_refused(
     let mut any = false;
     for file in files {
         remarks.append(refusals.next_file(alloc))?;
-        if tell_refusals(alloc, remarks, file)? {
+        if refuse_statements(alloc, remarks, file)? {
             any = true;
         }
     }
     Ok(any)
 }
 
-// Tells that and what can't be carried, if the holds of a file or those that were read before can't.
-fn tell_all_refusals(
+// Remarks on all holds and releases that cannot be carried. Returns whether there are any, those included that were
+// refused as they were read.
+fn refuse_files_and_holds(
     alloc: Global,
     remarks: &mut Remarks,
     held: &mut OutsideHolds,
@@ -169,44 +159,33 @@ fn tell_all_refusals(
     ensures same { held.new.placed ≡ held.old.placed }
     ensures refused { IfOk result (λ any. IsFalse any → IsFalse held.old.is_refused) }
 {
-    let any = are_refused(alloc, remarks, &mut held.refusals, files)?;
+    let any = refuse_files(alloc, remarks, &mut held.refusals, files)?;
     Ok(any || held.is_refused)
 }
 
-// Holds and releases, and then those holds that were carried when they were read.
-fn all_placed(
-    mut placed: Vec<PlacedItem>,
-    mut held: Vec<PlacedItem>,
-) -> Result<Vec<PlacedItem>, AllocError>
-    ensures { IfOk result (λ all. all.items ≡ placed.items ++ held.items) }
-{
-    placed.append(&mut held)?;
-    Ok(placed)
-}
-
 // The items with the assignments, and the hold file's in their order, with all remarks.
-fn finished(
+fn finish_items(
     alloc: Global,
     mut remarks: Remarks,
     files: &[WideFile],
-    items: Vec<Item>,
+    mut items: Vec<Item>,
     outside: Vec<PlacedItem>,
 ) -> Result<Narrowed, AllocError>
     ensures items { IfOk result (λ narrowed. (assigns : List terms.Assign)
         × (narrowed.items.items ≡ items.items ++ map item.Assign assigns)) }
     ensures in_order { IfOk result (λ narrowed. AreInOrder outside.items narrowed.hold_items.items) }
 {
-    name_stand_ins(alloc, &mut remarks, files)?;
+    sort_and_check_stand_ins(alloc, &mut remarks, files)?;
     let assigns = assigns_of(alloc, &mut remarks, files)?;
-    let items = with_assigns(alloc, items, assigns)?;
-    let hold_items = in_order(alloc, outside)?;
+    append_assigns(&mut items, assigns)?;
+    let hold_items = items_in_order(alloc, outside)?;
     Ok(Narrowed::new(items, hold_items, remarks))
 }
 
 /// What the files state, as RECEIVE takes it, in the order of the files: each SYSMOD that is carried is no looser than
 /// it is stated, and no ERROR, SYSTEM or USER hold or release is lost. `held` is what becomes of their holds outside
-/// SYSMODs. The remarks tell all else. Returns `Refused`, with all remarks, if a hold or a release of such a kind cannot
-/// be carried, and `Memory` if memory runs out.
+/// SYSMODs. The remarks tell all else. Returns `Refused`, with all remarks, if a hold or a release of such a kind
+/// cannot be carried, and `Memory` if memory runs out.
 pub fn narrow(
     alloc: Global,
     files: &[WideFile],
@@ -222,27 +201,27 @@ pub fn narrow(
     let copies = OtherCopies::of_files(alloc, files)?;
     let mut remarks = Remarks::new(alloc);
     let mut held = held;
-    if tell_all_refusals(alloc, &mut remarks, &mut held, files)? {
+    if refuse_files_and_holds(alloc, &mut remarks, &mut held, files)? {
         return Err(NarrowError::Refused(remarks.list));
     }
-    let mut told = held.remarks;
-    let found = of_files(
+    let mut held_remarks = held.remarks;
+    let carried = carry_files(
         alloc,
         &options,
         &users,
         &copies,
         &mut remarks,
-        &mut told,
+        &mut held_remarks,
         files,
     );
-    let gathered = match found {
+    let gathered = match carried {
         Ok(gathered) => gathered,
         Err(HoldError::Memory) => return Err(NarrowError::Memory),
         Err(HoldError::BadHold) => return Err(NarrowError::Refused(remarks.list)),
     };
     let CarriedItems { items, outside } = gathered;
-    let outside = without_held(alloc, &mut remarks, &copies, items.as_slice(), outside)?;
-    let outside = all_placed(outside, held.placed)?;
-    let narrowed = finished(alloc, remarks, files, items, outside)?;
+    let mut outside = without_held(alloc, &mut remarks, &copies, items.as_slice(), outside)?;
+    outside.append(&mut held.placed)?;
+    let narrowed = finish_items(alloc, remarks, files, items, outside)?;
     Ok(narrowed)
 }

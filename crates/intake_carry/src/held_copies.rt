@@ -19,6 +19,7 @@ use terms::HoldKind;
 /// What tells holds apart: id, kind and reason.
 type HoldKey = (Id, (HoldKind, HoldReason));
 
+// The key of the hold.
 fn key_of(hold: &Hold) -> HoldKey
     ensures { result ≡ (hold.now.id, (hold.now.kind, hold.now.reason)) }
 {
@@ -75,17 +76,17 @@ fn is_held_by_copy(keys: &BTreeSet<HoldKey>, placed: &PlacedItem) -> bool
     placed.was_internal && is_held(keys, &placed.item)
 }
 
-// The others.
-fn others(keys: &BTreeSet<HoldKey>, mut placed: Vec<PlacedItem>) -> Vec<PlacedItem>
+// The holds and releases without those that were internal holds and have one of the keys.
+fn keep_unheld(keys: &BTreeSet<HoldKey>, mut placed: Vec<PlacedItem>) -> Vec<PlacedItem>
     ensures { (items : List AnItem) → AreKeysOf keys.now (flat_map holds_of items)
         → result.items ≡ filter (λ p. not (is_held_by_copy items p)) placed.items }
 {
-    placed.retain(|one| !is_held_by_copy(keys, one));
+    placed.retain(|item| !is_held_by_copy(keys, item));
     placed
 }
 
-// Tells what becomes of a hold that was internal in a copy of a SYSMOD.
-fn tell_hold(
+// Remarks what becomes of a hold that was internal in a copy of a SYSMOD.
+fn remark_on_copy_hold(
     alloc: Global,
     remarks: &mut Remarks,
     keys: &BTreeSet<HoldKey>,
@@ -108,24 +109,24 @@ fn tell_hold(
             reason,
         );
     }
-    if copies.are_of(hold.id.as_bytes()) {
+    if copies.has_several(hold.id.as_bytes()) {
         return remarks.tell_carried(alloc, &subject, b"", RemarkReason::HeldOutside, b"");
     }
     Ok(())
 }
 
-// The same of each of them.
-fn tell_holds(
+// Remarks what becomes of each of the holds that were internal in a copy of a SYSMOD.
+fn remark_on_copy_holds(
     alloc: Global,
     remarks: &mut Remarks,
     keys: &BTreeSet<HoldKey>,
     copies: &OtherCopies,
     placed: &[PlacedItem],
 ) -> Result<(), AllocError> {
-    for one in placed {
-        match &one.item {
-            HoldItem::Hold(hold) if one.was_internal => {
-                tell_hold(alloc, remarks, keys, copies, one.place, hold)?
+    for placed_item in placed {
+        match &placed_item.item {
+            HoldItem::Hold(hold) if placed_item.was_internal => {
+                remark_on_copy_hold(alloc, remarks, keys, copies, placed_item.place, hold)?
             }
             HoldItem::Hold(_) | HoldItem::Release(_) => {}
         }
@@ -133,8 +134,8 @@ fn tell_holds(
     Ok(())
 }
 
-/// The holds and releases without the internal holds of copies that are left out for which a SYSMOD of the items has
-/// one of the same key. What becomes of such holds is told.
+/// The holds and releases. Left out are holds that were internal in a copy of a SYSMOD that is not carried, if a SYSMOD
+/// of the items has a hold of the same key. Remarks say what becomes of the holds of such copies.
 pub(crate) fn without_held(
     alloc: Global,
     remarks: &mut Remarks,
@@ -146,6 +147,6 @@ pub(crate) fn without_held(
         ≡ filter (λ p. not (is_held_by_copy items.now p)) placed.items) }
 {
     let keys = internal_keys(alloc, items)?;
-    tell_holds(alloc, remarks, &keys, copies, placed.as_slice())?;
-    Ok(others(&keys, placed))
+    remark_on_copy_holds(alloc, remarks, &keys, copies, placed.as_slice())?;
+    Ok(keep_unheld(&keys, placed))
 }

@@ -1,12 +1,11 @@
 //! `++HOLD` and `++RELEASE`.
 ghost use Rattle.std.specs.Prelude.{◌≡◌, ◌↔◌, Some, IfOk, IfSome, IfNone, IsTrue};
-ghost use Rattle.terms.specs.declared.kinds.HoldKind.TheVariants.{System};
 ghost use Rattle.terms.specs.Forms.{IsClass, IsDate, IsReason};
 ghost use Rattle.intake_read.specs.declared.items.WideHoldKind.TheVariants.{Fixcat};
 ghost use Rattle.intake_read.specs.Stated.{text_in};
 ghost use Rattle.intake_carry.specs.Holds.{wide_kind, IsFormed, IsKey, IsHoldKey, IsHold, IsInternal, IsRelease};
 
-use crate::comment::comment_of;
+use crate::comment::read_comment;
 use crate::errors::HoldError;
 use fields::{Class, HoldDate, Id, Reason as HoldReason};
 use intake_cards::{Deed, RemarkReason, Remarks, Subject};
@@ -18,7 +17,7 @@ use std::alloc::{AllocError, Global};
 use sysmods_values::Hold;
 use terms::HoldKind;
 
-/// Why a hold or a release can't be carried.
+/// Why a hold or a release cannot be carried.
 #[derive(Clone, Copy, Debug, PartialEq, Eq)]
 pub(crate) enum HoldFault {
     BadId,
@@ -50,8 +49,8 @@ impl HoldFault {
     }
 }
 
-// The kind of a hold, or nothing for FIXCAT.
-fn kind_of(kind: WideHoldKind) -> Option<HoldKind>
+// The kind that the profile has for a kind of SMP/E's, or `None` for FIXCAT.
+fn profile_kind(kind: WideHoldKind) -> Option<HoldKind>
     ensures some { IfSome result (λ found. kind ≡ wide_kind found) }
     ensures none { IfNone result (kind ≡ Fixcat) }
 {
@@ -63,8 +62,9 @@ fn kind_of(kind: WideHoldKind) -> Option<HoldKind>
     }
 }
 
-// The reason of a hold of the kind. That of an ERROR hold is an id.
-fn reason_of(kind: HoldKind, stated: &Option<Vec<u8>>) -> Result<HoldReason, HoldFault>
+// The reason of a hold of the kind. Returns `NoReason` if none is stated, `BadReason` if it has not the form of a
+// reason of the kind: for an ERROR hold it must be an id.
+fn read_reason(kind: HoldKind, stated: &Option<Vec<u8>>) -> Result<HoldReason, HoldFault>
     ensures { IfOk result (λ reason. (text_in stated.now ≡ Some reason) × IsReason kind reason) }
 {
     let Some(text) = stated else {
@@ -73,14 +73,14 @@ fn reason_of(kind: HoldKind, stated: &Option<Vec<u8>>) -> Result<HoldReason, Hol
     let Some(reason) = HoldReason::read(text.as_slice()) else {
         return Err(HoldFault::BadReason);
     };
-    if kind == HoldKind::Error && !reason.is_id() {
+    if !reason.suits(kind) {
         return Err(HoldFault::BadReason);
     }
     Ok(reason)
 }
 
-// The FMID of a hold.
-fn fmid_of(stated: &Option<Vec<u8>>) -> Result<Id, HoldFault>
+// The FMID of a hold. Returns `NoFmid` if none is stated, `BadFmid` if it has not the form of an id.
+fn read_fmid(stated: &Option<Vec<u8>>) -> Result<Id, HoldFault>
     ensures { IfOk result (λ fmid. text_in stated.now ≡ Some fmid) }
 {
     let Some(text) = stated else {
@@ -92,8 +92,9 @@ fn fmid_of(stated: &Option<Vec<u8>>) -> Result<Id, HoldFault>
     }
 }
 
-// What tells a hold from others, and its FMID: nothing for FIXCAT.
-fn key_of(
+// The id, kind and reason, which tell a hold from others, and the FMID, or `None` for FIXCAT. Returns the fault of the
+// first of the kind, the id, the reason and the FMID that is missing or has a wrong form.
+fn read_key(
     id: &[u8],
     kind: Option<WideHoldKind>,
     reason: &Option<Vec<u8>>,
@@ -105,14 +106,14 @@ fn key_of(
     let Some(kind) = kind else {
         return Err(HoldFault::NoKind);
     };
-    let Some(kind) = kind_of(kind) else {
+    let Some(kind) = profile_kind(kind) else {
         return Ok(None);
     };
     let Some(id) = Id::read(id) else {
         return Err(HoldFault::BadId);
     };
-    let reason = reason_of(kind, reason)?;
-    let fmid = fmid_of(fmid)?;
+    let reason = read_reason(kind, reason)?;
+    let fmid = read_fmid(fmid)?;
     Ok(Some(Release {
         id,
         kind,
@@ -121,12 +122,12 @@ fn key_of(
     }))
 }
 
-/// The key of a hold, or nothing for FIXCAT.
+/// The key of a hold and its FMID, or `None` for FIXCAT. Returns the fault if they cannot be read.
 pub(crate) fn hold_key(stated: &WideHold) -> Result<Option<Release>, HoldFault>
     ensures some { IfOk result (λ found. IfSome found (IsHoldKey stated.now)) }
     ensures none { IfOk result (λ found. IfNone found (stated.now.kind ≡ Some Fixcat)) }
 {
-    key_of(
+    read_key(
         stated.id.as_slice(),
         stated.kind,
         &stated.reason,
@@ -134,12 +135,13 @@ pub(crate) fn hold_key(stated: &WideHold) -> Result<Option<Release>, HoldFault>
     )
 }
 
-/// The release, or nothing for FIXCAT.
+/// The key of the hold that a release ends and its FMID, or `None` for FIXCAT. Returns the fault if they cannot be
+/// read.
 pub(crate) fn release_key(stated: &WideRelease) -> Result<Option<Release>, HoldFault>
     ensures some { IfOk result (λ found. IfSome found (IsRelease stated.now)) }
     ensures none { IfOk result (λ found. IfNone found (stated.now.kind ≡ Some Fixcat)) }
 {
-    key_of(
+    read_key(
         stated.id.as_slice(),
         stated.kind,
         &stated.reason,
@@ -147,8 +149,8 @@ pub(crate) fn release_key(stated: &WideRelease) -> Result<Option<Release>, HoldF
     )
 }
 
-// CLASS, where it has the form; else this is told.
-fn class_of(
+// The CLASS. Returns `None` if it is not stated, or, with a remark, if it has not the form of a class.
+fn read_class(
     alloc: Global,
     remarks: &mut Remarks,
     subject: &Subject<'_>,
@@ -172,8 +174,8 @@ fn class_of(
     Ok(class)
 }
 
-// DATE, where it has the form; else this is told.
-fn date_of(
+// The DATE. Returns `None` if it is not stated, or, with a remark, if it has not the form of a date.
+fn read_date(
     alloc: Global,
     remarks: &mut Remarks,
     subject: &Subject<'_>,
@@ -197,8 +199,8 @@ fn date_of(
     Ok(date)
 }
 
-// The hold of the key.
-fn hold_of(
+// The hold with this key, and with the CLASS, DATE and COMMENT that are stated.
+fn make_hold(
     alloc: Global,
     remarks: &mut Remarks,
     subject: &Subject<'_>,
@@ -210,9 +212,9 @@ fn hold_of(
     ensures hold { IfOk result (IsHold stated.now) }
     ensures internal { IfOk result (λ hold. (hold.internal ≡ internal) × (hold.id ≡ key.id) × (hold.kind ≡ key.kind)) }
 {
-    let class = class_of(alloc, remarks, subject, &stated.class)?;
-    let date = date_of(alloc, remarks, subject, &stated.date)?;
-    let comment = comment_of(alloc, remarks, subject, &stated.comment)?;
+    let class = read_class(alloc, remarks, subject, &stated.class)?;
+    let date = read_date(alloc, remarks, subject, &stated.date)?;
+    let comment = read_comment(alloc, remarks, subject, &stated.comment)?;
     Ok(Hold {
         id: key.id,
         kind: key.kind,
@@ -225,23 +227,24 @@ fn hold_of(
     })
 }
 
-// Whether the hold stays in the SYSMOD of the id: a SYSTEM hold on it.
-fn is_internal(key: &Release, own: Option<Id>) -> bool
-    ensures only { IsTrue result → (key.now.kind ≡ System) × (own ≡ Some key.now.id) }
-    ensures always { (key.now.kind ≡ System) × (own ≡ Some key.now.id) → IsTrue result }
+/// Whether the hold is internal in the SYSMOD of this id: it is a SYSTEM hold on that SYSMOD.
+pub(crate) fn is_on(id: &[u8], stated: &WideHold) -> bool
+    ensures { IsTrue result ↔ IsInternal (Some id.now) stated.now }
 {
-    key.kind == HoldKind::System && own == Some(key.id)
+    stated.kind == Some(WideHoldKind::System) && id == stated.id.as_slice()
 }
 
-// The same of the hold of the file.
-fn stays_inside(stated: &WideHold, key: &Release, own: Option<Id>) -> bool
-    requires { IsHoldKey stated.now key.now }
+// Whether the hold is internal in the SYSMOD `own`. Outside of SYSMODs none is.
+fn is_internal(own: Option<Id>, stated: &WideHold) -> bool
     ensures { IsTrue result ↔ IsInternal own stated.now }
 {
-    is_internal(key, own)
+    match own {
+        Some(id) => is_on(id.as_bytes(), stated),
+        None => false,
+    }
 }
 
-// Tells that it is left out, since it is of FIXCAT.
+// Remarks that a hold or a release is left out because it is of FIXCAT.
 fn tell_fixcat(
     alloc: Global,
     remarks: &mut Remarks,
@@ -257,7 +260,7 @@ fn tell_fixcat(
     )
 }
 
-// Tells of the operands that are dropped, those that are odd too.
+// Remarks on the operands that are dropped, those that are odd too.
 fn tell_operands(
     alloc: Global,
     remarks: &mut Remarks,
@@ -269,9 +272,9 @@ fn tell_operands(
     tell_odd(alloc, remarks, subject, odd, Deed::Dropped)
 }
 
-/// The hold, or nothing for FIXCAT. `own` is the SYSMOD that it stands in: it is internal where it is a SYSTEM hold on
-/// that one. What differs is told. `BadHold` comes where it can't be said, `Memory` where memory runs out.
-pub(crate) fn carried_hold(
+/// The hold, or `None` for FIXCAT. `own` is the SYSMOD in which it is stated: the hold is internal if it is a SYSTEM
+/// hold on that SYSMOD. Remarks say what differs. Returns `BadHold` if it has no key, `Memory` if memory runs out.
+pub(crate) fn carry_hold(
     alloc: Global,
     remarks: &mut Remarks,
     stated: &WideHold,
@@ -301,13 +304,13 @@ pub(crate) fn carried_hold(
         stated.dropped.as_slice(),
         stated.odd.as_slice(),
     )?;
-    let internal = stays_inside(stated, &key, own);
-    Ok(Some(hold_of(alloc, remarks, &subject, stated, key, internal)?))
+    let internal = is_internal(own, stated);
+    Ok(Some(make_hold(alloc, remarks, &subject, stated, key, internal)?))
 }
 
-/// The release, or nothing for FIXCAT. What differs is told. `BadHold` comes where it can't be said, `Memory` where
-/// memory runs out.
-pub(crate) fn carried_release(
+/// The release, or `None` for FIXCAT. Remarks say what differs. Returns `BadHold` if it has no key, `Memory` if memory
+/// runs out.
+pub(crate) fn carry_release(
     alloc: Global,
     remarks: &mut Remarks,
     stated: &WideRelease,

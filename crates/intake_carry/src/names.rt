@@ -8,29 +8,35 @@ use std::cmp::Ordering;
 use std::mem;
 use terms::ElemType;
 
-// By their names and types, and then by the elements.
-fn order(one: &StandIn, other: &StandIn) -> Ordering {
-    let words = one.word.as_slice().cmp(other.word.as_slice());
-    let names = one.name.as_slice().cmp(other.name.as_slice());
-    one.stand_in
-        .cmp(&other.stand_in)
-        .then(one.elem_type.cmp(other.elem_type))
+// Orders stand-ins by their names and types, and then by the elements.
+fn compare_stand_ins(first: &StandIn, second: &StandIn) -> Ordering {
+    let words = first.word.as_slice().cmp(second.word.as_slice());
+    let names = first.name.as_slice().cmp(second.name.as_slice());
+    first
+        .stand_in
+        .cmp(&second.stand_in)
+        .then(first.elem_type.cmp(second.elem_type))
         .then(words)
         .then(names)
 }
 
 // Whether both have one name and type.
-fn fall_together(one: &StandIn, other: &StandIn) -> bool {
-    one.stand_in == other.stand_in && one.elem_type == other.elem_type
+fn have_same_name(first: &StandIn, second: &StandIn) -> bool {
+    first.stand_in == second.stand_in && first.elem_type == second.elem_type
 }
 
 // Whether both are for one element.
-fn are_for_one(one: &StandIn, other: &StandIn) -> bool {
-    one.word.as_slice() == other.word.as_slice() && one.name.as_slice() == other.name.as_slice()
+fn are_for_same_element(first: &StandIn, second: &StandIn) -> bool {
+    first.word.as_slice() == second.word.as_slice()
+        && first.name.as_slice() == second.name.as_slice()
 }
 
-// Tells that the stand-in stands for another element too.
-fn tell(alloc: Global, remarks: &mut Remarks, stand_in: &StandIn) -> Result<(), AllocError> {
+// Remarks that the stand-in stands for another element too.
+fn remark_shared_name(
+    alloc: Global,
+    remarks: &mut Remarks,
+    stand_in: &StandIn,
+) -> Result<(), AllocError> {
     let subject = Subject {
         place: stand_in.place,
         word: stand_in.word.as_slice(),
@@ -40,30 +46,30 @@ fn tell(alloc: Global, remarks: &mut Remarks, stand_in: &StandIn) -> Result<(), 
     remarks.tell_carried(alloc, &subject, b"", RemarkReason::FallTogether, name)
 }
 
-// The stand-ins in order, one for each element. Two that have one name are told.
-fn apart(
+// The stand-ins in order, one for each element. Remarks say which elements share the name of a stand-in.
+fn sort_stand_ins(
     alloc: Global,
     remarks: &mut Remarks,
     mut named: Vec<StandIn>,
 ) -> Result<Vec<StandIn>, AllocError> {
-    named.sort_unstable_by(|one, other| order(one, other));
+    named.sort_unstable_by(|first, second| compare_stand_ins(first, second));
     let mut kept: Vec<StandIn> = Vec::with_capacity(alloc, named.len())?;
-    for one in named {
+    for stand_in in named {
         if let Some(last) = kept.last() {
-            if fall_together(last, &one) {
-                if are_for_one(last, &one) {
+            if have_same_name(last, &stand_in) {
+                if are_for_same_element(last, &stand_in) {
                     continue;
                 }
-                tell(alloc, remarks, &one)?;
+                remark_shared_name(alloc, remarks, &stand_in)?;
             }
         }
-        kept.push(one)?;
+        kept.push(stand_in)?;
     }
     Ok(kept)
 }
 
-// Tells of an element of the profile that has the name and type of a stand-in.
-fn tell_real(
+// Remarks on an element of the profile that has the name and type of a stand-in.
+fn remark_if_stand_in_name(
     alloc: Global,
     remarks: &mut Remarks,
     named: &[StandIn],
@@ -76,33 +82,33 @@ fn tell_real(
         b"DATA" => type_text(ElemType::Data),
         _ => return Ok(()),
     };
-    let found = named.binary_search_by(|one| one
+    let found = named.binary_search_by(|first| first
         .stand_in
         .as_bytes()
         .cmp(name)
-        .then(one.elem_type.cmp(elem_type)));
+        .then(first.elem_type.cmp(elem_type)));
     let Ok(place) = found else {
         return Ok(());
     };
     match named.get(place) {
-        Some(one) => tell(alloc, remarks, one),
+        Some(stand_in) => remark_shared_name(alloc, remarks, stand_in),
         None => Ok(()),
     }
 }
 
-/// Puts the stand-ins in order, each once, and tells of those that fall together with each other, or with elements of
-/// the files.
-pub(crate) fn name_stand_ins(
+/// Sorts the stand-ins of the remarks, each once, and remarks on those that have the name and type of another one, or
+/// of an element of the files.
+pub(crate) fn sort_and_check_stand_ins(
     alloc: Global,
     remarks: &mut Remarks,
     files: &[WideFile],
 ) -> Result<(), AllocError> {
     let named = mem::replace(&mut remarks.named, Vec::new(alloc));
-    let named = apart(alloc, remarks, named)?;
+    let named = sort_stand_ins(alloc, remarks, named)?;
     for file in files {
         for sysmod in file.sysmods.iter() {
             for element in sysmod.elements.iter() {
-                tell_real(alloc, remarks, named.as_slice(), element)?;
+                remark_if_stand_in_name(alloc, remarks, named.as_slice(), element)?;
             }
         }
     }

@@ -1,4 +1,4 @@
-//! What comes of narrowing.
+//! The outcome of narrowing: the statements of SMP/E as those of the profile.
 ghost use Rattle.std.specs.Prelude.{◌≡◌};
 
 use intake_cards::{Deed, Remark, RemarkList, RemarkReason, Remarks, StandIn};
@@ -14,7 +14,7 @@ pub struct Tally {
     pub left_out: usize,
 }
 
-/// What comes of narrowing.
+/// The items that are carried, with the remarks and their counts.
 #[derive(Drop)]
 pub struct Narrowed {
     /// PTFIN: the SYSMODs in the order of the files, and then the assignments.
@@ -34,7 +34,7 @@ pub struct Narrowed {
     pub named: Vec<StandIn>,
 }
 
-/// Why nothing comes of narrowing.
+/// Why nothing is carried.
 #[derive(Debug, Drop, Error)]
 pub enum NarrowError {
     #[error("out of memory")]
@@ -55,7 +55,7 @@ impl<T: Drop> From<AllocFailed<T>> for NarrowError {
     }
 }
 
-/// What the remarks tell of statements that are left out.
+/// How many statements of each kind are left out.
 #[derive(Clone, Copy)]
 struct LeftOutCounts {
     sysmods: usize,
@@ -67,8 +67,8 @@ struct LeftOutCounts {
 }
 
 impl LeftOutCounts {
-    // How many statements of each word the remarks leave out.
-    fn of(remarks: &RemarkList) -> LeftOutCounts {
+    // Counts the statements that are left out, by the remarks on them.
+    fn of_remarks(remarks: &RemarkList) -> LeftOutCounts {
         let mut counts = LeftOutCounts {
             sysmods: 0,
             holds: 0,
@@ -84,6 +84,7 @@ impl LeftOutCounts {
         counts
     }
 
+    // Counts the statement of the remark, if the remark says that it is left out.
     fn add(&mut self, remark: &Remark<'_>) {
         if remark.reason == RemarkReason::WholeSysmod {
             self.sysmods = self.sysmods.saturating_add(1);
@@ -107,7 +108,7 @@ impl LeftOutCounts {
         }
     }
 
-    // Counts an `++ASSIGN` once, and none of which only an id is left out.
+    // Counts an `++ASSIGN` once, and does not count one of which only an id is left out.
     fn add_assign(&mut self, remark: &Remark<'_>) {
         if remark.reason != RemarkReason::BadId && self.assign != Some(remark.place) {
             self.assigns = self.assigns.saturating_add(1);
@@ -122,17 +123,17 @@ impl Narrowed {
         ensures items { result.items.items ≡ items.items }
         ensures holds { result.hold_items.items ≡ hold_items.items }
     {
-        let left_out = LeftOutCounts::of(&remarks.list);
+        let left_out = LeftOutCounts::of_remarks(&remarks.list);
         let sysmods = Tally {
-            carried: sysmods_in(items.as_slice()),
+            carried: count_sysmods(items.as_slice()),
             left_out: left_out.sysmods,
         };
         let holds = Tally {
-            carried: holds_in(items.as_slice(), hold_items.as_slice()),
+            carried: count_holds(items.as_slice(), hold_items.as_slice()),
             left_out: left_out.holds,
         };
         let releases = Tally {
-            carried: releases_in(hold_items.as_slice()),
+            carried: count_releases(hold_items.as_slice()),
             left_out: left_out.releases,
         };
         let assigns = Tally {
@@ -154,7 +155,8 @@ impl Narrowed {
     }
 }
 
-fn sysmods_in(items: &[Item]) -> usize {
+// How many of the items are SYSMODs.
+fn count_sysmods(items: &[Item]) -> usize {
     items
         .iter()
         .filter(|item| match item {
@@ -164,7 +166,8 @@ fn sysmods_in(items: &[Item]) -> usize {
         .count()
 }
 
-fn releases_in(items: &[HoldItem]) -> usize {
+// How many of the items are releases.
+fn count_releases(items: &[HoldItem]) -> usize {
     items
         .iter()
         .filter(|item| match item {
@@ -174,8 +177,9 @@ fn releases_in(items: &[HoldItem]) -> usize {
         .count()
 }
 
-fn holds_in(items: &[Item], outside: &[HoldItem]) -> usize {
-    let mut holds = outside.len().saturating_sub(releases_in(outside));
+// How many holds there are inside the SYSMODs and outside.
+fn count_holds(items: &[Item], outside: &[HoldItem]) -> usize {
+    let mut holds = outside.len().saturating_sub(count_releases(outside));
     for item in items {
         if let Item::Sysmod(sysmod) = item {
             holds = holds.saturating_add(sysmod.holds.len());

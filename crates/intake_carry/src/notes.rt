@@ -1,10 +1,10 @@
-//! What was read differently than it is written.
+//! Remarks on what was read otherwise than it is written.
 
 use intake_cards::{RemarkReason, Remarks, Subject};
 use intake_read::{Note, NoteReason, SwallowedStatement};
 use std::alloc::{AllocError, Global};
 
-/// Tells what was read differently than it is written: where it occurs first, and how often.
+/// Remarks on what was read otherwise than it is written: where it occurs first, and how often.
 pub(crate) fn tell_notes(
     alloc: Global,
     remarks: &mut Remarks,
@@ -25,25 +25,25 @@ pub(crate) fn tell_notes(
             continue;
         }
         let count = note.count;
-        let often = format!(in alloc; "{count} in all")?;
-        remarks.tell_carried(alloc, &subject, b"", reason, often.as_bytes())?;
+        let count_text = format!(in alloc; "{count} in all")?;
+        remarks.tell_carried(alloc, &subject, b"", reason, count_text.as_bytes())?;
     }
     Ok(())
 }
 
-/// A remark on each statement inside a comment, with the card on which the comment opens.
+/// Remarks on each statement inside a comment, with the card on which the comment opens.
 pub(crate) fn tell_swallowed(
     alloc: Global,
     remarks: &mut Remarks,
     swallowed: &[SwallowedStatement],
 ) -> Result<(), AllocError> {
-    for one in swallowed {
+    for statement in swallowed {
         let subject = Subject {
-            place: one.place,
-            word: one.word.as_slice(),
-            id: one.name.as_slice(),
+            place: statement.place,
+            word: statement.word.as_slice(),
+            id: statement.name.as_slice(),
         };
-        let card = one.comment.card;
+        let card = statement.comment.card;
         let opens = format!(in alloc; "which opens at {card}")?;
         let reason = RemarkReason::StatementInComment;
         remarks.leave_out(alloc, &subject, b"", reason, opens.as_bytes())?;

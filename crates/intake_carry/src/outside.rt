@@ -1,20 +1,20 @@
-//! The holds outside SYSMODs. Each is carried when it has been read, so that what the file states of it is not kept.
+//! The holds outside SYSMODs. Each is carried as soon as it is read, so that its statement need not be kept.
 ghost use Rattle.std.specs.Prelude.{◌++◌, ◌∷◌, [], List, OnOk, IfOk, None, option_to_list};
 ghost use Rattle.intake_read.specs.declared.items.WideHold.{WideHold};
 ghost use Rattle.intake_carry.specs.Holds.{HoldBecomes};
 ghost use Rattle.intake_carry.specs.Outside.{AreCarried, CarriesHolds};
 
 use crate::errors::HoldError;
-use crate::holds::carried_hold;
+use crate::holds::carry_hold;
 use crate::placed::PlacedItem;
-use crate::refusals::tell_hold;
+use crate::refusals::refuse_hold;
 use intake_cards::{CardNote, CardReader, Remarks};
 use intake_read::{WideError, WideFile, WideHold, WideReader};
 use mcs::HoldItem;
 use std::alloc::{AllocError, Global};
 use std::mem;
 
-/// What is told of the holds of each file.
+/// The remarks on the holds of each file.
 #[derive(Drop)]
 pub(crate) struct FileRemarks {
     /// Of the file that is being read.
@@ -25,20 +25,21 @@ pub(crate) struct FileRemarks {
     taken: usize,
 }
 
-/// What becomes of the holds of files that are in no SYSMOD, in the order in which they are read.
+/// The holds of the files that are in no SYSMOD, as they are carried, in the order in which they are read.
 #[derive(Drop)]
 pub struct OutsideHolds {
     pub(crate) placed: Vec<PlacedItem>,
-    /// One of them can't be carried.
+    /// One of them cannot be carried.
     pub(crate) is_refused: bool,
     /// How many holds there are.
     number: usize,
     pub(crate) remarks: FileRemarks,
-    /// What is told of those that can't be carried.
+    /// The remarks on those that cannot be carried.
     pub(crate) refusals: FileRemarks,
 }
 
 impl FileRemarks {
+    // No remarks.
     fn new(alloc: Global) -> FileRemarks {
         FileRemarks {
             last: Remarks::new(alloc),
@@ -49,32 +50,34 @@ impl FileRemarks {
 
     // Goes on to the next file.
     fn end_file(&mut self, alloc: Global) -> Result<(), AllocError> {
-        let told = mem::replace(&mut self.last, Remarks::new(alloc));
-        self.files.push(told)?;
+        let remarks = mem::replace(&mut self.last, Remarks::new(alloc));
+        self.files.push(remarks)?;
         Ok(())
     }
 
-    /// What is told of the next file, from the first one on.
+    /// Hands out the remarks of the next file: at the first call those of the first file. After the last file there are
+    /// none.
     pub(crate) fn next_file(&mut self, alloc: Global) -> Remarks {
         let place = self.taken;
         self.taken = place.saturating_add(1);
         let none = Remarks::new(alloc);
         match self.files.get_mut(place) {
-            Some(told) => mem::replace(told, none),
+            Some(remarks) => mem::replace(remarks, none),
             None => none,
         }
     }
 }
 
-// The hold in its place in the hold file, or nothing for FIXCAT. What is left out or differs is told.
-fn placed_hold(
+// The hold in its place in the hold file, or `None` for FIXCAT. Remarks say what is left out and what differs. Returns
+// `BadHold` if it has no key, `Memory` if memory runs out.
+fn carry_outside_hold(
     alloc: Global,
     remarks: &mut Remarks,
     hold: &WideHold,
 ) -> Result<Option<PlacedItem>, HoldError>
     ensures { IfOk result (λ placed. HoldBecomes None hold.now [] (option_to_list placed)) }
 {
-    let Some(carried) = carried_hold(alloc, remarks, hold, None)? else {
+    let Some(carried) = carry_hold(alloc, remarks, hold, None)? else {
         return Ok(None);
     };
     Ok(Some(PlacedItem {
@@ -103,17 +106,17 @@ impl OutsideHolds {
         self.number == 0
     }
 
-    // Adds the next hold of the file that is being read.
+    // Carries the next hold of the file that is being read, and adds it. If it cannot be carried, all are refused.
     fn add(&mut self, alloc: Global, hold: &WideHold) -> Result<(), AllocError>
         ensures { OnOk result ((stated : List WideHold) → AreCarried stated self.old
             → AreCarried (stated ++ hold.now ∷ []) self.new) }
     {
         self.number = self.number.saturating_add(1);
-        if tell_hold(alloc, &mut self.refusals.last, hold)? {
+        if refuse_hold(alloc, &mut self.refusals.last, hold)? {
             self.is_refused = true;
             return Ok(());
         }
-        match placed_hold(alloc, &mut self.remarks.last, hold) {
+        match carry_outside_hold(alloc, &mut self.remarks.last, hold) {
             Ok(Some(item)) => {
                 self.placed.push(item)?;
                 Ok(())
@@ -127,8 +130,8 @@ impl OutsideHolds {
         }
     }
 
-    // Adds the hold, if there is one.
-    fn add_any(&mut self, alloc: Global, hold: Option<WideHold>) -> Result<(), AllocError>
+    // Carries and adds the hold, if there is one.
+    fn add_if_hold(&mut self, alloc: Global, hold: Option<WideHold>) -> Result<(), AllocError>
         ensures { OnOk result ((stated : List WideHold) → AreCarried stated self.old
             → AreCarried (stated ++ option_to_list hold) self.new) }
     {
@@ -147,7 +150,9 @@ impl OutsideHolds {
     }
 }
 
-/// The statements of a file of these cards. Its holds outside SYSMODs are carried as they are read.
+/// The statements of a file of these cards. Its holds outside SYSMODs are carried as they are read, and added to
+/// `held`. Returns `Memory` if memory runs out, or else the first fault for which no SYSMOD can be left out:
+/// `NoStatement`, `OpenComment` or `Statement`.
 pub fn read_statements(
     alloc: Global,
     cards: &mut CardReader<'_>,
@@ -161,10 +166,10 @@ pub fn read_statements(
         let Some(card) = cards.next_card(notes)? else {
             break;
         };
-        held.add_any(alloc, reader.take(&card)?)?;
+        held.add_if_hold(alloc, reader.take(&card)?)?;
     }
     cards.note_end(notes)?;
-    held.add_any(alloc, reader.take_end()?)?;
+    held.add_if_hold(alloc, reader.take_end()?)?;
     held.end_file(alloc)?;
     let file = reader.into_file()?;
     Ok(file)

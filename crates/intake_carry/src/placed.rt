@@ -7,7 +7,7 @@ ghost use Rattle.intake_carry.specs.Holds.{placed_at, place_cmp, ReleaseBecomes}
 ghost use Rattle.intake_carry.specs.Carried.{AreInOrder};
 
 use crate::errors::HoldError;
-use crate::holds::carried_release;
+use crate::holds::carry_release;
 use intake_cards::Remarks;
 use intake_read::{CardPlace, WideRelease};
 use mcs::{HoldItem, Release};
@@ -24,7 +24,7 @@ pub(crate) struct PlacedItem {
 }
 
 /// Adds a hold after the others.
-pub(crate) fn put_outside(
+pub(crate) fn push_hold(
     placed: &mut Vec<PlacedItem>,
     place: CardPlace,
     hold: Hold,
@@ -40,7 +40,7 @@ pub(crate) fn put_outside(
 }
 
 // Adds a release after the others.
-fn put_release(
+fn push_release(
     placed: &mut Vec<PlacedItem>,
     place: CardPlace,
     release: Release,
@@ -55,8 +55,9 @@ fn put_release(
     Ok(())
 }
 
-/// The releases. What is left out or differs is told.
-pub(crate) fn placed_releases(
+/// The releases, each at its place, but for those of FIXCAT. Remarks say what is left out and what differs. Returns
+/// `BadHold` if one has no key, `Memory` if memory runs out.
+pub(crate) fn carry_releases(
     alloc: Global,
     remarks: &mut Remarks,
     stated: &[WideRelease],
@@ -65,16 +66,16 @@ pub(crate) fn placed_releases(
 {
     let mut placed = Vec::with_capacity(alloc, stated.len())?;
     for release in stated {
-        let Some(carried) = carried_release(alloc, remarks, release)? else {
+        let Some(carried) = carry_release(alloc, remarks, release)? else {
             continue;
         };
-        put_release(&mut placed, release.place, carried)?;
+        push_release(&mut placed, release.place, carried)?;
     }
     Ok(placed)
 }
 
-// By their places.
-fn by_place(mut placed: Vec<PlacedItem>) -> Vec<PlacedItem>
+// Sorts the items by their places.
+fn sort_by_place(mut placed: Vec<PlacedItem>) -> Vec<PlacedItem>
     ensures same { IsPermutation placed.items result.items }
     ensures rising { IsSortedByKey (λ one. one.place) place_cmp result.items }
 {
@@ -83,7 +84,7 @@ fn by_place(mut placed: Vec<PlacedItem>) -> Vec<PlacedItem>
 }
 
 // The items without their places.
-fn items_of(alloc: Global, placed: Vec<PlacedItem>) -> Result<Vec<HoldItem>, AllocError>
+fn without_places(alloc: Global, placed: Vec<PlacedItem>) -> Result<Vec<HoldItem>, AllocError>
     ensures { IfOk result (λ items. items.items ≡ map (λ one. one.item) placed.items) }
 {
     let mut items = Vec::with_capacity(alloc, placed.len())?;
@@ -94,9 +95,12 @@ fn items_of(alloc: Global, placed: Vec<PlacedItem>) -> Result<Vec<HoldItem>, All
 }
 
 /// The items in the order of the files.
-pub(crate) fn in_order(alloc: Global, placed: Vec<PlacedItem>) -> Result<Vec<HoldItem>, AllocError>
+pub(crate) fn items_in_order(
+    alloc: Global,
+    placed: Vec<PlacedItem>,
+) -> Result<Vec<HoldItem>, AllocError>
     ensures { IfOk result (λ items. AreInOrder placed.items items.items) }
 {
-    let items = items_of(alloc, by_place(placed))?;
+    let items = without_places(alloc, sort_by_place(placed))?;
     Ok(items)
 }

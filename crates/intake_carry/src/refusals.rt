@@ -1,39 +1,43 @@
-//! Holds and releases that can't be carried. With one of them nothing is carried at all.
+//! Holds and releases that cannot be carried. With one of them nothing is carried at all.
 
 use crate::holds::{HoldFault, hold_key, release_key};
 use crate::odd::odd_reason;
 use intake_cards::{Deed, RemarkReason, Remarks, Subject};
-use intake_read::{OddOperand, WideFile, WideHold, WideOther, WideRelease};
+use intake_read::{
+    OddOperand, WideFile, WideHold, WideHoldKind, WideOther, WideRelease, hold_kind,
+};
 use intake_sysmod::missing_word;
 use std::alloc::{AllocError, Global};
 
-/// Operands that tell a hold from others: a second one leaves open which is meant.
-const KEYS: &[&[u8]] = &[
-    b"ERROR", b"ERR", b"SYSTEM", b"SYS", b"USER", b"FIXCAT", b"REASON", b"FMID",
-];
-
-// The first odd operand that leaves open which hold is meant.
-fn open_key(odd: &[OddOperand]) -> Option<&OddOperand> {
-    odd.iter().find(|one| KEYS.iter().any(|key| *key == one.operand.name.as_slice()))
+// Whether an operand of this name tells a hold from others. A second one leaves open which is meant.
+fn is_key(name: &[u8]) -> bool {
+    hold_kind(name).is_some() || matches!(name, b"REASON" | b"FMID")
 }
 
-// Tells of a hold or a release that can't be carried, and answers whether it is one.
-fn tell_fault(
+// The first odd operand of those that tell a hold from others, or `None` if none of these is odd.
+fn unread_key_operand(odd: &[OddOperand]) -> Option<&OddOperand> {
+    odd.iter()
+        .find(|entry| is_key(entry.operand.name.as_slice()))
+}
+
+// Refuses a hold or a release, with a remark, if its fault or an odd operand of its key is why it cannot be carried.
+// Returns whether that is so.
+fn refuse_if_faulty(
     alloc: Global,
     remarks: &mut Remarks,
     subject: &Subject<'_>,
     odd: &[OddOperand],
     fault: Option<HoldFault>,
 ) -> Result<bool, AllocError> {
-    if let Some(one) = open_key(odd) {
-        let operand = &one.operand;
+    if let Some(entry) = unread_key_operand(odd) {
+        let operand = &entry.operand;
         let name = operand.name.as_slice();
         remarks.tell(
             alloc,
             subject,
             name,
             Deed::Refused,
-            odd_reason(one),
+            odd_reason(entry),
             operand.text(),
         )?;
         return Ok(true);
@@ -54,8 +58,8 @@ fn tell_fault(
     }
 }
 
-/// Tells of the hold if it can't be carried, and answers whether that is so.
-pub(crate) fn tell_hold(
+/// Refuses the hold, with a remark, if it cannot be carried, and returns whether that is so.
+pub(crate) fn refuse_hold(
     alloc: Global,
     remarks: &mut Remarks,
     stated: &WideHold,
@@ -66,10 +70,11 @@ pub(crate) fn tell_hold(
         id: stated.id.as_slice(),
     };
     let fault = hold_key(stated).err();
-    tell_fault(alloc, remarks, &subject, stated.odd.as_slice(), fault)
+    refuse_if_faulty(alloc, remarks, &subject, stated.odd.as_slice(), fault)
 }
 
-fn tell_release(
+// Refuses the release, with a remark, if it cannot be carried, and returns whether that is so.
+fn refuse_release(
     alloc: Global,
     remarks: &mut Remarks,
     stated: &WideRelease,
@@ -80,43 +85,45 @@ fn tell_release(
         id: stated.id.as_slice(),
     };
     let fault = release_key(stated).err();
-    tell_fault(alloc, remarks, &subject, stated.odd.as_slice(), fault)
+    refuse_if_faulty(alloc, remarks, &subject, stated.odd.as_slice(), fault)
 }
 
-fn tell_holds(
+// Refuses those of the holds that cannot be carried, and returns whether there are any.
+fn refuse_holds(
     alloc: Global,
     remarks: &mut Remarks,
     stated: &[WideHold],
 ) -> Result<bool, AllocError> {
     let mut any = false;
     for hold in stated {
-        if tell_hold(alloc, remarks, hold)? {
+        if refuse_hold(alloc, remarks, hold)? {
             any = true;
         }
     }
     Ok(any)
 }
 
-// Whether it is a hold or a release that has something wrong with it, and not of the kind FIXCAT alone.
+// Whether the statement, which makes no item, is a hold or a release of another kind than FIXCAT.
 fn is_broken_hold(other: &WideOther) -> bool {
     let word = other.word.as_slice();
     (word == b"HOLD".as_slice() || word == b"RELEASE".as_slice()) && !is_fixcat(other)
 }
 
-// Whether FIXCAT is its only kind.
+// Whether the statement names FIXCAT as its kind, and no other kind.
 fn is_fixcat(other: &WideOther) -> bool {
     let mut has_fixcat = false;
     for operand in other.operands.iter() {
-        match operand.name.as_slice() {
-            b"FIXCAT" => has_fixcat = true,
-            b"ERROR" | b"ERR" | b"SYSTEM" | b"SYS" | b"USER" => return false,
-            _ => {}
+        match hold_kind(operand.name.as_slice()) {
+            Some(WideHoldKind::Fixcat) => has_fixcat = true,
+            Some(_) => return false,
+            None => {}
         }
     }
     has_fixcat
 }
 
-fn tell_broken_hold(
+// Remarks that a hold or a release is refused because its statement is broken.
+fn refuse_broken_hold(
     alloc: Global,
     remarks: &mut Remarks,
     other: &WideOther,
@@ -137,7 +144,8 @@ fn tell_broken_hold(
     )
 }
 
-fn tell_broken(
+// Refuses the broken holds and releases among the statements, and returns whether there are any.
+fn refuse_broken_holds(
     alloc: Global,
     remarks: &mut Remarks,
     others: &[WideOther],
@@ -145,32 +153,32 @@ fn tell_broken(
     let mut any = false;
     for other in others {
         if is_broken_hold(other) {
-            tell_broken_hold(alloc, remarks, other)?;
+            refuse_broken_hold(alloc, remarks, other)?;
             any = true;
         }
     }
     Ok(any)
 }
 
-/// Tells of the releases of a file that can't be carried, and of such holds in SYSMODs, and answers whether there are
-/// any. These lack something that tells a hold from others, or leave it open, or have something wrong with them.
-pub(crate) fn tell_refusals(
+/// Refuses, with remarks, the releases of a file and the holds in its SYSMODs that cannot be carried. Such a statement
+/// lacks something that tells a hold from others, or says it twice, or is broken. Returns whether there are any.
+pub(crate) fn refuse_statements(
     alloc: Global,
     remarks: &mut Remarks,
     file: &WideFile,
 ) -> Result<bool, AllocError> {
     let mut any = false;
     for release in file.releases.iter() {
-        if tell_release(alloc, remarks, release)? {
+        if refuse_release(alloc, remarks, release)? {
             any = true;
         }
     }
-    if tell_broken(alloc, remarks, file.others.as_slice())? {
+    if refuse_broken_holds(alloc, remarks, file.others.as_slice())? {
         any = true;
     }
     for sysmod in file.sysmods.iter() {
-        let holds = tell_holds(alloc, remarks, sysmod.holds.as_slice())?;
-        let broken = tell_broken(alloc, remarks, sysmod.others.as_slice())?;
+        let holds = refuse_holds(alloc, remarks, sysmod.holds.as_slice())?;
+        let broken = refuse_broken_holds(alloc, remarks, sysmod.others.as_slice())?;
         any = any || holds || broken;
     }
     Ok(any)

@@ -9,10 +9,9 @@ ghost use Rattle.intake_carry.specs.Carried.{item_in, HoldsBecome, SysmodBecomes
 
 use crate::copies::OtherCopies;
 use crate::errors::HoldError;
-use crate::holds::carried_hold;
-use crate::left_out::{is_on, left_holds, tell_left_outside, tell_outside};
-use crate::placed::{PlacedItem, put_outside};
-use fields::Id;
+use crate::holds::{carry_hold, is_on};
+use crate::left_out::{carry_left_holds, tell_left_outside, tell_outside};
+use crate::placed::{PlacedItem, push_hold};
 use fields::spelling::kind_text;
 use intake_cards::{CardPlace, RemarkReason, Remarks, Subject};
 use intake_read::{WideHold, WideSysmod};
@@ -20,22 +19,15 @@ use intake_sysmod::{Options, Users, carried_sysmod};
 use std::alloc::{AllocError, Global};
 use sysmods_values::{Hold, Sysmod};
 
-/// What becomes of a SYSMOD: nothing if it is left out, and its holds that go to the hold file.
+/// A SYSMOD that is carried, or none if it is left out, and those of its holds that go to the hold file.
 #[derive(Drop)]
 pub(crate) struct CarriedPart {
     pub sysmod: Option<Sysmod>,
     pub outside: Vec<PlacedItem>,
 }
 
-// The id of a SYSMOD.
-fn id_in(sysmod: &Sysmod) -> Id
-    ensures { result ≡ sysmod.now.id }
-{
-    sysmod.id
-}
-
 // Puts an internal hold into the SYSMOD, and another one into the hold file.
-fn put_hold(
+fn place_hold(
     sysmod: &mut Sysmod,
     outside: &mut Vec<PlacedItem>,
     place: CardPlace,
@@ -52,14 +44,14 @@ fn put_hold(
         sysmod.push_hold(hold)?;
         Ok(())
     } else {
-        put_outside(outside, place, hold)?;
+        push_hold(outside, place, hold)?;
         Ok(())
     }
 }
 
-// Puts the SYSTEM holds on the SYSMOD into it, and returns the others, which are in the hold file. What differs is
-// told.
-fn put_holds(
+// Puts the SYSTEM holds on the SYSMOD into it, and returns the others, which go to the hold file. Remarks say what
+// differs. Returns `BadHold` if a hold has no key, `Memory` if memory runs out.
+fn place_holds(
     alloc: Global,
     remarks: &mut Remarks,
     stated: &WideSysmod,
@@ -70,36 +62,36 @@ fn put_holds(
     ensures held { IfOk result (λ outside. Become (HoldBecomes (Some sysmod.old.id)) stated.now.holds.items
         sysmod.new.holds outside.items) }
 {
-    let own = id_in(sysmod);
+    let own = sysmod.id;
     let mut outside = Vec::new(alloc);
     for hold in stated.holds.iter() {
-        let Some(carried) = carried_hold(alloc, remarks, hold, Some(own))? else {
+        let Some(carried) = carry_hold(alloc, remarks, hold, Some(own))? else {
             continue;
         };
         if !carried.internal {
             tell_outside(alloc, remarks, hold)?;
         }
-        put_hold(sysmod, &mut outside, hold.place, carried)?;
+        place_hold(sysmod, &mut outside, hold.place, carried)?;
     }
     Ok(outside)
 }
 
-// Whether both are internal holds of one reason, where the first is one.
-fn are_of_one_reason(one: &WideHold, other: &WideHold) -> bool {
-    one.kind == other.kind
-        && one.id.as_slice() == other.id.as_slice()
-        && text_of(&one.reason) == text_of(&other.reason)
+// Whether both holds are of one kind, on one SYSMOD, for one reason.
+fn are_of_same_reason(hold: &WideHold, later: &WideHold) -> bool {
+    hold.kind == later.kind
+        && hold.id.as_slice() == later.id.as_slice()
+        && stated_text(&hold.reason) == stated_text(&later.reason)
 }
 
-// What is stated, or nothing.
-fn text_of(stated: &Option<Vec<u8>>) -> &[u8] {
+// The text, or an empty one if none is stated.
+fn stated_text(stated: &Option<Vec<u8>>) -> &[u8] {
     match stated {
         Some(text) => text.as_slice(),
         None => b"",
     }
 }
 
-// A remark on each internal hold that another one of its reason follows: RECEIVE keeps the later one.
+// Remarks on each internal hold that another one of its reason follows: RECEIVE keeps the later one.
 fn tell_later_holds(
     alloc: Global,
     remarks: &mut Remarks,
@@ -107,26 +99,27 @@ fn tell_later_holds(
 ) -> Result<(), AllocError> {
     let holds = stated.holds.as_slice();
     for (place, hold) in holds.iter().enumerate() {
-        let is_internal = is_on(stated, hold);
+        let is_internal = is_on(stated.id.as_slice(), hold);
         let has_later = holds
             .iter()
             .skip(place.saturating_add(1))
-            .any(|later| are_of_one_reason(hold, later));
+            .any(|later| are_of_same_reason(hold, later));
         if is_internal && has_later {
             let subject = Subject {
                 place: hold.place,
                 word: b"HOLD",
                 id: hold.id.as_slice(),
             };
-            let reason = text_of(&hold.reason);
+            let reason = stated_text(&hold.reason);
             remarks.tell_carried(alloc, &subject, b"REASON", RemarkReason::LaterHold, reason)?;
         }
     }
     Ok(())
 }
 
-// The SYSMOD with its holds, and those that are in the hold file.
-fn carried_part(
+// The SYSMOD with its internal holds, and its other holds for the hold file. Returns `BadHold` if a hold has no key,
+// `Memory` if memory runs out.
+fn carry_holds(
     alloc: Global,
     remarks: &mut Remarks,
     stated: &WideSysmod,
@@ -137,15 +130,19 @@ fn carried_part(
     ensures held { IfOk result (λ part. HoldsBecome stated.now part.sysmod part.outside.items) }
 {
     tell_later_holds(alloc, remarks, stated)?;
-    let outside = put_holds(alloc, remarks, stated, &mut sysmod)?;
+    let outside = place_holds(alloc, remarks, stated, &mut sysmod)?;
     Ok(CarriedPart {
         sysmod: Some(sysmod),
         outside,
     })
 }
 
-// Tells that another copy of the SYSMOD is carried.
-fn tell_copy(alloc: Global, remarks: &mut Remarks, stated: &WideSysmod) -> Result<(), AllocError> {
+// Remarks that another copy of the SYSMOD is carried.
+fn remark_other_copy(
+    alloc: Global,
+    remarks: &mut Remarks,
+    stated: &WideSysmod,
+) -> Result<(), AllocError> {
     let subject = Subject {
         place: stated.place,
         word: kind_text(stated.kind),
@@ -154,8 +151,8 @@ fn tell_copy(alloc: Global, remarks: &mut Remarks, stated: &WideSysmod) -> Resul
     remarks.leave_out(alloc, &subject, b"", RemarkReason::OtherCopy, b"")
 }
 
-// The SYSMOD without its holds, or nothing where it is left out or another copy of it is carried, which is told.
-fn carried_copy(
+// The SYSMOD without its holds. Returns `None`, with a remark, if it is left out or another copy of it is carried.
+fn carry_copy(
     alloc: Global,
     options: &Options,
     users: &Users<'_>,
@@ -167,14 +164,15 @@ fn carried_copy(
         IsNoLooser options.now.decide users.now stated.now sysmod × (sysmod.holds ≡ []))) }
 {
     if copies.has(stated) {
-        tell_copy(alloc, remarks, stated)?;
+        remark_other_copy(alloc, remarks, stated)?;
         return Ok(None);
     }
     carried_sysmod(alloc, options, users, remarks, stated)
 }
 
-/// What becomes of a SYSMOD and its holds. Why it is left out, and what differs, is told.
-pub(crate) fn part_of(
+/// The SYSMOD, if it is carried, and its holds. Remarks say why it is left out, and what differs. Returns `BadHold`
+/// if a hold has no key, `Memory` if memory runs out.
+pub(crate) fn carry_with_holds(
     alloc: Global,
     options: &Options,
     users: &Users<'_>,
@@ -185,14 +183,14 @@ pub(crate) fn part_of(
     ensures { IfOk result (λ part. SysmodBecomes options.now.decide users.now stated.now (item_in part.sysmod)
         part.outside.items) }
 {
-    let Some(sysmod) = carried_copy(alloc, options, users, copies, remarks, stated)? else {
+    let Some(sysmod) = carry_copy(alloc, options, users, copies, remarks, stated)? else {
         tell_left_outside(alloc, copies, remarks, stated)?;
-        let outside = left_holds(alloc, remarks, stated)?;
+        let outside = carry_left_holds(alloc, remarks, stated)?;
         return Ok(CarriedPart {
             sysmod: None,
             outside,
         });
     };
-    let part = carried_part(alloc, remarks, stated, sysmod)?;
+    let part = carry_holds(alloc, remarks, stated, sysmod)?;
     Ok(part)
 }

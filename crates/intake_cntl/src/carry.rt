@@ -1,10 +1,10 @@
 //! What becomes of a command: each of its words is spelled out, dropped or named.
 
 use crate::command_remarks::{CommandRemarks, RemarkWords};
-use crate::group_extend::with_excluded;
-use crate::spelled::{CarriedCommand, OperandForm, Spelled, command_of, spelling_of};
+use crate::group_extend::exclude_kinds;
+use crate::spelling::{CommandVocabulary, OperandForm, Spelling, command_of, spelling_of};
 use fields::{Class, Id, Reason as HoldReason, Source, ZoneName};
-use intake_asked::{CommandEnd, KnownSysmod, WideCommand, is_no_decision};
+use intake_asked::{CommandEnd, KnownSysmod, WideCommand, changes_no_decision};
 use intake_cards::{Deed, RemarkReason};
 use intake_read::{CardPlace, WideOperand};
 use std::alloc::{AllocError, Global};
@@ -12,15 +12,15 @@ use std::alloc::{AllocError, Global};
 /// How many members a list may have.
 pub(crate) const MOST: usize = 1000;
 
-/// A command as it is written.
+/// A command as it is written into the command file.
 #[derive(Drop)]
-pub(crate) struct Carried {
+pub(crate) struct CarriedCommand {
     pub(crate) place: CardPlace,
     pub(crate) word: &'static [u8],
     pub(crate) operands: Vec<CarriedOperand>,
 }
 
-impl Carried {
+impl CarriedCommand {
     /// Whether it has SELECT or GROUP.
     pub(crate) fn has_list(&self) -> bool {
         has_word(&self.operands, b"SELECT") || has_word(&self.operands, b"GROUP")
@@ -49,43 +49,45 @@ pub(crate) struct CarriedMember {
     pub(crate) listed: Option<Vec<Vec<u8>>>,
 }
 
-/// The command as it is written, where all of it can be said here.
+/// The command as it is written. Returns `None`, with a remark, if it is dropped, or if it is not a whole command of
+/// the profile. A remark that refuses says which of its words cannot be carried.
 pub(crate) fn carry_command(
     alloc: Global,
-    told: &mut CommandRemarks,
+    remarks: &mut CommandRemarks,
     known: Option<&[KnownSysmod]>,
     wide: &WideCommand,
-) -> Result<Option<Carried>, AllocError> {
+) -> Result<Option<CarriedCommand>, AllocError> {
     let head = wide.head.name.as_slice();
-    if !is_whole(told, wide)? {
+    if !check_end(remarks, wide)? {
         return Ok(None);
     }
-    if is_no_decision(head) {
-        tell_command(told, wide, Deed::Dropped, RemarkReason::NoDecision)?;
+    if changes_no_decision(head) {
+        remark_on_command(remarks, wide, Deed::Dropped, RemarkReason::NoDecision)?;
         return Ok(None);
     }
     let Some(command) = command_of(head) else {
-        tell_command(told, wide, Deed::Refused, RemarkReason::NoCommand)?;
+        remark_on_command(remarks, wide, Deed::Refused, RemarkReason::NoCommand)?;
         return Ok(None);
     };
     if wide.head.value.is_some() {
-        tell_command(told, wide, Deed::Refused, RemarkReason::BadValue)?;
+        remark_on_command(remarks, wide, Deed::Refused, RemarkReason::BadValue)?;
     }
     if wide.is_behind {
-        tell_command(told, wide, Deed::Carried, RemarkReason::OwnCard)?;
+        remark_on_command(remarks, wide, Deed::Carried, RemarkReason::OwnCard)?;
     }
-    let operands = carried_operands(alloc, told, &command, known, wide)?;
-    Ok(Some(Carried {
+    let operands = carry_operands(alloc, remarks, &command, known, wide)?;
+    Ok(Some(CarriedCommand {
         place: wide.place,
         word: command.word,
         operands,
     }))
 }
 
-// Whether it has its period. What is said of the whole command is told.
-fn is_whole(told: &mut CommandRemarks, wide: &WideCommand) -> Result<bool, AllocError> {
+// Checks how the command ends, and remarks on lower case. Returns whether it has its period: a remark says why it has
+// none.
+fn check_end(remarks: &mut CommandRemarks, wide: &WideCommand) -> Result<bool, AllocError> {
     if wide.has_lower_case {
-        tell_command(told, wide, Deed::Carried, RemarkReason::LowerCase)?;
+        remark_on_command(remarks, wide, Deed::Carried, RemarkReason::LowerCase)?;
     }
     let reason = match wide.end {
         CommandEnd::Period => return Ok(true),
@@ -97,16 +99,17 @@ fn is_whole(told: &mut CommandRemarks, wide: &WideCommand) -> Result<bool, Alloc
                 operand: b"",
                 text: b"",
             };
-            told.tell(opens, words, Deed::Refused, RemarkReason::OpenComment)?;
+            remarks.add(opens, words, Deed::Refused, RemarkReason::OpenComment)?;
             return Ok(false);
         }
     };
-    tell_command(told, wide, Deed::Refused, reason)?;
+    remark_on_command(remarks, wide, Deed::Refused, reason)?;
     Ok(false)
 }
 
-fn tell_command(
-    told: &mut CommandRemarks,
+// Remarks on the whole command.
+fn remark_on_command(
+    remarks: &mut CommandRemarks,
     wide: &WideCommand,
     deed: Deed,
     reason: RemarkReason,
@@ -116,13 +119,15 @@ fn tell_command(
         operand: b"",
         text: wide.head.text(),
     };
-    told.tell(wide.place, words, deed, reason)
+    remarks.add(wide.place, words, deed, reason)
 }
 
-fn carried_operands<'a>(
+// The operands that can be carried, with a remark on each of the others. GROUP and GROUPEXTEND are put into the words
+// of the profile.
+fn carry_operands<'a>(
     alloc: Global,
-    told: &mut CommandRemarks,
-    command: &'a CarriedCommand,
+    remarks: &mut CommandRemarks,
+    command: &'a CommandVocabulary,
     known: Option<&'a [KnownSysmod]>,
     wide: &'a WideCommand,
 ) -> Result<Vec<CarriedOperand>, AllocError> {
@@ -130,31 +135,31 @@ fn carried_operands<'a>(
     let operands = wide.operands.as_slice();
     let bypassed = wide.bypassed.as_slice();
     for operand in operands {
-        let asked = AskedOperand {
+        let context = OperandContext {
             command,
             operand,
             bypassed,
             known,
         };
-        let Some(one) = carried_operand(alloc, told, &asked)? else {
+        let Some(carried_operand) = carry_operand(alloc, remarks, &context)? else {
             continue;
         };
-        if has_word(&carried, one.word) {
-            asked.refuse(told, b"", RemarkReason::Twice)?;
+        if has_word(&carried, carried_operand.word) {
+            context.refuse(remarks, b"", RemarkReason::Twice)?;
         } else {
-            carried.push(one)?;
+            carried.push(carried_operand)?;
         }
     }
-    let carried = with_group(told, command, operands, carried)?;
+    let carried = replace_select_by_group(remarks, command, operands, carried)?;
     for operand in operands {
-        let asked = AskedOperand {
+        let context = OperandContext {
             command,
             operand,
             bypassed,
             known,
         };
-        if asked.form() == Some(OperandForm::GroupExtend) && operand.value.is_some() {
-            return with_excluded(alloc, told, &asked, carried);
+        if context.form() == Some(OperandForm::GroupExtend) && operand.value.is_some() {
+            return exclude_kinds(alloc, remarks, &context, carried);
         }
     }
     Ok(carried)
@@ -165,19 +170,19 @@ pub(crate) fn has_word(operands: &[CarriedOperand], word: &[u8]) -> bool {
     operands.iter().any(|operand| operand.word == word)
 }
 
-/// An operand of a command, and the SYSMODs that are known.
+/// An operand of a shop's command, with the words that such a command may have, and the known SYSMODs.
 #[derive(Clone, Copy)]
-pub(crate) struct AskedOperand<'a> {
-    command: &'a CarriedCommand,
+pub(crate) struct OperandContext<'a> {
+    command: &'a CommandVocabulary,
     pub(crate) operand: &'a WideOperand,
     /// The words of BYPASS's list.
     bypassed: &'a [WideOperand],
     pub(crate) known: Option<&'a [KnownSysmod]>,
 }
 
-impl AskedOperand<'_> {
-    // How its word is spelled, if the command has it. C with a list is COMPRESS.
-    fn spelling(&self) -> Option<Spelled> {
+impl OperandContext<'_> {
+    // How the operand's word is spelled, or `None` if the command has no such operand. C with a list is COMPRESS.
+    fn spelling(&self) -> Option<Spelling> {
         let word = self.operand.name.as_slice();
         if word == b"C".as_slice() && self.operand.value.is_some() {
             return spelling_of(self.command.operands, b"COMPRESS");
@@ -185,16 +190,18 @@ impl AskedOperand<'_> {
         spelling_of(self.command.operands, word)
     }
 
+    // The form of the operand's value, or `None` if the command has no such operand.
     fn form(&self) -> Option<OperandForm> {
         match self.spelling() {
-            Some(spelled) => Some(spelled.form),
+            Some(spelling) => Some(spelling.form),
             None => None,
         }
     }
 
-    pub(crate) fn tell(
+    /// Remarks on the operand.
+    pub(crate) fn remark(
         &self,
-        told: &mut CommandRemarks,
+        remarks: &mut CommandRemarks,
         text: &[u8],
         deed: Deed,
         reason: RemarkReason,
@@ -204,104 +211,107 @@ impl AskedOperand<'_> {
             operand: self.operand.name.as_slice(),
             text,
         };
-        told.tell(self.operand.place, words, deed, reason)
+        remarks.add(self.operand.place, words, deed, reason)
     }
 
+    /// Remarks that the operand keeps the command from being carried.
     pub(crate) fn refuse(
         &self,
-        told: &mut CommandRemarks,
+        remarks: &mut CommandRemarks,
         text: &[u8],
         reason: RemarkReason,
     ) -> Result<(), AllocError> {
-        self.tell(told, text, Deed::Refused, reason)
+        self.remark(remarks, text, Deed::Refused, reason)
     }
 
-    // Tells that the word is an abbreviation, where it is one.
-    fn spell_out(
+    // Remarks that the word is an abbreviation, if it is one.
+    fn remark_spelled_out(
         &self,
-        told: &mut CommandRemarks,
+        remarks: &mut CommandRemarks,
         word: &[u8],
         full: &[u8],
     ) -> Result<(), AllocError> {
         if word == full {
             return Ok(());
         }
-        self.tell(told, full, Deed::Carried, RemarkReason::SpelledOut)
+        self.remark(remarks, full, Deed::Carried, RemarkReason::SpelledOut)
     }
 }
 
-// The operand, where it can be said here.
-fn carried_operand(
+// The operand as it is written. Returns `None`, with a remark, if it is dropped or cannot be carried.
+fn carry_operand(
     alloc: Global,
-    told: &mut CommandRemarks,
-    asked: &AskedOperand<'_>,
+    remarks: &mut CommandRemarks,
+    context: &OperandContext<'_>,
 ) -> Result<Option<CarriedOperand>, AllocError> {
-    let operand = asked.operand;
-    let Some(known) = asked.spelling() else {
-        asked.refuse(told, operand.text(), RemarkReason::NoOperand)?;
+    let operand = context.operand;
+    let Some(spelling) = context.spelling() else {
+        context.refuse(remarks, operand.text(), RemarkReason::NoOperand)?;
         return Ok(None);
     };
-    if known.form == OperandForm::Dropped {
-        asked.tell(
-            told,
+    if spelling.form == OperandForm::Dropped {
+        context.remark(
+            remarks,
             operand.text(),
             Deed::Dropped,
             RemarkReason::NoDecision,
         )?;
         return Ok(None);
     }
-    asked.spell_out(told, known.word, known.full)?;
-    let Some(value) = carried_value(alloc, told, asked, &known)? else {
+    context.remark_spelled_out(remarks, spelling.word, spelling.full)?;
+    let Some(value) = carry_value(alloc, remarks, context, &spelling)? else {
         return Ok(None);
     };
     Ok(Some(CarriedOperand {
-        word: known.full,
+        word: spelling.full,
         value,
     }))
 }
 
-// What stands behind the operand's word, where it can be said here.
-fn carried_value(
+// What follows the operand's word. Returns `None`, with remarks, if it cannot be carried, or if all members of a BYPASS
+// are dropped.
+fn carry_value(
     alloc: Global,
-    told: &mut CommandRemarks,
-    asked: &AskedOperand<'_>,
-    known: &Spelled,
+    remarks: &mut CommandRemarks,
+    context: &OperandContext<'_>,
+    spelling: &Spelling,
 ) -> Result<Option<Value>, AllocError> {
-    let Some(list) = &asked.operand.value else {
-        return match known.form {
+    let Some(list) = &context.operand.value else {
+        return match spelling.form {
             OperandForm::Flag | OperandForm::Group | OperandForm::GroupExtend => Ok(Some(
                 Value::Nothing,
             )),
             _ => {
-                asked.refuse(told, b"", RemarkReason::Missing)?;
+                context.refuse(remarks, b"", RemarkReason::Missing)?;
                 Ok(None)
             }
         };
     };
-    match known.form {
+    match spelling.form {
         OperandForm::Flag => {
-            asked.refuse(told, list.as_slice(), RemarkReason::NoOperand)?;
+            context.refuse(remarks, list.as_slice(), RemarkReason::NoOperand)?;
             Ok(None)
         }
         OperandForm::GroupExtend => Ok(Some(Value::Nothing)),
-        OperandForm::Bypass | OperandForm::ReceiveBypass => bypass(
+        OperandForm::Bypass | OperandForm::ReceiveBypass => carry_bypass(
             alloc,
-            told,
-            asked,
+            remarks,
+            context,
             list.as_slice(),
         ),
         form => {
-            let members = listed(alloc, told, asked, form, list.as_slice())?;
+            let members = list_members(alloc, remarks, context, form, list.as_slice())?;
             Ok(Some(Value::List(members)))
         }
     }
 }
 
-// The members of a list, each once. One that has not its form is named.
-fn listed(
+// The members of a list, each once. Remarks refuse members that have not the form, and a list that has no members, or
+// more than it may have.
+fn list_members(
     alloc: Global,
-    told: &mut CommandRemarks,
-    asked: &AskedOperand<'_>,
+    remarks: &mut CommandRemarks,
+    context: &OperandContext<'_>,
     form: OperandForm,
     list: &[u8],
 ) -> Result<Vec<Vec<u8>>, AllocError> {
@@ -313,63 +323,64 @@ fn listed(
         }
         is_empty = false;
         if form == OperandForm::Sources && member.ends_with(b"*") {
-            put_sources(alloc, told, asked, member, &mut members)?;
+            put_sources(alloc, remarks, context, member, &mut members)?;
         } else if !has_form(form, member) {
-            asked.refuse(told, member, RemarkReason::BadValue)?;
+            context.refuse(remarks, member, RemarkReason::BadValue)?;
         } else if members.iter().any(|other| other.as_slice() == member) {
-            asked.tell(told, member, Deed::Dropped, RemarkReason::Twice)?;
+            context.remark(remarks, member, Deed::Dropped, RemarkReason::Twice)?;
         } else {
             members.push(Vec::from_slice(alloc, member)?)?;
         }
     }
     if is_empty {
-        asked.refuse(told, b"", RemarkReason::Missing)?;
+        context.refuse(remarks, b"", RemarkReason::Missing)?;
     }
     if members.len() > MOST {
-        asked.refuse(told, b"", RemarkReason::LongList)?;
+        context.refuse(remarks, b"", RemarkReason::LongList)?;
     }
     if matches!(form, OperandForm::Source | OperandForm::Zone) && members.len() > 1 {
-        asked.refuse(told, list, RemarkReason::BadValue)?;
+        context.refuse(remarks, list, RemarkReason::BadValue)?;
     }
     Ok(members)
 }
 
-// Puts the source ids that begin so into the list. The answer is whether there is one.
-fn put_beginning(
+// Puts the source ids of the known SYSMODs that begin with the text into the list. Returns whether there is one.
+fn put_sources_with_prefix(
     alloc: Global,
     known: &[KnownSysmod],
     front: &[u8],
     members: &mut Vec<Vec<u8>>,
 ) -> Result<bool, AllocError> {
-    let mut is_found = false;
+    let mut has_any = false;
     for sysmod in known {
         for source in &sysmod.sources {
             let source = source.as_bytes();
             if source.starts_with(front) {
-                is_found = true;
+                has_any = true;
                 put_once(alloc, members, source)?;
             }
         }
     }
-    Ok(is_found)
+    Ok(has_any)
 }
 
-// Puts the known source ids that begin as the member does, up to its asterisk, into the list.
+// Puts the known source ids that begin as the member does, up to its asterisk, into the list. A remark refuses the
+// member if there is none, or if no SYSMODs are known.
 fn put_sources(
     alloc: Global,
-    told: &mut CommandRemarks,
-    asked: &AskedOperand<'_>,
+    remarks: &mut CommandRemarks,
+    context: &OperandContext<'_>,
     member: &[u8],
     members: &mut Vec<Vec<u8>>,
 ) -> Result<(), AllocError> {
-    let Some(known) = asked.known else {
-        return asked.refuse(told, member, RemarkReason::NeedsKnown);
+    let Some(known) = context.known else {
+        return context.refuse(remarks, member, RemarkReason::NeedsKnown);
     };
     let front = member.strip_suffix(b"*").unwrap_or(member);
-    if put_beginning(alloc, known, front, members)? {
-        asked.tell(told, member, Deed::Carried, RemarkReason::KnownSources)
+    if put_sources_with_prefix(alloc, known, front, members)? {
+        context.remark(remarks, member, Deed::Carried, RemarkReason::KnownSources)
     } else {
-        asked.refuse(told, member, RemarkReason::NoSource)
+        context.refuse(remarks, member, RemarkReason::NoSource)
     }
 }
 
@@ -385,6 +396,7 @@ pub(crate) fn put_once(
     Ok(())
 }
 
+// Whether the member has the form.
 fn has_form(form: OperandForm, member: &[u8]) -> bool {
     match form {
         OperandForm::Ids | OperandForm::Group => Id::read(member).is_some(),
@@ -400,24 +412,28 @@ fn has_form(form: OperandForm, member: &[u8]) -> bool {
     }
 }
 
-// The members of BYPASS. Where all of them are dropped, so is the operand.
-fn bypass(
+// The members of BYPASS. Returns `None`, with remarks, if none is left: all are dropped, and so the operand is too, or
+// refused.
+fn carry_bypass(
     alloc: Global,
-    told: &mut CommandRemarks,
-    asked: &AskedOperand<'_>,
+    remarks: &mut CommandRemarks,
+    context: &OperandContext<'_>,
     list: &[u8],
 ) -> Result<Option<Value>, AllocError> {
     let mut members: Vec<CarriedMember> = Vec::new(alloc);
-    if asked.bypassed.is_empty() {
-        asked.refuse(told, list, RemarkReason::Missing)?;
+    if context.bypassed.is_empty() {
+        context.refuse(remarks, list, RemarkReason::Missing)?;
     }
-    for operand in asked.bypassed {
-        let asked = AskedOperand { operand, ..*asked };
-        let Some(member) = carried_member(alloc, told, &asked)? else {
+    for operand in context.bypassed {
+        let context = OperandContext {
+            operand,
+            ..*context
+        };
+        let Some(member) = carry_bypass_member(alloc, remarks, &context)? else {
             continue;
         };
         if members.iter().any(|other| other.word == member.word) {
-            asked.refuse(told, b"", RemarkReason::Twice)?;
+            context.refuse(remarks, b"", RemarkReason::Twice)?;
         } else {
             members.push(member)?;
         }
@@ -428,99 +444,110 @@ fn bypass(
     Ok(Some(Value::Members(members)))
 }
 
-// The member of BYPASS, where it can be said here.
-fn carried_member(
+// The member of BYPASS as it is written. Returns `None`, with a remark, if it is dropped or cannot be carried.
+fn carry_bypass_member(
     alloc: Global,
-    told: &mut CommandRemarks,
-    asked: &AskedOperand<'_>,
+    remarks: &mut CommandRemarks,
+    context: &OperandContext<'_>,
 ) -> Result<Option<CarriedMember>, AllocError> {
-    let member = asked.operand;
-    let Some(known) = spelling_of(asked.command.members, member.name.as_slice()) else {
-        asked.refuse(told, member.text(), RemarkReason::NoOperand)?;
+    let member = context.operand;
+    let Some(spelling) = spelling_of(context.command.members, member.name.as_slice()) else {
+        context.refuse(remarks, member.text(), RemarkReason::NoOperand)?;
         return Ok(None);
     };
-    if known.form == OperandForm::Dropped {
-        asked.tell(told, member.text(), Deed::Dropped, RemarkReason::NoDecision)?;
+    if spelling.form == OperandForm::Dropped {
+        context.remark(
+            remarks,
+            member.text(),
+            Deed::Dropped,
+            RemarkReason::NoDecision,
+        )?;
         return Ok(None);
     }
-    asked.spell_out(told, known.word, known.full)?;
+    context.remark_spelled_out(remarks, spelling.word, spelling.full)?;
     let Some(list) = &member.value else {
-        if known.form == OperandForm::Classes {
-            asked.refuse(told, b"", RemarkReason::Missing)?;
+        if spelling.form == OperandForm::Classes {
+            context.refuse(remarks, b"", RemarkReason::Missing)?;
         }
         return Ok(Some(CarriedMember {
-            word: known.full,
+            word: spelling.full,
             listed: None,
         }));
     };
-    if known.form == OperandForm::Flag {
-        asked.refuse(told, list.as_slice(), RemarkReason::BadValue)?;
+    if spelling.form == OperandForm::Flag {
+        context.refuse(remarks, list.as_slice(), RemarkReason::BadValue)?;
         return Ok(None);
     }
-    let listed = listed(alloc, told, asked, known.form, list.as_slice())?;
+    let members = list_members(alloc, remarks, context, spelling.form, list.as_slice())?;
     Ok(Some(CarriedMember {
-        word: known.full,
-        listed: Some(listed),
+        word: spelling.full,
+        listed: Some(members),
     }))
 }
 
-// The place of the operand of this word, as it is spelled here.
-fn place_of(operands: &[CarriedOperand], word: &[u8]) -> Option<usize> {
+// The place of the operand of this word, as it is spelled here, or `None` if there is none.
+fn position_of(operands: &[CarriedOperand], word: &[u8]) -> Option<usize> {
     operands.iter().position(|operand| operand.word == word)
 }
 
-// GROUP that stands alone is said by GROUP with SELECT's ids, in place of SELECT, where nothing else is chosen.
-fn with_group<'a>(
-    told: &mut CommandRemarks,
-    command: &'a CarriedCommand,
+// The operands, with a GROUP without a list written as GROUP with the ids of SELECT, in place of SELECT. A remark
+// refuses it if there is no SELECT, or if another operand chooses SYSMODs too.
+fn replace_select_by_group<'a>(
+    remarks: &mut CommandRemarks,
+    command: &'a CommandVocabulary,
     operands: &'a [WideOperand],
     mut carried: Vec<CarriedOperand>,
 ) -> Result<Vec<CarriedOperand>, AllocError> {
-    let Some(group) = place_of(&carried, b"GROUP") else {
+    let Some(group) = position_of(&carried, b"GROUP") else {
         return Ok(carried);
     };
-    if !stands_alone(&carried, group) {
+    if !has_no_value(&carried, group) {
         return Ok(carried);
     }
     let Some(operand) = operands.iter().find(|operand| is_group(operand)) else {
         return Ok(carried);
     };
-    let asked = AskedOperand {
+    let context = OperandContext {
         command,
         operand,
         bypassed: &[],
         known: None,
     };
     carried.retain(|operand| operand.word != b"GROUP".as_slice());
-    let Some(select) = place_of(&carried, b"SELECT") else {
-        asked.refuse(told, b"", RemarkReason::NoOperand)?;
+    let Some(select) = position_of(&carried, b"SELECT") else {
+        context.refuse(remarks, b"", RemarkReason::NoOperand)?;
         return Ok(carried);
     };
-    if carried.iter().any(|operand| chooses(operand.word)) {
-        asked.refuse(told, b"", RemarkReason::NoOperand)?;
+    if carried
+        .iter()
+        .any(|operand| makes_mass_choice(operand.word))
+    {
+        context.refuse(remarks, b"", RemarkReason::NoOperand)?;
         return Ok(carried);
     }
-    asked.tell(told, b"", Deed::Carried, RemarkReason::GroupOfSelect)?;
+    context.remark(remarks, b"", Deed::Carried, RemarkReason::GroupOfSelect)?;
     if let Some(select) = carried.get_mut(select) {
         select.word = b"GROUP";
     }
     Ok(carried)
 }
 
+// Whether the operand is GROUP, or its abbreviation.
 fn is_group(operand: &WideOperand) -> bool {
     let name = operand.name.as_slice();
     name == b"GROUP".as_slice() || name == b"G".as_slice()
 }
 
-fn stands_alone(operands: &[CarriedOperand], place: usize) -> bool {
+// Whether the operand at this place has no value.
+fn has_no_value(operands: &[CarriedOperand], place: usize) -> bool {
     match operands.get(place) {
         Some(operand) => matches!(operand.value, Value::Nothing),
         None => false,
     }
 }
 
-// Whether an operand of this word makes a mass choice.
-fn chooses(word: &[u8]) -> bool {
+// Whether an operand of this word chooses SYSMODs without naming them.
+fn makes_mass_choice(word: &[u8]) -> bool {
     const CHOOSING: &[&[u8]] = &[
         b"FUNCTIONS",
         b"PTFS",

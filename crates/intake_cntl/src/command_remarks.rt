@@ -1,4 +1,4 @@
-//! What is told of a command.
+//! Remarks on the commands of a file.
 
 use intake_cards::{Deed, Remark, RemarkList, RemarkReason};
 use intake_read::CardPlace;
@@ -7,20 +7,22 @@ use std::alloc::{AllocError, Global};
 /// The remarks so far, and how many of them say that nothing is written.
 #[derive(Drop)]
 pub(crate) struct CommandRemarks {
-    pub(crate) remarks: RemarkList,
+    pub(crate) list: RemarkList,
     pub(crate) refusals: usize,
 }
 
 impl CommandRemarks {
+    /// No remarks.
     pub(crate) fn new(alloc: Global) -> CommandRemarks {
         CommandRemarks {
-            remarks: RemarkList::new(alloc),
+            list: RemarkList::new(alloc),
             refusals: 0,
         }
     }
 
-    /// Tells something of an operand of a command, or of the command where the operand is empty.
-    pub(crate) fn tell(
+    /// Adds a remark on an operand of a command, or on the whole command if the operand is empty. Counts the remark if
+    /// it refuses something.
+    pub(crate) fn add(
         &mut self,
         place: CardPlace,
         words: RemarkWords<'_>,
@@ -30,7 +32,7 @@ impl CommandRemarks {
         if deed == Deed::Refused {
             self.refusals = self.refusals.saturating_add(1);
         }
-        self.remarks.push(&Remark {
+        self.list.push(&Remark {
             place,
             statement: words.command,
             id: b"",

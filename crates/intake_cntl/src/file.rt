@@ -4,7 +4,7 @@ ghost use Rattle.intake_asked.specs.Said.{AreSaid};
 ghost use Rattle.terms.specs.Types as terms;
 ghost use Rattle.terms.specs.Commands.{IsCommandFile};
 
-use crate::carry::{Carried, carry_command};
+use crate::carry::{CarriedCommand, carry_command};
 use crate::command_remarks::{CommandRemarks, RemarkWords};
 use crate::print::put_command;
 use cntl::{CntlError, Command, read_cntl};
@@ -17,18 +17,19 @@ use terms::CommandCode;
 /// What became of a command file.
 #[derive(Drop)]
 pub struct CommandFile {
-    /// The records, where every word is carried or dropped.
+    /// The records, or `None` if a word is neither carried nor dropped.
     pub bytes: Option<Vec<u8>>,
-    /// What is told, in the order of the file.
+    /// The remarks, in the order of the file.
     pub remarks: RemarkList,
     /// How many commands are carried.
     pub carried: usize,
-    /// How many are dropped or named.
+    /// How many are dropped or refused.
     pub others: usize,
 }
 
-/// The commands of these cards as records that say just what they ask for, or every word that keeps them from that.
-/// `known` are the SYSMODs that are known. Returns an error if memory runs out.
+/// The shop's commands `wide`, which stand on these cards, as records that say just what they ask for. If a word keeps
+/// them from that, there are no records, and remarks name each such word. `known` are the SYSMODs of a list, if one is
+/// given.
 pub fn command_file(
     alloc: Global,
     cards: &[Card],
@@ -38,17 +39,23 @@ pub fn command_file(
     ensures { IfOk result (λ file. IfSome file.bytes (λ bytes. (commands : List terms.Command)
         × IsCommandFile bytes.items commands × AreSaid known.now wide.now.commands.items commands)) }
 {
-    let mut told = CommandRemarks::new(alloc);
-    tell_cards(&mut told, cards, &wide.cut)?;
-    tell_comments(&mut told, &wide.comments)?;
-    let made = records_of(alloc, &mut told, wide.commands.as_slice(), known)?;
-    let carried = made.carried;
-    let others = made.others;
-    let refusals = told.refusals;
-    let bytes = read_back(alloc, refusals, made.bytes, wide.commands.as_slice(), known)?;
+    let mut remarks = CommandRemarks::new(alloc);
+    remark_on_cards(&mut remarks, cards, &wide.cut)?;
+    remark_on_comments(&mut remarks, &wide.comments)?;
+    let records = carry_commands(alloc, &mut remarks, wide.commands.as_slice(), known)?;
+    let carried = records.carried;
+    let others = records.others;
+    let refusals = remarks.refusals;
+    let bytes = read_back(
+        alloc,
+        refusals,
+        records.bytes,
+        wide.commands.as_slice(),
+        known,
+    )?;
     Ok(CommandFile {
         bytes,
-        remarks: told.remarks,
+        remarks: remarks.list,
         carried,
         others,
     })
@@ -62,38 +69,39 @@ struct CommandRecords {
     others: usize,
 }
 
-fn records_of(
+// The records of all commands that can be carried.
+fn carry_commands(
     alloc: Global,
-    told: &mut CommandRemarks,
+    remarks: &mut CommandRemarks,
     commands: &[WideCommand],
     known: &Option<Vec<KnownSysmod>>,
 ) -> Result<CommandRecords, AllocError> {
-    let mut made = CommandRecords {
+    let mut records = CommandRecords {
         bytes: Vec::new(alloc),
         carried: 0,
         others: 0,
     };
     for wide in commands {
-        if append(alloc, told, &mut made.bytes, known, wide)? {
-            made.carried = made.carried.saturating_add(1);
+        if append_command(alloc, remarks, &mut records.bytes, known, wide)? {
+            records.carried = records.carried.saturating_add(1);
         } else {
-            made.others = made.others.saturating_add(1);
+            records.others = records.others.saturating_add(1);
         }
     }
-    Ok(made)
+    Ok(records)
 }
 
-// Tells the texts of columns 73 to 80, and the cards that are cut.
-fn tell_cards(
-    told: &mut CommandRemarks,
+// Remarks on texts in columns 73 to 80, and on cards that are cut.
+fn remark_on_cards(
+    remarks: &mut CommandRemarks,
     cards: &[Card],
     cut: &[CardPlace],
 ) -> Result<(), AllocError> {
     for card in cards {
         if card.tail() == Tail::Other {
             let text = card.text[72..].trim_ascii();
-            tell_card(
-                told,
+            remark_on_card(
+                remarks,
                 card.place,
                 text,
                 Deed::Dropped,
@@ -102,20 +110,23 @@ fn tell_cards(
         }
     }
     for place in cut {
-        tell_card(told, *place, b"", Deed::Refused, RemarkReason::LongLine)?;
+        remark_on_card(remarks, *place, b"", Deed::Refused, RemarkReason::LongLine)?;
     }
     Ok(())
 }
 
-// Tells what stands in comments inside commands, from the second card on, where each comment opens.
-fn tell_comments(told: &mut CommandRemarks, comments: &[CommandComment]) -> Result<(), AllocError> {
+// Remarks on the comments inside commands that have text on later cards, which may be operands.
+fn remark_on_comments(
+    remarks: &mut CommandRemarks,
+    comments: &[CommandComment],
+) -> Result<(), AllocError> {
     for comment in comments {
         let words = RemarkWords {
             command: comment.command.as_slice(),
             operand: b"",
             text: comment.text.as_slice(),
         };
-        told.tell(
+        remarks.add(
             comment.place,
             words,
             Deed::Dropped,
@@ -125,8 +136,9 @@ fn tell_comments(told: &mut CommandRemarks, comments: &[CommandComment]) -> Resu
     Ok(())
 }
 
-fn tell_card(
-    told: &mut CommandRemarks,
+// Remarks on a card.
+fn remark_on_card(
+    remarks: &mut CommandRemarks,
     place: CardPlace,
     text: &[u8],
     deed: Deed,
@@ -137,27 +149,27 @@ fn tell_card(
         operand: b"",
         text,
     };
-    told.tell(place, words, deed, reason)
+    remarks.add(place, words, deed, reason)
 }
 
-// Puts the command's records behind the others, where all of it can be said, and answers whether it was put there. One
-// whose records are not read is named.
-fn append(
+// Appends the command's records, if all of it can be carried, and returns whether they were appended. Remarks say why
+// not: one refuses a command whose records are not read back as that command.
+fn append_command(
     alloc: Global,
-    told: &mut CommandRemarks,
+    remarks: &mut CommandRemarks,
     bytes: &mut Vec<u8>,
     known: &Option<Vec<KnownSysmod>>,
     wide: &WideCommand,
 ) -> Result<bool, AllocError> {
-    let before = told.refusals;
-    let listed = match known {
+    let refusals = remarks.refusals;
+    let known_sysmods = match known {
         Some(known) => Some(known.as_slice()),
         None => None,
     };
-    let Some(command) = carry_command(alloc, told, listed, wide)? else {
+    let Some(command) = carry_command(alloc, remarks, known_sysmods, wide)? else {
         return Ok(false);
     };
-    if told.refusals != before {
+    if remarks.refusals != refusals {
         return Ok(false);
     }
     let mut cards = PrintedCards::new(alloc);
@@ -165,27 +177,27 @@ fn append(
     let records = cards.into_bytes()?;
     let reason = match read_cntl(alloc, &records) {
         Ok(read) => {
-            if is_said(alloc, known, wide, read.as_slice())? {
+            if says_just(alloc, known, wide, read.as_slice())? {
                 bytes.extend_from_slice(&records)?;
                 return Ok(true);
             }
             RemarkReason::NotRead
         }
         Err(CntlError::Memory) => return Err(AllocError),
-        Err(CntlError::Fault { code, .. }) => reason_of(&command, code),
+        Err(CntlError::Fault { code, .. }) => unread_reason(&command, code),
     };
-    tell_unread(told, &command, reason)?;
+    remark_on_unread(remarks, &command, reason)?;
     Ok(false)
 }
 
-// Names a command whose records are not read as it is, with the operand that it must have and has not.
-fn tell_unread(
-    told: &mut CommandRemarks,
-    command: &Carried,
+// Remarks that a command is refused because its records are not read, with the operand that it lacks.
+fn remark_on_unread(
+    remarks: &mut CommandRemarks,
+    command: &CarriedCommand,
     reason: RemarkReason,
 ) -> Result<(), AllocError> {
     let operand = match reason {
-        RemarkReason::Missing => needed_by(command.word),
+        RemarkReason::Missing => required_operand(command.word),
         _ => b"",
     };
     let words = RemarkWords {
@@ -193,11 +205,11 @@ fn tell_unread(
         operand,
         text: b"",
     };
-    told.tell(command.place, words, Deed::Refused, reason)
+    remarks.add(command.place, words, Deed::Refused, reason)
 }
 
-// The operand that the command can't be without.
-fn needed_by(command: &[u8]) -> &'static [u8] {
+// The operand that the command must have, or an empty text if there is none.
+fn required_operand(command: &[u8]) -> &'static [u8] {
     match command {
         b"SET" => b"BOUNDARY",
         b"REJECT" => b"SELECT",
@@ -206,21 +218,21 @@ fn needed_by(command: &[u8]) -> &'static [u8] {
     }
 }
 
-// Whether what was read is one command, which says just what this one asks for.
-fn is_said(
+// Whether the records were read as one command, which says just what the shop's command asks for.
+fn says_just(
     alloc: Global,
     known: &Option<Vec<KnownSysmod>>,
     wide: &WideCommand,
     read: &[Command],
 ) -> Result<bool, AllocError> {
     match read {
-        [said] => says(alloc, known, wide, said),
+        [command] => says(alloc, known, wide, command),
         _ => Ok(false),
     }
 }
 
-// Why a command of known words is not read.
-fn reason_of(command: &Carried, code: CommandCode) -> RemarkReason {
+// Why a command of the profile's words is not read.
+fn unread_reason(command: &CarriedCommand, code: CommandCode) -> RemarkReason {
     match code {
         CommandCode::BadCommandOperand => RemarkReason::Missing,
         CommandCode::NoSingleList if command.has_list() => RemarkReason::Contradiction,
@@ -230,7 +242,8 @@ fn reason_of(command: &Carried, code: CommandCode) -> RemarkReason {
     }
 }
 
-// The records, if nothing is refused and they are read as commands that say just what these ask for.
+// The records. Returns `None` if something is refused, or if they are not read back as commands that say just what the
+// shop's commands ask for.
 fn read_back(
     alloc: Global,
     refusals: usize,
@@ -244,12 +257,12 @@ fn read_back(
     if refusals > 0 {
         return Ok(None);
     }
-    let said = match read_cntl(alloc, &bytes) {
-        Ok(said) => said,
+    let commands = match read_cntl(alloc, &bytes) {
+        Ok(commands) => commands,
         Err(CntlError::Memory) => return Err(AllocError),
         Err(CntlError::Fault { .. }) => return Ok(None),
     };
-    if !are_said(alloc, known, wide, said.as_slice())? {
+    if !are_said(alloc, known, wide, commands.as_slice())? {
         return Ok(None);
     }
     Ok(Some(bytes))

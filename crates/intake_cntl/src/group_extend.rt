@@ -1,6 +1,6 @@
 //! GROUPEXTEND without APARs or USERMODs.
 
-use crate::carry::{AskedOperand, CarriedOperand, MOST, Value, has_word, put_once};
+use crate::carry::{CarriedOperand, MOST, OperandContext, Value, has_word, put_once};
 use crate::command_remarks::CommandRemarks;
 use intake_asked::KnownSysmod;
 use intake_cards::{Deed, RemarkReason};
@@ -15,42 +15,43 @@ const KEPT_OUT: &[KeptOut] = &[
     (b"NOUSERMODS", Kind::Usermod, b"USERMODS"),
 ];
 
-/// The operands, with the known SYSMODs of each type that GROUPEXTEND keeps out in EXCLUDE. It keeps those that SELECT
-/// or GROUP names.
-pub(crate) fn with_excluded(
+/// The operands, with an EXCLUDE of the known SYSMODs of each type that GROUPEXTEND keeps out, except those that SELECT
+/// or GROUP names. Remarks refuse a member that keeps out no type or that contradicts another operand, want of known
+/// SYSMODs, and too long an EXCLUDE.
+pub(crate) fn exclude_kinds(
     alloc: Global,
-    told: &mut CommandRemarks,
-    asked: &AskedOperand<'_>,
+    remarks: &mut CommandRemarks,
+    context: &OperandContext<'_>,
     mut carried: Vec<CarriedOperand>,
 ) -> Result<Vec<CarriedOperand>, AllocError> {
     let mut ids: Vec<Vec<u8>> = Vec::new(alloc);
-    for member in asked.operand.text().split(|b| *b == b' ' || *b == b',') {
+    for member in context.operand.text().split(|b| *b == b' ' || *b == b',') {
         if member.is_empty() {
             continue;
         }
         let Some((_, kind, choosing)) = KEPT_OUT.iter().find(|(word, _, _)| *word == member) else {
-            asked.refuse(told, member, RemarkReason::NoOperand)?;
+            context.refuse(remarks, member, RemarkReason::NoOperand)?;
             continue;
         };
         if has_word(&carried, *choosing) {
-            asked.refuse(told, member, RemarkReason::Contradiction)?;
+            context.refuse(remarks, member, RemarkReason::Contradiction)?;
         }
-        let Some(known) = asked.known else {
-            asked.refuse(told, member, RemarkReason::NeedsKnown)?;
+        let Some(known) = context.known else {
+            context.refuse(remarks, member, RemarkReason::NeedsKnown)?;
             continue;
         };
-        asked.tell(told, member, Deed::Carried, RemarkReason::KnownExcluded)?;
-        put_of_kind(alloc, known, *kind, &carried, &mut ids)?;
+        context.remark(remarks, member, Deed::Carried, RemarkReason::KnownExcluded)?;
+        put_ids_of_kind(alloc, known, *kind, &carried, &mut ids)?;
     }
     put_excluded(alloc, &mut carried, ids)?;
     if has_long_exclude(&carried) {
-        asked.refuse(told, b"", RemarkReason::LongList)?;
+        context.refuse(remarks, b"", RemarkReason::LongList)?;
     }
     Ok(carried)
 }
 
 // Puts the ids of the SYSMODs of the type, but for those that SELECT or GROUP names, into the list.
-fn put_of_kind(
+fn put_ids_of_kind(
     alloc: Global,
     known: &[KnownSysmod],
     kind: Kind,
@@ -66,6 +67,7 @@ fn put_of_kind(
     Ok(())
 }
 
+// Whether SELECT or GROUP names the id.
 fn is_selected(carried: &[CarriedOperand], id: &[u8]) -> bool {
     for operand in carried {
         let selects = operand.word == b"SELECT".as_slice() || operand.word == b"GROUP".as_slice();
@@ -78,7 +80,7 @@ fn is_selected(carried: &[CarriedOperand], id: &[u8]) -> bool {
     false
 }
 
-// Appends the ids to EXCLUDE, which is made if it is not there.
+// Adds the ids to EXCLUDE. If there is no EXCLUDE, it is appended.
 fn put_excluded(
     alloc: Global,
     carried: &mut Vec<CarriedOperand>,
@@ -103,6 +105,7 @@ fn put_excluded(
     Ok(())
 }
 
+// Whether EXCLUDE has more members than it may have.
 fn has_long_exclude(carried: &[CarriedOperand]) -> bool {
     carried.iter().any(|operand| match &operand.value {
         Value::List(ids) => operand.word == b"EXCLUDE".as_slice() && ids.len() > MOST,

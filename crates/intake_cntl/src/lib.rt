@@ -10,6 +10,6 @@ mod command_remarks;
 mod file;
 mod group_extend;
 mod print;
-mod spelled;
+mod spelling;
 
 pub use file::{CommandFile, command_file};

@@ -1,5 +1,6 @@
 -- Comparisons, as a loop goes over names.
-use Rattle.std.proofs.Common.{◌≡◌, ◌<◌, ◌≤◌, ◌+◌, ◌∙◌, ℕ, List, ◌∷◌, [], ◌++◌, map, take, length, get_or, ap, ap₂, sym, subst, false}
+use Rattle.std.proofs.Common.{◌≡◌, ◌<◌, ◌≤◌, ◌+◌, ◌∙◌, ℕ, List, ◌∷◌, [], ◌++◌, map, take, length, get_or, ap, ap₂, sym}
+use Rattle.std.proofs.Common.{subst, false}
 use Rattle.std.proofs.Common.{append-nil}
 use Rattle.std.specs.List.{All, flat_map}
 use Rattle.std.proofs.lemmas.List.{map-append, take_all, take_more}
@@ -47,7 +48,8 @@ two_quiet folder input output =
 pub apart_quiet : {H : Type 0} (host : Ghosts H) (folder : Text) (input : Text) (names : List Text) {a b : H}
     → HasDone host (λ done. done ≡ flat_map (is_apart folder input) names) a b → HasDone host (All IsQuiet) a b
 apart_quiet host folder input names was =
-    weaker host was (λ done e. subst (All IsQuiet) (sym e) (all_quiet (is_apart folder input) (two_quiet folder input) names))
+    weaker host was (λ done e. subst (All IsQuiet) (sym e) (all_quiet (is_apart folder input)
+    (two_quiet folder input) names))
 
 pub are_apart_quiet : {H : Type 0} (host : Ghosts H) (folder : Text) (outputs names : List Text) {a b : H}
     → HasDone host (λ done. done ≡ flat_map (are_apart folder outputs) names) a b → HasDone host (All IsQuiet) a b

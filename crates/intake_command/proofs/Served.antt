@@ -17,7 +17,8 @@ use Rattle.intake_words.specs.declared.options.IntakeOptions.{IntakeOptions}
 use Rattle.intake_command.specs.Acts.{HostAct, Gives, Puts, Prints, Speaks, IsQuiet}
 use Rattle.intake_command.specs.Done.{LeadTo, HasDone}
 use Rattle.intake_command.specs.Keeping.{KeepsFiles}
-use Rattle.intake_command.specs.Serving.{AreRead, KeepsService, ServesFiles, ServesCommands, IsKnownList, IsCommandEnd, folder_of, inputs}
+use Rattle.intake_command.specs.Serving.{AreRead, KeepsService, ServesFiles, ServesCommands, IsKnownList, IsCommandEnd}
+use Rattle.intake_command.specs.Serving.{folder_of, inputs}
 use Rattle.intake_command.specs.Serving.{IsWithin, IsCleared, EndsApart, Ends, EndsServed, comparisons}
 use Rattle.intake_command.specs.declared.surroundings.IntakeHost.{Ghosts}
 use Rattle.intake_command.proofs.Doing.{joined, one}

@@ -86,7 +86,8 @@ remark_outputs files are =
     let four : FolderFiles = (codes "remarks", None) ∷ five in
     let three : FolderFiles = (codes "stand-ins", None) ∷ four in
     let two : FolderFiles = (codes "hold", None) ∷ three in
-    subst AreOutputs (sym are.1) (more_outputs (codes "ptfin") None two refl (more_outputs (codes "hold") None three refl
+    subst AreOutputs (sym are.1) (more_outputs (codes "ptfin") None two refl
+    (more_outputs (codes "hold") None three refl
     (more_outputs (codes "stand-ins") None four refl (more_outputs (codes "remarks") None five refl
     (more_outputs (codes "cntl") None six refl (more_outputs (codes "cntl.remarks") (Some are.0) [] refl none_more))))))
 
@@ -121,7 +122,8 @@ module _ {H : Type 0} (host : Ghosts H) (folder : Text) where
   pub nothing_within : {before after : H} → KeepsNothing host before folder after
       → HasDone host (All (IsWithin folder)) before after
   nothing_within {before} {after} (inl e) =
-      subst (λ at. HasDone host (All (IsWithin folder)) before at) (sym e) (idle host before (All-nil (IsWithin folder)))
+      subst (λ at. HasDone host (All (IsWithin folder)) before at) (sym e)
+      (idle host before (All-nil (IsWithin folder)))
   nothing_within {before} {after} (inr lost) =
       did host before (Loses folder lost.0 lost.1) after lost.3
       (one (IsWithin folder) (Loses folder lost.0 lost.1) (refl, lost.2))

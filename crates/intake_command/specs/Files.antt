@@ -2,11 +2,11 @@
 use Rattle.std.specs.Prelude.{ℕ, List, [], ◌∷◌, ◌++◌, Option, None, option_map, map, codes, IsTrue, All}
 use Rattle.terms.specs.Types.{Text}
 use Rattle.terms.specs.Lookups.{is_in}
-use Rattle.intake_command.specs.declared.files.Named.{Named}
+use Rattle.intake_command.specs.declared.files.NamedFile.{NamedFile}
 use Rattle.intake_command.specs.Acts.{FolderFiles}
 
 -- a file's name, and its bytes, if it is to be there
-abbrev pub named : Named → Text × Option (List ℕ)
+abbrev pub named : NamedFile → Text × Option (List ℕ)
 named file = (file.name.now, option_map (λ bytes. bytes.items) file.bytes)
 
 -- the files that a run may write

@@ -1,5 +1,6 @@
-//! Files of the user's, which are never touched.
-ghost use Rattle.std.specs.Prelude.{◌≡◌, ◌++◌, ◌∷◌, [], false, IfOk, OnOk, OnErr, All, codes, map, option_map, option_to_list};
+//! The input files of the user, which the program never overwrites.
+ghost use Rattle.std.specs.Prelude.{◌≡◌, ◌++◌, ◌∷◌, [], false, IfOk, OnOk, OnErr, All, codes, map};
+ghost use Rattle.std.specs.Prelude.{option_map, option_to_list};
 ghost use Rattle.std.specs.List.{flat_map};
 ghost use Rattle.std.specs.String.{string_bytes};
 ghost use Rattle.intake_command.specs.Acts.{Compares, IsQuiet};
@@ -9,10 +10,11 @@ ghost use Rattle.intake_command.specs.Serving.{are_apart, comparisons, folder_of
 
 use crate::files::outputs;
 use crate::surroundings::IntakeHost;
-use intake_words::{IntakeFault, IntakeOptions};
+use intake_words::{IntakeFault, IntakeOptions, text_views};
 use std::alloc::{AllocError, Global};
 
-/// Returns an error unless each input is another file than each one that may be written, which is asked of the host.
+/// Asks the host whether an input is a file that the program may write or remove. Returns `OutputIsInput` if one is,
+/// `CannotRead` if the host cannot find out, `Memory` if memory runs out. The checks below return the same.
 pub(crate) fn check_apart<H: IntakeHost>(
     alloc: Global,
     host: &mut H,
@@ -31,25 +33,16 @@ pub(crate) fn check_apart<H: IntakeHost>(
 fn inputs(alloc: Global, asked: &IntakeOptions) -> Result<Vec<&str>, AllocError>
     ensures { IfOk result (λ names. map (λ name. name.now) names.items ≡ inputs asked.now) }
 {
-    let mut names = named(alloc, &asked.files)?;
-    let mut more = one_of(alloc, &asked.cntl)?;
-    let mut known = one_of(alloc, &asked.known)?;
+    let mut names = text_views(alloc, &asked.files)?;
+    let mut more = name_of_option(alloc, &asked.cntl)?;
+    let mut known = name_of_option(alloc, &asked.known)?;
     names.append(&mut more)?;
     names.append(&mut known)?;
     Ok(names)
 }
 
-fn named(alloc: Global, files: &[String]) -> Result<Vec<&str>, AllocError>
-    ensures { IfOk result (λ names. map (λ name. name.now) names.items ≡ map string_bytes files.now) }
-{
-    let mut names = Vec::new(alloc);
-    for file in files {
-        names.push(file.as_str())?;
-    }
-    Ok(names)
-}
-
-fn one_of(alloc: Global, file: &Option<String>) -> Result<Vec<&str>, AllocError>
+// A list of the name of the file, or an empty list if there is no file.
+fn name_of_option(alloc: Global, file: &Option<String>) -> Result<Vec<&str>, AllocError>
     ensures { IfOk result (λ names. map (λ name. name.now) names.items
         ≡ option_to_list (option_map string_bytes file.now)) }
 {
@@ -60,6 +53,7 @@ fn one_of(alloc: Global, file: &Option<String>) -> Result<Vec<&str>, AllocError>
     Ok(names)
 }
 
+// Checks that none of these inputs is an output in the folder.
 fn check_inputs<H: IntakeHost>(
     alloc: Global,
     host: &mut H,
@@ -78,6 +72,7 @@ fn check_inputs<H: IntakeHost>(
     Ok(())
 }
 
+// Checks that the input is none of the outputs in the folder.
 fn check_input<H: IntakeHost>(
     alloc: Global,
     host: &mut H,
@@ -95,7 +90,7 @@ fn check_input<H: IntakeHost>(
     Ok(())
 }
 
-// Whether the input is another file than the output, also by what this one is called until all are there.
+// Checks that the input is neither the output nor its draft.
 fn check_output<H: IntakeHost>(
     alloc: Global,
     host: &mut H,
@@ -107,14 +102,15 @@ fn check_output<H: IntakeHost>(
         host.old host.new) }
     ensures err { OnErr result (HasDone H.IntakeHost (All IsQuiet) host.old host.new) }
 {
-    let path = path(alloc, folder, output)?;
-    let new = renamed(alloc, &path)?;
+    let path = output_path(alloc, folder, output)?;
+    let new = draft_path(alloc, &path)?;
     check_path(alloc, host, path.as_str(), input)?;
     check_path(alloc, host, new.as_str(), input)?;
     Ok(())
 }
 
-fn path(alloc: Global, folder: &str, output: &str) -> Result<String, AllocError>
+// The path of an output in the folder.
+fn output_path(alloc: Global, folder: &str, output: &str) -> Result<String, AllocError>
     ensures { IfOk result (λ path. string_bytes path ≡ path_of folder.now output.now) }
 {
     let mut path = String::from_str(alloc, folder)?;
@@ -123,7 +119,8 @@ fn path(alloc: Global, folder: &str, output: &str) -> Result<String, AllocError>
     Ok(path)
 }
 
-fn renamed(alloc: Global, path: &String) -> Result<String, AllocError>
+// The path of the output's draft.
+fn draft_path(alloc: Global, path: &String) -> Result<String, AllocError>
     ensures { IfOk result (λ new. string_bytes new ≡ string_bytes path.now ++ codes ".new") }
 {
     let mut new = String::from_str(alloc, path.as_str())?;
@@ -131,6 +128,7 @@ fn renamed(alloc: Global, path: &String) -> Result<String, AllocError>
     Ok(new)
 }
 
+// Checks that the input is not the file of this path.
 fn check_path<H: IntakeHost>(
     alloc: Global,
     host: &mut H,
@@ -142,7 +140,7 @@ fn check_path<H: IntakeHost>(
 {
     let is_same = match host.is_same(path, input) {
         Ok(is_same) => is_same,
-        Err(error) => return Err(IntakeFault::unread(alloc, path, error.kind())),
+        Err(error) => return Err(IntakeFault::of_unread_file(alloc, path, error.kind())),
     };
     if is_same {
         return Err(IntakeFault::of_output(alloc, input, path));

@@ -12,19 +12,20 @@ ghost use Rattle.intake_command.specs.Done.{HasDone};
 ghost use Rattle.intake_command.specs.Keeping.{KeepsFiles, KeepsNothing};
 ghost use Rattle.intake_command.specs.Serving.{ServesCommands, IsKnownList, IsCommandEnd, IsWithin, folder_of};
 
+use crate::host_calls::{print_summary, read_input};
 use crate::keep::{keep_commands, keep_remarks};
-use crate::printing::print;
-use crate::reading::read;
 use crate::surroundings::IntakeHost;
 use intake_asked::{KnownList, KnownSysmod, read_known, wide_commands};
 use intake_cntl::command_file;
-use intake_words::{InputFiles, IntakeFault, IntakeOptions, cards_of, command_summary, tell};
+use intake_words::{
+    InputFiles, IntakeFault, IntakeOptions, append_remark_lines, command_summary, read_file_cards,
+};
 use std::alloc::Global;
 
-/// The status where a command file has words that are not carried.
+/// The status of a run whose command file has words that are not carried.
 const REFUSED_STATUS: u8 = 12;
 
-/// What comes of a command file: its records, where all of it is carried, and what is said of it.
+/// What a run makes of a command file: its records, if all of it is carried, the remarks, and the summary.
 #[derive(Drop)]
 struct MadeCommands {
     bytes: Option<Vec<u8>>,
@@ -32,7 +33,8 @@ struct MadeCommands {
     summary: Vec<u8>,
 }
 
-/// Puts the command file into the folder where all of it is carried, and the remarks in any case.
+/// Puts the command file into the folder, if all of it is carried, and the remarks in any case. Returns the status, or
+/// the fault for which nothing is put there or no summary is printed.
 pub(crate) fn serve_commands<H: IntakeHost>(
     alloc: Global,
     host: &mut H,
@@ -43,17 +45,18 @@ pub(crate) fn serve_commands<H: IntakeHost>(
         host.old host.new) }
     ensures err { OnErr result (HasDone H.IntakeHost (All (IsWithin (folder_of asked.now))) host.old host.new) }
 {
-    let bytes = read(alloc, host, name)?;
+    let bytes = read_input(alloc, host, name)?;
     let known = known_sysmods(alloc, host, &asked.known)?;
-    let made = made_of(alloc, asked, name, bytes, &known)?;
+    let made = make_commands(alloc, asked, name, bytes, &known)?;
     let summary = made.summary.clone()?;
     let folder = asked.out.as_str();
-    let status = keep_made(alloc, host, folder, made.bytes, made.remarks)?;
-    print(host, &summary)?;
+    let status = keep_made_commands(alloc, host, folder, made.bytes, made.remarks)?;
+    print_summary(host, &summary)?;
     Ok(status)
 }
 
-// The SYSMODs of the list, if one is named.
+// The SYSMODs of the list, or `None` if no list is named. Returns `CannotRead` if the host cannot read it, `KnownLine`
+// if a line is not in form, `Memory` if memory runs out.
 fn known_sysmods<H: IntakeHost>(
     alloc: Global,
     host: &mut H,
@@ -66,20 +69,26 @@ fn known_sysmods<H: IntakeHost>(
     let Some(name) = name else {
         return Ok(None);
     };
-    let bytes = read(alloc, host, name.as_str())?;
-    let list = listed(alloc, name.as_str(), &bytes)?;
+    let bytes = read_input(alloc, host, name.as_str())?;
+    let list = read_known_list(alloc, name.as_str(), &bytes)?;
     Ok(Some(list))
 }
 
-fn listed(alloc: Global, name: &str, bytes: &[u8]) -> Result<Vec<KnownSysmod>, IntakeFault> {
+// The SYSMODs of a list of known ones. Returns `KnownLine` if a line is not in form, `Memory` if memory runs out.
+fn read_known_list(
+    alloc: Global,
+    name: &str,
+    bytes: &[u8],
+) -> Result<Vec<KnownSysmod>, IntakeFault> {
     match read_known(alloc, bytes)? {
         KnownList::Sysmods(known) => Ok(known),
         KnownList::BadLine(line) => Err(IntakeFault::of_known_line(alloc, name, line)),
     }
 }
 
-// What becomes of the commands of these bytes.
-fn made_of(
+// The records, remarks and summary of the commands of these bytes. Returns `NoStatement` if there is no command,
+// `NoCards` if the bytes cannot be read as cards, `Memory` if memory runs out.
+fn make_commands(
     alloc: Global,
     asked: &IntakeOptions,
     name: &str,
@@ -91,7 +100,7 @@ fn made_of(
 {
     let mut sources = InputFiles::new(alloc);
     let mut remarks = Vec::new(alloc);
-    let cards = cards_of(
+    let cards = read_file_cards(
         alloc,
         &mut sources,
         name,
@@ -105,7 +114,7 @@ fn made_of(
     if file.carried == 0 && file.others == 0 {
         return Err(IntakeFault::NoStatement);
     }
-    tell(alloc, &sources, &file.remarks, &mut remarks)?;
+    append_remark_lines(alloc, &sources, &file.remarks, &mut remarks)?;
     let is_written = file.bytes.is_some();
     let summary = command_summary(alloc, file.carried, file.others, is_written, &file.remarks)?;
     Ok(MadeCommands {
@@ -115,8 +124,9 @@ fn made_of(
     })
 }
 
-// Puts the command file and its remarks into the folder, or the remarks alone, and answers the status.
-fn keep_made<H: IntakeHost>(
+// Puts the command file and its remarks into the folder, or only the remarks. Returns the status, or `CannotWrite` if
+// the folder does not take them, `Memory` if memory runs out.
+fn keep_made_commands<H: IntakeHost>(
     alloc: Global,
     host: &mut H,
     folder: &str,
@@ -124,8 +134,10 @@ fn keep_made<H: IntakeHost>(
     remarks: Vec<u8>,
 ) -> Result<u8, IntakeFault>
     ensures ok { (known : Option (Vec KnownSysmod Global)) (commands : List WideCommand)
-        → IfSome bytes (λ bytes. (said : List terms.Command) × IsCommandFile bytes.items said × AreSaid known commands said)
-        → IfOk result (λ status. KeepsFiles H.IntakeHost host.old folder.now (IsCommandEnd known commands status) host.new) }
+        → IfSome bytes (λ bytes. (said : List terms.Command) × IsCommandFile bytes.items said
+        × AreSaid known commands said)
+        → IfOk result (λ status. KeepsFiles H.IntakeHost host.old folder.now (IsCommandEnd known commands status)
+        host.new) }
     ensures err { OnErr result (KeepsNothing H.IntakeHost host.old folder.now host.new) }
 {
     match bytes {

@@ -4,9 +4,9 @@ ghost use Rattle.intake_command.specs.Files.{named, no_outputs, outputs};
 
 use std::alloc::{AllocError, Global};
 
-/// A file of the folder: its name there, and its bytes, or none where it is to go.
+/// A file of the folder: its name there, and its bytes, or `None` if it is to be removed.
 #[derive(Debug, Drop)]
-pub struct Named {
+pub struct NamedFile {
     pub name: &'static str,
     pub bytes: Option<Vec<u8>>,
 }
@@ -25,41 +25,43 @@ pub(crate) fn outputs() -> &'static [&'static str]
     ]
 }
 
-fn file(name: &'static str, bytes: Vec<u8>) -> Named
+// A file of these bytes.
+fn file_with_bytes(name: &'static str, bytes: Vec<u8>) -> NamedFile
     ensures { named result ≡ (name.now, Some bytes.items) }
 {
-    Named {
+    NamedFile {
         name,
         bytes: Some(bytes),
     }
 }
 
-fn gone(name: &'static str) -> Named
+// A file that is removed.
+fn file_to_remove(name: &'static str) -> NamedFile
     ensures { named result ≡ (name.now, None) }
 {
-    Named { name, bytes: None }
+    NamedFile { name, bytes: None }
 }
 
-/// The files of a run over files.
+/// The files of a run over files of SYSMODs and holds.
 pub(crate) fn service_files(
     alloc: Global,
     ptfin: Vec<u8>,
     hold: Vec<u8>,
     stand_ins: Option<Vec<u8>>,
     remarks: Vec<u8>,
-) -> Result<Vec<Named>, AllocError>
+) -> Result<Vec<NamedFile>, AllocError>
     ensures { IfOk result (λ files. map named files.items ≡ (codes "ptfin", Some ptfin.items)
         ∷ (codes "hold", Some hold.items) ∷ (codes "stand-ins", option_map (λ bytes. bytes.items) stand_ins)
         ∷ (codes "remarks", Some remarks.items) ∷ []) }
 {
     let mut files = Vec::new(alloc);
-    files.push(file("ptfin", ptfin))?;
-    files.push(file("hold", hold))?;
-    files.push(Named {
+    files.push(file_with_bytes("ptfin", ptfin))?;
+    files.push(file_with_bytes("hold", hold))?;
+    files.push(NamedFile {
         name: "stand-ins",
         bytes: stand_ins,
     })?;
-    files.push(file("remarks", remarks))?;
+    files.push(file_with_bytes("remarks", remarks))?;
     Ok(files)
 }
 
@@ -68,42 +70,42 @@ pub(crate) fn command_files(
     alloc: Global,
     cntl: Vec<u8>,
     remarks: Vec<u8>,
-) -> Result<Vec<Named>, AllocError>
+) -> Result<Vec<NamedFile>, AllocError>
     ensures { IfOk result (λ files. map named files.items
         ≡ (codes "cntl", Some cntl.items) ∷ (codes "cntl.remarks", Some remarks.items) ∷ []) }
 {
     let mut files = Vec::new(alloc);
-    files.push(file("cntl", cntl))?;
-    files.push(file("cntl.remarks", remarks))?;
+    files.push(file_with_bytes("cntl", cntl))?;
+    files.push(file_with_bytes("cntl.remarks", remarks))?;
     Ok(files)
 }
 
-/// The remarks of a command file, and no file of an earlier run.
-pub(crate) fn remark_files(alloc: Global, remarks: Vec<u8>) -> Result<Vec<Named>, AllocError>
+/// The remarks on a command file, and all files of earlier runs, which are to be removed.
+pub(crate) fn remark_files(alloc: Global, remarks: Vec<u8>) -> Result<Vec<NamedFile>, AllocError>
     ensures { IfOk result (λ files. map named files.items ≡ (codes "ptfin", None) ∷ (codes "hold", None)
         ∷ (codes "stand-ins", None) ∷ (codes "remarks", None) ∷ (codes "cntl", None)
         ∷ (codes "cntl.remarks", Some remarks.items) ∷ []) }
 {
     let mut files = Vec::new(alloc);
-    files.push(gone("ptfin"))?;
-    files.push(gone("hold"))?;
-    files.push(gone("stand-ins"))?;
-    files.push(gone("remarks"))?;
-    files.push(gone("cntl"))?;
-    files.push(file("cntl.remarks", remarks))?;
+    files.push(file_to_remove("ptfin"))?;
+    files.push(file_to_remove("hold"))?;
+    files.push(file_to_remove("stand-ins"))?;
+    files.push(file_to_remove("remarks"))?;
+    files.push(file_to_remove("cntl"))?;
+    files.push(file_with_bytes("cntl.remarks", remarks))?;
     Ok(files)
 }
 
-/// All files of all runs, each to go.
-pub(crate) fn none_left() -> [Named; 6]
+/// All files that a run may write, each to be removed.
+pub(crate) fn all_files_to_remove() -> [NamedFile; 6]
     ensures { map named result ≡ no_outputs }
 {
     [
-        gone("ptfin"),
-        gone("hold"),
-        gone("stand-ins"),
-        gone("remarks"),
-        gone("cntl"),
-        gone("cntl.remarks"),
+        file_to_remove("ptfin"),
+        file_to_remove("hold"),
+        file_to_remove("stand-ins"),
+        file_to_remove("remarks"),
+        file_to_remove("cntl"),
+        file_to_remove("cntl.remarks"),
     ]
 }

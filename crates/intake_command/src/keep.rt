@@ -1,4 +1,4 @@
-//! What is written, and read back before.
+//! The files that are put into the folder, and are read back before.
 ghost use Rattle.std.specs.Prelude.{◌≡◌, ◌++◌, IfOk, OnOk, OnErr, List};
 ghost use Rattle.terms.specs.Types as terms;
 ghost use Rattle.terms.specs.Ptfin.{IsPtfin};
@@ -10,6 +10,7 @@ ghost use Rattle.intake_command.specs.Keeping.{IsServiceFiles, IsCommandFiles, I
 ghost use Rattle.intake_command.specs.Keeping.{KeepsFiles, KeepsNothing};
 
 use crate::files::{command_files, remark_files, service_files};
+use crate::host_calls::put_files;
 use crate::same::{are_same_hold_items, are_same_items};
 use crate::statements::{hold_file, ptfin};
 use crate::surroundings::IntakeHost;
@@ -20,9 +21,10 @@ use std::alloc::Global;
 /// How many items of a hold file are printed and read back at a time.
 const AT_A_TIME: usize = 512;
 
-/// Puts the items into `ptfin`, the holds and releases into `hold`, and the remarks beside them, of which some may be
-/// drafted, with what stand-ins are for; where there is nothing of these, a file of an earlier run is taken away. `NotReadBack` comes
-/// where a file is not read as what was meant, and `CannotWrite` where the folder does not take them.
+/// Puts the items into `ptfin`, the holds and releases into `hold`, and the remarks into `remarks`, after those of its
+/// draft. `stand_ins` are the bytes of `stand-ins`. Without them that file of an earlier run is removed. Returns
+/// `NotReadBack` if the records of a file are not read back as its items, and `CannotWrite` if the folder does not take
+/// the files.
 pub fn keep_service<H: IntakeHost>(
     alloc: Global,
     host: &mut H,
@@ -36,17 +38,14 @@ pub fn keep_service<H: IntakeHost>(
         (IsServiceFiles (items meant.now) (hold_files.items held.now)) host.new) }
     ensures err { OnErr result (KeepsNothing H.IntakeHost host.old folder.now host.new) }
 {
-    let ptfin = ptfin_of(alloc, meant)?;
-    let hold = hold_of(alloc, held)?;
+    let ptfin = ptfin_records(alloc, meant)?;
+    let hold = hold_records(alloc, held)?;
     let files = service_files(alloc, ptfin, hold, stand_ins, remarks)?;
-    match host.keep(folder, &files) {
-        Ok(()) => Ok(()),
-        Err(_) => Err(IntakeFault::CannotWrite),
-    }
+    put_files(host, folder, &files)
 }
 
-// The records of a PTFIN that is read as these items.
-fn ptfin_of(alloc: Global, meant: &[Item]) -> Result<Vec<u8>, IntakeFault>
+// The records of these items, which are read back as these items. Returns `NotReadBack` if they are not.
+fn ptfin_records(alloc: Global, meant: &[Item]) -> Result<Vec<u8>, IntakeFault>
     ensures { IfOk result (λ bytes. IsPtfin bytes.items (items meant.now)) }
 {
     let bytes = ptfin(alloc, meant)?;
@@ -61,20 +60,20 @@ fn ptfin_of(alloc: Global, meant: &[Item]) -> Result<Vec<u8>, IntakeFault>
     Ok(bytes)
 }
 
-// The records of a hold file that is read as these holds and releases. They are printed and read back a part at a time,
-// so that only a part of them is there twice.
-fn hold_of(alloc: Global, meant: &[HoldItem]) -> Result<Vec<u8>, IntakeFault>
+// The records of these holds and releases, which are read back as these. They are printed and read back a part at a
+// time, so that only one part of them is in memory twice. Returns `NotReadBack` if they are read otherwise.
+fn hold_records(alloc: Global, meant: &[HoldItem]) -> Result<Vec<u8>, IntakeFault>
     ensures { IfOk result (λ bytes. IsHoldFile bytes.items (hold_files.items meant.now)) }
 {
     let mut bytes = Vec::new(alloc);
     let mut rest = meant;
     for _ in 0..meant.len() / AT_A_TIME {
         let part = first_part(rest);
-        let mut records = part_of(alloc, part.first)?;
+        let mut records = part_records(alloc, part.first)?;
         bytes.append(&mut records)?;
         rest = part.rest;
     }
-    let mut records = part_of(alloc, rest)?;
+    let mut records = part_records(alloc, rest)?;
     bytes.append(&mut records)?;
     Ok(bytes)
 }
@@ -99,8 +98,8 @@ fn first_part(items: &[HoldItem]) -> HoldPart<'_>
     }
 }
 
-// The records of a part of a hold file, which is a hold file too.
-fn part_of(alloc: Global, meant: &[HoldItem]) -> Result<Vec<u8>, IntakeFault>
+// The records of a part of a hold file, which is a hold file too, read back as these holds and releases.
+fn part_records(alloc: Global, meant: &[HoldItem]) -> Result<Vec<u8>, IntakeFault>
     ensures { IfOk result (λ bytes. IsHoldFile bytes.items (hold_files.items meant.now)) }
 {
     let bytes = hold_file(alloc, meant)?;
@@ -129,14 +128,11 @@ pub fn keep_commands<H: IntakeHost>(
     ensures err { OnErr result (KeepsNothing H.IntakeHost host.old folder.now host.new) }
 {
     let files = command_files(alloc, cntl, remarks)?;
-    match host.keep(folder, &files) {
-        Ok(()) => Ok(()),
-        Err(_) => Err(IntakeFault::CannotWrite),
-    }
+    put_files(host, folder, &files)
 }
 
 /// Puts the remarks on a command file into `cntl.remarks`, and removes all other files of earlier runs. Returns
-/// `CannotWrite` if that can't be done.
+/// `CannotWrite` if that cannot be done.
 pub fn keep_remarks<H: IntakeHost>(
     alloc: Global,
     host: &mut H,
@@ -147,8 +143,5 @@ pub fn keep_remarks<H: IntakeHost>(
     ensures err { OnErr result (KeepsNothing H.IntakeHost host.old folder.now host.new) }
 {
     let files = remark_files(alloc, remarks)?;
-    match host.keep(folder, &files) {
-        Ok(()) => Ok(()),
-        Err(_) => Err(IntakeFault::CannotWrite),
-    }
+    put_files(host, folder, &files)
 }

@@ -1,24 +1,23 @@
 //! What `smpe-intake` makes of its command line.
 //! `command` reads the words, then the files, and puts into the folder what RECEIVE takes of them, or a command file,
-//! with the remarks beside it. Its contract says, act by act, what it does to its surroundings. It has read back what it
-//! puts there: `keep_service` says that PTFIN and the hold file are read as exactly the items that were meant, or that
-//! nothing was written. Every call that allocates fails if memory runs out.
+//! with the remarks beside it. Its contract says, act by act, what it does to its surroundings. It has read back what
+//! it puts there: `keep_service` says that PTFIN and the hold file are read as exactly the items that were meant, or
+//! that nothing was written. Every call that allocates fails if memory runs out.
 #![tactic(auto)]
 
 mod apart;
 mod commands;
 mod files;
+mod host_calls;
 mod keep;
 mod members;
-mod printing;
 mod program;
-mod reading;
 mod same;
 mod service;
 mod statements;
 mod surroundings;
 
-pub use files::Named;
+pub use files::NamedFile;
 pub use keep::{keep_commands, keep_remarks, keep_service};
 pub use program::command;
 pub use same::{are_same_hold_items, are_same_items};

@@ -1,27 +1,27 @@
-//! The files of `--relfile`.
+//! The texts of elements in the files of `--relfile`.
 ghost use Rattle.std.specs.Prelude.{All};
 ghost use Rattle.intake_command.specs.Acts.{IsQuiet};
 ghost use Rattle.intake_command.specs.Done.{HasDone};
 
-use crate::reading::read_if_there;
+use crate::host_calls::read_if_there;
 use crate::surroundings::IntakeHost;
 use intake_read::WideFile;
 use intake_sysmod::RelfileMember;
 use intake_words::{
-    InputFiles, IntakeFault, IntakeOptions, RelfileElement, cards_of, relfile_elements,
+    InputFiles, IntakeFault, IntakeOptions, RelfileElement, read_file_cards, relfile_elements,
 };
 use std::alloc::Global;
 
-/// A file of the folder.
+/// A file of the folder of `--relfile`: the text of an element.
 #[derive(Drop)]
 struct MemberFile {
     path: String,
     bytes: Vec<u8>,
 }
 
-/// The texts of the elements with RELFILE that have a file in the folder, lines or records, in whichever code each is.
-/// DIR/SYSMOD/Fn/NAME is tried first; DIR/Fn/NAME counts if only one SYSMOD has RELFILE(n).
-pub(crate) fn members<H: IntakeHost>(
+/// The texts of the elements with RELFILE that have a file in the folder. Layout and code of each file are guessed. An
+/// element's file is DIR/SYSMOD/Fn/NAME, or, if there is none and only one SYSMOD has RELFILE(n), DIR/Fn/NAME.
+pub(crate) fn relfile_members<H: IntakeHost>(
     alloc: Global,
     host: &mut H,
     sources: &mut InputFiles,
@@ -35,10 +35,11 @@ pub(crate) fn members<H: IntakeHost>(
         return Ok(Vec::new(alloc));
     };
     let elements = relfile_elements(alloc, files)?;
-    members_in(alloc, host, sources, folder.as_str(), &elements, remarks)
+    read_members(alloc, host, sources, folder.as_str(), &elements, remarks)
 }
 
-fn members_in<H: IntakeHost>(
+// The texts of the elements that have a file in the folder.
+fn read_members<H: IntakeHost>(
     alloc: Global,
     host: &mut H,
     sources: &mut InputFiles,
@@ -56,7 +57,8 @@ fn members_in<H: IntakeHost>(
     Ok(members)
 }
 
-// The file of the element, if there is one.
+// The file of the element: that of its SYSMOD's own folder, or the shared one if no other SYSMOD can mean it, or `None`
+// if it has neither.
 fn member_file<H: IntakeHost>(
     alloc: Global,
     host: &mut H,
@@ -67,32 +69,28 @@ fn member_file<H: IntakeHost>(
 {
     let own = element.own_path(alloc, folder)?;
     let shared = element.shared_path(alloc, folder)?;
-    let file = file_at(alloc, host, own)?;
+    let file = read_member(alloc, host, own)?;
     if file.is_some() || !element.is_alone {
         return Ok(file);
     }
-    file_at(alloc, host, shared)
+    read_member(alloc, host, shared)
 }
 
-fn file_at<H: IntakeHost>(
+// The file of this path, or `None` if there is none. Returns `CannotRead` if the host cannot read it.
+fn read_member<H: IntakeHost>(
     alloc: Global,
     host: &mut H,
     path: String,
 ) -> Result<Option<MemberFile>, IntakeFault>
     ensures { HasDone H.IntakeHost (All IsQuiet) host.old host.new }
 {
-    let bytes = read_if_there(alloc, host, path.as_str())?;
-    Ok(with_path(path, bytes))
+    let Some(bytes) = read_if_there(alloc, host, path.as_str())? else {
+        return Ok(None);
+    };
+    Ok(Some(MemberFile { path, bytes }))
 }
 
-fn with_path(path: String, bytes: Option<Vec<u8>>) -> Option<MemberFile> {
-    match bytes {
-        Some(bytes) => Some(MemberFile { path, bytes }),
-        None => None,
-    }
-}
-
-// Appends the cards of the file.
+// Appends the cards of the element's file, if there is one.
 fn put_member(
     alloc: Global,
     sources: &mut InputFiles,
@@ -104,7 +102,7 @@ fn put_member(
     let Some(file) = file else {
         return Ok(());
     };
-    let cards = cards_of(
+    let cards = read_file_cards(
         alloc,
         sources,
         file.path.as_str(),

@@ -1,4 +1,4 @@
-//! The program but for its input and output.
+//! The program, except its input and output.
 ghost use Rattle.std.specs.Prelude.{◌≡◌, ◌∷◌, [], IfOk, OnErr, All, option_map};
 ghost use Rattle.std.specs.String.{string_bytes};
 ghost use Rattle.intake_command.specs.Acts.{HostAct, Speaks};
@@ -7,7 +7,7 @@ ghost use Rattle.intake_command.specs.Serving.{Ends, EndsApart, Serves, IsCleare
 
 use crate::apart::check_apart;
 use crate::commands::serve_commands;
-use crate::files::none_left;
+use crate::files::all_files_to_remove;
 use crate::service::serve_files;
 use crate::surroundings::IntakeHost;
 use intake_words::{IntakeFault, IntakeOptions, WordsFault, read_words};
@@ -16,9 +16,9 @@ use std::alloc::{AllocError, Global};
 /// The status of a run that ends with a fault.
 const FAULT_STATUS: u8 = 16;
 
-/// Does what the words ask for, of which the first is the program's name, and answers the status: 0, or 4 where
-/// something is left out that matters, or 12 where a command file has words that are not carried; 16 where nothing is
-/// written.
+/// Does what the words of the command line ask for. The first word is the program's name. Returns the status: 0, or 4
+/// if something is left out that matters, or 12 if a command file has words that are not carried, or 16 if the program
+/// writes nothing.
 pub fn command<H: IntakeHost>(
     alloc: Global,
     host: &mut H,
@@ -27,44 +27,50 @@ pub fn command<H: IntakeHost>(
     ensures { HasDone H.IntakeHost (Ends result) host.old host.new }
 {
     match words {
-        Ok(words) => answered(alloc, host, words.as_slice()),
-        Err(_) => told(alloc, host, "", &IntakeFault::Memory),
+        Ok(words) => answer_words(alloc, host, words.as_slice()),
+        Err(_) => tell_fault(alloc, host, "", &IntakeFault::Memory),
     }
 }
 
-fn answered<H: IntakeHost>(alloc: Global, host: &mut H, words: &[Vec<u8>]) -> u8
+// Reads the words, and then serves what they ask for: help, or files if they are in order. Returns the status.
+fn answer_words<H: IntakeHost>(alloc: Global, host: &mut H, words: &[Vec<u8>]) -> u8
     ensures { HasDone H.IntakeHost (Ends result) host.old host.new }
 {
     match read_words(alloc, words) {
-        Ok(asked) => run(alloc, host, &asked),
-        Err(WordsFault::Clap(error)) => shown(host, &error),
-        Err(fault) => told(alloc, host, "", &IntakeFault::Words(fault)),
+        Ok(asked) => serve_if_apart(alloc, host, &asked),
+        Err(WordsFault::Clap(error)) => show_clap_text(host, &error),
+        Err(fault) => tell_fault(alloc, host, "", &IntakeFault::Words(fault)),
     }
 }
 
-// Nothing is taken out of the folder before it is known that no input is there.
-fn run<H: IntakeHost>(alloc: Global, host: &mut H, asked: &IntakeOptions) -> u8
+// Makes the files, if no input is an output, and returns the status. Otherwise it tells that fault, and not even the
+// files of earlier runs are removed, because the input may be one of them.
+fn serve_if_apart<H: IntakeHost>(alloc: Global, host: &mut H, asked: &IntakeOptions) -> u8
     ensures { HasDone H.IntakeHost (Ends result) host.old host.new }
 {
     match check_apart(alloc, host, asked) {
-        Ok(()) => run_apart(alloc, host, asked),
-        Err(fault) => told(alloc, host, asked.out.as_str(), &fault),
+        Ok(()) => serve_or_clear(alloc, host, asked),
+        Err(fault) => tell_fault(alloc, host, asked.out.as_str(), &fault),
     }
 }
 
-fn run_apart<H: IntakeHost>(alloc: Global, host: &mut H, asked: &IntakeOptions) -> u8
+// Makes the files, and after a fault removes all outputs and tells the fault. Returns the status. No input is an
+// output.
+fn serve_or_clear<H: IntakeHost>(alloc: Global, host: &mut H, asked: &IntakeOptions) -> u8
     ensures { HasDone H.IntakeHost (EndsApart asked.now result) host.old host.new }
 {
-    match served(alloc, host, asked) {
+    match serve(alloc, host, asked) {
         Ok(status) => status,
         Err(fault) => {
-            clear(host, asked.out.as_str());
-            told(alloc, host, asked.out.as_str(), &fault)
+            remove_all_outputs(host, asked.out.as_str());
+            tell_fault(alloc, host, asked.out.as_str(), &fault)
         }
     }
 }
 
-fn served<H: IntakeHost>(
+// Makes the command file, if one is asked for, or else the files of SYSMODs and holds. Returns the status, or the fault
+// that ends the run.
+fn serve<H: IntakeHost>(
     alloc: Global,
     host: &mut H,
     asked: &IntakeOptions,
@@ -79,17 +85,17 @@ fn served<H: IntakeHost>(
     }
 }
 
-// Takes the files of all runs out of the folder, as far as that can be done.
-fn clear<H: IntakeHost>(host: &mut H, folder: &str)
+// Removes the files that a run may write from the folder, as far as that can be done.
+fn remove_all_outputs<H: IntakeHost>(host: &mut H, folder: &str)
     ensures { HasDone H.IntakeHost (λ acts. (act : HostAct) × (acts ≡ act ∷ []) × IsCleared folder.now act)
         host.old host.new }
 {
-    let files = none_left();
+    let files = all_files_to_remove();
     let _ = host.keep(folder, &files);
 }
 
-// Help and version are no faults.
-fn shown<H: IntakeHost>(host: &mut H, error: &clap::Error) -> u8
+// Shows what `clap` says, and returns the status: 0 for help and version, which are no faults.
+fn show_clap_text<H: IntakeHost>(host: &mut H, error: &clap::Error) -> u8
     ensures { HasDone H.IntakeHost (Ends result) host.old host.new }
 {
     let is_shown = host.show(error).is_ok();
@@ -100,7 +106,8 @@ fn shown<H: IntakeHost>(host: &mut H, error: &clap::Error) -> u8
     }
 }
 
-fn told<H: IntakeHost>(alloc: Global, host: &mut H, folder: &str, fault: &IntakeFault) -> u8
+// Writes the lines of the fault, and returns the status.
+fn tell_fault<H: IntakeHost>(alloc: Global, host: &mut H, folder: &str, fault: &IntakeFault) -> u8
     ensures status { result ≡ 16 }
     ensures says { H.does host.old Speaks host.new }
 {

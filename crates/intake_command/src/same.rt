@@ -1,4 +1,4 @@
-//! Whether items are the same, as contracts see them.
+//! Whether items are the same, as contracts see them: `is_same` is true just if their views are equal.
 ghost use Rattle.std.specs.Prelude.{◌≡◌, ◌↔◌, IsTrue, option_map};
 ghost use Rattle.std.specs.String.{string_bytes};
 ghost use Rattle.sysmods_values.specs.Views.{action_of};
@@ -8,33 +8,34 @@ use mcs::{Assign, HoldItem, Item, Release};
 use sysmods_values::{Action, ElemChange, Hold, IfReq, Sysmod, Ver};
 use text80::{Line, Update};
 
-/// What can be told apart from every other value of its type.
+/// A type whose values can be compared by what contracts see of them.
 trait Same {
-    /// Whether they are the same.
+    /// Whether both values are the same.
     fn is_same(&self, other: &Self) -> bool
         ensures { IsTrue result ↔ (self.now ≡ other.now) };
 }
 
 // Whether two lists have the same items, one after the other.
-fn are_same<T: Same>(one: &[T], other: &[T]) -> bool
-    ensures { IsTrue result ↔ (one.now ≡ other.now) }
+fn are_same<T: Same>(first: &[T], other: &[T]) -> bool
+    ensures { IsTrue result ↔ (first.now ≡ other.now) }
 {
-    if one.len() != other.len() {
+    if first.len() != other.len() {
         return false;
     }
-    for place in 0..one.len() {
-        if !one[place].is_same(&other[place]) {
+    for place in 0..first.len() {
+        if !first[place].is_same(&other[place]) {
             return false;
         }
     }
     true
 }
 
-fn is_same_option<T: Same>(one: &Option<T>, other: &Option<T>) -> bool
-    ensures { IsTrue result ↔ (one.now ≡ other.now) }
+// Whether both are absent, or the same.
+fn is_same_option<T: Same>(first: &Option<T>, other: &Option<T>) -> bool
+    ensures { IsTrue result ↔ (first.now ≡ other.now) }
 {
-    match (one, other) {
-        (Some(one), Some(other)) => one.is_same(other),
+    match (first, other) {
+        (Some(first), Some(other)) => first.is_same(other),
         (None, None) => true,
         (Some(_), None) | (None, Some(_)) => false,
     }
@@ -125,10 +126,11 @@ impl Same for Ver {
     }
 }
 
-fn is_same_action(one: &Action, other: &Action) -> bool
-    ensures { IsTrue result ↔ (action_of one.now ≡ action_of other.now) }
+// Whether both do the same to the element.
+fn is_same_action(first: &Action, other: &Action) -> bool
+    ensures { IsTrue result ↔ (action_of first.now ≡ action_of other.now) }
 {
-    match one {
+    match first {
         Action::Replaces {
             distlib,
             syslib,
@@ -162,12 +164,13 @@ impl Same for ElemChange {
     }
 }
 
-fn is_same_comment(one: &Option<String>, other: &Option<String>) -> bool
-    ensures { IsTrue result ↔ (option_map string_bytes one.now ≡ option_map string_bytes other.now) }
+// Whether both COMMENTs are the same, or both are absent.
+fn is_same_comment(first: &Option<String>, other: &Option<String>) -> bool
+    ensures { IsTrue result ↔ (option_map string_bytes first.now ≡ option_map string_bytes other.now) }
 {
-    match one {
-        Some(one) => match other {
-            Some(other) => one.as_bytes() == other.as_bytes(),
+    match first {
+        Some(first) => match other {
+            Some(other) => first.as_bytes() == other.as_bytes(),
             None => false,
         },
         None => other.is_none(),
@@ -216,12 +219,12 @@ impl Same for Assign {
 impl Same for Item {
     fn is_same(&self, other: &Self) -> bool {
         match self {
-            Item::Sysmod(one) => match other {
-                Item::Sysmod(other) => one.is_same(other),
+            Item::Sysmod(first) => match other {
+                Item::Sysmod(other) => first.is_same(other),
                 Item::Assign(_) => false,
             },
-            Item::Assign(one) => match other {
-                Item::Assign(other) => one.is_same(other),
+            Item::Assign(first) => match other {
+                Item::Assign(other) => first.is_same(other),
                 Item::Sysmod(_) => false,
             },
         }
@@ -231,12 +234,12 @@ impl Same for Item {
 impl Same for HoldItem {
     fn is_same(&self, other: &Self) -> bool {
         match self {
-            HoldItem::Hold(one) => match other {
-                HoldItem::Hold(other) => one.is_same(other),
+            HoldItem::Hold(first) => match other {
+                HoldItem::Hold(other) => first.is_same(other),
                 HoldItem::Release(_) => false,
             },
-            HoldItem::Release(one) => match other {
-                HoldItem::Release(other) => one.is_same(other),
+            HoldItem::Release(first) => match other {
+                HoldItem::Release(other) => first.is_same(other),
                 HoldItem::Hold(_) => false,
             },
         }
@@ -244,15 +247,15 @@ impl Same for HoldItem {
 }
 
 /// Whether two lists have the same items of PTFIN, one after the other.
-pub fn are_same_items(one: &[Item], other: &[Item]) -> bool
-    ensures { IsTrue result ↔ (one.now ≡ other.now) }
+pub fn are_same_items(first: &[Item], other: &[Item]) -> bool
+    ensures { IsTrue result ↔ (first.now ≡ other.now) }
 {
-    are_same(one, other)
+    are_same(first, other)
 }
 
 /// Whether two lists have the same items of a hold file, one after the other.
-pub fn are_same_hold_items(one: &[HoldItem], other: &[HoldItem]) -> bool
-    ensures { IsTrue result ↔ (one.now ≡ other.now) }
+pub fn are_same_hold_items(first: &[HoldItem], other: &[HoldItem]) -> bool
+    ensures { IsTrue result ↔ (first.now ≡ other.now) }
 {
-    are_same(one, other)
+    are_same(first, other)
 }

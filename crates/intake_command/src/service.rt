@@ -10,29 +10,28 @@ ghost use Rattle.intake_command.specs.Acts.{IsQuiet, Gives};
 ghost use Rattle.intake_command.specs.Done.{HasDone};
 ghost use Rattle.intake_command.specs.Serving.{AreRead, ServesFiles, KeepsService, DraftsRemarks, IsWithin, folder_of};
 
+use crate::host_calls::{print_summary, read_input};
 use crate::keep::keep_service;
-use crate::members::members;
-use crate::printing::print;
-use crate::reading::read;
+use crate::members::relfile_members;
 use crate::surroundings::IntakeHost;
 use intake_cards::RemarkList;
 use intake_carry::{NarrowError, Narrowed, OutsideHolds, narrow, read_statements};
 use intake_read::WideFile;
 use intake_sysmod::{Options, RelfileMember};
 use intake_words::{
-    InputFiles, IntakeFault, IntakeOptions, open_cards, put_line, refused, stand_ins_file,
-    summary_of, tell_assumed,
+    InputFiles, IntakeFault, IntakeOptions, append_remark_line, describe_assumptions, open_cards,
+    refusal_fault, stand_ins_file, summary_of,
 };
 use mcs::{HoldItem, Item};
 use std::alloc::{AllocError, Global};
 
-/// The status where something is left out that may be asked for.
+/// The status of a run that leaves something out that may be asked for.
 const LEFT_OUT_STATUS: u8 = 4;
 
-/// How many bytes of remarks are drafted at a time.
-const DRAFTED: usize = 65_536;
+/// How many bytes of remarks go into the draft at a time.
+const DRAFT_SIZE: usize = 65_536;
 
-/// What is to be put into the folder, and what is to be said of it.
+/// What is to be put into the folder, and the summary of it.
 #[derive(Drop)]
 struct MadeFiles {
     items: Vec<Item>,
@@ -43,7 +42,8 @@ struct MadeFiles {
     is_whole: bool,
 }
 
-/// Puts what the files state into the folder, and the remarks beside it, and answers the status.
+/// Puts what the files state into the folder, with the remarks, and prints the summary. Returns the status, or the
+/// fault for which nothing is put there or no summary is printed.
 pub(crate) fn serve_files<H: IntakeHost>(
     alloc: Global,
     host: &mut H,
@@ -56,24 +56,26 @@ pub(crate) fn serve_files<H: IntakeHost>(
     let mut sources = InputFiles::new(alloc);
     let mut lines = Vec::new(alloc);
     let mut held = OutsideHolds::new(alloc);
-    let files = wide_files(alloc, host, &mut sources, asked, &mut held, &mut lines)?;
-    let members = members(alloc, host, &mut sources, asked, &files, &mut lines)?;
-    let made = made_of(alloc, &sources, asked, &files, held, members)?;
+    let files = read_files(alloc, host, &mut sources, asked, &mut held, &mut lines)?;
+    let members = relfile_members(alloc, host, &mut sources, asked, &files, &mut lines)?;
+    let made = make_files(alloc, &sources, asked, &files, held, members)?;
     let summary = made.summary.clone()?;
-    let status = status(made.is_whole);
-    keep_made(alloc, host, asked, &sources, made, lines)?;
-    print(host, &summary)?;
+    let status = exit_status(made.is_whole);
+    keep_files(alloc, host, asked, &sources, made, lines)?;
+    print_summary(host, &summary)?;
     Ok(status)
 }
 
-fn status(is_whole: bool) -> u8
+// The status of a run that left nothing out, or something.
+fn exit_status(is_whole: bool) -> u8
     ensures { (result ≡ 0) ⊎ (result ≡ 4) }
 {
     if is_whole { 0 } else { LEFT_OUT_STATUS }
 }
 
-// What the files state, one after the other. Their holds outside SYSMODs are carried as they are read.
-fn wide_files<H: IntakeHost>(
+// The statements of all files. Their holds outside SYSMODs are carried as they are read. Returns `NoStatement` if there
+// is no statement.
+fn read_files<H: IntakeHost>(
     alloc: Global,
     host: &mut H,
     sources: &mut InputFiles,
@@ -88,7 +90,7 @@ fn wide_files<H: IntakeHost>(
 {
     let mut files = Vec::new(alloc);
     for name in asked.files.iter() {
-        let file = wide_file(alloc, host, sources, asked, name.as_str(), held, lines)?;
+        let file = read_file(alloc, host, sources, asked, name.as_str(), held, lines)?;
         files.push(file)?;
     }
     if held.is_empty() && !has_statement(&files) {
@@ -97,7 +99,9 @@ fn wide_files<H: IntakeHost>(
     Ok(files)
 }
 
-fn wide_file<H: IntakeHost>(
+// Reads a file, and returns its statements. Returns `CannotRead` if the host cannot read it, or a fault of its
+// statements.
+fn read_file<H: IntakeHost>(
     alloc: Global,
     host: &mut H,
     sources: &mut InputFiles,
@@ -110,13 +114,14 @@ fn wide_file<H: IntakeHost>(
     ensures held { OnOk result (CarriesHolds held.old → CarriesHolds held.new) }
     ensures err { OnErr result (HasDone H.IntakeHost (All IsQuiet) host.old host.new) }
 {
-    let bytes = read(alloc, host, name)?;
-    let file = statements_of(alloc, sources, asked, name, bytes, held, lines)?;
+    let bytes = read_input(alloc, host, name)?;
+    let file = read_file_statements(alloc, sources, asked, name, bytes, held, lines)?;
     Ok(file)
 }
 
-// What a file of these bytes states.
-fn statements_of(
+// The statements of a file of these bytes. Appends to `lines` what was assumed of its cards. Returns `NoCards` if the
+// bytes cannot be read as cards, `Statements` if these are not statements, `Memory` if memory runs out.
+fn read_file_statements(
     alloc: Global,
     sources: &mut InputFiles,
     asked: &IntakeOptions,
@@ -133,10 +138,11 @@ fn statements_of(
         Ok(file) => file,
         Err(error) => return Err(IntakeFault::of_statement(alloc, sources, &error)),
     };
-    tell_assumed(alloc, name, cards.form, cards.code, &notes, lines)?;
+    describe_assumptions(alloc, name, cards.form, cards.code, &notes, lines)?;
     Ok(file)
 }
 
+// Whether a file has any statement.
 fn has_statement(files: &[WideFile]) -> bool {
     files.iter().any(|file| !file.sysmods.is_empty()
         || !file.releases.is_empty()
@@ -144,8 +150,9 @@ fn has_statement(files: &[WideFile]) -> bool {
         || !file.others.is_empty())
 }
 
-// What becomes of the files.
-fn made_of(
+// What the files state, as RECEIVE takes it. Returns `Statements` if a hold or a release cannot be carried, `Memory` if
+// memory runs out.
+fn make_files(
     alloc: Global,
     sources: &InputFiles,
     asked: &IntakeOptions,
@@ -164,19 +171,23 @@ fn made_of(
     let narrowed = match narrow(alloc, files, held, options) {
         Ok(narrowed) => narrowed,
         Err(NarrowError::Memory) => return Err(IntakeFault::Memory),
-        Err(NarrowError::Refused(remarks)) => return Err(refused(alloc, sources, &remarks)),
+        Err(NarrowError::Refused(remarks)) => return Err(refusal_fault(alloc, sources, &remarks)),
     };
-    let made = told(alloc, asked, narrowed)?;
+    let made = add_summary(alloc, asked, narrowed)?;
     Ok(made)
 }
 
-// With what is said of it.
-fn told(alloc: Global, asked: &IntakeOptions, narrowed: Narrowed) -> Result<MadeFiles, AllocError>
+// The items and remarks, with their summary and the file of stand-ins.
+fn add_summary(
+    alloc: Global,
+    asked: &IntakeOptions,
+    narrowed: Narrowed,
+) -> Result<MadeFiles, AllocError>
     ensures items { IfOk result (λ made. made.items.items ≡ narrowed.items.items) }
     ensures holds { IfOk result (λ made. made.hold_items.items ≡ narrowed.hold_items.items) }
 {
     let summary = summary_of(alloc, asked.decide, asked.json, &narrowed)?;
-    let stand_ins = stand_ins(alloc, asked, &narrowed)?;
+    let stand_ins = stand_ins_if_asked(alloc, asked, &narrowed)?;
     let is_whole = is_whole(&narrowed.remarks);
     Ok(MadeFiles {
         items: narrowed.items,
@@ -188,7 +199,8 @@ fn told(alloc: Global, asked: &IntakeOptions, narrowed: Narrowed) -> Result<Made
     })
 }
 
-fn stand_ins(
+// The file of stand-ins, or `None` if stand-ins are not asked for.
+fn stand_ins_if_asked(
     alloc: Global,
     asked: &IntakeOptions,
     narrowed: &Narrowed,
@@ -211,8 +223,10 @@ fn is_whole(remarks: &RemarkList) -> bool {
     true
 }
 
-// Drafts the remarks, and then puts all files into the folder. `lines` are the first lines of the remarks.
-fn keep_made<H: IntakeHost>(
+// Drafts the remarks, and then puts all files into the folder. `lines` are the first lines of the file of remarks.
+// Returns `NotReadBack` if the records of a file are not read back as its items, `CannotWrite` if the folder does not
+// take the files, `Memory` if memory runs out.
+fn keep_files<H: IntakeHost>(
     alloc: Global,
     host: &mut H,
     asked: &IntakeOptions,
@@ -233,7 +247,9 @@ fn keep_made<H: IntakeHost>(
     Ok(())
 }
 
-// Drafts all remarks but the last ones, and returns the lines of these.
+// Appends the lines of the remarks to those before, and these to the draft whenever there are enough of them. Returns
+// the lines that are not in the draft, or `CannotWrite` if the folder does not take the draft, `Memory` if memory runs
+// out.
 fn draft_remarks<H: IntakeHost>(
     alloc: Global,
     host: &mut H,
@@ -250,32 +266,30 @@ fn draft_remarks<H: IntakeHost>(
         let Some(remark) = remarks.get(place) else {
             continue;
         };
-        put_line(alloc, sources, &remark, &mut lines)?;
+        append_remark_line(alloc, sources, &remark, &mut lines)?;
         lines = draft_if_long(host, folder, lines)?;
     }
     Ok(lines)
 }
 
-// Drafts the lines if there are enough of them, and returns those that are left.
+// Appends the lines to the draft of the remarks if there are enough of them. Returns the lines that are not in it, or
+// `CannotWrite` if the folder does not take the draft.
 fn draft_if_long<H: IntakeHost>(
     host: &mut H,
     folder: &str,
-    lines: Vec<u8>,
+    mut lines: Vec<u8>,
 ) -> Result<Vec<u8>, IntakeFault>
     ensures ok { OnOk result (HasDone H.IntakeHost (All (DraftsRemarks folder.now)) host.old host.new) }
     ensures err { OnErr result (HasDone H.IntakeHost (All (IsWithin folder.now)) host.old host.new) }
 {
-    if lines.len() < DRAFTED {
+    if lines.len() < DRAFT_SIZE {
         return Ok(lines);
     }
-    match host.draft(folder, "remarks", &lines) {
-        Ok(()) => Ok(cleared(lines)),
+    match host.append_to_draft(folder, "remarks", &lines) {
+        Ok(()) => {
+            lines.clear();
+            Ok(lines)
+        }
         Err(_) => Err(IntakeFault::CannotWrite),
     }
-}
-
-// Room for as many lines.
-fn cleared(mut lines: Vec<u8>) -> Vec<u8> {
-    lines.clear();
-    lines
 }

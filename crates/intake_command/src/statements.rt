@@ -1,16 +1,15 @@
-//! SYSMODs, holds and assignments as cards, in the grammar that RECEIVE reads. That what is printed is read as it was
-//! meant is no contract here: who prints reads it back and asks for equality.
+//! SYSMODs, holds and assignments as cards, in the grammar that RECEIVE reads. These functions have no contracts: their
+//! callers read the cards back, and compare what they read with what was to be printed.
 
 use fields::Id;
-use fields::spelling::{hold_text, kind_text, type_text};
+use fields::spelling::{hold_text, kind_text, statement_text};
 use intake_cards::{PrintedCards, put_comment};
 use mcs::{Assign, HoldItem, Item, Release};
 use std::alloc::{AllocError, Global};
 use sysmods_values::{Action, ElemChange, Hold, IfReq, Sysmod, Ver};
-use terms::ElemType;
 use text80::Line;
 
-/// PTFIN of these items.
+/// The records of a PTFIN with these items.
 pub fn ptfin(alloc: Global, items: &[Item]) -> Result<Vec<u8>, AllocError> {
     let mut cards = PrintedCards::new(alloc);
     for item in items {
@@ -22,7 +21,7 @@ pub fn ptfin(alloc: Global, items: &[Item]) -> Result<Vec<u8>, AllocError> {
     cards.into_bytes()
 }
 
-/// The hold file of these items.
+/// The records of a hold file with these items.
 pub fn hold_file(alloc: Global, items: &[HoldItem]) -> Result<Vec<u8>, AllocError> {
     let mut cards = PrintedCards::new(alloc);
     for item in items {
@@ -34,11 +33,12 @@ pub fn hold_file(alloc: Global, items: &[HoldItem]) -> Result<Vec<u8>, AllocErro
     cards.into_bytes()
 }
 
+// Prints the statements of a SYSMOD.
 fn put_sysmod(cards: &mut PrintedCards, sysmod: &Sysmod) -> Result<(), AllocError> {
-    cards.begin(b"++")?;
-    cards.joined(kind_text(sysmod.kind))?;
-    cards.listed(sysmod.id.as_bytes())?;
-    cards.joined(b".")?;
+    cards.begin_card(b"++")?;
+    cards.add_directly(kind_text(sysmod.kind))?;
+    cards.add_in_parentheses(sysmod.id.as_bytes())?;
+    cards.add_directly(b".")?;
     for ver in sysmod.vers.iter() {
         put_ver(cards, ver)?;
     }
@@ -51,121 +51,113 @@ fn put_sysmod(cards: &mut PrintedCards, sysmod: &Sysmod) -> Result<(), AllocErro
     Ok(())
 }
 
-// An operand with ids, where there are any.
+// Prints an operand with a list of ids, unless the list is empty.
 fn put_ids(cards: &mut PrintedCards, word: &[u8], ids: &[Id]) -> Result<(), AllocError> {
     let Some((first, others)) = ids.split_first() else {
         return Ok(());
     };
-    cards.word(word)?;
-    cards.joined(b"(")?;
-    cards.joined(first.as_bytes())?;
+    cards.add_word(word)?;
+    cards.add_directly(b"(")?;
+    cards.add_directly(first.as_bytes())?;
     for id in others {
-        cards.word(id.as_bytes())?;
+        cards.add_word(id.as_bytes())?;
     }
-    cards.joined(b")")
+    cards.add_directly(b")")
 }
 
+// Prints a `++VER` and its `++IF`s.
 fn put_ver(cards: &mut PrintedCards, ver: &Ver) -> Result<(), AllocError> {
-    cards.begin(b"++VER")?;
-    cards.listed(ver.srel.as_bytes())?;
+    cards.begin_card(b"++VER")?;
+    cards.add_in_parentheses(ver.srel.as_bytes())?;
     if let Some(fmid) = ver.fmid {
-        cards.value(b"FMID", fmid.as_bytes())?;
+        cards.add_value(b"FMID", fmid.as_bytes())?;
     }
     put_ids(cards, b"PRE", ver.pre.as_slice())?;
     put_ids(cards, b"REQ", ver.req.as_slice())?;
     put_ids(cards, b"SUP", ver.sup.as_slice())?;
     put_ids(cards, b"NPRE", ver.npre.as_slice())?;
     put_ids(cards, b"DELETE", ver.del.as_slice())?;
-    cards.joined(b".")?;
+    cards.add_directly(b".")?;
     for condition in ver.ifs.iter() {
         put_if(cards, condition)?;
     }
     Ok(())
 }
 
+// Prints an `++IF`.
 fn put_if(cards: &mut PrintedCards, condition: &IfReq) -> Result<(), AllocError> {
-    cards.begin(b"++IF")?;
-    cards.value(b"FMID", condition.function.as_bytes())?;
-    cards.word(b"THEN")?;
+    cards.begin_card(b"++IF")?;
+    cards.add_value(b"FMID", condition.function.as_bytes())?;
+    cards.add_word(b"THEN")?;
     put_ids(cards, b"REQ", condition.req.as_slice())?;
-    cards.joined(b".")
+    cards.add_directly(b".")
 }
 
+// Prints a `++HOLD`.
 fn put_hold(cards: &mut PrintedCards, hold: &Hold) -> Result<(), AllocError> {
-    cards.begin(b"++HOLD")?;
-    cards.listed(hold.id.as_bytes())?;
-    cards.word(hold_text(hold.kind))?;
-    cards.value(b"FMID", hold.fmid.as_bytes())?;
-    cards.value(b"REASON", hold.reason.as_bytes())?;
+    cards.begin_card(b"++HOLD")?;
+    cards.add_in_parentheses(hold.id.as_bytes())?;
+    cards.add_word(hold_text(hold.kind))?;
+    cards.add_value(b"FMID", hold.fmid.as_bytes())?;
+    cards.add_value(b"REASON", hold.reason.as_bytes())?;
     if let Some(class) = hold.class {
-        cards.value(b"CLASS", class.as_bytes())?;
+        cards.add_value(b"CLASS", class.as_bytes())?;
     }
     if let Some(date) = hold.date {
-        cards.value(b"DATE", date.as_bytes())?;
+        cards.add_value(b"DATE", date.as_bytes())?;
     }
     if let Some(comment) = &hold.comment {
         put_comment(cards, comment.as_bytes())?;
     }
-    cards.joined(b".")
+    cards.add_directly(b".")
 }
 
+// Prints a `++RELEASE`.
 fn put_release(cards: &mut PrintedCards, release: &Release) -> Result<(), AllocError> {
-    cards.begin(b"++RELEASE")?;
-    cards.listed(release.id.as_bytes())?;
-    cards.word(hold_text(release.kind))?;
-    cards.value(b"FMID", release.fmid.as_bytes())?;
-    cards.value(b"REASON", release.reason.as_bytes())?;
-    cards.joined(b".")
+    cards.begin_card(b"++RELEASE")?;
+    cards.add_in_parentheses(release.id.as_bytes())?;
+    cards.add_word(hold_text(release.kind))?;
+    cards.add_value(b"FMID", release.fmid.as_bytes())?;
+    cards.add_value(b"REASON", release.reason.as_bytes())?;
+    cards.add_directly(b".")
 }
 
+// Prints an `++ASSIGN`.
 fn put_assign(cards: &mut PrintedCards, assign: &Assign) -> Result<(), AllocError> {
-    cards.begin(b"++ASSIGN")?;
-    cards.value(b"SOURCEID", assign.source.as_bytes())?;
+    cards.begin_card(b"++ASSIGN")?;
+    cards.add_value(b"SOURCEID", assign.source.as_bytes())?;
     put_ids(cards, b"TO", assign.to.as_slice())?;
-    cards.joined(b".")
+    cards.add_directly(b".")
 }
 
+// Prints an element statement with its text.
 fn put_change(cards: &mut PrintedCards, change: &ElemChange) -> Result<(), AllocError> {
+    cards.begin_card(b"++")?;
+    cards.add_directly(statement_text(change.word()))?;
+    cards.add_in_parentheses(change.name.as_bytes())?;
     match &change.action {
         Action::Replaces {
             distlib,
             syslib,
             lines,
         } => {
-            cards.begin(b"++")?;
-            cards.joined(type_text(change.elem_type))?;
-            cards.listed(change.name.as_bytes())?;
-            cards.value(b"DISTLIB", distlib.as_bytes())?;
-            cards.value(b"SYSLIB", syslib.as_bytes())?;
-            cards.joined(b".")?;
+            cards.add_value(b"DISTLIB", distlib.as_bytes())?;
+            cards.add_value(b"SYSLIB", syslib.as_bytes())?;
+            cards.add_directly(b".")?;
             put_lines(cards, lines.as_slice())
         }
         Action::Updates { update } => {
-            cards.begin(update_word(change.elem_type))?;
-            cards.listed(change.name.as_bytes())?;
-            cards.joined(b".")?;
+            cards.add_directly(b".")?;
             put_lines(cards, update.records())
         }
     }
 }
 
-// The word of an update. Only macros and sources have any.
-fn update_word(elem_type: ElemType) -> &'static [u8] {
-    match elem_type {
-        ElemType::Src => b"++SRCUPD",
-        ElemType::Mac
-        | ElemType::Clist
-        | ElemType::Data
-        | ElemType::Exec
-        | ElemType::Parm
-        | ElemType::Proc => b"++MACUPD",
-    }
-}
-
+// Prints records as they are.
 fn put_lines(cards: &mut PrintedCards, lines: &[Line]) -> Result<(), AllocError> {
     cards.end_card()?;
     for line in lines {
-        cards.text(line.bytes())?;
+        cards.add_across_columns(line.bytes())?;
     }
     Ok(())
 }

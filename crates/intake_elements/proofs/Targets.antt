@@ -11,7 +11,7 @@ use Rattle.terms.specs.Types.{Text, Change}
 use Rattle.terms.specs.Changes.{is_replacement}
 use Rattle.terms.specs.Spelling.{type_text}
 use Rattle.intake_elements.specs.StandInNames.{hash_step, hash_of, stand_in_name, key_of}
-use Rattle.intake_elements.specs.Elements.{IsProfileType, IsLacked, IsTarget, stand_in, is_update, IsChangeOf}
+use Rattle.intake_elements.specs.Elements.{IsProfileType, IsLacked, IsTarget, stand_in_type, is_update, IsChangeOf}
 
 -- a hash that is made in parts
 pub hash_parts : (word name : Text)
@@ -63,7 +63,7 @@ profile_key word name known is type target (inl found) =
 profile_key word name known is type target (inr other) = absurd (other.1 known is)
 
 pub lacked_key : (word name : Text) → IsLacked word → (type : ElemType) (target : Text)
-    → IsTarget true word name type target → key_of (stand_in word) (stand_in_name word name) ≡ key_of type target
+    → IsTarget true word name type target → key_of (stand_in_type word) (stand_in_name word name) ≡ key_of type target
 lacked_key word name none type target (inl found) = absurd (none type found.0)
 lacked_key word name none type target (inr other) =
     ap (λ t. key_of t (stand_in_name word name)) (sym other.2) ∙ ap (key_of type) (sym other.3)
@@ -71,7 +71,7 @@ lacked_key word name none type target (inr other) =
 -- ---- what a statement makes
 
 pub lacked_change : (word name : Text) (kind : Kind) (read : Text) (type : ElemType) (change : Change) → IsLacked word
-    → type ≡ stand_in word → read ≡ stand_in_name word name → IsChangeOf type read (is_update kind word) change
+    → type ≡ stand_in_type word → read ≡ stand_in_name word name → IsChangeOf type read (is_update kind word) change
     → IsTarget true word name change.elem_type change.name
     × (is_replacement change.action ≡ not (is_update kind word))
 lacked_change word name kind read type change none type_is same is =

@@ -1,6 +1,7 @@
 -- What the element statements of a file change. These are the statements that bring elements in IBM z/OS SMP/E
 -- Reference, "SMP/E modification control statements".
-use Rattle.std.specs.Prelude.{◌≡◌, ◌⊎◌, Bool, true, false, List, [], ◌∷◌, ◌++◌, IsTrue, if◌then◌else◌, codes, ◌||◌, ◌&&◌, not}
+use Rattle.std.specs.Prelude.{◌≡◌, ◌⊎◌, Bool, true, false, List, [], ◌∷◌, ◌++◌, IsTrue, if◌then◌else◌, codes, ◌||◌}
+use Rattle.std.specs.Prelude.{◌&&◌, not}
 use Rattle.std.specs.Prelude.{ℕ, is_some, All, Contains}
 use Rattle.std.specs.List.{Any}
 use Rattle.std.specs.Str.{bytes_eq}
@@ -16,8 +17,8 @@ use Rattle.intake_read.specs.declared.items.WideOperand.{WideOperand}
 use Rattle.intake_elements.specs.StandInNames.{stand_in_name, key_of}
 
 -- the type of what stands for an element that the profile lacks, by its statement's word
-abbrev pub stand_in : Text → ElemType
-stand_in word =
+abbrev pub stand_in_type : Text → ElemType
+stand_in_type word =
     if bytes_eq word (codes "MOD") || bytes_eq word (codes "PROGRAM") || bytes_eq word (codes "JAR")
     || bytes_eq word (codes "ZAP") || bytes_eq word (codes "JARUPD")
     then Mac else Data
@@ -38,7 +39,7 @@ IsLacked word = (type : ElemType) → IsProfileType word type → ⊥
 abbrev pub IsTarget : Bool → Text → Text → ElemType → Text → Type 0
 IsTarget decide word name type target =
     (IsProfileType word type × (target ≡ name))
-    ⊎ (IsTrue decide × IsLacked word × (type ≡ stand_in word) × (target ≡ stand_in_name word name))
+    ⊎ (IsTrue decide × IsLacked word × (type ≡ stand_in_type word) × (target ≡ stand_in_name word name))
 
 -- Whether a statement of this word in a SYSMOD of the kind updates its element. All others replace it; what a function
 -- brings is whole.

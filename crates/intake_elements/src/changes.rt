@@ -3,11 +3,11 @@ ghost use Rattle.std.specs.Prelude.{IfOk, IfSome, IsTrue, All};
 ghost use Rattle.intake_elements.specs.Elements.{IsProfileType, IsLacked, IsMadeOf, HasNoLevel};
 
 use crate::element_words::profile_type;
-use crate::elements::profile_change;
+use crate::elements::whole_change;
 use crate::levels::level_operand;
 use crate::modules::{is_module_word, tell_modules};
 use crate::options::Options;
-use crate::stand_ins::{short_change, stand_in_change, tell_stand_in};
+use crate::stand_ins::{one_record_change, stand_in_change, tell_stand_in};
 use fields::Name;
 use intake_cards::{Deed, RemarkReason, Remarks, Subject};
 use intake_read::{WideElement, tell_no_decision, tell_odd};
@@ -15,7 +15,7 @@ use std::alloc::{AllocError, Global};
 use sysmods_values::ElemChange;
 use terms::{ElemType, Kind};
 
-/// The statement of an element.
+/// The element's statement, as remarks name it.
 pub fn subject_of(element: &WideElement) -> Subject<'_> {
     Subject {
         place: element.place,
@@ -24,45 +24,30 @@ pub fn subject_of(element: &WideElement) -> Subject<'_> {
     }
 }
 
-// Tells of an operand that names modules and can't be read. The answer is whether there is none.
-fn has_good_modules(
+// Checks DISTMOD and ASSEM, which name modules: leaves the SYSMOD out for each of them that cannot be read. Returns
+// whether there is none.
+fn check_modules(
     alloc: Global,
     remarks: &mut Remarks,
     subject: &Subject<'_>,
     element: &WideElement,
 ) -> Result<bool, AllocError> {
     let mut good = true;
-    for one in element.odd.iter() {
-        let name = one.operand.name.as_slice();
+    for odd in element.odd.iter() {
+        let name = odd.operand.name.as_slice();
         if is_module_word(name) {
-            let reason = RemarkReason::from(one.reason);
-            remarks.leave_out(alloc, subject, name, reason, one.operand.text())?;
+            let reason = RemarkReason::from(odd.reason);
+            remarks.leave_out(alloc, subject, name, reason, odd.operand.text())?;
             good = false;
         }
     }
     Ok(good)
 }
 
-// Tells of an operand that decides whether the SYSMOD goes on, which a stand-in can't have, and of one that names
-// modules and can't be read. The answer is whether there is none.
-fn may_stand_in(
-    alloc: Global,
-    remarks: &mut Remarks,
-    subject: &Subject<'_>,
-    element: &WideElement,
-) -> Result<bool, AllocError>
-    ensures { IfOk result (λ good. IsTrue good → All HasNoLevel element.now.operands.items) }
-{
-    if let Some(operand) = level_operand(element.operands.as_slice()) {
-        let name = operand.name.as_slice();
-        remarks.leave_out(alloc, subject, name, RemarkReason::Level, operand.text())?;
-        return Ok(false);
-    }
-    has_good_modules(alloc, remarks, subject, element)
-}
-
-// The same where stand-ins are asked for.
-fn may_be_asked(
+// If stand-ins are asked for, leaves the SYSMOD out for RMID, UMID or DELETE, which decide whether it goes on, or else
+// for each DISTMOD and ASSEM that cannot be read. Returns whether the element passes: it has none of them, or stand-ins
+// are not asked for.
+fn check_levels_and_modules(
     alloc: Global,
     options: &Options,
     remarks: &mut Remarks,
@@ -72,15 +57,19 @@ fn may_be_asked(
     ensures { IfOk result (λ good. IsTrue good → IsTrue options.now.decide
         → All HasNoLevel element.now.operands.items) }
 {
-    if options.decide {
-        may_stand_in(alloc, remarks, subject, element)
-    } else {
-        Ok(true)
+    if !options.decide {
+        return Ok(true);
     }
+    if let Some(operand) = level_operand(element.operands.as_slice()) {
+        let name = operand.name.as_slice();
+        remarks.leave_out(alloc, subject, name, RemarkReason::Level, operand.text())?;
+        return Ok(false);
+    }
+    check_modules(alloc, remarks, subject, element)
 }
 
-// Tells of all operands of an element that is carried as a stand-in that they are dropped.
-fn tell_operands(
+// Remarks on each operand of an element that is carried as a stand-in: it is dropped.
+fn drop_operands(
     alloc: Global,
     options: &Options,
     remarks: &mut Remarks,
@@ -99,8 +88,9 @@ fn tell_operands(
     Ok(())
 }
 
-// What a statement of a word that the profile lacks changes, or nothing where it can't be carried, which is told.
-fn lacked_change(
+// The change of a statement whose word the profile lacks: that of its stand-in. Returns `None`, with a remark, if it
+// cannot be carried.
+fn change_by_stand_in(
     alloc: Global,
     options: &Options,
     remarks: &mut Remarks,
@@ -116,14 +106,14 @@ fn lacked_change(
         remarks.leave_out(alloc, &subject, b"", RemarkReason::OutsideProfile, b"")?;
         return Ok(None);
     }
-    tell_operands(alloc, options, remarks, &subject, element)?;
-    let found = stand_in_change(alloc, remarks, &subject, kind, element)?;
-    Ok(found)
+    drop_operands(alloc, options, remarks, &subject, element)?;
+    let change = stand_in_change(alloc, remarks, &subject, kind, element)?;
+    Ok(change)
 }
 
-// What a statement of the profile changes, or nothing where it can't be carried, which is told. Where stand-ins are
-// asked for, it has a text of one record in place of one that can't be carried.
-fn known_change(
+// The whole change of a statement of the profile. If it cannot be carried and stand-ins are asked for, a change with a
+// text of one record stands in for it. Returns `None`, with a remark, if neither can be carried.
+fn whole_or_short_change(
     alloc: Global,
     options: &Options,
     remarks: &mut Remarks,
@@ -140,17 +130,24 @@ fn known_change(
         remarks.leave_out(alloc, &subject, b"", RemarkReason::BadName, b"")?;
         return Ok(None);
     };
-    let mut told = Remarks::new(alloc);
-    let found = profile_change(
-        alloc, options, &mut told, &subject, kind, element, elem_type, name,
+    let mut element_remarks = Remarks::new(alloc);
+    let whole = whole_change(
+        alloc,
+        options,
+        &mut element_remarks,
+        &subject,
+        kind,
+        element,
+        elem_type,
+        name,
     )?;
-    if found.is_some() || !options.decide {
-        remarks.append(told)?;
-        return Ok(found);
+    if whole.is_some() || !options.decide {
+        remarks.append(element_remarks)?;
+        return Ok(whole);
     }
-    told.drop_in_place_of_leaving_out();
-    remarks.append(told)?;
-    let Some(change) = short_change(alloc, kind, element, elem_type, name)? else {
+    element_remarks.drop_in_place_of_leaving_out();
+    remarks.append(element_remarks)?;
+    let Some(change) = one_record_change(alloc, kind, element, elem_type, name)? else {
         remarks.leave_out(alloc, &subject, b"", RemarkReason::BadText, b"")?;
         return Ok(None);
     };
@@ -158,7 +155,7 @@ fn known_change(
     Ok(Some(change))
 }
 
-/// What an element statement itself changes, or nothing where it can't be carried, which is told.
+/// The change of an element statement. Returns `None`, with a remark, if it cannot be carried.
 pub fn change_of(
     alloc: Global,
     options: &Options,
@@ -169,11 +166,11 @@ pub fn change_of(
     ensures { IfOk result (λ found. IfSome found (IsMadeOf options.now.decide kind element.now)) }
 {
     let subject = subject_of(element);
-    if !may_be_asked(alloc, options, remarks, &subject, element)? {
+    if !check_levels_and_modules(alloc, options, remarks, &subject, element)? {
         return Ok(None);
     }
     match profile_type(element.word.as_slice()) {
-        Some(elem_type) => known_change(alloc, options, remarks, kind, element, elem_type),
-        None => lacked_change(alloc, options, remarks, kind, element),
+        Some(elem_type) => whole_or_short_change(alloc, options, remarks, kind, element, elem_type),
+        None => change_by_stand_in(alloc, options, remarks, kind, element),
     }
 }

@@ -1,10 +1,9 @@
 //! The words of statements that bring or update elements.
 ghost use Rattle.std.specs.Prelude.{◌≡◌, IfSome, IfNone};
-ghost use Rattle.terms.specs.Types.{is_function_kind};
 ghost use Rattle.intake_elements.specs.Elements.{
   IsProfileType,
   IsLacked,
-  stand_in,
+  stand_in_type,
   is_update,
   is_update_word,
   is_source,
@@ -13,7 +12,7 @@ ghost use Rattle.intake_elements.specs.Elements.{
 use fields::spelling::read_type;
 use terms::{ElemType, Kind};
 
-/// The type of the element that a statement of the profile changes.
+/// The type of the element that a statement of this word changes, or `None` if the profile lacks the word.
 #[tactic(auto, using(crate::proofs::Targets::lacked))]
 pub(crate) fn profile_type(word: &[u8]) -> Option<ElemType>
     ensures found { IfSome result (IsProfileType word.now) }
@@ -38,17 +37,11 @@ pub(crate) fn is_update_word(word: &[u8]) -> bool
         || word == b"JARUPD".as_slice()
 }
 
-fn is_function(kind: Kind) -> bool
-    ensures { result ≡ is_function_kind kind }
-{
-    kind == Kind::Function
-}
-
-/// Whether a statement of a SYSMOD of the kind updates its element. What a function brings is whole.
+/// Whether a statement of the word in a SYSMOD of the kind updates its element. A function brings only whole elements.
 pub(crate) fn is_update(kind: Kind, word: &[u8]) -> bool
     ensures { result ≡ is_update kind word.now }
 {
-    !is_function(kind) && is_update_word(word)
+    kind != Kind::Function && is_update_word(word)
 }
 
 /// Whether a statement of the word brings or updates a source.
@@ -58,9 +51,9 @@ pub(crate) fn is_source(word: &[u8]) -> bool
     word == b"SRC".as_slice() || word == b"SRCUPD".as_slice()
 }
 
-/// The type of what stands for the element of a statement that the profile lacks.
-pub(crate) fn stand_in(word: &[u8]) -> ElemType
-    ensures { result ≡ stand_in word.now }
+/// The type of the stand-in for the element of a statement that the profile lacks.
+pub(crate) fn stand_in_type(word: &[u8]) -> ElemType
+    ensures { result ≡ stand_in_type word.now }
 {
     if word == b"MOD".as_slice()
         || word == b"PROGRAM".as_slice()

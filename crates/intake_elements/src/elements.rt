@@ -1,6 +1,5 @@
 //! Statements of the profile that bring or update elements.
-ghost use Rattle.std.specs.Prelude.{◌≡◌, ◌⊎◌, IfOk, IfSome, IsTrue, All, true, false};
-ghost use Rattle.terms.specs.declared.kinds.ElemType.TheVariants.{Mac, Src};
+ghost use Rattle.std.specs.Prelude.{◌≡◌, IfOk, IfSome, IsTrue, All, true, false};
 ghost use Rattle.terms.specs.Texts.{IsReplacement, IsUpdate};
 ghost use Rattle.intake_elements.specs.Elements.{is_level, HasNoLevel, is_update, IsChangeOf};
 
@@ -9,8 +8,8 @@ use crate::levels::is_level;
 use crate::modules::tell_modules;
 use crate::options::Options;
 use crate::texts::{
-    MOST_RECORDS, are_printable, begins_statement, first_misnumbered, needs_numbers, text_of,
-    without_blank_cards, without_blank_end,
+    MOST_RECORDS, are_printable, begins_statement, first_misnumbered, needs_numbers,
+    replacement_text, without_blank_cards, without_blank_end,
 };
 use crate::updates::update_lines;
 use fields::Name;
@@ -27,14 +26,14 @@ const DROPPED: &[&[u8]] = &[
 ];
 
 // Whether the operand of this name changes no decision.
-fn is_dropped(name: &[u8]) -> bool
+fn changes_no_decision(name: &[u8]) -> bool
     ensures { IsTrue result → is_level name.now ≡ false }
 {
     !is_level(name) && DROPPED.iter().any(|dropped| *dropped == name)
 }
 
-// Tells that an operand is dropped, or that the SYSMOD is left out for it. The answer is whether it is dropped.
-fn tell_operand(
+// Drops an operand that changes no decision, and leaves the SYSMOD out for any other. Returns whether it is dropped.
+fn drop_or_leave_out(
     alloc: Global,
     remarks: &mut Remarks,
     subject: &Subject<'_>,
@@ -44,7 +43,7 @@ fn tell_operand(
 {
     let name = operand.name.as_slice();
     let text = operand.text();
-    let dropped = is_dropped(name);
+    let dropped = changes_no_decision(name);
     if dropped {
         remarks.tell_dropped(alloc, subject, name, RemarkReason::NoDecision, text)?;
     } else {
@@ -53,8 +52,9 @@ fn tell_operand(
     Ok(dropped)
 }
 
-// Tells the same of each of these. The answer is whether all are dropped.
-fn tell_each(
+// Drops the operands that change no decision, and leaves the SYSMOD out for each of the others. Returns whether all are
+// dropped.
+fn drop_or_leave_out_each(
     alloc: Global,
     remarks: &mut Remarks,
     subject: &Subject<'_>,
@@ -64,20 +64,21 @@ fn tell_each(
 {
     let mut all = true;
     for operand in operands {
-        let dropped = tell_operand(alloc, remarks, subject, operand)?;
-        all = both(all, dropped);
+        let dropped = drop_or_leave_out(alloc, remarks, subject, operand)?;
+        all = are_both(all, dropped);
     }
     Ok(all)
 }
 
-fn both(one: bool, other: bool) -> bool
-    ensures { IsTrue result → IsTrue one × IsTrue other }
+// Whether both are true. A function, because its contract tells the proofs of its callers what follows.
+fn are_both(first: bool, second: bool) -> bool
+    ensures { IsTrue result → IsTrue first × IsTrue second }
 {
-    one && other
+    first && second
 }
 
-// Tells that the text is in another library.
-fn tell_elsewhere(
+// Leaves the SYSMOD out if the text is in another library.
+fn leave_out_for_libraries(
     alloc: Global,
     remarks: &mut Remarks,
     subject: &Subject<'_>,
@@ -91,9 +92,9 @@ fn tell_elsewhere(
     Ok(())
 }
 
-// Tells of the operands that are dropped, and of those for which the SYSMOD is left out. The answer is whether there
-// are none of these.
-fn tell_operands(
+// Remarks on all operands: on those that are dropped, and on those for which the SYSMOD is left out. Returns whether
+// all are dropped.
+fn drop_or_leave_out_operands(
     alloc: Global,
     options: &Options,
     remarks: &mut Remarks,
@@ -105,14 +106,14 @@ fn tell_operands(
     tell_modules(alloc, options, remarks, subject, element)?;
     let odd = element.odd.as_slice();
     tell_odd(alloc, remarks, subject, odd, Deed::LeftOut)?;
-    let dropped = tell_each(alloc, remarks, subject, element.operands.as_slice())?;
-    tell_elsewhere(alloc, remarks, subject, element.libraries.as_slice())?;
+    let dropped = drop_or_leave_out_each(alloc, remarks, subject, element.operands.as_slice())?;
+    leave_out_for_libraries(alloc, remarks, subject, element.libraries.as_slice())?;
     let is_here = element.odd.is_empty() && element.libraries.is_empty();
-    Ok(both(dropped, is_here))
+    Ok(are_both(dropped, is_here))
 }
 
-// The name of a library that must be stated. Where there is none to answer it is told.
-fn library_of(
+// The name of a library that must be stated. Returns `None`, with a remark, if it has not the form of a name.
+fn read_library(
     alloc: Global,
     remarks: &mut Remarks,
     subject: &Subject<'_>,
@@ -126,8 +127,8 @@ fn library_of(
     Ok(name)
 }
 
-// DISTLIB and SYSLIB, or nothing where one is missing or has not the form, which is told.
-fn libraries_of(
+// DISTLIB and SYSLIB. Returns `None`, with a remark, if one is missing or has not the form of a name.
+fn read_libraries(
     alloc: Global,
     options: &Options,
     remarks: &mut Remarks,
@@ -138,11 +139,12 @@ fn libraries_of(
         remarks.leave_out(alloc, subject, b"DISTLIB", RemarkReason::Missing, b"")?;
         return Ok(None);
     };
-    let Some(distlib) = library_of(alloc, remarks, subject, b"DISTLIB", distlib.as_slice())? else {
+    let Some(distlib) = read_library(alloc, remarks, subject, b"DISTLIB", distlib.as_slice())?
+    else {
         return Ok(None);
     };
     if let Some(syslib) = &element.syslib {
-        let syslib = library_of(alloc, remarks, subject, b"SYSLIB", syslib.as_slice())?;
+        let syslib = read_library(alloc, remarks, subject, b"SYSLIB", syslib.as_slice())?;
         return Ok(syslib.map(|syslib| (distlib, syslib)));
     }
     let Some(syslib) = options.syslib_for(distlib) else {
@@ -165,8 +167,8 @@ fn libraries_of(
     Ok(Some((distlib, syslib)))
 }
 
-// The cards of an element's text, or nothing where they are elsewhere, which is told.
-fn cards_of<'a>(
+// The cards of an element's text. Returns `None`, with a remark, if they are elsewhere.
+fn text_cards<'a>(
     alloc: Global,
     options: &'a Options,
     remarks: &mut Remarks,
@@ -176,7 +178,7 @@ fn cards_of<'a>(
     let Some(relfile) = &element.relfile else {
         return Ok(Some(element.inline.as_slice()));
     };
-    let Some(member) = options.member(element.place) else {
+    let Some(member) = options.relfile_member(element.place) else {
         remarks.leave_out(
             alloc,
             subject,
@@ -196,8 +198,8 @@ fn cards_of<'a>(
     Ok(Some(member.cards.as_slice()))
 }
 
-// The number of the card in its file.
-fn where_at(alloc: Global, card: Option<&Card>) -> Result<String, AllocError> {
+// The number of the card in its file, in words, or an empty text if there is no card.
+fn card_number_text(alloc: Global, card: Option<&Card>) -> Result<String, AllocError> {
     match card {
         Some(card) => {
             let number = card.place.card;
@@ -207,8 +209,8 @@ fn where_at(alloc: Global, card: Option<&Card>) -> Result<String, AllocError> {
     }
 }
 
-// Why the cards are no text at all, if they are none.
-fn fault_of(cards: &[Card]) -> Option<RemarkReason> {
+// Why the cards are no text at all, or `None` if they can be one.
+fn text_fault(cards: &[Card]) -> Option<RemarkReason> {
     if cards.is_empty() {
         return Some(RemarkReason::NoText);
     }
@@ -224,7 +226,7 @@ fn fault_of(cards: &[Card]) -> Option<RemarkReason> {
     None
 }
 
-// Tells that the cards at the end are dropped, if fewer are left.
+// Remarks that the cards at the end are dropped, if fewer are left.
 fn tell_blank_end(
     alloc: Global,
     remarks: &mut Remarks,
@@ -233,14 +235,14 @@ fn tell_blank_end(
     left: &[Card],
 ) -> Result<(), AllocError> {
     if left.len() < cards.len() {
-        let text = where_at(alloc, cards.last())?;
+        let text = card_number_text(alloc, cards.last())?;
         remarks.tell_dropped(alloc, subject, b"", RemarkReason::BlankEnd, text.as_bytes())?;
     }
     Ok(())
 }
 
-// The records of a replacement, or nothing where the cards are none, which is told.
-fn lines_for(
+// The cards as the records of a replacement. Returns `None`, with a remark, if they are no text of the type.
+fn replacement_lines(
     alloc: Global,
     remarks: &mut Remarks,
     subject: &Subject<'_>,
@@ -249,16 +251,16 @@ fn lines_for(
 ) -> Result<Option<Vec<Line>>, AllocError>
     ensures { IfOk result (λ found. IfSome found (λ lines. IsReplacement elem_type lines.items)) }
 {
-    if let Some(reason) = fault_of(cards) {
-        let text = where_at(alloc, cards.iter().find(|card| !card.is_printable()))?;
+    if let Some(reason) = text_fault(cards) {
+        let text = card_number_text(alloc, cards.iter().find(|card| !card.is_printable()))?;
         remarks.leave_out(alloc, subject, b"", reason, text.as_bytes())?;
         return Ok(None);
     }
     let whole = cards;
     let cards = without_blank_end(elem_type, whole);
     tell_blank_end(alloc, remarks, subject, whole, cards)?;
-    let Some(lines) = text_of(alloc, elem_type, cards)? else {
-        let text = where_at(alloc, first_misnumbered(cards))?;
+    let Some(lines) = replacement_text(alloc, elem_type, cards)? else {
+        let text = card_number_text(alloc, first_misnumbered(cards))?;
         remarks.leave_out(
             alloc,
             subject,
@@ -274,8 +276,8 @@ fn lines_for(
     Ok(Some(lines))
 }
 
-// A replacement, or nothing where it can't be carried, which is told.
-fn replacement(
+// The replacement that the statement brings. Returns `None`, with a remark, if it cannot be carried.
+fn make_replacement(
     alloc: Global,
     options: &Options,
     remarks: &mut Remarks,
@@ -286,13 +288,13 @@ fn replacement(
 ) -> Result<Option<ElemChange>, AllocError>
     ensures { IfOk result (λ found. IfSome found (IsChangeOf elem_type name false)) }
 {
-    let Some((distlib, syslib)) = libraries_of(alloc, options, remarks, subject, element)? else {
+    let Some((distlib, syslib)) = read_libraries(alloc, options, remarks, subject, element)? else {
         return Ok(None);
     };
-    let Some(cards) = cards_of(alloc, options, remarks, subject, element)? else {
+    let Some(cards) = text_cards(alloc, options, remarks, subject, element)? else {
         return Ok(None);
     };
-    let Some(lines) = lines_for(alloc, remarks, subject, elem_type, cards)? else {
+    let Some(lines) = replacement_lines(alloc, remarks, subject, elem_type, cards)? else {
         return Ok(None);
     };
     let action = Action::Replaces {
@@ -307,31 +309,23 @@ fn replacement(
     }))
 }
 
-/// The update of a macro or a source. An element of another type has none.
+/// The change that the update makes to a macro or a source. Returns `None` for an element of another type.
 pub(crate) fn update_change(elem_type: ElemType, name: Name, update: Update) -> Option<ElemChange>
     requires { IsUpdate name update }
     ensures { IfSome result (IsChangeOf elem_type name true) }
 {
-    match elem_type {
-        ElemType::Mac | ElemType::Src => Some(change_by(elem_type, name, update)),
-        ElemType::Clist | ElemType::Data | ElemType::Exec | ElemType::Parm | ElemType::Proc => None,
+    if !elem_type.is_numbered() {
+        return None;
     }
-}
-
-fn change_by(elem_type: ElemType, name: Name, update: Update) -> ElemChange
-    requires kind { (elem_type ≡ Mac) ⊎ (elem_type ≡ Src) }
-    requires update { IsUpdate name update }
-    ensures { IsChangeOf elem_type name true result }
-{
-    ElemChange {
+    Some(ElemChange {
         elem_type,
         name,
         action: Action::Updates { update },
-    }
+    })
 }
 
-// An update, or nothing where it can't be carried, which is told.
-fn update(
+// The update that the statement brings. Returns `None`, with a remark, if it cannot be carried.
+fn make_update(
     alloc: Global,
     remarks: &mut Remarks,
     subject: &Subject<'_>,
@@ -362,7 +356,7 @@ fn update(
     }
 }
 
-// Tells that an update is of what lies in the libraries anyway.
+// Remarks that the libraries of an update are dropped, because the element stays in its own.
 fn tell_libraries(
     alloc: Global,
     remarks: &mut Remarks,
@@ -380,8 +374,8 @@ fn tell_libraries(
     Ok(())
 }
 
-// The replacement or the update, as the statement is one, or nothing where it can't be carried, which is told.
-fn text_change(
+// The replacement or the update that the statement brings. Returns `None`, with a remark, if it cannot be carried.
+fn make_change(
     alloc: Global,
     options: &Options,
     remarks: &mut Remarks,
@@ -395,17 +389,18 @@ fn text_change(
 {
     let word = element.word.as_slice();
     if is_update(kind, word) {
-        return update(alloc, remarks, subject, element, elem_type, name);
+        return make_update(alloc, remarks, subject, element, elem_type, name);
     }
     if is_update_word(word) {
         remarks.leave_out(alloc, subject, b"", RemarkReason::UpdateInFunction, b"")?;
         return Ok(None);
     }
-    replacement(alloc, options, remarks, subject, element, elem_type, name)
+    make_replacement(alloc, options, remarks, subject, element, elem_type, name)
 }
 
-/// What a statement of the profile changes, or nothing where it can't be carried, which is told.
-pub(crate) fn profile_change(
+/// The change of a statement of the profile, with the whole text that it has. Returns `None`, with a remark, if it
+/// cannot be carried.
+pub(crate) fn whole_change(
     alloc: Global,
     options: &Options,
     remarks: &mut Remarks,
@@ -418,11 +413,11 @@ pub(crate) fn profile_change(
     ensures { IfOk result (λ found. IfSome found (λ c. IsChangeOf elem_type name
         (is_update kind element.now.word.items) c × All HasNoLevel element.now.operands.items)) }
 {
-    if !tell_operands(alloc, options, remarks, subject, element)? {
+    if !drop_or_leave_out_operands(alloc, options, remarks, subject, element)? {
         return Ok(None);
     }
-    let found = text_change(
+    let change = make_change(
         alloc, options, remarks, subject, kind, element, elem_type, name,
     )?;
-    Ok(found)
+    Ok(change)
 }

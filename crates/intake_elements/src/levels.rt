@@ -4,14 +4,14 @@ ghost use Rattle.intake_elements.specs.Elements.{is_level, HasNoLevel};
 
 use intake_read::{WideElement, WideOperand};
 
-/// Whether the operand of this name decides whether a SYSMOD goes on.
+/// Whether the operand of this name decides whether a SYSMOD goes on: RMID, UMID and DELETE do.
 pub(crate) fn is_level(name: &[u8]) -> bool
     ensures { result ≡ is_level name.now }
 {
     name == b"RMID".as_slice() || name == b"UMID".as_slice() || name == b"DELETE".as_slice()
 }
 
-/// The first operand that decides whether a SYSMOD goes on.
+/// The first operand that decides whether a SYSMOD goes on, or `None` if there is none.
 pub(crate) fn level_operand(operands: &[WideOperand]) -> Option<&WideOperand>
     ensures { IfNone result (All HasNoLevel operands.now) }
 {

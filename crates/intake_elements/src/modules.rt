@@ -11,14 +11,14 @@ use intake_cards::{RemarkReason, Remarks, Subject};
 use intake_read::WideElement;
 use std::alloc::{AllocError, Global};
 
-// Whether it is a source whose module has its name.
+// Whether it is a source with DISTMOD, of which a module of its own name is assembled.
 fn has_own_module(element: &WideElement) -> bool
     ensures { result ≡ has_own_module element.now }
 {
     element.distmod.is_some() && is_source(element.word.as_slice())
 }
 
-// The module of the name of a source that has one.
+// A list of the module that has the name of the source, or an empty list if the element has no such module.
 fn own_module<'a>(alloc: Global, element: &'a WideElement) -> Result<Vec<&'a [u8]>, AllocError>
     ensures { IfOk result (λ modules. map (λ m. m.now) modules.items ≡ own_modules element.now) }
 {
@@ -42,7 +42,7 @@ pub fn modules_of<'a>(alloc: Global, element: &'a WideElement) -> Result<Vec<&'a
     Ok(modules)
 }
 
-// Adds the numbers of the modules' stand-ins.
+// Adds the number of the stand-in of each module.
 fn push_keys(keys: &mut Vec<u64>, modules: &[&[u8]]) -> Result<(), AllocError>
     ensures { OnOk result (keys.new.items
         ≡ keys.old.items ++ map (λ m. key_of Mac (module_name m.now)) modules.now) }
@@ -53,8 +53,8 @@ fn push_keys(keys: &mut Vec<u64>, modules: &[&[u8]]) -> Result<(), AllocError>
     Ok(())
 }
 
-/// Numbers for the elements that the statement changes where stand-ins are asked for, the modules that are assembled
-/// among them. All statements that change an element have its number.
+/// Numbers for the elements that the statement changes if stand-ins are asked for, the modules that are assembled among
+/// them. All statements that change an element have its number.
 pub fn keys_of(alloc: Global, element: &WideElement) -> Result<Vec<u64>, AllocError>
     ensures { IfOk result (λ keys. AreKeysOf element.now keys.items) }
 {
@@ -65,7 +65,7 @@ pub fn keys_of(alloc: Global, element: &WideElement) -> Result<Vec<u64>, AllocEr
     Ok(keys)
 }
 
-// Whether modules are assembled of it.
+// Whether modules are assembled of the element.
 fn has_modules(element: &WideElement) -> bool {
     has_own_module(element) || !element.assem.is_empty()
 }
@@ -75,16 +75,16 @@ pub(crate) fn is_module_word(name: &[u8]) -> bool {
     name == b"DISTMOD".as_slice() || name == b"ASSEM".as_slice()
 }
 
-/// Whether an operand that names modules, or their library, can't be read.
+/// Whether an operand that names modules, or their library, cannot be read.
 pub fn has_odd_modules(element: &WideElement) -> bool {
     element
         .odd
         .iter()
-        .any(|one| is_module_word(one.operand.name.as_slice()))
+        .any(|odd| is_module_word(odd.operand.name.as_slice()))
 }
 
-/// Tells that what is assembled of the element is not carried. Where stand-ins are asked for, those of its modules are,
-/// but DISTMOD alone names none.
+/// Remarks that the operands which name modules are dropped. If stand-ins are asked for, the stand-ins of the modules
+/// are carried, so then only a DISTMOD that names no module is dropped.
 pub(crate) fn tell_modules(
     alloc: Global,
     options: &Options,
@@ -104,14 +104,14 @@ pub(crate) fn tell_modules(
         remarks.tell_dropped(alloc, subject, b"DISTMOD", reason, distmod.as_slice())?;
     }
     if !element.assem.is_empty() {
-        let text = listed(alloc, element.assem.as_slice())?;
+        let text = join_by_commas(alloc, element.assem.as_slice())?;
         remarks.tell_dropped(alloc, subject, b"ASSEM", reason, text.as_slice())?;
     }
     Ok(())
 }
 
 // The members with commas between.
-fn listed(alloc: Global, members: &[Vec<u8>]) -> Result<Vec<u8>, AllocError> {
+fn join_by_commas(alloc: Global, members: &[Vec<u8>]) -> Result<Vec<u8>, AllocError> {
     let mut text = Vec::new(alloc);
     for member in members {
         if !text.is_empty() {

@@ -1,10 +1,10 @@
-//! What the caller asks for besides.
+//! The options of the caller.
 ghost use Rattle.std.specs.Prelude.{◌≡◌};
 
 use fields::Name;
 use intake_read::{Card, CardPlace};
 
-/// The SYSLIB of elements that state this DISTLIB alone.
+/// The SYSLIB of elements that state this DISTLIB and no SYSLIB.
 #[derive(Clone, Copy, Debug)]
 pub struct Syslib {
     pub distlib: Name,
@@ -24,14 +24,14 @@ pub struct RelfileMember {
 pub struct Options {
     /// Elements that can't be carried have stand-ins.
     pub decide: bool,
-    /// The first one of a DISTLIB counts.
+    /// If several are for one DISTLIB, the first one counts.
     pub syslibs: Vec<Syslib>,
-    /// Of one element there is one.
+    /// At most one for each element.
     pub members: Vec<RelfileMember>,
 }
 
 impl Options {
-    /// The SYSLIB that goes with the DISTLIB.
+    /// The SYSLIB that goes with the DISTLIB, or `None` if the caller names none for it.
     pub(crate) fn syslib_for(&self, distlib: Name) -> Option<Name> {
         for pair in self.syslibs.iter() {
             if pair.distlib == distlib {
@@ -41,8 +41,9 @@ impl Options {
         None
     }
 
-    /// The text of the element whose statement begins there.
-    pub(crate) fn member(&self, element: CardPlace) -> Option<&RelfileMember> {
+    /// The file with the text of the element whose statement begins at this place, or `None` if there is none. The
+    /// members must be sorted.
+    pub(crate) fn relfile_member(&self, element: CardPlace) -> Option<&RelfileMember> {
         let place = self
             .members
             .binary_search_by(|member| member.element.cmp(&element));
@@ -52,11 +53,11 @@ impl Options {
         }
     }
 
-    /// Puts the members in order, by which they are found.
+    /// Sorts the members by the places of their elements, as the search for a member needs.
     pub fn sort(&mut self)
         ensures { self.new.decide ≡ self.old.decide }
     {
         self.members
-            .sort_unstable_by(|one, other| one.element.cmp(&other.element));
+            .sort_unstable_by(|first, second| first.element.cmp(&second.element));
     }
 }

@@ -8,7 +8,7 @@ ghost use Rattle.intake_elements.specs.StandInNames.{hash_step, hash_of, charact
 ghost use Rattle.intake_elements.specs.StandInNames.{key_of};
 ghost use Rattle.intake_elements.specs.Elements.{IsTarget, module_name};
 
-use crate::element_words::{profile_type, stand_in};
+use crate::element_words::{profile_type, stand_in_type};
 use fields::Name;
 use fields::spelling::type_text;
 use intake_read::WideElement;
@@ -17,11 +17,11 @@ use terms::ElemType;
 /// The characters of names, of which the first 29 may stand in front.
 const CHARACTERS: &[u8; 39] = b"ABCDEFGHIJKLMNOPQRSTUVWXYZ$#@0123456789";
 
-/// How many names of eight characters there are.
+/// How many names of eight characters there are: 29 times 39 to the seventh.
 const NAMES: u64 = 3979699193691;
 
-// The hash with these bytes behind those before.
-fn hashed(start: u64, text: &[u8]) -> u64
+// Continues a hash over these bytes.
+fn continue_hash(start: u64, text: &[u8]) -> u64
     requires { start < 3979699193691 }
     ensures below { result < 3979699193691 }
     ensures folded { result ≡ fold hash_step start text.now }
@@ -41,7 +41,7 @@ fn character(number: u64, power: u64) -> u8
     CHARACTERS[(number / power % 39) as usize]
 }
 
-/// The statement's word that brings the element which one of this word changes.
+/// The word of the statement that brings the element which a statement of this word changes.
 pub(crate) fn owner_word(word: &[u8]) -> &[u8]
     ensures { result.now ≡ owner_word word.now }
 {
@@ -59,10 +59,10 @@ pub(crate) fn owner_word(word: &[u8]) -> &[u8]
 fn hash_of(word: &[u8], name: &[u8]) -> u64
     ensures { result ≡ hash_of (word.now ++ codes "(" ++ name.now) }
 {
-    hashed(hashed(hashed(0, word), b"("), name)
+    continue_hash(continue_hash(continue_hash(0, word), b"("), name)
 }
 
-// The name that a hash is.
+// The name of eight characters that the hash is, as a number to the base 39.
 fn name_of(hash: u64) -> [u8; 8]
     ensures { result ≡ name_of hash }
 {
@@ -78,14 +78,15 @@ fn name_of(hash: u64) -> [u8; 8]
     ]
 }
 
-// The name of what stands for the element of this name in a statement of this word.
+// The bytes of the name of the stand-in of an element of this name in a statement of this word.
 fn stand_in_text(word: &[u8], name: &[u8]) -> [u8; 8]
     ensures { result ≡ stand_in_name word.now name.now }
 {
     name_of(hash_of(owner_word(word), name))
 }
 
-/// The name of what stands for the element of this name in a statement of this word.
+/// The name of the stand-in of an element of this name in a statement of this word, or `None` if it has not the form of
+/// a name.
 pub(crate) fn stand_in_name(word: &[u8], name: &[u8]) -> Option<Name>
     ensures { IfSome result (λ found. found ≡ stand_in_name word.now name.now) }
 {
@@ -109,11 +110,11 @@ pub(crate) fn element_key(element: &WideElement) -> u64
     let name = element.name.as_slice();
     match profile_type(word) {
         Some(elem_type) => key_of(elem_type, name),
-        None => key_of(stand_in(word), stand_in_text(word, name).as_slice()),
+        None => key_of(stand_in_type(word), stand_in_text(word, name).as_slice()),
     }
 }
 
-/// The same number for the stand-in of a module.
+/// The number of the stand-in of a module that is assembled.
 pub(crate) fn module_key(assembled: &[u8]) -> u64
     ensures { result ≡ key_of Mac (module_name assembled.now) }
 {

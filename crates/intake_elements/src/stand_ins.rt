@@ -4,10 +4,10 @@ ghost use Rattle.terms.specs.declared.kinds.ElemType.TheVariants.{Mac};
 ghost use Rattle.terms.specs.Changes.{is_replacement};
 ghost use Rattle.intake_elements.specs.Elements.{IsLacked, IsTarget, IsChangeOf, is_update, module_name};
 
-use crate::element_words::{is_update, stand_in};
+use crate::element_words::{is_update, stand_in_type};
 use crate::elements::update_change;
 use crate::stand_in_names::{owner_word, stand_in_name};
-use crate::texts::text_of;
+use crate::texts::replacement_text;
 use crate::updates::change_record;
 use fields::Name;
 use fields::spelling::type_text;
@@ -25,8 +25,8 @@ struct Libraries {
     syslib: Name,
 }
 
-// A blank for a byte that no record may have.
-fn printable(byte: u8) -> u8 {
+// The byte, or a question mark if no record may have it.
+fn replace_unprintable(byte: u8) -> u8 {
     match byte {
         0x20..=0x7e => byte,
         _ => b'?',
@@ -34,12 +34,12 @@ fn printable(byte: u8) -> u8 {
 }
 
 // A card that names the statement, with a number.
-fn card_of(place: CardPlace, word: &[u8], name: &[u8]) -> Card {
+fn stand_in_card(place: CardPlace, word: &[u8], name: &[u8]) -> Card {
     let mut text = [b' '; 80];
     let parts = b"* ++".iter().chain(word.iter()).chain(b"(".iter());
     let parts = parts.chain(name.iter()).chain(b")".iter());
     for (to, from) in text.iter_mut().take(72).zip(parts) {
-        *to = printable(*from);
+        *to = replace_unprintable(*from);
     }
     let (_, number) = text.split_at_mut(72);
     number.copy_from_slice(b"00000100");
@@ -51,8 +51,8 @@ fn card_of(place: CardPlace, word: &[u8], name: &[u8]) -> Card {
     }
 }
 
-// The library that is stated, where it has the form.
-fn library(stated: &Option<Vec<u8>>) -> Option<Name> {
+// The library that is stated, or `None` if none is stated or it has not the form of a name.
+fn read_library(stated: &Option<Vec<u8>>) -> Option<Name> {
     match stated {
         Some(text) => Name::read(text.as_slice()),
         None => None,
@@ -60,23 +60,23 @@ fn library(stated: &Option<Vec<u8>>) -> Option<Name> {
 }
 
 // The libraries of an element. One that is not stated has the name of what stands for the element.
-fn libraries_of(element: &WideElement, name: Name) -> Libraries {
-    let distlib = library(&element.distlib).unwrap_or(name);
-    let syslib = library(&element.syslib).unwrap_or(distlib);
+fn stand_in_libraries(element: &WideElement, name: Name) -> Libraries {
+    let distlib = read_library(&element.distlib).unwrap_or(name);
+    let syslib = read_library(&element.syslib).unwrap_or(distlib);
     Libraries { distlib, syslib }
 }
 
 // The library of the modules that are assembled of an element.
 fn module_libraries(element: &WideElement, name: Name) -> Libraries {
-    let distlib = library(&element.distmod).unwrap_or(name);
+    let distlib = read_library(&element.distmod).unwrap_or(name);
     Libraries {
         distlib,
         syslib: distlib,
     }
 }
 
-// The update that stands for an element's, or nothing where there is none.
-fn update(
+// The update that stands for one of the element. Returns `None` if the name allows no update.
+fn stand_in_update(
     alloc: Global,
     elem_type: ElemType,
     name: Name,
@@ -94,8 +94,8 @@ fn update(
     }
 }
 
-// The replacement that stands for an element's, or nothing where there is none.
-fn replacement(
+// The replacement that stands for one of the element. Returns `None` if the card is no text of this type.
+fn stand_in_replacement(
     alloc: Global,
     elem_type: ElemType,
     name: Name,
@@ -105,7 +105,7 @@ fn replacement(
     ensures { IfOk result (λ found. IfSome found (IsChangeOf elem_type name false)) }
 {
     let cards = [*card];
-    let Some(lines) = text_of(alloc, elem_type, cards.as_slice())? else {
+    let Some(lines) = replacement_text(alloc, elem_type, cards.as_slice())? else {
         return Ok(None);
     };
     let Libraries { distlib, syslib } = libraries;
@@ -121,8 +121,9 @@ fn replacement(
     }))
 }
 
-/// What stands for the element under this type and name, or nothing where nothing can. It has a text of one record.
-pub(crate) fn short_change(
+/// The change that stands for the element's under this type and name, with a text of one record. Returns `None` if
+/// nothing can stand for it.
+pub(crate) fn one_record_change(
     alloc: Global,
     kind: Kind,
     element: &WideElement,
@@ -132,14 +133,21 @@ pub(crate) fn short_change(
     ensures { IfOk result (λ found. IfSome found (IsChangeOf elem_type name (is_update kind element.now.word.items))) }
 {
     let word = element.word.as_slice();
-    let card = card_of(element.place, word, element.name.as_slice());
+    let card = stand_in_card(element.place, word, element.name.as_slice());
     if is_update(kind, word) {
-        return update(alloc, elem_type, name, &card);
+        return stand_in_update(alloc, elem_type, name, &card);
     }
-    replacement(alloc, elem_type, name, libraries_of(element, name), &card)
+    stand_in_replacement(
+        alloc,
+        elem_type,
+        name,
+        stand_in_libraries(element, name),
+        &card,
+    )
 }
 
-/// What stands for an element that the profile lacks, told as such, or nothing where nothing can, which is told too.
+/// The change of the stand-in of an element that the profile lacks, with a remark. Returns `None`, with a remark, if
+/// nothing can stand for it.
 #[tactic(auto, using(crate::proofs::Targets::lacked_change))]
 pub(crate) fn stand_in_change(
     alloc: Global,
@@ -153,21 +161,21 @@ pub(crate) fn stand_in_change(
         c.elem_type c.name × (is_replacement c.action ≡ not (is_update kind element.now.word.items)))) }
 {
     let word = element.word.as_slice();
-    let elem_type = stand_in(word);
+    let elem_type = stand_in_type(word);
     let Some(name) = stand_in_name(word, element.name.as_slice()) else {
         remarks.leave_out(alloc, subject, b"", RemarkReason::BadName, b"")?;
         return Ok(None);
     };
-    let Some(change) = short_change(alloc, kind, element, elem_type, name)? else {
+    let Some(change) = one_record_change(alloc, kind, element, elem_type, name)? else {
         remarks.leave_out(alloc, subject, b"", RemarkReason::BadText, b"")?;
         return Ok(None);
     };
     tell_stand_in(alloc, remarks, subject, elem_type, name)?;
-    keep_name(alloc, remarks, element, elem_type, name)?;
+    keep_stand_in(alloc, remarks, element, elem_type, name)?;
     Ok(Some(change))
 }
 
-/// Tells that an element has a stand-in, with its type and name.
+/// Remarks that an element has a stand-in, with its type and name.
 pub(crate) fn tell_stand_in(
     alloc: Global,
     remarks: &mut Remarks,
@@ -183,8 +191,8 @@ pub(crate) fn tell_stand_in(
     remarks.tell_carried(alloc, subject, b"", RemarkReason::StandIn, text.as_slice())
 }
 
-// Keeps which element a stand-in is for, under the word of the statement that brings the element.
-fn keep_name(
+// Adds to the remarks which element a stand-in is for, under the word of the statement that brings the element.
+fn keep_stand_in(
     alloc: Global,
     remarks: &mut Remarks,
     element: &WideElement,
@@ -202,7 +210,7 @@ fn keep_name(
     Ok(())
 }
 
-// What is stated, or nothing.
+// The library that is stated, or an empty text.
 fn library_text(alloc: Global, stated: &Option<Vec<u8>>) -> Result<Vec<u8>, AllocError> {
     match stated {
         Some(text) => text.clone(),
@@ -210,8 +218,8 @@ fn library_text(alloc: Global, stated: &Option<Vec<u8>>) -> Result<Vec<u8>, Allo
     }
 }
 
-/// A replacement of the stand-in of a module that is assembled of the element, told as such, or nothing where nothing
-/// can, which is told too.
+/// The replacement of the stand-in of a module that is assembled of the element, with a remark. Returns `None`, with a
+/// remark, if nothing can stand for it.
 pub fn module_change(
     alloc: Global,
     remarks: &mut Remarks,
@@ -225,9 +233,9 @@ pub fn module_change(
         remarks.leave_out(alloc, subject, b"", RemarkReason::BadName, assembled)?;
         return Ok(None);
     };
-    let card = card_of(element.place, b"MOD", assembled);
+    let card = stand_in_card(element.place, b"MOD", assembled);
     let libraries = module_libraries(element, name);
-    let Some(change) = replacement(alloc, ElemType::Mac, name, libraries, &card)? else {
+    let Some(change) = stand_in_replacement(alloc, ElemType::Mac, name, libraries, &card)? else {
         remarks.leave_out(alloc, subject, b"", RemarkReason::BadText, assembled)?;
         return Ok(None);
     };

@@ -10,7 +10,7 @@ use text80::{Line, Numbered};
 /// The most records that a text may have.
 pub(crate) const MOST_RECORDS: usize = 99999;
 
-/// The column behind the text of a card.
+/// How many columns of a card come before its number.
 const FRONT: usize = 72;
 
 /// How far one number of a text is from the next.
@@ -44,33 +44,34 @@ fn has_no_number(card: &Card) -> bool {
 }
 
 // Whether all columns are blank.
-fn is_empty_card(card: &Card) -> bool {
+fn is_blank_card(card: &Card) -> bool {
     card.text.iter().all(|b| *b == b' ')
 }
 
 /// The cards without the blank ones at their end.
 pub(crate) fn without_blank_cards(cards: &[Card]) -> &[Card] {
-    let mut solid = 0;
+    let mut length = 0;
     for (place, card) in cards.iter().enumerate() {
-        if !is_empty_card(card) {
-            solid = place + 1;
+        if !is_blank_card(card) {
+            length = place + 1;
         }
     }
-    match cards.split_at_checked(solid) {
+    match cards.split_at_checked(length) {
         Some((front, _)) => front,
         None => cards,
     }
 }
 
-/// The cards without the blank ones at the end of a text that has numbers.
+/// The cards, without blank ones at their end if they are a text with numbers.
 pub(crate) fn without_blank_end(elem_type: ElemType, cards: &[Card]) -> &[Card] {
-    if !matches!(elem_type, ElemType::Mac | ElemType::Src) || cards.iter().all(has_no_number) {
+    if !elem_type.is_numbered() || cards.iter().all(has_no_number) {
         return cards;
     }
     without_blank_cards(cards)
 }
 
-/// The first card of a text with numbers that has none of eight digits, or none that is higher than the one before.
+/// The first card whose columns 73 to 80 are no eight digits, or no number higher than that of the card before. Returns
+/// `None` if all cards are in order.
 pub(crate) fn first_misnumbered(cards: &[Card]) -> Option<&Card> {
     let mut before = [b' '; 8];
     for card in cards {
@@ -97,7 +98,7 @@ fn with_number(line: &Line, number: u32) -> Line {
 }
 
 // The records with the numbers 00000100, 00000200 and so on.
-fn renumbered(alloc: Global, lines: &[Line]) -> Result<Vec<Line>, AllocError> {
+fn number_records(alloc: Global, lines: &[Line]) -> Result<Vec<Line>, AllocError> {
     let mut numbered = Vec::with_capacity(alloc, lines.len())?;
     let mut number = 0u32;
     for line in lines {
@@ -107,8 +108,8 @@ fn renumbered(alloc: Global, lines: &[Line]) -> Result<Vec<Line>, AllocError> {
     Ok(numbered)
 }
 
-// The records as a numbered text, or nothing where they are none.
-fn numbered_text(lines: Vec<Line>) -> Option<Vec<Line>>
+// The records as a numbered text, or `None` if they are no such text.
+fn read_numbered_text(lines: Vec<Line>) -> Option<Vec<Line>>
     ensures { IfSome result (λ text. IsNumbered text.items × (0 < length text.items)) }
 {
     if lines.is_empty() {
@@ -120,16 +121,12 @@ fn numbered_text(lines: Vec<Line>) -> Option<Vec<Line>>
     }
 }
 
-/// Whether the cards have no numbers, and get some as the text of an element of the type.
+/// Whether the cards have no numbers although a text of the type has them.
 pub(crate) fn needs_numbers(elem_type: ElemType, cards: &[Card]) -> bool {
-    match elem_type {
-        ElemType::Mac | ElemType::Src => cards.iter().all(has_no_number),
-        ElemType::Clist | ElemType::Data | ElemType::Exec | ElemType::Parm | ElemType::Proc =>
-            false,
-    }
+    elem_type.is_numbered() && cards.iter().all(has_no_number)
 }
 
-// The cards as records with numbers.
+// The cards as records, numbered if the type has numbers and the cards have none.
 fn numbered_lines(
     alloc: Global,
     elem_type: ElemType,
@@ -137,14 +134,14 @@ fn numbered_lines(
 ) -> Result<Vec<Line>, AllocError> {
     let lines = lines_of(alloc, cards)?;
     if needs_numbers(elem_type, cards) {
-        renumbered(alloc, lines.as_slice())
+        number_records(alloc, lines.as_slice())
     } else {
         Ok(lines)
     }
 }
 
-/// The cards as the text of a replacement, or nothing where they are none.
-pub(crate) fn text_of(
+/// The cards as the text of a replacement of this type, or `None` if they are no such text.
+pub(crate) fn replacement_text(
     alloc: Global,
     elem_type: ElemType,
     cards: &[Card],
@@ -155,10 +152,8 @@ pub(crate) fn text_of(
     if lines.is_empty() {
         return Ok(None);
     }
-    match elem_type {
-        ElemType::Mac | ElemType::Src => Ok(numbered_text(lines)),
-        ElemType::Clist | ElemType::Data | ElemType::Exec | ElemType::Parm | ElemType::Proc => {
-            Ok(Some(lines))
-        }
+    if elem_type.is_numbered() {
+        return Ok(read_numbered_text(lines));
     }
+    Ok(Some(lines))
 }

@@ -8,28 +8,28 @@ use text80::Line;
 
 /// A `./` record of an update.
 enum Control<'a> {
-    /// CHANGE of this name. What else stands there changes nothing.
+    /// CHANGE of the element of this name. Its other operands change nothing.
     Change(&'a [u8]),
     Delete(Number, Number),
     EndOfUpdate,
-    /// Anything else.
+    /// Any other record, or one of these with a fault.
     Other,
 }
 
 /// Eight digits.
 type Number = [u8; 8];
 
-// What stands before the first blank, and what follows the blanks behind it.
+// The text before the first blank, and the text that follows the blanks after it.
 fn split_word(text: &[u8]) -> (&[u8], &[u8]) {
-    let solid = text.iter().take_while(|b| **b != b' ').count();
-    let (word, rest) = text.split_at(solid);
+    let length = text.iter().take_while(|b| **b != b' ').count();
+    let (word, rest) = text.split_at(length);
     let blanks = rest.iter().take_while(|b| **b == b' ').count();
     let (_, rest) = rest.split_at(blanks);
     (word, rest)
 }
 
-// The number in eight digits, where the text is one to eight digits.
-fn number_of(text: &[u8]) -> Option<Number> {
+// The number in eight digits, or `None` if the text is not one to eight digits.
+fn read_number(text: &[u8]) -> Option<Number> {
     if text.is_empty() || text.len() > 8 || !text.iter().all(|b| b.is_ascii_digit()) {
         return None;
     }
@@ -38,8 +38,8 @@ fn number_of(text: &[u8]) -> Option<Number> {
     Some(number)
 }
 
-// The value of an operand of the list.
-fn operand<'a>(list: &'a [u8], name: &[u8]) -> Option<&'a [u8]> {
+// The value of the first operand of this name in the list, or `None` if there is none.
+fn operand_value<'a>(list: &'a [u8], name: &[u8]) -> Option<&'a [u8]> {
     for member in list.split(|b| *b == b',') {
         if let Some(value) = member.strip_prefix(name) {
             return Some(value);
@@ -49,7 +49,7 @@ fn operand<'a>(list: &'a [u8], name: &[u8]) -> Option<&'a [u8]> {
 }
 
 // Whether the list has these operands and no others.
-fn has_only(list: &[u8], names: &[&[u8]]) -> bool {
+fn has_only_operands(list: &[u8], names: &[&[u8]]) -> bool {
     for member in list.split(|b| *b == b',') {
         if !names.iter().any(|name| member.starts_with(name)) {
             return false;
@@ -58,42 +58,45 @@ fn has_only(list: &[u8], names: &[&[u8]]) -> bool {
     true
 }
 
-// What a record that begins with `./` is.
-fn control_of(card: &Card) -> Control<'_> {
+// The meaning of a record that begins with `./`.
+fn read_control(card: &Card) -> Control<'_> {
     let (front, _) = card.text.split_at(72);
     let (_, rest) = split_word(front);
     let (word, rest) = split_word(rest);
     let (list, _) = split_word(rest);
     match word {
-        b"CHANGE" => change(list),
-        b"DELETE" => deletion(list),
+        b"CHANGE" => read_change(list),
+        b"DELETE" => read_delete(list),
         b"ENDUP" => Control::EndOfUpdate,
         _ => Control::Other,
     }
 }
 
-fn change(list: &[u8]) -> Control<'_> {
-    match operand(list, b"NAME=") {
-        Some(name) if has_only(list, &[b"NAME=", b"LIST="]) => Control::Change(name),
+// The CHANGE with this list of operands, or `Other` if the list has a fault.
+fn read_change(list: &[u8]) -> Control<'_> {
+    match operand_value(list, b"NAME=") {
+        Some(name) if has_only_operands(list, &[b"NAME=", b"LIST="]) => Control::Change(name),
         _ => Control::Other,
     }
 }
 
-fn deletion(list: &[u8]) -> Control<'_> {
-    if !has_only(list, &[b"SEQ1=", b"SEQ2="]) {
+// The DELETE with this list of operands, or `Other` if the list has a fault.
+fn read_delete(list: &[u8]) -> Control<'_> {
+    if !has_only_operands(list, &[b"SEQ1=", b"SEQ2="]) {
         return Control::Other;
     }
-    let (Some(from), Some(to)) = (operand(list, b"SEQ1="), operand(list, b"SEQ2=")) else {
+    let (Some(from), Some(to)) = (operand_value(list, b"SEQ1="), operand_value(list, b"SEQ2="))
+    else {
         return Control::Other;
     };
-    match (number_of(from), number_of(to)) {
+    match (read_number(from), read_number(to)) {
         (Some(low), Some(high)) => Control::Delete(low, high),
         _ => Control::Other,
     }
 }
 
-// A record of these texts, one behind the other, cut at 80.
-fn record(alloc: Global, parts: &[&[u8]]) -> Result<Line, AllocError> {
+// A record of these texts, one after the other, cut at 80.
+fn record_of_parts(alloc: Global, parts: &[&[u8]]) -> Result<Line, AllocError> {
     let mut text = Vec::with_capacity(alloc, 80)?;
     for part in parts {
         text.extend_from_slice(part)?;
@@ -107,14 +110,14 @@ fn record(alloc: Global, parts: &[&[u8]]) -> Result<Line, AllocError> {
 
 /// The CHANGE record of an element.
 pub(crate) fn change_record(alloc: Global, name: &[u8]) -> Result<Line, AllocError> {
-    record(alloc, &[b"./ CHANGE NAME=", name])
+    record_of_parts(alloc, &[b"./ CHANGE NAME=", name])
 }
 
-// Whether columns 1 to 72 are the same.
-fn is_alike(card: &Card, line: &Line) -> bool {
-    let (one, _) = card.text.split_at(72);
-    let (other, _) = line.bytes().split_at(72);
-    one == other
+// Whether the card and the record have the same columns 1 to 72.
+fn has_same_columns(card: &Card, line: &Line) -> bool {
+    let (columns, _) = card.text.split_at(72);
+    let (line_columns, _) = line.bytes().split_at(72);
+    columns == line_columns
 }
 
 // Whether a CHANGE has LIST.
@@ -123,7 +126,7 @@ fn has_list(card: &Card) -> bool {
     front.windows(6).any(|part| part == b",LIST=".as_slice())
 }
 
-// Tells that the LIST of a CHANGE is dropped, where it has one.
+// Remarks that the LIST of a CHANGE is dropped, if it has one.
 fn tell_list(
     alloc: Global,
     remarks: &mut Remarks,
@@ -137,7 +140,7 @@ fn tell_list(
     remarks.tell_dropped(alloc, subject, b"LIST", RemarkReason::NoDecision, text)
 }
 
-// The DELETE record of these numbers. Where the card has it otherwise this is told.
+// The DELETE record of these numbers, with a remark if the card spells them otherwise.
 fn delete_record(
     alloc: Global,
     remarks: &mut Remarks,
@@ -146,7 +149,7 @@ fn delete_record(
     low: Number,
     high: Number,
 ) -> Result<Line, AllocError> {
-    let line = record(
+    let line = record_of_parts(
         alloc,
         &[
             b"./ DELETE SEQ1=",
@@ -155,7 +158,7 @@ fn delete_record(
             high.as_slice(),
         ],
     )?;
-    if !is_alike(card, &line) {
+    if !has_same_columns(card, &line) {
         let text = card.text.as_slice().trim_ascii_end();
         remarks.tell_carried(
             alloc,
@@ -168,15 +171,15 @@ fn delete_record(
     Ok(line)
 }
 
-// Appends the record for a `./` card, and answers whether it can be carried. What becomes of it is told.
-fn put_control(
+// Appends the record for a `./` card, with a remark on what becomes of it. Returns whether it can be carried.
+fn push_control(
     alloc: Global,
     remarks: &mut Remarks,
     subject: &Subject<'_>,
     card: &Card,
     lines: &mut Vec<Line>,
 ) -> Result<bool, AllocError> {
-    match control_of(card) {
+    match read_control(card) {
         Control::Change(name) => {
             lines.push(change_record(alloc, name)?)?;
             tell_list(alloc, remarks, subject, card)?;
@@ -196,7 +199,7 @@ fn put_control(
     Ok(true)
 }
 
-/// The records of an update as the profile has them, or nothing where one can't be carried, which is told.
+/// The records of an update as the profile has them. Returns `None`, with a remark, if one cannot be carried.
 pub(crate) fn update_lines(
     alloc: Global,
     remarks: &mut Remarks,
@@ -211,7 +214,7 @@ pub(crate) fn update_lines(
     for card in cards {
         if !card.text.starts_with(b"./") {
             lines.push(Line::new(card.text))?;
-        } else if !put_control(alloc, remarks, subject, card, &mut lines)? {
+        } else if !push_control(alloc, remarks, subject, card, &mut lines)? {
             return Ok(None);
         }
     }

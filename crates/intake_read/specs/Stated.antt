@@ -1,5 +1,5 @@
 -- The texts of a file's statements, as bytes.
-use Rattle.std.specs.Prelude.{◌↔◌, ℕ, List, map, Option, option_map, Contains, Vec}
+use Rattle.std.specs.Prelude.{◌↔◌, ℕ, List, [], map, Option, Some, None, option_map, Contains, Vec}
 use Rattle.std.specs.declared.alloc.Global.{Global}
 use Rattle.terms.specs.Types.{Text, Id}
 
@@ -8,6 +8,11 @@ texts stated = map (λ t. t.items) stated
 
 abbrev pub text_in : Option (Vec ℕ Global) → Option Text
 text_in stated = option_map (λ t. t.items) stated
+
+-- what an operand's parentheses hold, and nothing where it has none
+abbrev pub value_text : Option (Vec ℕ Global) → Text
+value_text None = []
+value_text (Some value) = value.items
 
 -- the same ids, in whatever order
 abbrev pub AreSame : List (Vec ℕ Global) → List Id → Type 0

@@ -22,7 +22,7 @@ pub enum WideError {
     OpenComment {
         place: CardPlace,
     },
-    /// A statement outside of SYSMODs, or a hold, a release or an assignment, is none, for that reason.
+    /// No SYSMOD is begun that the statement could belong to, for that reason.
     #[error("{reason}")]
     Statement {
         place: CardPlace,

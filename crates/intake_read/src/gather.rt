@@ -1,10 +1,12 @@
-//! Statements one behind the other, gathered as SYSMODs and what stands beside them.
+//! Statements one after the other, gathered as SYSMODs and what stands beside them.
 use crate::errors::WideError;
 use crate::items::{
     Note, NoteReason, OtherReason, SwallowedStatement, WideFile, WideHold, WideSysmod,
 };
-use crate::known::{WideWord, known_as};
-use crate::made::{assign, condition, element, hold, other, release, sysmod, ver};
+use crate::make::{
+    make_assign, make_element, make_hold, make_if, make_other, make_release, make_sysmod, make_ver,
+};
+use crate::meaning::{ItemWord, WideWord, meaning_of};
 use crate::operands::members;
 use crate::statement::WideStatement;
 use intake_cards::{Card, CardPlace};
@@ -20,6 +22,7 @@ pub(crate) struct FileSoFar {
 }
 
 impl FileSoFar {
+    /// No statements.
     pub fn new(alloc: Global) -> FileSoFar {
         FileSoFar {
             alloc,
@@ -36,7 +39,7 @@ impl FileSoFar {
         }
     }
 
-    /// The whole file.
+    /// Ends the SYSMOD that is begun, and returns all statements but the holds that `take_hold` hands out.
     pub fn into_file(self) -> Result<WideFile, WideError> {
         let FileSoFar {
             alloc: _,
@@ -50,28 +53,28 @@ impl FileSoFar {
         Ok(file)
     }
 
-    /// The last statement, if it is a hold outside SYSMODs. It is handed out once.
+    /// Hands out the last statement, once, if it is a hold outside SYSMODs.
     pub fn take_hold(&mut self) -> Option<WideHold> {
         self.hold.take()
     }
 
-    /// Keeps a statement that stands in a comment.
-    pub fn keep_swallowed(&mut self, swallowed: SwallowedStatement) -> Result<(), AllocError> {
+    /// Adds a card in a comment that looks like the beginning of a statement.
+    pub fn add_swallowed(&mut self, swallowed: SwallowedStatement) -> Result<(), AllocError> {
         self.file.swallowed.push(swallowed)?;
         Ok(())
     }
 
-    /// Notes what was read otherwise than it stands.
-    pub fn note(&mut self, reason: NoteReason, place: CardPlace) -> Result<(), WideError> {
-        for known in self.file.notes.iter_mut() {
-            if known.reason == reason {
-                known.count = known.count.saturating_add(1);
+    // Notes that the statement at that place has words in lower case: counts one more, or begins the note.
+    fn note_lower_case(&mut self, place: CardPlace) -> Result<(), AllocError> {
+        for note in self.file.notes.iter_mut() {
+            if note.reason == NoteReason::LowerCase {
+                note.count = note.count.saturating_add(1);
                 return Ok(());
             }
         }
         self.file.notes.push(Note {
             place,
-            reason,
+            reason: NoteReason::LowerCase,
             count: 1,
             tail: [b' '; 8],
         })?;
@@ -94,31 +97,39 @@ impl FileSoFar {
     /// Adds the next statement.
     pub fn add(&mut self, statement: WideStatement) -> Result<(), WideError> {
         if statement.has_lower {
-            self.note(NoteReason::LowerCase, statement.place)?;
+            self.note_lower_case(statement.place)?;
         }
-        let known = known_as(statement.word.as_slice());
-        if let WideWord::Header(kind) = known {
-            let begun = sysmod(self.alloc, kind, statement)?;
-            return self.begin(begun);
+        match meaning_of(statement.word.as_slice()) {
+            WideWord::Header(kind) => {
+                let sysmod = make_sysmod(self.alloc, kind, statement)?;
+                self.begin_sysmod(sysmod)
+            }
+            WideWord::Item(word) => self.add_item(word, statement),
         }
+    }
+
+    // Adds a statement that is no header: as an item, or as a statement that makes none if it has a fault.
+    fn add_item(&mut self, word: ItemWord, statement: WideStatement) -> Result<(), WideError> {
         if let Some(reason) = statement.fault {
-            if known.stands_alone() {
-                self.file.others.push(other(reason, statement))?;
+            if word.stands_alone() {
+                self.file.others.push(make_other(reason, statement))?;
                 return Ok(());
             }
             return self.add_other(reason, statement);
         }
-        self.add_good(known, statement)
+        self.add_by_word(word, statement)
     }
 
-    fn begin(&mut self, sysmod: WideSysmod) -> Result<(), WideError> {
+    // Ends the SYSMOD that is begun, if there is one, and begins this one.
+    fn begin_sysmod(&mut self, sysmod: WideSysmod) -> Result<(), WideError> {
         if let Some(before) = self.begun.replace(sysmod) {
             self.file.sysmods.push(before)?;
         }
         Ok(())
     }
 
-    // Adds to the SYSMOD a statement that is none of the others. Returns an error if no SYSMOD is begun.
+    // Adds a statement that makes no item, for this reason, to the SYSMOD that is begun. Returns `Statement` if no
+    // SYSMOD is begun.
     fn add_other(
         &mut self,
         reason: OtherReason,
@@ -126,7 +137,7 @@ impl FileSoFar {
     ) -> Result<(), WideError> {
         match &mut self.begun {
             Some(sysmod) => {
-                sysmod.others.push(other(reason, statement))?;
+                sysmod.others.push(make_other(reason, statement))?;
                 Ok(())
             }
             None => Err(WideError::Statement {
@@ -138,36 +149,40 @@ impl FileSoFar {
         }
     }
 
-    fn add_good(&mut self, known: WideWord, statement: WideStatement) -> Result<(), WideError> {
-        match known {
-            WideWord::Hold => self.add_hold(statement)?,
-            WideWord::Release => self.file.releases.push(release(self.alloc, statement)?)?,
-            WideWord::Assign => self.file.assigns.push(assign(self.alloc, statement)?)?,
-            WideWord::NoService => self
+    // Adds a statement without a fault, as the item that its word means. Returns `Statement` if it belongs to a SYSMOD
+    // and none is begun.
+    fn add_by_word(&mut self, word: ItemWord, statement: WideStatement) -> Result<(), WideError> {
+        match word {
+            ItemWord::Hold => self.add_hold(statement)?,
+            ItemWord::Release => self
+                .file
+                .releases
+                .push(make_release(self.alloc, statement)?)?,
+            ItemWord::Assign => self.file.assigns.push(make_assign(self.alloc, statement)?)?,
+            ItemWord::NoService => self
                 .file
                 .others
-                .push(other(OtherReason::NoService, statement))?,
-            WideWord::Ver => self.add_ver(statement)?,
-            WideWord::If => self.add_if(statement)?,
-            WideWord::Element => self.add_element(statement)?,
-            WideWord::LoadModules => self.add_other(OtherReason::LoadModules, statement)?,
-            WideWord::Header(_) | WideWord::Unknown => self.add_other(
-                OtherReason::UnknownWord,
-                statement,
-            )?,
+                .push(make_other(OtherReason::NoService, statement))?,
+            ItemWord::Ver => self.add_ver(statement)?,
+            ItemWord::If => self.add_if(statement)?,
+            ItemWord::Element => self.add_element(statement)?,
+            ItemWord::LoadModules => self.add_other(OtherReason::LoadModules, statement)?,
+            ItemWord::Unknown => self.add_other(OtherReason::UnknownWord, statement)?,
         }
         Ok(())
     }
 
+    // Adds a hold to the SYSMOD that is begun, or keeps it to be handed out.
     fn add_hold(&mut self, statement: WideStatement) -> Result<(), WideError> {
-        let found = hold(self.alloc, statement)?;
+        let hold = make_hold(self.alloc, statement)?;
         match &mut self.begun {
-            Some(sysmod) => sysmod.holds.push(found)?,
-            None => self.hold = Some(found),
+            Some(sysmod) => sysmod.holds.push(hold)?,
+            None => self.hold = Some(hold),
         }
         Ok(())
     }
 
+    // Adds a `++VER` to the SYSMOD that is begun, or as a statement that makes no item if no SYSMOD is begun.
     fn add_ver(&mut self, statement: WideStatement) -> Result<(), WideError> {
         let Some(srels) = members(self.alloc, statement.name.as_slice())? else {
             return self.add_other(OtherReason::NoName, statement);
@@ -175,25 +190,27 @@ impl FileSoFar {
         let Some(sysmod) = &mut self.begun else {
             return self.add_other(OtherReason::Misplaced, statement);
         };
-        sysmod.vers.push(ver(self.alloc, srels, statement)?)?;
+        sysmod.vers.push(make_ver(self.alloc, srels, statement)?)?;
         Ok(())
     }
 
+    // Adds an `++IF` to the last `++VER`, or as a statement that makes no item if there is none.
     fn add_if(&mut self, statement: WideStatement) -> Result<(), WideError> {
         if let Some(sysmod) = &mut self.begun {
             if let Some(last) = sysmod.vers.last_mut() {
-                last.ifs.push(condition(self.alloc, statement)?)?;
+                last.ifs.push(make_if(self.alloc, statement)?)?;
                 return Ok(());
             }
         }
         self.add_other(OtherReason::Misplaced, statement)
     }
 
+    // Adds an element to the SYSMOD that is begun, or as a statement that makes no item if no SYSMOD is begun.
     fn add_element(&mut self, statement: WideStatement) -> Result<(), WideError> {
         let Some(sysmod) = &mut self.begun else {
             return self.add_other(OtherReason::Misplaced, statement);
         };
-        sysmod.elements.push(element(self.alloc, statement)?)?;
+        sysmod.elements.push(make_element(self.alloc, statement)?)?;
         Ok(())
     }
 }

@@ -1,4 +1,7 @@
 //! What the statements of a shop's files say, with SMP/E's own names. Names and values in lists are in upper case.
+ghost use Rattle.std.specs.Prelude.{◌≡◌};
+ghost use Rattle.intake_read.specs.Stated.{value_text};
+
 use intake_cards::{Card, CardPlace};
 use terms::Kind;
 use thiserror::Error;
@@ -14,7 +17,9 @@ pub struct WideOperand {
 
 impl WideOperand {
     /// What its parentheses hold, and nothing where it has none.
-    pub fn text(&self) -> &[u8] {
+    pub fn text(&self) -> &[u8]
+        ensures { result.now ≡ value_text self.now.value }
+    {
         match &self.value {
             Some(value) => value.as_slice(),
             None => b"",
@@ -244,17 +249,18 @@ pub struct SwallowedStatement {
     pub name: Vec<u8>,
 }
 
-/// A file's statements, but for its holds outside SYSMODs, which `WideReader` hands out as it reads them. Each list keeps
-/// the order of the file, and the places say how the lists go together.
+/// A file's statements, but for its holds outside SYSMODs, which `WideReader` hands out as it reads them. Each list
+/// keeps the order of the file, and the places say how the lists go together.
 #[derive(Drop)]
 pub struct WideFile {
     pub sysmods: Vec<WideSysmod>,
     pub releases: Vec<WideRelease>,
     pub assigns: Vec<WideAssign>,
-    /// `++FEATURE`, `++PRODUCT` and `++NULL`, wherever they stand.
+    /// `++FEATURE`, `++PRODUCT` and `++NULL`, wherever they stand, and each `++HOLD`, `++RELEASE` and `++ASSIGN` that is
+    /// at fault.
     pub others: Vec<WideOther>,
     /// Those that stand in comments.
     pub swallowed: Vec<SwallowedStatement>,
-    /// One for each reason at most.
+    /// One for each reason, but for columns 73 to 80, of which each card has a note of its own.
     pub notes: Vec<Note>,
 }

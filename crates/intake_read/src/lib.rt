@@ -1,16 +1,18 @@
 //! The statements of a shop's files, in the wide grammar of SMP/E, as plain structs, and the remarks on those that
-//! could not be taken for what they say. Every call that allocates fails with `AllocError` if memory runs out.
+//! could not be taken for what they say. Only `WideOperand::text` has a contract: of the other functions it is proved
+//! that they never panic, and only tested that they read each statement as SMP/E does. Every call that allocates fails
+//! with `AllocError` if memory runs out.
 #![tactic(auto)]
 
 mod errors;
 mod gather;
 mod items;
-mod known;
-mod made;
+mod make;
+mod meaning;
 mod operands;
 mod read;
+mod remarks;
 mod statement;
-mod told;
 
 pub use errors::WideError;
 pub use intake_cards::{Card, CardPlace};
@@ -19,6 +21,7 @@ pub use items::{
     WideElement, WideFile, WideHold, WideHoldKind, WideIf, WideOperand, WideOther, WideRelease,
     WideSysmod, WideVer,
 };
-pub use known::is_element;
+pub use make::hold_kind;
+pub use meaning::is_element;
 pub use read::WideReader;
-pub use told::{tell_no_decision, tell_odd};
+pub use remarks::{tell_no_decision, tell_odd};

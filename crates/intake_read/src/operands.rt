@@ -3,40 +3,40 @@ use crate::items::{OddOperand, OddReason, WideOperand};
 use std::alloc::{AllocError, Global};
 use std::mem;
 
-/// The members of a list in upper case, which blanks and commas separate. None: there are none, or one has a list of
-/// its own.
+/// The members of a list in upper case, which blanks and commas separate. Returns `None` if there are none, or if one
+/// has a list of its own.
 pub(crate) fn members(alloc: Global, text: &[u8]) -> Result<Option<Vec<Vec<u8>>>, AllocError> {
-    let mut found = Vec::new(alloc);
+    let mut list = Vec::new(alloc);
     let mut member = Vec::new(alloc);
     for byte in text {
         match byte {
             b'(' | b')' => return Ok(None),
             b' ' | b',' => {
                 if !member.is_empty() {
-                    found.push(mem::replace(&mut member, Vec::new(alloc)))?;
+                    list.push(mem::replace(&mut member, Vec::new(alloc)))?;
                 }
             }
             _ => member.push(byte.to_ascii_uppercase())?,
         }
     }
     if !member.is_empty() {
-        found.push(member)?;
+        list.push(member)?;
     }
-    if found.is_empty() {
+    if list.is_empty() {
         return Ok(None);
     }
-    Ok(Some(found))
+    Ok(Some(list))
 }
 
-// The only member of a list in upper case. None: it is no list of one.
+// The only member of a list in upper case. Returns `None` if the list has not just one member.
 fn only_member(alloc: Global, text: &[u8]) -> Result<Option<Vec<u8>>, AllocError> {
-    let Some(mut found) = members(alloc, text)? else {
+    let Some(mut list) = members(alloc, text)? else {
         return Ok(None);
     };
-    if found.len() != 1 {
+    if list.len() != 1 {
         return Ok(None);
     }
-    Ok(found.pop())
+    Ok(list.pop())
 }
 
 /// Keeps an operand that could not be taken for what its name says.
@@ -49,7 +49,8 @@ pub(crate) fn keep_odd(
     Ok(())
 }
 
-/// Takes the operand's list.
+/// Puts the operand's list into the slot of its statement. The operand is odd if the slot is filled, or if it has no
+/// list.
 pub(crate) fn take_list(
     alloc: Global,
     slot: &mut Vec<Vec<u8>>,
@@ -59,11 +60,11 @@ pub(crate) fn take_list(
     if !slot.is_empty() {
         return keep_odd(odd, operand, OddReason::Repeated);
     }
-    let found = match &operand.value {
+    let members = match &operand.value {
         Some(value) => members(alloc, value.as_slice())?,
         None => None,
     };
-    match found {
+    match members {
         Some(list) => {
             *slot = list;
             Ok(())
@@ -72,7 +73,8 @@ pub(crate) fn take_list(
     }
 }
 
-/// Takes the operand's one value.
+/// Puts the operand's one value into the slot of its statement. The operand is odd if the slot is filled, or if it has
+/// not just one value.
 pub(crate) fn take_value(
     alloc: Global,
     slot: &mut Option<Vec<u8>>,
@@ -82,11 +84,11 @@ pub(crate) fn take_value(
     if slot.is_some() {
         return keep_odd(odd, operand, OddReason::Repeated);
     }
-    let found = match &operand.value {
+    let member = match &operand.value {
         Some(value) => only_member(alloc, value.as_slice())?,
         None => None,
     };
-    match found {
+    match member {
         Some(value) => {
             *slot = Some(value);
             Ok(())
@@ -95,7 +97,8 @@ pub(crate) fn take_value(
     }
 }
 
-/// Takes the operand's text as it stands.
+/// Puts what the operand's parentheses hold into the slot of its statement, unchanged. The operand is odd if the slot
+/// is filled, or if it has no parentheses.
 pub(crate) fn take_text(
     slot: &mut Option<Vec<u8>>,
     operand: WideOperand,
@@ -113,5 +116,21 @@ pub(crate) fn take_text(
         value,
     } = operand;
     *slot = value;
+    Ok(())
+}
+
+/// Sets the flag of the operand's statement. The operand is odd if the flag is set, or if it has parentheses.
+pub(crate) fn take_flag(
+    slot: &mut bool,
+    operand: WideOperand,
+    odd: &mut Vec<OddOperand>,
+) -> Result<(), AllocError> {
+    if *slot {
+        return keep_odd(odd, operand, OddReason::Repeated);
+    }
+    if operand.value.is_some() {
+        return keep_odd(odd, operand, OddReason::BadValue);
+    }
+    *slot = true;
     Ok(())
 }

@@ -1,8 +1,8 @@
-//! Cards as statements, one behind the other.
+//! Cards as statements, one after the other.
 use crate::errors::WideError;
 use crate::gather::FileSoFar;
 use crate::items::{OtherReason, SwallowedStatement, WideFile, WideHold};
-use crate::known::{is_text_elsewhere, takes_text};
+use crate::meaning::{is_text_elsewhere, takes_text};
 use crate::statement::{WideStatement, statement_of};
 use intake_cards::{Card, CardPiece, CardPlace, CardScanner, Open, Tail, Token, is_word_byte};
 use std::alloc::{AllocError, Global};
@@ -10,13 +10,13 @@ use std::alloc::{AllocError, Global};
 /// What a card belongs to.
 #[derive(Clone, Copy, Debug, PartialEq, Eq)]
 enum CardPart {
-    /// The first statement comes behind it.
+    /// The first statement comes after it.
     Before,
     /// The statement's own text.
     Own,
-    /// The statement's period is behind, and it has no text.
+    /// The statement's period has been read, and it has no text.
     Behind,
-    /// The text behind the statement.
+    /// The text after the statement.
     Inline,
 }
 
@@ -26,11 +26,11 @@ pub struct WideReader {
     alloc: Global,
     scanner: CardScanner,
     part: CardPart,
-    /// Where the statement begins that is begun.
+    /// Where the statement that is being read begins.
     place: CardPlace,
-    /// A card of its own text is cut at column 80 outside comments.
+    /// A card of the statement's own text is cut at column 80 outside comments.
     is_cut: bool,
-    /// It, once its own text is whole.
+    /// The statement, once its own text is whole.
     whole: Option<WideStatement>,
     gathered: FileSoFar,
 }
@@ -48,7 +48,7 @@ fn upper_word(alloc: Global, text: &[u8]) -> Result<Vec<u8>, AllocError> {
 }
 
 // What follows the first opening parenthesis.
-fn behind_parenthesis(text: &[u8]) -> &[u8] {
+fn after_parenthesis(text: &[u8]) -> &[u8] {
     match text.iter().position(|byte| *byte == b'(') {
         Some(place) => &text[place + 1..],
         None => b"",
@@ -56,7 +56,7 @@ fn behind_parenthesis(text: &[u8]) -> &[u8] {
 }
 
 // The statement that a card would begin, if no comment were open.
-fn swallowed_by(
+fn swallowed_statement(
     alloc: Global,
     comment: CardPlace,
     card: &Card,
@@ -66,12 +66,12 @@ fn swallowed_by(
         place: card.place,
         comment,
         word: upper_word(alloc, text)?,
-        name: upper_word(alloc, behind_parenthesis(text).trim_ascii_start())?,
+        name: upper_word(alloc, after_parenthesis(text).trim_ascii_start())?,
     })
 }
 
 // What to do about a card that stands before the first statement.
-fn hint_for(card: &Card) -> &'static str {
+fn missing_statement_hint(card: &Card) -> &'static str {
     if card.text.starts_with(b"//") {
         "JCL stands there: give the cards after its DD * without it"
     } else if card.text.starts_with(b"./") {
@@ -81,8 +81,8 @@ fn hint_for(card: &Card) -> &'static str {
     }
 }
 
-// Whether cards behind the statement of these pieces are its text.
-fn has_inline(pieces: &[CardPiece]) -> bool {
+// Whether cards after the statement of these pieces are its text.
+fn may_have_inline(pieces: &[CardPiece]) -> bool {
     let mut has_word = false;
     for piece in pieces {
         if let Token::Word(word) = &piece.token {
@@ -112,14 +112,14 @@ impl WideReader {
         }
     }
 
-    // Takes the next card.
-    fn card(&mut self, card: &Card) -> Result<(), WideError> {
+    // Adds the next card: it begins a statement, or belongs to the one before.
+    fn add_card(&mut self, card: &Card) -> Result<(), WideError> {
         if card.begins_statement() {
             let Open::Comment(comment) = self.scanner.open() else {
-                return self.begin(card);
+                return self.begin_statement(card);
             };
-            let swallowed = swallowed_by(self.alloc, comment, card)?;
-            self.gathered.keep_swallowed(swallowed)?;
+            let swallowed = swallowed_statement(self.alloc, comment, card)?;
+            self.gathered.add_swallowed(swallowed)?;
         }
         match self.part {
             CardPart::Inline => {
@@ -135,29 +135,30 @@ impl WideReader {
                 self.note_tail(card)?;
                 self.scanner.take_card(card)?;
                 self.end_line(card);
-                self.end_own()
+                self.end_own_text()
             }
             CardPart::Before | CardPart::Behind => {
                 self.scanner.take_card(card)?;
                 self.end_line(card);
-                self.check_idle(card)
+                self.blame_text_after(card)
             }
         }
     }
 
-    // Begins the statement of the card, and ends the one before.
-    fn begin(&mut self, card: &Card) -> Result<(), WideError> {
-        self.end()?;
+    // Ends the statement before the card, and begins that of the card.
+    fn begin_statement(&mut self, card: &Card) -> Result<(), WideError> {
+        self.end_statement()?;
         self.part = CardPart::Own;
         self.place = card.place;
         self.note_tail(card)?;
         self.is_cut = false;
-        self.scanner.take(card.place, &card.text[2..72])?;
+        self.scanner.take_columns(card.place, &card.text[2..72])?;
         self.end_line(card);
-        self.end_own()
+        self.end_own_text()
     }
 
-    // Takes note of a line that is cut at column 80. One that ends inside a comment loses nothing.
+    // Notes that the card's line is cut at column 80, unless it is cut inside a comment, where nothing is lost. A `*/`
+    // after column 80 ends the comment.
     fn end_line(&mut self, card: &Card) {
         let is_open = matches!(self.scanner.open(), Open::Comment(_));
         if is_open && card.ends_comment {
@@ -167,6 +168,7 @@ impl WideReader {
         }
     }
 
+    // Notes columns 73 to 80, if they hold more than digits and blanks.
     fn note_tail(&mut self, card: &Card) -> Result<(), WideError> {
         if card.tail() == Tail::Other {
             self.gathered.note_tail(card)?;
@@ -174,8 +176,8 @@ impl WideReader {
         Ok(())
     }
 
-    // Makes the statement of what was scanned.
-    fn scanned(&mut self) -> Result<WideStatement, AllocError> {
+    // Makes a statement of the pieces that were scanned, and takes them out of the scanner.
+    fn take_statement(&mut self) -> Result<WideStatement, AllocError> {
         let open = self.scanner.open();
         let has_lower = self.scanner.has_lower();
         let pieces = self.scanner.take_pieces();
@@ -186,22 +188,23 @@ impl WideReader {
         Ok(statement)
     }
 
-    // Goes on to what is behind the statement, if its period was met and no comment is open.
-    fn end_own(&mut self) -> Result<(), WideError> {
+    // Makes the statement and goes on to what follows it, if its period was read and no comment is open.
+    fn end_own_text(&mut self) -> Result<(), WideError> {
         if !self.scanner.has_period() || matches!(self.scanner.open(), Open::Comment(_)) {
             return Ok(());
         }
-        self.part = if has_inline(self.scanner.pieces()) {
+        self.part = if may_have_inline(self.scanner.pieces()) {
             CardPart::Inline
         } else {
             CardPart::Behind
         };
-        self.whole = Some(self.scanned()?);
+        self.whole = Some(self.take_statement()?);
         Ok(())
     }
 
-    // Checks that nothing but comments and blanks stands in the card that was taken.
-    fn check_idle(&mut self, card: &Card) -> Result<(), WideError> {
+    // Blames the statement before for what the card has besides comments and blanks. Returns `NoStatement` if there is
+    // no statement before.
+    fn blame_text_after(&mut self, card: &Card) -> Result<(), WideError> {
         let is_open = matches!(self.scanner.open(), Open::Parenthesis(_));
         let pieces = self.scanner.take_pieces();
         if pieces.is_empty() && !is_open {
@@ -212,30 +215,30 @@ impl WideReader {
             None => {
                 return Err(WideError::NoStatement {
                     place: card.place,
-                    hint: hint_for(card),
+                    hint: missing_statement_hint(card),
                 });
             }
         }
         Ok(())
     }
 
-    // Ends the statement that is begun, if one is.
-    fn end(&mut self) -> Result<(), WideError> {
+    // Adds the statement that is being read, if there is one, to those that were gathered.
+    fn end_statement(&mut self) -> Result<(), WideError> {
         if let Some(statement) = self.whole.take() {
             return self.gathered.add(statement);
         }
         if self.part == CardPart::Own {
-            let statement = self.scanned()?;
+            let statement = self.take_statement()?;
             return self.gathered.add(statement);
         }
         Ok(())
     }
 
-    /// Takes the next card. Where it ends a hold outside SYSMODs, it hands out that hold. Returns `NoStatement` if
-    /// more than blanks and comments stands before the first statement, and `Statement` if a statement that belongs to a
+    /// Takes the next card. If it ends a hold outside SYSMODs, it hands out that hold. Returns `NoStatement` if more
+    /// than blanks and comments stands before the first statement, and `Statement` if a statement that belongs to a
     /// SYSMOD, or that is not known, stands before the first SYSMOD.
     pub fn take(&mut self, card: &Card) -> Result<Option<WideHold>, WideError> {
-        self.card(card)?;
+        self.add_card(card)?;
         Ok(self.gathered.take_hold())
     }
 
@@ -245,11 +248,11 @@ impl WideReader {
         if let Open::Comment(place) = self.scanner.open() {
             return Err(WideError::OpenComment { place });
         }
-        self.end()?;
+        self.end_statement()?;
         Ok(self.gathered.take_hold())
     }
 
-    /// All other statements, after `take_end`.
+    /// All statements but the holds that `take` and `take_end` handed out. Call it after `take_end`.
     pub fn into_file(self) -> Result<WideFile, WideError> {
         let WideReader {
             alloc: _,

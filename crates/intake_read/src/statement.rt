@@ -1,6 +1,6 @@
 //! A statement as it stands: its word, its name and its operands.
 use crate::items::{OtherReason, WideOperand};
-use crate::known::{is_upper, known_as, needs_name};
+use crate::meaning::{is_read_in_upper_case, meaning_of, needs_name};
 use intake_cards::{Card, CardPiece, CardPlace, Open, Token};
 use std::alloc::{AllocError, Global};
 
@@ -29,8 +29,8 @@ struct BegunStatement {
     is_ended: bool,
 }
 
-/// Makes the letters upper case, and says whether one was in lower case.
-pub(crate) fn make_upper(text: &mut Vec<u8>) -> bool {
+// Makes the letters upper case. Returns whether one was in lower case.
+fn make_upper(text: &mut Vec<u8>) -> bool {
     let mut has_lower = false;
     for byte in text.iter_mut() {
         has_lower = has_lower || byte.is_ascii_lowercase();
@@ -39,12 +39,13 @@ pub(crate) fn make_upper(text: &mut Vec<u8>) -> bool {
     has_lower
 }
 
+// Whether the text has a letter in lower case.
 fn has_lower(text: &[u8]) -> bool {
     text.iter().any(|byte| byte.is_ascii_lowercase())
 }
 
 impl WideStatement {
-    /// Notes what is wrong with it, unless something was before.
+    /// Notes what is wrong with it. Only the first fault counts.
     pub(crate) fn blame(&mut self, fault: OtherReason) {
         if self.fault.is_none() {
             self.fault = Some(fault);
@@ -53,15 +54,16 @@ impl WideStatement {
 }
 
 impl BegunStatement {
-    fn piece(&mut self, piece: CardPiece) -> Result<(), AllocError> {
+    // Adds the next piece: a word, a list or the period. Any other piece, and any after the period, is a fault.
+    fn add_piece(&mut self, piece: CardPiece) -> Result<(), AllocError> {
         let CardPiece { place, token } = piece;
         if self.is_ended {
             self.statement.blame(OtherReason::TextBehind);
             return Ok(());
         }
         match token {
-            Token::Word(word) => self.word(place, word)?,
-            Token::List(list) => self.list(list),
+            Token::Word(word) => self.add_word(place, word)?,
+            Token::List(list) => self.add_list(list),
             Token::Period => self.is_ended = true,
             Token::Closing => self.statement.blame(OtherReason::StrayParenthesis),
             Token::Stray(_) => self.statement.blame(OtherReason::StrayCharacter),
@@ -69,7 +71,8 @@ impl BegunStatement {
         Ok(())
     }
 
-    fn word(&mut self, place: CardPlace, word: Vec<u8>) -> Result<(), AllocError> {
+    // Adds the next word: the statement's own, or that of an operand.
+    fn add_word(&mut self, place: CardPlace, word: Vec<u8>) -> Result<(), AllocError> {
         if !self.has_word {
             self.has_word = true;
             self.statement.word = word;
@@ -83,23 +86,26 @@ impl BegunStatement {
         Ok(())
     }
 
-    fn list(&mut self, list: Vec<u8>) {
+    // Adds a list: it is the value of the last operand, or the name if there is no operand yet. A second list after one
+    // word is a fault.
+    fn add_list(&mut self, list: Vec<u8>) {
         if let Some(operand) = self.statement.operands.last_mut() {
             if operand.value.is_none() {
-                if is_upper(operand.name.as_slice()) && has_lower(list.as_slice()) {
+                if is_read_in_upper_case(operand.name.as_slice()) && has_lower(list.as_slice()) {
                     self.statement.has_lower = true;
                 }
                 operand.value = Some(list);
                 return;
             }
         } else if self.has_word && !self.has_name {
-            self.name(list);
+            self.set_name(list);
             return;
         }
         self.statement.blame(OtherReason::StrayParenthesis);
     }
 
-    fn name(&mut self, list: Vec<u8>) {
+    // Makes the list after the statement's word its name, in upper case.
+    fn set_name(&mut self, list: Vec<u8>) {
         let mut name = list;
         if make_upper(&mut name) {
             self.statement.has_lower = true;
@@ -109,7 +115,8 @@ impl BegunStatement {
     }
 }
 
-/// The statement of these pieces, which begins at this place. What is open behind them tells why it has no period.
+/// The statement of these pieces, which begins at this place. `open` is what is open after them: it tells why the
+/// statement has no period.
 pub(crate) fn statement_of(
     alloc: Global,
     place: CardPlace,
@@ -117,7 +124,7 @@ pub(crate) fn statement_of(
     open: Open,
     has_lower: bool,
 ) -> Result<WideStatement, AllocError> {
-    let mut said = BegunStatement {
+    let mut begun = BegunStatement {
         statement: WideStatement {
             place,
             word: Vec::new(alloc),
@@ -132,14 +139,14 @@ pub(crate) fn statement_of(
         is_ended: false,
     };
     for piece in pieces {
-        said.piece(piece)?;
+        begun.add_piece(piece)?;
     }
     let BegunStatement {
         mut statement,
         has_word: _,
         has_name: _,
         is_ended,
-    } = said;
+    } = begun;
     let is_open = matches!(open, Open::Parenthesis(_));
     match (is_ended, is_open) {
         (true, true) => statement.blame(OtherReason::TextBehind),
@@ -147,7 +154,7 @@ pub(crate) fn statement_of(
         (false, false) => statement.blame(OtherReason::NoPeriod),
         (true, false) => {}
     }
-    if statement.name.is_empty() && needs_name(known_as(statement.word.as_slice())) {
+    if statement.name.is_empty() && needs_name(meaning_of(statement.word.as_slice())) {
         statement.blame(OtherReason::NoName);
     }
     Ok(statement)

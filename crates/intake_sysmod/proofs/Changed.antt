@@ -77,7 +77,8 @@ there_after : (decide : Bool) (cs : List Change) (c : Change) (updated : Bool) �
 there_after decide cs c updated e =
     any_in (IsDone decide c.elem_type c.name updated) (put cs c) c (itself cs c) (inl (refl, refl, e))
 
-its_key : (decide : Bool) (type : ElemType) (name : Text) (updated : Bool) (x : Change) → IsDone decide type name updated x
+its_key : (decide : Bool) (type : ElemType) (name : Text) (updated : Bool) (x : Change)
+    → IsDone decide type name updated x
     → (x.elem_type ≡ type) × (x.name ≡ name)
 its_key decide type name updated x (inl is) = (is.0, is.1)
 its_key decide type name updated x (inr is) = (is.1.0, is.1.1)
@@ -87,13 +88,16 @@ kept_after decide cs c may type name updated any =
     let m = in_any (IsDone decide type name updated) cs any in
     by m.0 m.1 m.2 (change_cmp m.0 c) refl
   where
-    over : (x : Change) → Contains cs x → IsDone decide type name updated x → IsFor c x → MayComeIn decide cs c → IsChanged decide (put cs c) type name updated
+    over : (x : Change) → Contains cs x → IsDone decide type name updated x → IsFor c x
+        → MayComeIn decide cs c → IsChanged decide (put cs c) type name updated
     over x at is t (inl none) = absurd (none (any_in (IsFor c) cs x at t))
     over x at is t (inr e) =
         let k = its_key decide type name updated x is in
-        any_in (IsDone decide type name updated) (put cs c) c (itself cs c) (inr (e.0, (sym t.0 ∙ k.0, sym t.1 ∙ k.1, e.1)))
+        any_in (IsDone decide type name updated) (put cs c) c (itself cs c)
+        (inr (e.0, (sym t.0 ∙ k.0, sym t.1 ∙ k.1, e.1)))
 
-    by : (x : Change) → Contains cs x → IsDone decide type name updated x → (o : Ordering) → change_cmp x c ≡ o → IsChanged decide (put cs c) type name updated
+    by : (x : Change) → Contains cs x → IsDone decide type name updated x → (o : Ordering)
+        → change_cmp x c ≡ o → IsChanged decide (put cs c) type name updated
     by x at is Less e = any_in (IsDone decide type name updated) (put cs c) x
         (in_front cs c x (in_filter (λ y. is_lt (change_cmp y c)) cs x at (ap is_lt e))) is
     by x at is Equal e = over x at is (tied x c e) may
@@ -212,7 +216,8 @@ changed_as decide cs c type name updated is there =
 
 -- ---- the element of a statement
 
-pub element_changed : (decide : Bool) (kind : Kind) (e : WideElement) (c : Change) (old mid new : Sysmod) (joined : Bool)
+pub element_changed : (decide : Bool) (kind : Kind) (e : WideElement) (c : Change) (old mid new : Sysmod)
+    (joined : Bool)
     → IsMadeOf decide kind e c → Joins decide c old mid joined → IsTrue joined → Keeps decide mid.changes new.changes
     → (IsTrue decide → All (λ m. IsChanged decide new.changes Mac (module_name m) false) (modules_of e))
     → IsElementChanged decide kind new.changes e
@@ -244,7 +249,8 @@ done_still : (decide : Bool) (run : List WideSysmod) (s : WideSysmod) (old new :
 done_still decide run s old new e kept (inl h) = inl (changed_still decide s.kind old new e kept h)
 done_still decide run s old new e kept (inr h) = inr h
 
-pub done_after : (decide : Bool) (run : List WideSysmod) (s : WideSysmod) (old new : List Change) (es : List WideElement)
+pub done_after : (decide : Bool) (run : List WideSysmod) (s : WideSysmod) (old new : List Change)
+    (es : List WideElement)
     → Keeps decide old new → All (IsElementDone decide run s old) es → All (IsElementDone decide run s new) es
 done_after decide run s old new es kept all =
     All-weaker (IsElementDone decide run s old) (IsElementDone decide run s new)

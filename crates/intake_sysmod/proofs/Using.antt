@@ -129,7 +129,8 @@ only_one user own id e (inr f) = ap id_in (sym f ∙ e)
 pub knows_all : (users : UserMap) (run : List WideSysmod) → All (IsKnown users) run → KnowsRun users run
 knows_all users run all key id at =
     All-weaker (IsKnown users) (λ s. HasKey s key → s.id.items ≡ id)
-    (λ s known has. let u = known key has in only_one u.0 s.id.items id (same_Some u.0 (Only id) (sym u.1 ∙ at)) u.2) run
+    (λ s known has. let u = known key has in only_one u.0 s.id.items id (same_Some u.0 (Only id) (sym u.1 ∙ at))
+    u.2) run
     all
 
 pub alone : (users : UserMap) (run : List WideSysmod) (id : Text) (element : WideElement) (keys : List ℕ)

@@ -27,7 +27,8 @@ pub record IsElementChanged (decide : Bool) (kind : Kind) (changes : List Change
   pub target_is : IsTarget decide stated.word.items stated.name.items type name
   pub changed : IsChanged decide changes type name (is_update kind stated.word.items)
   pub level_free : All HasNoLevel stated.operands.items
-  pub modules_changed : IsTrue decide → All (λ m. IsChanged decide changes Mac (module_name m) false) (modules_of stated)
+  pub modules_changed : IsTrue decide
+      → All (λ m. IsChanged decide changes Mac (module_name m) false) (modules_of stated)
 
 -- The statement says the change.
 abbrev pub IsSaidBy : Bool → Kind → WideElement → Change → Type 0

@@ -2,12 +2,12 @@
 ghost use Rattle.std.specs.Prelude.{◌≡◌, [], IfOk, IfSome};
 ghost use Rattle.intake_sysmod.specs.NoLooser.{IsNoLooser};
 
-use crate::changes::put_changes;
-use crate::ids::id_of;
+use crate::changes::add_elements;
+use crate::ids::read_id_or_remark;
 use crate::others::tell_others;
-use crate::passing::{MOST_ELEMENTS, tell_passed_over};
+use crate::passing::{MOST_ELEMENTS, remark_passed_over};
 use crate::users::Users;
-use crate::vers::vers_of;
+use crate::vers::read_vers;
 use fields::spelling::kind_text;
 use intake_cards::{Deed, RemarkReason, Remarks, Subject};
 use intake_elements::Options;
@@ -15,6 +15,7 @@ use intake_read::{WideSysmod, tell_no_decision, tell_odd};
 use std::alloc::{AllocError, Global};
 use sysmods_values::{Sysmod, Ver};
 
+// The header, as remarks name it.
 fn subject_of(stated: &WideSysmod) -> Subject<'_> {
     Subject {
         place: stated.place,
@@ -23,8 +24,9 @@ fn subject_of(stated: &WideSysmod) -> Subject<'_> {
     }
 }
 
-// Tells of what the header and other statements have besides, and answers whether the SYSMOD can be carried with it.
-fn tell_rest(
+// Remarks on the operands of the header, and on the statements that are carried nowhere. Returns whether the SYSMOD can
+// be carried with them.
+fn remark_on_header_and_others(
     alloc: Global,
     options: &Options,
     remarks: &mut Remarks,
@@ -61,8 +63,8 @@ fn with_vers(sysmod: Sysmod, vers: Vec<Ver>) -> Sysmod
     }
 }
 
-// The SYSMOD without its holds, or nothing if it can't be carried. A remark says why.
-fn sysmod_of(
+// The SYSMOD without its holds. Returns `None`, with a remark, if it cannot be carried.
+fn try_to_carry(
     alloc: Global,
     options: &Options,
     users: &Users<'_>,
@@ -73,20 +75,20 @@ fn sysmod_of(
         IsNoLooser options.now.decide users.now stated.now sysmod × (sysmod.holds ≡ []))) }
 {
     let subject = subject_of(stated);
-    let good = tell_rest(alloc, options, remarks, stated)?;
-    let vers = vers_of(alloc, remarks, &subject, stated)?;
-    let Some(id) = id_of(alloc, remarks, &subject, b"", stated.id.as_slice())? else {
+    let good = remark_on_header_and_others(alloc, options, remarks, stated)?;
+    let vers = read_vers(alloc, remarks, &subject, stated)?;
+    let Some(id) = read_id_or_remark(alloc, remarks, &subject, b"", stated.id.as_slice())? else {
         return Ok(None);
     };
     let mut sysmod = Sysmod::new(alloc, stated.kind, id);
-    let all = put_changes(alloc, options, users, remarks, stated, &mut sysmod)?;
+    let all = add_elements(alloc, options, users, remarks, stated, &mut sysmod)?;
     let Some(vers) = vers else {
         return Ok(None);
     };
     if !all || !good {
         return Ok(None);
     }
-    tell_passed_over(alloc, options, users, remarks, &subject, stated)?;
+    remark_passed_over(alloc, options, users, remarks, &subject, stated)?;
     if sysmod.changes.len() > MOST_ELEMENTS {
         remarks.leave_out(alloc, &subject, b"", RemarkReason::TooMany, b"")?;
         return Ok(None);
@@ -94,8 +96,8 @@ fn sysmod_of(
     Ok(Some(with_vers(sysmod, vers)))
 }
 
-// Tells that a SYSMOD is left out, and counts it where it would have forbidden something.
-fn tell_left_out(
+// Remarks that a SYSMOD is left out, and counts it if it has elements, NPRE or DELETE, which forbid others.
+fn remark_left_out(
     alloc: Global,
     remarks: &mut Remarks,
     stated: &WideSysmod,
@@ -113,8 +115,8 @@ fn tell_left_out(
     Ok(())
 }
 
-/// The SYSMOD without its holds, or nothing if it is left out. Remarks say why, and what differs. The options must be
-/// in order (`Options::sort`).
+/// The SYSMOD without its holds, with remarks on what differs. Returns `None`, with remarks, if it is left out. The
+/// options must be in order (`Options::sort`).
 pub fn carried_sysmod(
     alloc: Global,
     options: &Options,
@@ -125,15 +127,15 @@ pub fn carried_sysmod(
     ensures { IfOk result (λ found. IfSome found (λ sysmod.
         IsNoLooser options.now.decide users.now stated.now sysmod × (sysmod.holds ≡ []))) }
 {
-    let mut told = Remarks::new(alloc);
-    let Some(sysmod) = sysmod_of(alloc, options, users, &mut told, stated)? else {
-        remarks.append_causes(alloc, told)?;
-        tell_left_out(alloc, remarks, stated)?;
+    let mut sysmod_remarks = Remarks::new(alloc);
+    let Some(sysmod) = try_to_carry(alloc, options, users, &mut sysmod_remarks, stated)? else {
+        remarks.append_causes(alloc, sysmod_remarks)?;
+        remark_left_out(alloc, remarks, stated)?;
         return Ok(None);
     };
-    if told.stand_ins > 0 {
-        told.with_stand_ins.push(sysmod.id)?;
+    if sysmod_remarks.stand_ins > 0 {
+        sysmod_remarks.with_stand_ins.push(sysmod.id)?;
     }
-    remarks.append(told)?;
+    remarks.append(sysmod_remarks)?;
     Ok(Some(sysmod))
 }

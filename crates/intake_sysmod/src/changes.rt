@@ -2,7 +2,6 @@
 ghost use Rattle.std.specs.Prelude.{◌≡◌, map, Contains, IfOk, OnOk, IsTrue, All, true, false};
 ghost use Rattle.terms.specs.declared.kinds.Kind.{Kind as AnyKind};
 ghost use Rattle.terms.specs.declared.kinds.ElemType.TheVariants.{Mac};
-ghost use Rattle.terms.specs.Changes.{is_replacement};
 ghost use Rattle.intake_elements.specs.Elements.{modules_of, module_name};
 ghost use Rattle.intake_sysmod.specs.Changed.{IsChanged, IsElementChanged, IsSaid, Grows, Joins};
 ghost use Rattle.intake_sysmod.specs.NoLooser.{IsElementDone};
@@ -13,21 +12,11 @@ use intake_cards::{RemarkReason, Remarks, Subject};
 use intake_elements::{Options, change_of, module_change, modules_of, subject_of};
 use intake_read::{WideElement, WideSysmod};
 use std::alloc::{AllocError, Global};
-use sysmods_values::{Action, ElemChange, Sysmod};
+use sysmods_values::{ElemChange, Sysmod};
 
-// Whether the statement replaces an element.
-fn replaces(change: &ElemChange) -> bool
-    ensures { result ≡ is_replacement change.now.action }
-{
-    match &change.action {
-        Action::Replaces { .. } => true,
-        Action::Updates { .. } => false,
-    }
-}
-
-// Puts the statement among those of the SYSMOD, and answers whether it could. Where another one is for its element,
-// this is told: without stand-ins a SYSMOD has no two; with them one stays, a replacement rather than an update.
-fn join(
+// Adds the change to those of the SYSMOD. If the SYSMOD has a change of the same element, a remark says so. Without
+// stand-ins it may not have two: returns `false`. With them one stays, a replacement before an update.
+fn add_change(
     alloc: Global,
     options: &Options,
     remarks: &mut Remarks,
@@ -46,15 +35,15 @@ fn join(
         return Ok(false);
     }
     remarks.tell_carried(alloc, subject, b"", RemarkReason::FallTogether, b"")?;
-    if !replaces(&change) {
+    if !change.is_replacement() {
         return Ok(true);
     }
     sysmod.insert_change(change)?;
     Ok(true)
 }
 
-// Puts a replacement of the module's stand-in into the SYSMOD, and answers whether it could.
-fn put_module(
+// Adds a replacement of the module's stand-in to the SYSMOD. Returns `false`, with a remark, if it cannot.
+fn add_module(
     alloc: Global,
     options: &Options,
     remarks: &mut Remarks,
@@ -72,12 +61,13 @@ fn put_module(
     let Some(change) = module_change(alloc, remarks, &subject, element, assembled)? else {
         return Ok(false);
     };
-    let joined = join(alloc, options, remarks, &subject, sysmod, change)?;
+    let joined = add_change(alloc, options, remarks, &subject, sysmod, change)?;
     Ok(joined)
 }
 
-// Puts replacements of the stand-ins of these modules into the SYSMOD, and answers whether it could.
-fn put_modules(
+// Adds replacements of the stand-ins of these modules to the SYSMOD. Returns `false`, with remarks, if one cannot be
+// added.
+fn add_modules(
     alloc: Global,
     options: &Options,
     remarks: &mut Remarks,
@@ -89,24 +79,27 @@ fn put_modules(
     requires are { map (λ m. m.now) modules.now ≡ modules_of element.now }
     ensures grows { OnOk result ((kind : AnyKind) → Grows options.now.decide kind element.now sysmod.old sysmod.new) }
     ensures there { IfOk result (λ put. IsTrue put
-        → All (λ m. IsChanged options.now.decide sysmod.new.changes Mac (module_name m) false) (modules_of element.now)) }
+        → All (λ m. IsChanged options.now.decide sysmod.new.changes Mac (module_name m) false)
+        (modules_of element.now)) }
 {
     let mut all = true;
     for module in modules {
-        let put = put_module(alloc, options, remarks, element, sysmod, module)?;
-        all = both(all, put);
+        let put = add_module(alloc, options, remarks, element, sysmod, module)?;
+        all = are_both(all, put);
     }
     Ok(all)
 }
 
-fn both(one: bool, other: bool) -> bool
-    ensures { IsTrue result → IsTrue one × IsTrue other }
+// Whether both are true. A function, because its contract tells the proofs of its callers what follows.
+fn are_both(first: bool, second: bool) -> bool
+    ensures { IsTrue result → IsTrue first × IsTrue second }
 {
-    one && other
+    first && second
 }
 
-// Puts what the statement of a SYSMOD with stand-ins changes into it, and answers whether it could.
-fn put_decided(
+// Adds the change of the statement, and those of the modules that are assembled of its element, to a SYSMOD with
+// stand-ins. Returns `false`, with remarks, if one cannot be added.
+fn add_with_modules(
     alloc: Global,
     options: &Options,
     remarks: &mut Remarks,
@@ -124,13 +117,13 @@ fn put_decided(
     };
     let modules = modules_of(alloc, element)?;
     let subject = subject_of(element);
-    let joined = join(alloc, options, remarks, &subject, sysmod, change)?;
-    let put = put_modules(alloc, options, remarks, element, sysmod, modules.as_slice())?;
-    Ok(both(joined, put))
+    let joined = add_change(alloc, options, remarks, &subject, sysmod, change)?;
+    let put = add_modules(alloc, options, remarks, element, sysmod, modules.as_slice())?;
+    Ok(are_both(joined, put))
 }
 
-// Puts what the statement changes into the SYSMOD, and answers whether it could.
-fn put_stated(
+// Adds the change of the statement to a SYSMOD without stand-ins. Returns `false`, with a remark, if it cannot.
+fn add_without_modules(
     alloc: Global,
     options: &Options,
     remarks: &mut Remarks,
@@ -147,13 +140,13 @@ fn put_stated(
         return Ok(false);
     };
     let subject = subject_of(element);
-    let joined = join(alloc, options, remarks, &subject, sysmod, change)?;
+    let joined = add_change(alloc, options, remarks, &subject, sysmod, change)?;
     Ok(joined)
 }
 
-// Puts what the element statement changes into the SYSMOD, and answers whether it could. Why it could not is told, and
-// so is what differs.
-fn put_element(
+// Adds what the element statement changes to the SYSMOD: with stand-ins the modules too. Returns `false` if it cannot.
+// Remarks say why it cannot, and what differs.
+fn add_element(
     alloc: Global,
     options: &Options,
     remarks: &mut Remarks,
@@ -166,14 +159,15 @@ fn put_element(
         → IsElementChanged options.now.decide stated.now.kind sysmod.new.changes element.now) }
 {
     if options.decide {
-        put_decided(alloc, options, remarks, stated, element, sysmod)
+        add_with_modules(alloc, options, remarks, stated, element, sysmod)
     } else {
-        put_stated(alloc, options, remarks, stated, element, sysmod)
+        add_without_modules(alloc, options, remarks, stated, element, sysmod)
     }
 }
 
-// The same, or passes the element over.
-fn put_or_pass(
+// Adds what the element statement changes to the SYSMOD, unless the element is passed over. Returns `false`, with
+// remarks, if it cannot.
+fn add_or_pass(
     alloc: Global,
     options: &Options,
     users: &Users<'_>,
@@ -189,13 +183,13 @@ fn put_or_pass(
     if is_passed_over(alloc, options, users, stated, element)? {
         return Ok(true);
     }
-    let put = put_element(alloc, options, remarks, stated, element, sysmod)?;
+    let put = add_element(alloc, options, remarks, stated, element, sysmod)?;
     Ok(put)
 }
 
-/// Puts what all elements change into the SYSMOD, but for those that are passed over, and answers whether it could. Why
-/// it could not is told, and so is what differs. If memory runs out, the SYSMOD has some of the changes.
-pub(crate) fn put_changes(
+/// Adds what all elements change to the SYSMOD, but for those that are passed over. Returns `false` if one cannot be
+/// added. Remarks say why it cannot, and what differs. If memory runs out, the SYSMOD has some of the changes.
+pub(crate) fn add_elements(
     alloc: Global,
     options: &Options,
     users: &Users<'_>,
@@ -212,8 +206,8 @@ pub(crate) fn put_changes(
 {
     let mut all = true;
     for element in stated.elements.iter() {
-        let put = put_or_pass(alloc, options, users, remarks, stated, element, sysmod)?;
-        all = both(all, put);
+        let put = add_or_pass(alloc, options, users, remarks, stated, element, sysmod)?;
+        all = are_both(all, put);
     }
     Ok(all)
 }

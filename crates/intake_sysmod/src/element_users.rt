@@ -19,8 +19,8 @@ pub(crate) enum ElementUser {
     Several,
 }
 
-// The SYSMOD of this id. For what is no id there may be several.
-fn user_of(id: &[u8]) -> ElementUser
+// The SYSMOD of this id as a user. A text that is no id counts as several SYSMODs.
+fn user_for_id(id: &[u8]) -> ElementUser
     ensures { Covers result (IsOnly id.now) }
 {
     match Id::read(id) {
@@ -29,8 +29,8 @@ fn user_of(id: &[u8]) -> ElementUser
     }
 }
 
-// Those that were known, and another one.
-fn joined(before: Option<ElementUser>, user: ElementUser) -> ElementUser
+// The users of an element, after one more was found.
+fn with_user(before: Option<ElementUser>, user: ElementUser) -> ElementUser
     ensures new { Covers result user }
     ensures old { IfSome before (Covers result) }
 {
@@ -46,17 +46,18 @@ fn joined(before: Option<ElementUser>, user: ElementUser) -> ElementUser
     }
 }
 
-// Adds the SYSMOD of the id to those of the number.
-fn add(users: &mut BTreeMap<u64, ElementUser>, key: u64, id: &[u8]) -> Result<(), AllocError>
+// Adds the SYSMOD of the id to the users of the element with the number.
+fn add_user(users: &mut BTreeMap<u64, ElementUser>, key: u64, id: &[u8]) -> Result<(), AllocError>
     ensures has { OnOk result (IsUser users.new key id.now) }
     ensures grows { OnOk result (UsersGrow users.old users.new) }
 {
     let before = users.get(&key).copied();
-    users.insert(key, joined(before, user_of(id)))?;
+    users.insert(key, with_user(before, user_for_id(id)))?;
     Ok(())
 }
 
-fn add_all(
+// Adds the SYSMOD of the id to the users of each of the elements with the numbers.
+fn add_user_of_keys(
     users: &mut BTreeMap<u64, ElementUser>,
     keys: &[u64],
     id: &[u8],
@@ -65,12 +66,13 @@ fn add_all(
     ensures grows { OnOk result (UsersGrow users.old users.new) }
 {
     for key in keys {
-        add(users, *key, id)?;
+        add_user(users, *key, id)?;
     }
     Ok(())
 }
 
-fn add_sysmod(
+// Adds the SYSMOD to the users of each element that it changes.
+fn add_users_of_sysmod(
     alloc: Global,
     users: &mut BTreeMap<u64, ElementUser>,
     stated: &WideSysmod,
@@ -81,12 +83,13 @@ fn add_sysmod(
     let id = stated.id.as_slice();
     for element in stated.elements.iter() {
         let keys = keys_of(alloc, element)?;
-        add_all(users, keys.as_slice(), id)?;
+        add_user_of_keys(users, keys.as_slice(), id)?;
     }
     Ok(())
 }
 
-fn add_file(
+// Adds each SYSMOD of the file to the users of the elements that it changes.
+fn add_users_of_file(
     alloc: Global,
     users: &mut BTreeMap<u64, ElementUser>,
     file: &WideFile,
@@ -95,24 +98,28 @@ fn add_file(
     ensures grows { OnOk result (UsersGrow users.old users.new) }
 {
     for sysmod in file.sysmods.iter() {
-        add_sysmod(alloc, users, sysmod)?;
+        add_users_of_sysmod(alloc, users, sysmod)?;
     }
     Ok(())
 }
 
-// Those of all files.
-fn all_users(alloc: Global, files: &[WideFile]) -> Result<BTreeMap<u64, ElementUser>, AllocError>
+// The users of each element among the SYSMODs of all files.
+fn users_of_files(
+    alloc: Global,
+    files: &[WideFile],
+) -> Result<BTreeMap<u64, ElementUser>, AllocError>
     ensures { IfOk result (λ users. All (IsKnown users) (run_of files.now)) }
 {
     let mut users = BTreeMap::new(alloc);
     for file in files {
-        add_file(alloc, &mut users, file)?;
+        add_users_of_file(alloc, &mut users, file)?;
     }
     Ok(users)
 }
 
-/// Those of all files, if elements of a SYSMOD may be passed over; if none may, nothing is known.
-pub(crate) fn users_of(
+/// The users of each element among the SYSMODs of all files, if elements of a SYSMOD may be passed over. Otherwise they
+/// are not gathered, and the map is empty.
+pub(crate) fn known_users(
     alloc: Global,
     options: &Options,
     files: &[WideFile],
@@ -122,12 +129,12 @@ pub(crate) fn users_of(
     if !options.decide || !files.iter().any(has_many) {
         return Ok(BTreeMap::new(alloc));
     }
-    let users = all_users(alloc, files)?;
+    let users = users_of_files(alloc, files)?;
     Ok(users)
 }
 
-// Whether it is the SYSMOD of the id alone.
-fn is_of(user: ElementUser, id: &[u8]) -> bool
+// Whether the SYSMOD of the id is the only user.
+fn is_only_of(user: ElementUser, id: &[u8]) -> bool
     ensures { IsTrue result → user ≡ IsOnly id.now }
 {
     match user {
@@ -136,17 +143,17 @@ fn is_of(user: ElementUser, id: &[u8]) -> bool
     }
 }
 
-// Whether the SYSMOD of the id is the only one of the number.
+// Whether the SYSMOD of the id is the only user of the element with the number.
 fn is_only(users: &BTreeMap<u64, ElementUser>, key: u64, id: &[u8]) -> bool
     ensures { IsTrue result → get nat_cmp users.now key ≡ Some (IsOnly id.now) }
 {
     match users.get(&key) {
-        Some(user) => is_of(*user, id),
+        Some(user) => is_only_of(*user, id),
         None => false,
     }
 }
 
-/// Whether the SYSMOD of the id is the only one of each of the numbers.
+/// Whether the SYSMOD of the id is the only user of each of the elements with the numbers.
 pub(crate) fn are_only(users: &BTreeMap<u64, ElementUser>, keys: &[u64], id: &[u8]) -> bool
     ensures { IsTrue result → All (λ key. get nat_cmp users.now key ≡ Some (IsOnly id.now)) keys.now }
 {

@@ -9,7 +9,7 @@ use std::alloc::{AllocError, Global};
 /// The most ids that a list may have.
 pub(crate) const MOST_IDS: usize = 1000;
 
-// The texts as ids, or nothing where one has not the form.
+// The texts as ids, or `None` if one has not the form of an id.
 fn read_ids(alloc: Global, stated: &[Vec<u8>]) -> Result<Option<Vec<Id>>, AllocError>
     ensures { IfOk result (λ found. IfSome found (λ ids. ids.items ≡ texts stated.now)) }
 {
@@ -23,7 +23,7 @@ fn read_ids(alloc: Global, stated: &[Vec<u8>]) -> Result<Option<Vec<Id>>, AllocE
     Ok(Some(ids))
 }
 
-// The texts as a list of ids, or nothing where one has not the form.
+// The texts as a list of ids, or `None` if one has not the form of an id.
 fn read_list(alloc: Global, stated: &[Vec<u8>]) -> Result<Option<IdList>, AllocError>
     ensures { IfOk result (λ found. IfSome found (λ ids. AreSame stated.now ids)) }
 {
@@ -33,8 +33,8 @@ fn read_list(alloc: Global, stated: &[Vec<u8>]) -> Result<Option<IdList>, AllocE
     }
 }
 
-// The first of the texts that is no id, or nothing.
-fn bad_id(stated: &[Vec<u8>]) -> &[u8] {
+// The first of the texts that is no id, or an empty text.
+fn first_bad_id(stated: &[Vec<u8>]) -> &[u8] {
     for text in stated {
         if Id::read(text.as_slice()).is_none() {
             return text.as_slice();
@@ -43,9 +43,9 @@ fn bad_id(stated: &[Vec<u8>]) -> &[u8] {
     b""
 }
 
-/// The ids of an operand. It is told where there are none to answer: where one has not the form of an id, or there are
-/// more than 1,000.
-pub(crate) fn ids_of(
+/// The ids of an operand. Returns `None`, with a remark, if one has not the form of an id, or if there are more than
+/// `MOST_IDS`. An id that stands twice has a remark too.
+pub(crate) fn read_ids_or_remark(
     alloc: Global,
     remarks: &mut Remarks,
     subject: &Subject<'_>,
@@ -55,7 +55,13 @@ pub(crate) fn ids_of(
     ensures { IfOk result (λ found. IfSome found (λ ids. AreSame stated.now ids)) }
 {
     let Some(ids) = read_list(alloc, stated)? else {
-        remarks.leave_out(alloc, subject, operand, RemarkReason::BadId, bad_id(stated))?;
+        remarks.leave_out(
+            alloc,
+            subject,
+            operand,
+            RemarkReason::BadId,
+            first_bad_id(stated),
+        )?;
         return Ok(None);
     };
     if ids.len() > MOST_IDS {
@@ -68,8 +74,8 @@ pub(crate) fn ids_of(
     Ok(Some(ids))
 }
 
-/// The id that an operand may have: the answer is nothing where it has not the form, which is told.
-pub(crate) fn id_of(
+/// The id of an operand. Returns `None`, with a remark, if it has not the form of one.
+pub(crate) fn read_id_or_remark(
     alloc: Global,
     remarks: &mut Remarks,
     subject: &Subject<'_>,

@@ -3,7 +3,7 @@ ghost use Rattle.std.specs.Prelude.{IfOk, IfSome};
 ghost use Rattle.terms.specs.Beside.{Beside};
 ghost use Rattle.intake_sysmod.specs.NoLooser.{IsIf};
 
-use crate::ids::{id_of, ids_of};
+use crate::ids::{read_id_or_remark, read_ids_or_remark};
 use intake_cards::{Deed, RemarkReason, Remarks, Subject};
 use intake_read::{WideIf, tell_odd};
 use std::alloc::{AllocError, Global};
@@ -12,8 +12,8 @@ use sysmods_values::IfReq;
 /// The most `++IF`s that a `++VER` may have.
 const MOST_IFS: usize = 100;
 
-// The `++IF`, or nothing where it can't be carried, which is told.
-fn if_of(
+// The `++IF` as a value. Returns `None`, with a remark, if it cannot be carried.
+fn read_if(
     alloc: Global,
     remarks: &mut Remarks,
     own: &[u8],
@@ -40,10 +40,12 @@ fn if_of(
         remarks.leave_out(alloc, &subject, b"FMID", RemarkReason::Missing, b"")?;
         return Ok(None);
     };
-    let Some(function) = id_of(alloc, remarks, &subject, b"FMID", fmid.as_slice())? else {
+    let Some(function) = read_id_or_remark(alloc, remarks, &subject, b"FMID", fmid.as_slice())?
+    else {
         return Ok(None);
     };
-    let Some(req) = ids_of(alloc, remarks, &subject, b"REQ", stated.req.as_slice())? else {
+    let Some(req) = read_ids_or_remark(alloc, remarks, &subject, b"REQ", stated.req.as_slice())?
+    else {
         return Ok(None);
     };
     if req.is_empty() {
@@ -57,8 +59,8 @@ fn if_of(
     Ok(Some(IfReq { function, req }))
 }
 
-/// The `++IF`s of a `++VER`, or nothing where one can't be carried, which is told.
-pub(crate) fn ifs_of(
+/// The `++IF`s of a `++VER`. Returns `None`, with a remark, if one cannot be carried, or if there are too many.
+pub(crate) fn read_ifs(
     alloc: Global,
     remarks: &mut Remarks,
     own: &[u8],
@@ -68,8 +70,8 @@ pub(crate) fn ifs_of(
     ensures { IfOk result (λ found. IfSome found (λ ifs. Beside (λ _. IsIf) stated.now ifs.items)) }
 {
     let mut ifs = Vec::with_capacity(alloc, stated.len())?;
-    for one in stated {
-        let Some(condition) = if_of(alloc, remarks, own, one)? else {
+    for statement in stated {
+        let Some(condition) = read_if(alloc, remarks, own, statement)? else {
             return Ok(None);
         };
         ifs.push(condition)?;

@@ -5,7 +5,7 @@ use intake_elements::Options;
 use intake_read::{OtherReason, WideOther};
 use std::alloc::{AllocError, Global};
 
-/// What a statement that is carried nowhere lacks, or nothing if its reason is another one.
+/// What a statement that is carried nowhere lacks, or an empty text if its reason is another one.
 pub fn missing_word(other: &WideOther) -> &'static [u8] {
     if other.reason != OtherReason::NoName {
         return b"";
@@ -17,7 +17,7 @@ pub fn missing_word(other: &WideOther) -> &'static [u8] {
     }
 }
 
-/// Tells of the statements of a SYSMOD or of a file that are carried nowhere, and answers whether a SYSMOD can be
+/// Remarks on the statements of a SYSMOD or of a file that are carried nowhere, and returns whether a SYSMOD can be
 /// carried without them.
 pub fn tell_others(
     alloc: Global,

@@ -18,14 +18,15 @@ pub(crate) fn has_many(file: &WideFile) -> bool {
         .any(|sysmod| sysmod.elements.len() > MOST_ELEMENTS)
 }
 
-/// Whether elements of the SYSMOD may be passed over.
+/// Whether elements of the SYSMOD may be passed over: stand-ins are asked for, and it has more elements than a SYSMOD
+/// may have.
 pub(crate) fn may_pass_over(options: &Options, stated: &WideSysmod) -> bool
     ensures { IsTrue result → IsTrue options.now.decide × (999 < length stated.now.elements.items) }
 {
     options.decide && stated.elements.len() > MOST_ELEMENTS
 }
 
-/// Whether the element is passed over.
+/// Whether the element is passed over: its SYSMOD has too many, and no other SYSMOD changes this one.
 pub(crate) fn is_passed_over(
     alloc: Global,
     options: &Options,
@@ -43,8 +44,8 @@ pub(crate) fn is_passed_over(
     Ok(passed)
 }
 
-/// Tells how many elements of the SYSMOD are passed over, if any are.
-pub(crate) fn tell_passed_over(
+/// Remarks how many elements of the SYSMOD are passed over, if any are.
+pub(crate) fn remark_passed_over(
     alloc: Global,
     options: &Options,
     users: &Users<'_>,
@@ -55,14 +56,14 @@ pub(crate) fn tell_passed_over(
     if !may_pass_over(options, stated) {
         return Ok(());
     }
-    let mut passed = 0usize;
+    let mut count = 0usize;
     for element in stated.elements.iter() {
         if users.is_alone(alloc, stated, element)? {
-            passed = passed.saturating_add(1);
+            count = count.saturating_add(1);
         }
     }
-    if passed > 0 {
-        let text = format!(in alloc; "{passed}")?;
+    if count > 0 {
+        let text = format!(in alloc; "{count}")?;
         let text = text.as_bytes();
         remarks.tell_dropped(alloc, subject, b"", RemarkReason::PassedOver, text)?;
     }

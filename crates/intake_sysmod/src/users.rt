@@ -3,7 +3,7 @@ ghost use Rattle.std.specs.Prelude.{◌≡◌, IfOk, IsTrue, All};
 ghost use Rattle.intake_elements.specs.Elements.{HasNoLevel};
 ghost use Rattle.intake_sysmod.specs.Users.{run_of, IsAlone};
 
-use crate::element_users::{ElementUser, are_only, users_of};
+use crate::element_users::{ElementUser, are_only, known_users};
 use intake_elements::{Options, has_level, has_odd_modules, keys_of};
 use intake_read::{WideElement, WideFile, WideSysmod};
 use std::alloc::{AllocError, Global};
@@ -31,7 +31,7 @@ impl<'a> Model for Users<'a> {
 }
 
 impl<'a> Users<'a> {
-    /// Those of the files. What the options do not ask for is not looked for.
+    /// The SYSMODs of the files by the elements that they change, if the options ask for stand-ins.
     pub fn of_files(
         alloc: Global,
         options: &Options,
@@ -39,12 +39,12 @@ impl<'a> Users<'a> {
     ) -> Result<Users<'a>, AllocError>
         ensures { IfOk result (λ users. users ≡ run_of files.now) }
     {
-        let by_key = users_of(alloc, options, files)?;
+        let by_key = known_users(alloc, options, files)?;
         Ok(Users { files, by_key })
     }
 
     /// Whether it is known that no other SYSMOD changes what the statement of this one changes, and no operand of the
-    /// statement decides more.
+    /// statement decides whether the SYSMOD goes on.
     pub(crate) fn is_alone(
         &self,
         alloc: Global,

@@ -3,8 +3,8 @@ ghost use Rattle.std.specs.Prelude.{◌≡◌, IfOk, IfSome};
 ghost use Rattle.intake_read.specs.Stated.{text_in};
 ghost use Rattle.intake_sysmod.specs.NoLooser.{AreLists, AreOperands};
 
-use crate::ids::{id_of, ids_of};
-use crate::ifs::ifs_of;
+use crate::ids::{read_id_or_remark, read_ids_or_remark};
+use crate::ifs::read_ifs;
 use fields::{Id, IdList};
 use intake_cards::{Deed, RemarkReason, Remarks, Subject};
 use intake_read::{WideSysmod, WideVer, tell_odd};
@@ -30,8 +30,8 @@ pub(crate) struct VerOperands {
     pub ifs: Vec<IfReq>,
 }
 
-// The lists, or nothing where one can't be carried, which is told.
-fn lists_of(
+// The lists PRE, REQ, SUP, NPRE and DELETE. Returns `None`, with a remark, if one cannot be carried.
+fn read_lists(
     alloc: Global,
     remarks: &mut Remarks,
     subject: &Subject<'_>,
@@ -39,19 +39,30 @@ fn lists_of(
 ) -> Result<Option<Lists>, AllocError>
     ensures { IfOk result (λ found. IfSome found (AreLists stated.now)) }
 {
-    let Some(pre) = ids_of(alloc, remarks, subject, b"PRE", stated.pre.as_slice())? else {
+    let Some(pre) = read_ids_or_remark(alloc, remarks, subject, b"PRE", stated.pre.as_slice())?
+    else {
         return Ok(None);
     };
-    let Some(req) = ids_of(alloc, remarks, subject, b"REQ", stated.req.as_slice())? else {
+    let Some(req) = read_ids_or_remark(alloc, remarks, subject, b"REQ", stated.req.as_slice())?
+    else {
         return Ok(None);
     };
-    let Some(sup) = ids_of(alloc, remarks, subject, b"SUP", stated.sup.as_slice())? else {
+    let Some(sup) = read_ids_or_remark(alloc, remarks, subject, b"SUP", stated.sup.as_slice())?
+    else {
         return Ok(None);
     };
-    let Some(npre) = ids_of(alloc, remarks, subject, b"NPRE", stated.npre.as_slice())? else {
+    let Some(npre) = read_ids_or_remark(alloc, remarks, subject, b"NPRE", stated.npre.as_slice())?
+    else {
         return Ok(None);
     };
-    let Some(delete) = ids_of(alloc, remarks, subject, b"DELETE", stated.delete.as_slice())? else {
+    let Some(delete) = read_ids_or_remark(
+        alloc,
+        remarks,
+        subject,
+        b"DELETE",
+        stated.delete.as_slice(),
+    )?
+    else {
         return Ok(None);
     };
     Ok(Some(Lists {
@@ -63,8 +74,8 @@ fn lists_of(
     }))
 }
 
-// The FMID: `Some(None)` where none is stated, and nothing where it has not the form, which is told.
-fn fmid_of(
+// The FMID, or `Some(None)` if none is stated. Returns `None`, with a remark, if it has not the form of an id.
+fn read_fmid(
     alloc: Global,
     remarks: &mut Remarks,
     subject: &Subject<'_>,
@@ -74,15 +85,15 @@ fn fmid_of(
 {
     match stated {
         None => Ok(Some(None)),
-        Some(text) => match id_of(alloc, remarks, subject, b"FMID", text.as_slice())? {
+        Some(text) => match read_id_or_remark(alloc, remarks, subject, b"FMID", text.as_slice())? {
             Some(id) => Ok(Some(Some(id))),
             None => Ok(None),
         },
     }
 }
 
-/// The operands, or nothing where one can't be carried, which is told.
-pub(crate) fn operands_of(
+/// The operands. Returns `None`, with a remark, if one cannot be carried, or if the SYSMOD may not have it.
+pub(crate) fn read_operands(
     alloc: Global,
     remarks: &mut Remarks,
     sysmod: &WideSysmod,
@@ -104,23 +115,24 @@ pub(crate) fn operands_of(
     if !stated.version.is_empty() {
         remarks.tell_dropped(alloc, &subject, b"VERSION", RemarkReason::Stricter, b"")?;
     }
-    let Some(fmid) = fmid_of(alloc, remarks, &subject, &stated.fmid)? else {
+    let Some(fmid) = read_fmid(alloc, remarks, &subject, &stated.fmid)? else {
         return Ok(None);
     };
-    let Some(lists) = lists_of(alloc, remarks, &subject, stated)? else {
+    let Some(lists) = read_lists(alloc, remarks, &subject, stated)? else {
         return Ok(None);
     };
-    if !are_allowed(alloc, remarks, &subject, sysmod.kind, &fmid, &lists)? {
+    if !check_operands(alloc, remarks, &subject, sysmod.kind, &fmid, &lists)? {
         return Ok(None);
     }
-    let Some(ifs) = ifs_of(alloc, remarks, own, &subject, stated.ifs.as_slice())? else {
+    let Some(ifs) = read_ifs(alloc, remarks, own, &subject, stated.ifs.as_slice())? else {
         return Ok(None);
     };
     Ok(Some(VerOperands { fmid, lists, ifs }))
 }
 
-// Whether a SYSMOD of the kind may have these operands. What it may not have is told.
-fn are_allowed(
+// Checks whether a SYSMOD of the kind may have these operands. Returns whether it may: a remark names the first that it
+// may not have, or FMID if service lacks it.
+fn check_operands(
     alloc: Global,
     remarks: &mut Remarks,
     subject: &Subject<'_>,
@@ -129,7 +141,7 @@ fn are_allowed(
     lists: &Lists,
 ) -> Result<bool, AllocError> {
     let own = subject.id;
-    if let Some(operand) = names_itself(own, fmid, lists) {
+    if let Some(operand) = operand_with_own_id(own, fmid, lists) {
         remarks.leave_out(alloc, subject, operand, RemarkReason::NamesItself, own)?;
         return Ok(false);
     }
@@ -151,34 +163,34 @@ fn are_allowed(
     Ok(true)
 }
 
-// The first operand that names the SYSMOD itself.
-fn names_itself(own: &[u8], fmid: &Option<Id>, lists: &Lists) -> Option<&'static [u8]> {
+// The name of the first operand that names the SYSMOD itself, or `None` if there is none.
+fn operand_with_own_id(own_id: &[u8], fmid: &Option<Id>, lists: &Lists) -> Option<&'static [u8]> {
     if let Some(fmid) = fmid {
-        if fmid.as_bytes() == own {
+        if fmid.as_bytes() == own_id {
             return Some(b"FMID");
         }
     }
-    if names(&lists.pre, own) {
+    if has_id(&lists.pre, own_id) {
         return Some(b"PRE");
     }
-    if names(&lists.req, own) {
+    if has_id(&lists.req, own_id) {
         return Some(b"REQ");
     }
-    if names(&lists.sup, own) {
+    if has_id(&lists.sup, own_id) {
         return Some(b"SUP");
     }
-    if names(&lists.npre, own) {
+    if has_id(&lists.npre, own_id) {
         return Some(b"NPRE");
     }
-    if names(&lists.delete, own) {
+    if has_id(&lists.delete, own_id) {
         return Some(b"DELETE");
     }
     None
 }
 
-/// Whether the list names the id.
-pub(crate) fn names(ids: &IdList, own: &[u8]) -> bool {
-    match Id::read(own) {
+// Whether the list has the id of this text.
+fn has_id(ids: &IdList, text: &[u8]) -> bool {
+    match Id::read(text) {
         Some(id) => ids.contains(id),
         None => false,
     }

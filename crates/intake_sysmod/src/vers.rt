@@ -3,7 +3,7 @@ ghost use Rattle.std.specs.Prelude.{◌≡◌, IfOk, IfSome, IsPermutation};
 ghost use Rattle.terms.specs.Beside.{Beside};
 ghost use Rattle.intake_sysmod.specs.NoLooser.{IsVer, AreVers, AreOperands};
 
-use crate::ver_operands::{VerOperands, operands_of};
+use crate::ver_operands::{VerOperands, read_operands};
 use fields::Srel;
 use intake_cards::{RemarkReason, Remarks, Subject};
 use intake_read::{WideSysmod, WideVer};
@@ -15,7 +15,7 @@ use terms::Kind;
 const MOST_VERS: usize = 8;
 
 // Copies of the conditions, for one more `++VER`.
-fn copies_of(alloc: Global, ifs: &[IfReq]) -> Result<Vec<IfReq>, AllocError>
+fn clone_conditions(alloc: Global, ifs: &[IfReq]) -> Result<Vec<IfReq>, AllocError>
     ensures { IfOk result (λ copies. copies.items ≡ ifs.now) }
 {
     let mut copies = Vec::new(alloc);
@@ -29,7 +29,7 @@ fn copies_of(alloc: Global, ifs: &[IfReq]) -> Result<Vec<IfReq>, AllocError>
 }
 
 // The `++VER` of these operands for one SREL.
-fn ver_of(alloc: Global, srel: Srel, operands: &VerOperands) -> Result<Ver, AllocError>
+fn ver_for_srel(alloc: Global, srel: Srel, operands: &VerOperands) -> Result<Ver, AllocError>
     ensures { IfOk result (λ ver. (ver.srel ≡ srel) × (ver.fmid ≡ operands.now.fmid)
         × (ver.pre ≡ operands.now.lists.pre) × (ver.req ≡ operands.now.lists.req)
         × (ver.sup ≡ operands.now.lists.sup) × (ver.npre ≡ operands.now.lists.npre)
@@ -44,12 +44,12 @@ fn ver_of(alloc: Global, srel: Srel, operands: &VerOperands) -> Result<Ver, Allo
         sup: lists.sup.try_clone(alloc)?,
         npre: lists.npre.try_clone(alloc)?,
         del: lists.delete.try_clone(alloc)?,
-        ifs: copies_of(alloc, operands.ifs.as_slice())?,
+        ifs: clone_conditions(alloc, operands.ifs.as_slice())?,
     })
 }
 
-// The `++VER`s for the SRELs, or nothing where one of these has not the form, which is told.
-fn for_srels(
+// The `++VER`s for the SRELs. Returns `None`, with a remark, if one of these has not the form of an SREL.
+fn vers_for_srels(
     alloc: Global,
     remarks: &mut Remarks,
     subject: &Subject<'_>,
@@ -72,13 +72,13 @@ fn for_srels(
             )?;
             return Ok(None);
         };
-        vers.push(ver_of(alloc, srel, operands)?)?;
+        vers.push(ver_for_srel(alloc, srel, operands)?)?;
     }
     Ok(Some(vers))
 }
 
-// The `++VER`s of one statement, one for each SREL, or nothing where it can't be carried, which is told.
-fn vers_for(
+// The `++VER`s of one statement, one for each SREL. Returns `None`, with a remark, if it cannot be carried.
+fn vers_of_statement(
     alloc: Global,
     remarks: &mut Remarks,
     sysmod: &WideSysmod,
@@ -96,14 +96,15 @@ fn vers_for(
         remarks.leave_out(alloc, &subject, b"SREL", RemarkReason::Missing, b"")?;
         return Ok(None);
     }
-    match operands_of(alloc, remarks, sysmod, stated)? {
-        Some(operands) => for_srels(alloc, remarks, &subject, stated, &operands),
+    match read_operands(alloc, remarks, sysmod, stated)? {
+        Some(operands) => vers_for_srels(alloc, remarks, &subject, stated, &operands),
         None => Ok(None),
     }
 }
 
-// The `++VER`s of all statements, as they stand, or nothing where one can't be carried. Each of those is told.
-fn stated_vers(
+// The `++VER`s of all statements, as they stand. Returns `None`, with a remark on each of these, if one cannot be
+// carried.
+fn vers_of_statements(
     alloc: Global,
     remarks: &mut Remarks,
     sysmod: &WideSysmod,
@@ -113,33 +114,33 @@ fn stated_vers(
     let mut vers = Vec::new(alloc);
     let mut all = true;
     for stated in sysmod.vers.iter() {
-        let Some(mut those) = vers_for(alloc, remarks, sysmod, stated)? else {
+        let Some(mut more) = vers_of_statement(alloc, remarks, sysmod, stated)? else {
             all = false;
             continue;
         };
-        vers.append(&mut those)?;
+        vers.append(&mut more)?;
     }
     if all { Ok(Some(vers)) } else { Ok(None) }
 }
 
 // The `++VER`s by their SRELs, those of one SREL as they stand.
-fn by_srel(mut vers: Vec<Ver>) -> Result<Vec<Ver>, AllocError>
+fn sort_by_srel(mut vers: Vec<Ver>) -> Result<Vec<Ver>, AllocError>
     ensures { IfOk result (λ sorted. IsPermutation vers.items sorted.items) }
 {
     vers.sort_by_key(|ver| ver.srel)?;
     Ok(vers)
 }
 
-// Whether a SYSMOD of the kind may have both.
-fn are_apart(kind: Kind, one: &Ver, other: &Ver) -> bool {
-    one.srel != other.srel || (kind != Kind::Function && one.fmid != other.fmid)
+// Whether a SYSMOD of the kind may have both: they differ in their SRELs, or it is service and they differ in FMIDs.
+fn may_both_stand(kind: Kind, first: &Ver, second: &Ver) -> bool {
+    first.srel != second.srel || (kind != Kind::Function && first.fmid != second.fmid)
 }
 
-// A `++VER` that may not stand beside an earlier one.
-fn second(kind: Kind, vers: &[Ver]) -> Option<&Ver> {
+// The first `++VER` that may not stand beside an earlier one, or `None` if all may stand together.
+fn first_conflicting_ver(kind: Kind, vers: &[Ver]) -> Option<&Ver> {
     for (place, ver) in vers.iter().enumerate() {
         for earlier in &vers[..place] {
-            if !are_apart(kind, earlier, ver) {
+            if !may_both_stand(kind, earlier, ver) {
                 return Some(ver);
             }
         }
@@ -147,7 +148,7 @@ fn second(kind: Kind, vers: &[Ver]) -> Option<&Ver> {
     None
 }
 
-// Whether a `++VER` stands there that can't be read, which is told by itself.
+// Whether a `++VER` of the SYSMOD cannot be read. Such a statement has a remark of its own.
 fn has_faulty_ver(sysmod: &WideSysmod) -> bool {
     sysmod
         .others
@@ -155,8 +156,9 @@ fn has_faulty_ver(sysmod: &WideSysmod) -> bool {
         .any(|other| other.word.as_slice() == b"VER".as_slice())
 }
 
-/// The `++VER`s of a SYSMOD by their SRELs, or nothing where they can't be carried. Why is told.
-pub(crate) fn vers_of(
+/// The `++VER`s of a SYSMOD by their SRELs. Returns `None`, with a remark, if one cannot be carried, if there is none,
+/// if there are too many, or if two may not stand together.
+pub(crate) fn read_vers(
     alloc: Global,
     remarks: &mut Remarks,
     subject: &Subject<'_>,
@@ -164,7 +166,7 @@ pub(crate) fn vers_of(
 ) -> Result<Option<Vec<Ver>>, AllocError>
     ensures { IfOk result (λ found. IfSome found (λ vers. AreVers sysmod.now.vers.items vers.items)) }
 {
-    let Some(vers) = stated_vers(alloc, remarks, sysmod)? else {
+    let Some(vers) = vers_of_statements(alloc, remarks, sysmod)? else {
         return Ok(None);
     };
     if vers.is_empty() {
@@ -177,7 +179,7 @@ pub(crate) fn vers_of(
         remarks.leave_out(alloc, subject, b"VER", RemarkReason::TooMany, b"")?;
         return Ok(None);
     }
-    if let Some(ver) = second(sysmod.kind, vers.as_slice()) {
+    if let Some(ver) = first_conflicting_ver(sysmod.kind, vers.as_slice()) {
         remarks.leave_out(
             alloc,
             subject,
@@ -187,5 +189,5 @@ pub(crate) fn vers_of(
         )?;
         return Ok(None);
     }
-    Ok(Some(by_srel(vers)?))
+    Ok(Some(sort_by_srel(vers)?))
 }

@@ -1,7 +1,7 @@
 //! The program over files in memory: statuses, what is left in the folder, and what is told on standard error.
 
 use fields::{Id, Reason};
-use intake_command::{IntakeHost, Named, command, keep_service};
+use intake_command::{IntakeHost, NamedFile, command, keep_service};
 use intake_words::IntakeFault;
 use mcs::HoldItem;
 use std::alloc::Global;
@@ -117,14 +117,19 @@ impl IntakeHost for Memory {
         Err(Error::from(ErrorKind::NotFound))
     }
 
-    fn draft(&mut self, folder: &str, _name: &'static str, _bytes: &[u8]) -> io::Result<()> {
+    fn append_to_draft(
+        &mut self,
+        folder: &str,
+        _name: &'static str,
+        _bytes: &[u8],
+    ) -> io::Result<()> {
         if folder == "full" {
             return Err(Error::from(ErrorKind::StorageFull));
         }
         Ok(())
     }
 
-    fn keep(&mut self, folder: &str, files: &[Named]) -> io::Result<()> {
+    fn keep(&mut self, folder: &str, files: &[NamedFile]) -> io::Result<()> {
         if folder == "full" {
             return Err(Error::from(ErrorKind::StorageFull));
         }
@@ -137,11 +142,11 @@ impl IntakeHost for Memory {
         Ok(())
     }
 
-    fn is_same(&mut self, one: &str, other: &str) -> io::Result<bool> {
-        if one.starts_with("lost/") {
+    fn is_same(&mut self, first: &str, second: &str) -> io::Result<bool> {
+        if first.starts_with("lost/") {
             return Err(Error::from(ErrorKind::InvalidData));
         }
-        Ok(one.strip_prefix("./").unwrap_or(one) == other)
+        Ok(first.strip_prefix("./").unwrap_or(first) == second)
     }
 
     fn print(&mut self, text: &[u8]) -> io::Result<()> {

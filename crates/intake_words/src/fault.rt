@@ -1,4 +1,4 @@
-//! Why nothing is written.
+//! Faults: why a run writes nothing.
 
 use crate::inputs::InputFiles;
 use crate::options::WordsFault;
@@ -12,7 +12,7 @@ use std::io::ErrorKind;
 pub enum IntakeFault {
     Memory,
     Words(WordsFault),
-    /// The name of a file that can't be read.
+    /// The name of a file that cannot be read.
     CannotRead(Vec<u8>),
     /// The input of the first name is the file of the second one, which would be written.
     OutputIsInput(Vec<u8>, Vec<u8>),
@@ -22,13 +22,13 @@ pub enum IntakeFault {
     CannotWrite,
     /// Standard output takes nothing.
     CannotPrint,
-    /// What of the file of that name can't be read as cards.
+    /// Why the file of that name cannot be read as cards.
     NoCards(Vec<u8>, CardError),
     /// Statements that no SYSMOD can be left out for, each with its file and card.
     Statements(Vec<Vec<u8>>),
     /// No statement stands in any file.
     NoStatement,
-    /// What was to be written to this file is not read as what was meant.
+    /// The bytes for this file are not read back as what they stand for.
     NotReadBack(&'static str),
 }
 
@@ -50,66 +50,72 @@ impl From<WordsFault> for IntakeFault {
     }
 }
 
-// A fault, or that memory ran out when it was made.
-fn made(fault: Result<IntakeFault, AllocError>) -> IntakeFault {
+// The fault, or `Memory` if memory ran out while its text was made.
+fn fault_or_memory(fault: Result<IntakeFault, AllocError>) -> IntakeFault {
     match fault {
         Ok(fault) => fault,
         Err(_) => IntakeFault::Memory,
     }
 }
 
+// Each fault is `Memory` instead if memory runs out while its text is made.
 impl IntakeFault {
     /// The fault of a file that was not read, for an error of this kind.
-    pub fn unread(alloc: Global, name: &str, kind: ErrorKind) -> IntakeFault {
+    pub fn of_unread_file(alloc: Global, name: &str, kind: ErrorKind) -> IntakeFault {
         match kind {
             ErrorKind::OutOfMemory => IntakeFault::Memory,
-            _ => made(unread(alloc, name)),
+            _ => fault_or_memory(unread_fault(alloc, name)),
         }
     }
 
     /// The fault of an input that is one of the files that would be written.
     pub fn of_output(alloc: Global, input: &str, output: &str) -> IntakeFault {
-        made(of_output(alloc, input, output))
+        fault_or_memory(output_fault(alloc, input, output))
     }
 
     /// The fault of a line of a list of known SYSMODs.
     pub fn of_known_line(alloc: Global, name: &str, line: usize) -> IntakeFault {
-        made(of_known_line(alloc, name, line))
+        fault_or_memory(known_line_fault(alloc, name, line))
     }
 
     /// The fault of a file that is no cards.
     pub fn of_cards(alloc: Global, name: &str, error: CardError) -> IntakeFault {
-        made(of_cards(alloc, name, error))
+        fault_or_memory(cards_fault(alloc, name, error))
     }
 
     /// The fault of a file with a statement that no SYSMOD can be left out for.
     pub fn of_statement(alloc: Global, sources: &InputFiles, error: &WideError) -> IntakeFault {
-        made(of_statement(alloc, sources, error))
+        fault_or_memory(statement_fault(alloc, sources, error))
     }
 }
 
-fn unread(alloc: Global, name: &str) -> Result<IntakeFault, AllocError> {
+// The fault of a file that was not read.
+fn unread_fault(alloc: Global, name: &str) -> Result<IntakeFault, AllocError> {
     Ok(IntakeFault::CannotRead(Vec::from_slice(alloc, name.as_bytes())?))
 }
 
-fn of_output(alloc: Global, input: &str, output: &str) -> Result<IntakeFault, AllocError> {
+// The fault of an input that is an output.
+fn output_fault(alloc: Global, input: &str, output: &str) -> Result<IntakeFault, AllocError> {
     let input = Vec::from_slice(alloc, input.as_bytes())?;
     let output = Vec::from_slice(alloc, output.as_bytes())?;
     Ok(IntakeFault::OutputIsInput(input, output))
 }
 
-fn of_known_line(alloc: Global, name: &str, line: usize) -> Result<IntakeFault, AllocError> {
+// The fault of a line of a list of known SYSMODs.
+fn known_line_fault(alloc: Global, name: &str, line: usize) -> Result<IntakeFault, AllocError> {
     Ok(IntakeFault::KnownLine(Vec::from_slice(alloc, name.as_bytes())?, line))
 }
 
-fn of_cards(alloc: Global, name: &str, error: CardError) -> Result<IntakeFault, AllocError> {
+// The fault of a file that is no cards.
+fn cards_fault(alloc: Global, name: &str, error: CardError) -> Result<IntakeFault, AllocError> {
     match error {
         CardError::Memory => Ok(IntakeFault::Memory),
         other => Ok(IntakeFault::NoCards(Vec::from_slice(alloc, name.as_bytes())?, other)),
     }
 }
 
-fn of_statement(
+// The fault of a statement that no SYSMOD can be left out for.
+fn statement_fault(
     alloc: Global,
     sources: &InputFiles,
     error: &WideError,
@@ -130,7 +136,7 @@ fn of_statement(
     Ok(IntakeFault::Statements(lines))
 }
 
-// The statement's word, and its name where it has one.
+// Appends the statement's word, and its name if it has one.
 fn put_statement(line: &mut Vec<u8>, word: &[u8], name: &[u8]) -> Result<(), AllocError> {
     line.extend_from_slice(b"++")?;
     line.extend_from_slice(word)?;

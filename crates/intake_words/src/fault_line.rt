@@ -16,7 +16,7 @@ impl IntakeFault {
         }
         let mut line = Vec::from_slice(alloc, PROGRAM)?;
         match self {
-            IntakeFault::Statements(texts) => put_texts(&mut line, texts)?,
+            IntakeFault::Statements(texts) => put_lines_of_texts(&mut line, texts)?,
             other => put_text(alloc, &mut line, other, folder)?,
         }
         line.push(b'\n')?;
@@ -24,7 +24,7 @@ impl IntakeFault {
     }
 }
 
-// What is said of a fault, but for statements.
+// Appends the text of a fault. `line` writes that of statements itself.
 fn put_text(
     alloc: Global,
     line: &mut Vec<u8>,
@@ -32,20 +32,31 @@ fn put_text(
     folder: &str,
 ) -> Result<(), AllocError> {
     match fault {
-        IntakeFault::Memory | IntakeFault::Statements(_) => put(line, b"out of memory", b"", b""),
-        IntakeFault::Words(fault) => put(line, words_text(fault), b"", b""),
-        IntakeFault::CannotRead(name) => put(line, b"cannot read ", name, b""),
+        IntakeFault::Memory | IntakeFault::Statements(_) => append_three(
+            line,
+            b"out of memory",
+            b"",
+            b"",
+        ),
+        IntakeFault::Words(fault) => append_three(line, text_of_words_fault(fault), b"", b""),
+        IntakeFault::CannotRead(name) => append_three(line, b"cannot read ", name, b""),
         IntakeFault::OutputIsInput(input, output) => put_output(line, input, output),
         IntakeFault::KnownLine(name, number) => put_known(alloc, line, name, *number),
-        IntakeFault::CannotWrite => put(line, b"cannot write into ", folder.as_bytes(), b""),
-        IntakeFault::CannotPrint => put(line, b"write", b"", b""),
+        IntakeFault::CannotWrite => append_three(
+            line,
+            b"cannot write into ",
+            folder.as_bytes(),
+            b"",
+        ),
+        IntakeFault::CannotPrint => append_three(line, b"write", b"", b""),
         IntakeFault::NoCards(name, error) => put_cards(alloc, line, name, *error),
-        IntakeFault::NoStatement => put(line, b"no statement found", b"", b""),
+        IntakeFault::NoStatement => append_three(line, b"no statement found", b"", b""),
         IntakeFault::NotReadBack(name) => put_unread(line, name.as_bytes()),
     }
 }
 
-fn words_text(fault: &WordsFault) -> &'static [u8] {
+// What is wrong with the words, or an empty text for what `clap` says.
+fn text_of_words_fault(fault: &WordsFault) -> &'static [u8] {
     match fault {
         WordsFault::Memory => b"out of memory",
         WordsFault::Clap(_) => b"",
@@ -54,17 +65,25 @@ fn words_text(fault: &WordsFault) -> &'static [u8] {
     }
 }
 
-fn put(line: &mut Vec<u8>, one: &[u8], two: &[u8], three: &[u8]) -> Result<(), AllocError> {
-    line.extend_from_slice(one)?;
-    line.extend_from_slice(two)?;
-    line.extend_from_slice(three)
+// Appends three texts.
+fn append_three(
+    line: &mut Vec<u8>,
+    first: &[u8],
+    second: &[u8],
+    third: &[u8],
+) -> Result<(), AllocError> {
+    line.extend_from_slice(first)?;
+    line.extend_from_slice(second)?;
+    line.extend_from_slice(third)
 }
 
+// Appends that an input is an output.
 fn put_output(line: &mut Vec<u8>, input: &[u8], output: &[u8]) -> Result<(), AllocError> {
-    put(line, output, b" would replace the input ", input)?;
+    append_three(line, output, b" would replace the input ", input)?;
     line.extend_from_slice(b": give another folder with --out")
 }
 
+// Appends that a line of a list of known SYSMODs names none.
 fn put_known(
     alloc: Global,
     line: &mut Vec<u8>,
@@ -72,9 +91,10 @@ fn put_known(
     number: usize,
 ) -> Result<(), AllocError> {
     let rest = format!(in alloc; " line {number}: a line has an id, a type and source ids")?;
-    put(line, name, rest.as_bytes(), b"")
+    append_three(line, name, rest.as_bytes(), b"")
 }
 
+// Appends why a file is no cards.
 fn put_cards(
     alloc: Global,
     line: &mut Vec<u8>,
@@ -82,11 +102,12 @@ fn put_cards(
     error: CardError,
 ) -> Result<(), AllocError> {
     let text = format!(in alloc; "{error}")?;
-    put(line, name, b": ", text.as_bytes())
+    append_three(line, name, b": ", text.as_bytes())
 }
 
+// Appends that the bytes for a file were not read back.
 fn put_unread(line: &mut Vec<u8>, name: &[u8]) -> Result<(), AllocError> {
-    put(
+    append_three(
         line,
         b"what was made for ",
         name,
@@ -94,8 +115,8 @@ fn put_unread(line: &mut Vec<u8>, name: &[u8]) -> Result<(), AllocError> {
     )
 }
 
-// Each text on a line of its own.
-fn put_texts(line: &mut Vec<u8>, texts: &[Vec<u8>]) -> Result<(), AllocError> {
+// Appends each text on a line of its own.
+fn put_lines_of_texts(line: &mut Vec<u8>, texts: &[Vec<u8>]) -> Result<(), AllocError> {
     let mut is_first = true;
     for text in texts {
         if !is_first {

@@ -25,6 +25,7 @@ impl InputFiles {
         }
     }
 
+    // Adds the next file.
     fn add(&mut self, alloc: Global, name: &str, form: Layout) -> Result<(), AllocError> {
         self.all.push(InputFile {
             name: String::from_str(alloc, name)?,
@@ -33,7 +34,7 @@ impl InputFiles {
         Ok(())
     }
 
-    // The name of the file of this number.
+    // The name of the file of this number, or an empty text if there is none.
     pub(crate) fn name(&self, file: usize) -> &str {
         match self.all.get(file) {
             Some(source) => source.name.as_str(),
@@ -41,7 +42,7 @@ impl InputFiles {
         }
     }
 
-    // What a card of the file of this number is called.
+    // What a card of the file of this number is called: "line" or "record".
     pub(crate) fn unit(&self, file: usize) -> &'static str {
         match self.all.get(file) {
             Some(source) => unit(source.form),
@@ -49,7 +50,7 @@ impl InputFiles {
         }
     }
 
-    // The place in words, before what is told of it.
+    // The place in words, with a colon after it.
     pub(crate) fn place_text(
         &self,
         alloc: Global,
@@ -62,6 +63,7 @@ impl InputFiles {
     }
 }
 
+// What a card of a file with this layout is called.
 fn unit(form: Layout) -> &'static str {
     match form {
         Layout::Text => "line",
@@ -69,8 +71,9 @@ fn unit(form: Layout) -> &'static str {
     }
 }
 
-/// The cards of the file of this name, which is the next one, and what was assumed of it in the remarks.
-pub fn cards_of(
+/// The cards of the file of this name, which becomes the next one. Remarks say what was assumed of it. Returns
+/// `NoCards` if the bytes cannot be read as cards, `Memory` if memory runs out.
+pub fn read_file_cards(
     alloc: Global,
     sources: &mut InputFiles,
     name: &str,
@@ -80,16 +83,17 @@ pub fn cards_of(
     remarks: &mut Vec<u8>,
 ) -> Result<Vec<Card>, IntakeFault> {
     let file = sources.all.len();
-    let found = match read_cards(alloc, file, bytes, form, code) {
-        Ok(found) => found,
+    let read = match read_cards(alloc, file, bytes, form, code) {
+        Ok(read) => read,
         Err(error) => return Err(IntakeFault::of_cards(alloc, name, error)),
     };
-    sources.add(alloc, name, found.form)?;
-    tell_assumed(alloc, name, found.form, found.code, &found.notes, remarks)?;
-    Ok(found.cards)
+    sources.add(alloc, name, read.form)?;
+    describe_assumptions(alloc, name, read.form, read.code, &read.notes, remarks)?;
+    Ok(read.cards)
 }
 
-/// A reader of the cards of the file of this name, which is the next one.
+/// A reader of the cards of the file of this name, which becomes the next one. Returns `NoCards` if the bytes cannot be
+/// read as cards, `Memory` if memory runs out.
 pub fn open_cards<'a>(
     alloc: Global,
     sources: &mut InputFiles,
@@ -108,8 +112,8 @@ pub fn open_cards<'a>(
     }
 }
 
-/// Tells how the file was read, and what of its cards is no card's.
-pub fn tell_assumed(
+/// Appends a line that says in which layout and code the file was read, and one for each oddity of its cards.
+pub fn describe_assumptions(
     alloc: Global,
     name: &str,
     form: Layout,
@@ -132,6 +136,7 @@ pub fn tell_assumed(
     Ok(())
 }
 
+// The layout in words.
 fn form_words(form: Layout) -> &'static str {
     match form {
         Layout::Text => "lines",
@@ -139,6 +144,7 @@ fn form_words(form: Layout) -> &'static str {
     }
 }
 
+// The code in words.
 fn code_words(code: Code) -> &'static str {
     match code {
         Code::Ascii => "ASCII",
@@ -147,6 +153,7 @@ fn code_words(code: Code) -> &'static str {
     }
 }
 
+// The oddity in words.
 fn oddity_words(oddity: CardOddity) -> &'static str {
     match oddity {
         CardOddity::ByteOrderMark => "a byte order mark is passed over",

@@ -1,6 +1,6 @@
 //! The words of `smpe-intake`: what its command line asks for, how a run ends without output, and what is told of a
-//! run. Nothing here reads or writes a file. Every call that allocates fails with `AllocError`, or a fault that says so,
-//! if memory runs out.
+//! run. Nothing here reads or writes a file. Every call that allocates fails with `AllocError`, or a fault that says
+//! so, if memory runs out.
 #![tactic(auto)]
 
 mod fault;
@@ -14,9 +14,9 @@ mod summary;
 mod summary_json;
 
 pub use fault::IntakeFault;
-pub use inputs::{InputFiles, cards_of, open_cards, tell_assumed};
-pub use options::{IntakeOptions, WordsFault, read_words};
+pub use inputs::{InputFiles, describe_assumptions, open_cards, read_file_cards};
+pub use options::{IntakeOptions, WordsFault, read_words, text_views};
 pub use relfile::{RelfileElement, relfile_elements};
-pub use remarks::{put_line, refused, tell};
+pub use remarks::{append_remark_line, append_remark_lines, refusal_fault};
 pub use stand_ins::stand_ins_file;
 pub use summary::{command_summary, summary_of};

@@ -1,5 +1,7 @@
-//! What the words of the command line ask for.
-//! The options are read by `clap`; that they are the manual page's is shown by tests alone.
+//! The options of the command line.
+//! `clap` reads them. Only tests show that they are those of the manual page.
+ghost use Rattle.std.specs.Prelude.{◌≡◌, IfOk, map};
+ghost use Rattle.std.specs.String.{string_bytes};
 
 use clap::error::ErrorKind;
 use clap::{Arg, ArgAction, ArgMatches, Command};
@@ -36,7 +38,7 @@ pub struct IntakeOptions {
     pub code: Option<Code>,
 }
 
-/// Why the words ask for nothing.
+/// Why the words of the command line cannot be carried out.
 #[derive(Debug, Drop)]
 pub enum WordsFault {
     Memory,
@@ -69,7 +71,9 @@ impl From<clap::Error> for WordsFault {
     }
 }
 
-/// Reads the words, of which the first is the program's name.
+/// The options of the words, of which the first is the program's name. Returns `NoText` if a word is no UTF-8, `Clap`
+/// for help, version and words that are no such options, `Syslib` for a wrong value of `--syslib`, `Memory` if memory
+/// runs out.
 pub fn read_words(alloc: Global, words: &[Vec<u8>]) -> Result<IntakeOptions, WordsFault> {
     let mut texts: Vec<String> = Vec::new(alloc);
     for word in words {
@@ -78,49 +82,53 @@ pub fn read_words(alloc: Global, words: &[Vec<u8>]) -> Result<IntakeOptions, Wor
             Err(_) => return Err(WordsFault::NoText),
         }
     }
-    let views = views(alloc, texts.as_slice())?;
-    let found = command_line(alloc)?.try_get_matches_from(views.as_slice())?;
-    values(alloc, &found)
+    let views = text_views(alloc, texts.as_slice())?;
+    let matches = command_line(alloc)?.try_get_matches_from(views.as_slice())?;
+    read_options(alloc, &matches)
 }
 
-fn views<'a>(alloc: Global, texts: &'a [String]) -> Result<Vec<&'a str>, AllocError> {
-    let mut views: Vec<&'a str> = Vec::new(alloc);
+/// The texts, lent one by one.
+pub fn text_views(alloc: Global, texts: &[String]) -> Result<Vec<&str>, AllocError>
+    ensures { IfOk result (λ views. map (λ view. view.now) views.items ≡ map string_bytes texts.now) }
+{
+    let mut views = Vec::new(alloc);
     for text in texts {
         views.push(text.as_str())?;
     }
     Ok(views)
 }
 
+// The command line with all its options.
 fn command_line<'a>(alloc: Global) -> Result<Command<'a>, AllocError> {
     let command = Command::new(alloc, "smpe-intake")
         .version(VERSION)
         .about("Makes a shop's SMP/E files into files that smpe takes")
         .after_help("Example: smpe-intake --out taken ptfs.txt holddata.txt");
-    let command = with_names(alloc, command)?;
-    let command = with_layout(alloc, command)?;
-    let command = with_elements(alloc, command)?;
+    let command = add_file_options(alloc, command)?;
+    let command = add_layout_options(alloc, command)?;
+    let command = add_element_options(alloc, command)?;
     command
-        .arg(named(alloc, "summary", "FORM", "The form of the summary").value_parser(
+        .arg(option_with_value(alloc, "summary", "FORM", "The form of the summary").value_parser(
             SUMMARIES.as_slice(),
         ))?
-        .arg(files(alloc)?)
+        .arg(file_arguments(alloc)?)
 }
 
-// The options that name the folder and files.
-fn with_names<'a>(alloc: Global, command: Command<'a>) -> Result<Command<'a>, AllocError> {
-    let out = named(
+// Adds the options that name the folder and files.
+fn add_file_options<'a>(alloc: Global, command: Command<'a>) -> Result<Command<'a>, AllocError> {
+    let out = option_with_value(
         alloc,
         "out",
         "DIR",
         "The folder for ptfin, hold or cntl, and remarks",
     );
-    let cntl = named(
+    let cntl = option_with_value(
         alloc,
         "cntl",
         "FILE",
         "A command file, in place of the others",
     );
-    let known = named(
+    let known = option_with_value(
         alloc,
         "known",
         "FILE",
@@ -129,29 +137,33 @@ fn with_names<'a>(alloc: Global, command: Command<'a>) -> Result<Command<'a>, Al
     command.arg(out.required(true))?.arg(cntl)?.arg(known)
 }
 
-// The options that say how files are laid out.
-fn with_layout<'a>(alloc: Global, command: Command<'a>) -> Result<Command<'a>, AllocError> {
-    let text = flag(alloc, "text", "The files have lines").conflicts_with("records")?;
-    let records = flag(alloc, "records", "The files have records of 80 bytes");
-    let code = named(alloc, "code", "CODE", "The code of the files").value_parser(CODES.as_slice());
+// Adds the options that say how files are laid out.
+fn add_layout_options<'a>(alloc: Global, command: Command<'a>) -> Result<Command<'a>, AllocError> {
+    let text = option_without_value(alloc, "text", "The files have lines").conflicts_with(
+        "records",
+    )?;
+    let records = option_without_value(alloc, "records", "The files have records of 80 bytes");
+    let code = option_with_value(alloc, "code", "CODE", "The code of the files").value_parser(
+        CODES.as_slice(),
+    );
     command.arg(text)?.arg(records)?.arg(code)
 }
 
-// The options that say what becomes of elements.
-fn with_elements<'a>(alloc: Global, command: Command<'a>) -> Result<Command<'a>, AllocError> {
-    let syslib = named(
+// Adds the options that say what becomes of elements.
+fn add_element_options<'a>(alloc: Global, command: Command<'a>) -> Result<Command<'a>, AllocError> {
+    let syslib = option_with_value(
         alloc,
         "syslib",
         "DISTLIB=SYSLIB",
         "The SYSLIB of elements that state none",
     );
-    let relfile = named(
+    let relfile = option_with_value(
         alloc,
         "relfile",
         "DIR",
         "The folder with F1, F2 .. for RELFILE",
     );
-    let decide = flag(
+    let decide = option_without_value(
         alloc,
         "decide",
         "Carries stand-ins for elements that smpe lacks",
@@ -162,18 +174,21 @@ fn with_elements<'a>(alloc: Global, command: Command<'a>) -> Result<Command<'a>,
         .arg(decide)
 }
 
-fn named<'a>(alloc: Global, id: &'a str, value: &'a str, help: &'a str) -> Arg<'a> {
+// An option that takes a value.
+fn option_with_value<'a>(alloc: Global, id: &'a str, value: &'a str, help: &'a str) -> Arg<'a> {
     Arg::new(alloc, id).long(id).value_name(value).help(help)
 }
 
-fn flag<'a>(alloc: Global, id: &'a str, help: &'a str) -> Arg<'a> {
+// An option that takes no value.
+fn option_without_value<'a>(alloc: Global, id: &'a str, help: &'a str) -> Arg<'a> {
     Arg::new(alloc, id)
         .long(id)
         .action(ArgAction::SetTrue)
         .help(help)
 }
 
-fn files<'a>(alloc: Global) -> Result<Arg<'a>, AllocError> {
+// The names of the files.
+fn file_arguments<'a>(alloc: Global) -> Result<Arg<'a>, AllocError> {
     Arg::new(alloc, "file")
         .value_name("FILE")
         .num_args(1usize..)
@@ -183,31 +198,42 @@ fn files<'a>(alloc: Global) -> Result<Arg<'a>, AllocError> {
         .required_unless_present("cntl")
 }
 
-fn values(alloc: Global, found: &ArgMatches<'_>) -> Result<IntakeOptions, WordsFault> {
+// The options that clap has matched. Returns `Syslib` for a wrong value of `--syslib`, `Memory` if memory runs out.
+fn read_options(alloc: Global, matches: &ArgMatches<'_>) -> Result<IntakeOptions, WordsFault> {
     Ok(IntakeOptions {
-        out: text(alloc, found, "out")?.unwrap_or(String::new(alloc)),
-        files: texts(alloc, found, "file")?,
-        cntl: text(alloc, found, "cntl")?,
-        known: text(alloc, found, "known")?,
-        relfile: text(alloc, found, "relfile")?,
-        syslibs: syslibs(alloc, found)?,
-        decide: found.get_flag("decide"),
-        json: found.get_str("summary") == Some("json"),
-        form: form(found),
-        code: code(found),
+        out: option_text(alloc, matches, "out")?.unwrap_or(String::new(alloc)),
+        files: option_texts(alloc, matches, "file")?,
+        cntl: option_text(alloc, matches, "cntl")?,
+        known: option_text(alloc, matches, "known")?,
+        relfile: option_text(alloc, matches, "relfile")?,
+        syslibs: syslib_options(alloc, matches)?,
+        decide: matches.get_flag("decide"),
+        json: matches.get_str("summary") == Some("json"),
+        form: layout_option(matches),
+        code: code_option(matches),
     })
 }
 
-fn text(alloc: Global, found: &ArgMatches<'_>, id: &str) -> Result<Option<String>, AllocError> {
-    match found.get_str(id) {
+// The value of the option, or `None` if the command line lacks it.
+fn option_text(
+    alloc: Global,
+    matches: &ArgMatches<'_>,
+    id: &str,
+) -> Result<Option<String>, AllocError> {
+    match matches.get_str(id) {
         Some(text) => Ok(Some(String::from_str(alloc, text)?)),
         None => Ok(None),
     }
 }
 
-fn texts(alloc: Global, found: &ArgMatches<'_>, id: &str) -> Result<Vec<String>, AllocError> {
+// The values of the option, one for each time that the command line has it.
+fn option_texts(
+    alloc: Global,
+    matches: &ArgMatches<'_>,
+    id: &str,
+) -> Result<Vec<String>, AllocError> {
     let mut texts = Vec::new(alloc);
-    if let Some(values) = found.get_strs(id) {
+    if let Some(values) = matches.get_strs(id) {
         for value in values {
             texts.push(String::from_str(alloc, value)?)?;
         }
@@ -215,18 +241,20 @@ fn texts(alloc: Global, found: &ArgMatches<'_>, id: &str) -> Result<Vec<String>,
     Ok(texts)
 }
 
-fn form(found: &ArgMatches<'_>) -> Option<Layout> {
-    if found.get_flag("text") {
+// The layout that --text or --records asks for, or `None` without them.
+fn layout_option(matches: &ArgMatches<'_>) -> Option<Layout> {
+    if matches.get_flag("text") {
         Some(Layout::Text)
-    } else if found.get_flag("records") {
+    } else if matches.get_flag("records") {
         Some(Layout::Records)
     } else {
         None
     }
 }
 
-fn code(found: &ArgMatches<'_>) -> Option<Code> {
-    let code = found.get_str("code")?;
+// The code that --code asks for, or `None` without it.
+fn code_option(matches: &ArgMatches<'_>) -> Option<Code> {
+    let code = matches.get_str("code")?;
     if code == "ascii" {
         Some(Code::Ascii)
     } else if code == "ibm1047" {
@@ -236,22 +264,24 @@ fn code(found: &ArgMatches<'_>) -> Option<Code> {
     }
 }
 
-fn syslibs(alloc: Global, found: &ArgMatches<'_>) -> Result<Vec<Syslib>, WordsFault> {
+// The SYSLIBs of all --syslib, each with its DISTLIB. Returns `Syslib` if a value is not DISTLIB=SYSLIB, `Memory` if
+// memory runs out.
+fn syslib_options(alloc: Global, matches: &ArgMatches<'_>) -> Result<Vec<Syslib>, WordsFault> {
     let mut pairs = Vec::new(alloc);
-    for pair in &texts(alloc, found, "syslib")? {
+    for pair in &option_texts(alloc, matches, "syslib")? {
         let pair = pair.as_bytes();
         let Some(at) = pair.iter().position(|b| *b == b'=') else {
             return Err(WordsFault::Syslib);
         };
-        let distlib = library(alloc, &pair[..at])?;
-        let syslib = library(alloc, &pair[at + 1..])?;
+        let distlib = read_library_name(alloc, &pair[..at])?;
+        let syslib = read_library_name(alloc, &pair[at + 1..])?;
         pairs.push(Syslib { distlib, syslib })?;
     }
     Ok(pairs)
 }
 
-// The name of a library, in upper case.
-fn library(alloc: Global, name: &[u8]) -> Result<Name, WordsFault> {
+// The name of a library, in upper case. Returns `Syslib` if it has not the form of a name, `Memory` if memory runs out.
+fn read_library_name(alloc: Global, name: &[u8]) -> Result<Name, WordsFault> {
     let mut upper = Vec::new(alloc);
     for byte in name {
         upper.push(byte.to_ascii_uppercase())?;

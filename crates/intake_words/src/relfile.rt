@@ -5,7 +5,7 @@ use intake_cards::CardPlace;
 use intake_read::{WideElement, WideFile};
 use std::alloc::{AllocError, Global};
 
-/// A RELFILE and the SYSMOD that has it, if it is one alone.
+/// The number of a RELFILE, and the id of the SYSMOD that has it, or `None` if several have one of this number.
 #[derive(Drop)]
 struct RelfileUser<'a> {
     number: &'a [u8],
@@ -25,7 +25,7 @@ pub struct RelfileElement<'a> {
 }
 
 impl RelfileElement<'_> {
-    /// The file of its SYSMOD.
+    /// The path of its file in a folder of its SYSMOD's own.
     pub fn own_path(&self, alloc: Global, folder: &str) -> Result<String, AllocError> {
         let id = String::from_utf8_lossy(alloc, self.id)?;
         let number = String::from_utf8_lossy(alloc, self.number)?;
@@ -33,7 +33,7 @@ impl RelfileElement<'_> {
         format!(in alloc; "{folder}/{id}/F{number}/{name}")
     }
 
-    /// The file without the name of a SYSMOD.
+    /// The path of its file in a folder without the name of a SYSMOD.
     pub fn shared_path(&self, alloc: Global, folder: &str) -> Result<String, AllocError> {
         let number = String::from_utf8_lossy(alloc, self.number)?;
         let name = String::from_utf8_lossy(alloc, self.name)?;
@@ -41,7 +41,8 @@ impl RelfileElement<'_> {
     }
 }
 
-/// The elements with RELFILE, where it has a number and the SYSMOD and the element have good names.
+/// The elements with RELFILE. Left out are those without a number in RELFILE, and those whose own name or whose
+/// SYSMOD's id has not the form of one.
 pub fn relfile_elements<'a>(
     alloc: Global,
     files: &'a [WideFile],
@@ -50,19 +51,20 @@ pub fn relfile_elements<'a>(
     for file in files {
         for sysmod in &file.sysmods {
             for element in &sysmod.elements {
-                if let Some(one) = relfile_element(sysmod.id.as_slice(), element) {
-                    elements.push(one)?;
+                if let Some(relfile) = relfile_element(sysmod.id.as_slice(), element) {
+                    elements.push(relfile)?;
                 }
             }
         }
     }
-    let users = users_of(alloc, elements.as_slice())?;
+    let users = relfile_users(alloc, elements.as_slice())?;
     for element in elements.iter_mut() {
         element.is_alone = is_only_user(users.as_slice(), element);
     }
     Ok(elements)
 }
 
+// The element as one with RELFILE, or `None` if it has no number there, or its name or the id has not the form of one.
 fn relfile_element<'a>(id: &'a [u8], element: &'a WideElement) -> Option<RelfileElement<'a>> {
     let Some(relfile) = &element.relfile else {
         return None;
@@ -81,18 +83,19 @@ fn relfile_element<'a>(id: &'a [u8], element: &'a WideElement) -> Option<Relfile
     })
 }
 
+// Whether the text is a number of at most four digits.
 fn is_number(text: &[u8]) -> bool {
     !text.is_empty() && text.len() <= 4 && text.iter().all(|b| b.is_ascii_digit())
 }
 
-// Who has each RELFILE.
-fn users_of<'a>(
+// The numbers of all RELFILEs, each once, with the SYSMOD that has it.
+fn relfile_users<'a>(
     alloc: Global,
     elements: &[RelfileElement<'a>],
 ) -> Result<Vec<RelfileUser<'a>>, AllocError> {
     let mut users: Vec<RelfileUser<'a>> = Vec::new(alloc);
     for element in elements {
-        if !is_known(&mut users, element) {
+        if !note_user(&mut users, element) {
             users.push(RelfileUser {
                 number: element.number,
                 id: Some(element.id),
@@ -102,8 +105,8 @@ fn users_of<'a>(
     Ok(users)
 }
 
-// Whether the RELFILE has a user already, who is not alone if it is another SYSMOD.
-fn is_known(users: &mut Vec<RelfileUser<'_>>, element: &RelfileElement<'_>) -> bool {
+// Notes the SYSMOD of the element as a user of its RELFILE, if the number is listed. Returns whether it is.
+fn note_user(users: &mut Vec<RelfileUser<'_>>, element: &RelfileElement<'_>) -> bool {
     for user in users.iter_mut() {
         if user.number == element.number {
             if user.id != Some(element.id) {
@@ -115,6 +118,7 @@ fn is_known(users: &mut Vec<RelfileUser<'_>>, element: &RelfileElement<'_>) -> b
     false
 }
 
+// Whether no other SYSMOD has a RELFILE of the element's number.
 fn is_only_user(users: &[RelfileUser<'_>], element: &RelfileElement<'_>) -> bool {
     users.iter().any(|user| user.number == element.number && user.id == Some(element.id))
 }

@@ -5,25 +5,30 @@ use crate::inputs::InputFiles;
 use intake_cards::{Deed, Remark, RemarkList};
 use std::alloc::{AllocError, Global};
 
-fn line(alloc: Global, sources: &InputFiles, remark: &Remark<'_>) -> Result<Vec<u8>, AllocError> {
+// The line of a remark, with its file and card.
+fn remark_line(
+    alloc: Global,
+    sources: &InputFiles,
+    remark: &Remark<'_>,
+) -> Result<Vec<u8>, AllocError> {
     let file = remark.place.file;
     remark.line(alloc, sources.name(file), sources.unit(file))
 }
 
 /// Appends the line of a remark, with its file and card.
-pub fn put_line(
+pub fn append_remark_line(
     alloc: Global,
     sources: &InputFiles,
     remark: &Remark<'_>,
     lines: &mut Vec<u8>,
 ) -> Result<(), AllocError> {
-    lines.extend_from_slice(line(alloc, sources, remark)?.trim_ascii_end())?;
+    lines.extend_from_slice(remark_line(alloc, sources, remark)?.trim_ascii_end())?;
     lines.push(b'\n')?;
     Ok(())
 }
 
 /// Appends a line for each remark.
-pub fn tell(
+pub fn append_remark_lines(
     alloc: Global,
     sources: &InputFiles,
     remarks: &RemarkList,
@@ -31,21 +36,23 @@ pub fn tell(
 ) -> Result<(), AllocError> {
     for place in 0..remarks.len() {
         if let Some(remark) = remarks.get(place) {
-            put_line(alloc, sources, &remark, lines)?;
+            append_remark_line(alloc, sources, &remark, lines)?;
         }
     }
     Ok(())
 }
 
-/// If something is refused, nothing is written: each such remark is a line of the fault.
-pub fn refused(alloc: Global, sources: &InputFiles, remarks: &RemarkList) -> IntakeFault {
-    match refusals(alloc, sources, remarks) {
+/// The fault of a run that writes nothing because something is refused. Each remark that refuses something is a line of
+/// it. It is `Memory` if memory runs out.
+pub fn refusal_fault(alloc: Global, sources: &InputFiles, remarks: &RemarkList) -> IntakeFault {
+    match refusal_lines(alloc, sources, remarks) {
         Ok(lines) => IntakeFault::Statements(lines),
         Err(_) => IntakeFault::Memory,
     }
 }
 
-fn refusals(
+// The lines of the remarks that refuse something.
+fn refusal_lines(
     alloc: Global,
     sources: &InputFiles,
     remarks: &RemarkList,
@@ -54,7 +61,7 @@ fn refusals(
     for place in 0..remarks.len() {
         if let Some(remark) = remarks.get(place) {
             if remark.deed == Deed::Refused {
-                lines.push(line(alloc, sources, &remark)?)?;
+                lines.push(remark_line(alloc, sources, &remark)?)?;
             }
         }
     }

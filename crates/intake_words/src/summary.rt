@@ -1,4 +1,4 @@
-//! What is printed of a run.
+//! The summary of a run, which is printed.
 
 use crate::summary_json::json_summary;
 use intake_cards::{Deed, Remark, RemarkList, RemarkReason};
@@ -8,45 +8,49 @@ use std::alloc::{AllocError, Global};
 /// How many SYSMODs that are left out have lines of their own.
 const MOST_LINES: usize = 20;
 
-/// How many remarks say the same.
+/// How many remarks have a deed and a reason.
 #[derive(Drop)]
-pub(crate) struct ToldCount {
+pub(crate) struct RemarkCount {
     pub(crate) deed: Deed,
     pub(crate) reason: RemarkReason,
     pub(crate) count: usize,
 }
 
-// How many remarks have each deed and reason, in the order in which they first occur.
-pub(crate) fn counts_of(alloc: Global, remarks: &RemarkList) -> Result<Vec<ToldCount>, AllocError> {
-    let mut all: Vec<ToldCount> = Vec::new(alloc);
+/// How many remarks have each deed and reason, in the order in which these first occur.
+pub(crate) fn counts_of(
+    alloc: Global,
+    remarks: &RemarkList,
+) -> Result<Vec<RemarkCount>, AllocError> {
+    let mut all: Vec<RemarkCount> = Vec::new(alloc);
     for place in 0..remarks.len() {
         if let Some(remark) = remarks.get(place) {
-            count(&mut all, &remark)?;
+            count_remark(&mut all, &remark)?;
         }
     }
     Ok(all)
 }
 
-// A line for each deed and reason, with how many remarks tell them.
-fn by_reason(alloc: Global, remarks: &RemarkList, lines: &mut Vec<u8>) -> Result<(), AllocError> {
-    for told in &counts_of(alloc, remarks)? {
-        let count = told.count;
-        let deed = told.deed.words();
-        let reason = told.reason.words();
+// Appends a line for each deed and reason, with the number of remarks that have them.
+fn put_reasons(alloc: Global, remarks: &RemarkList, lines: &mut Vec<u8>) -> Result<(), AllocError> {
+    for entry in &counts_of(alloc, remarks)? {
+        let count = entry.count;
+        let deed = entry.deed.words();
+        let reason = entry.reason.words();
         let line = format!(in alloc; "REMARK  {count:>7} {deed}: {reason}\n")?;
         lines.extend_from_slice(line.as_bytes())?;
     }
     Ok(())
 }
 
-fn count(all: &mut Vec<ToldCount>, remark: &Remark<'_>) -> Result<(), AllocError> {
-    for told in all.iter_mut() {
-        if told.deed == remark.deed && told.reason == remark.reason {
-            told.count = told.count.saturating_add(1);
+// Counts the remark among those of its deed and reason.
+fn count_remark(all: &mut Vec<RemarkCount>, remark: &Remark<'_>) -> Result<(), AllocError> {
+    for entry in all.iter_mut() {
+        if entry.deed == remark.deed && entry.reason == remark.reason {
+            entry.count = entry.count.saturating_add(1);
             return Ok(());
         }
     }
-    all.push(ToldCount {
+    all.push(RemarkCount {
         deed: remark.deed,
         reason: remark.reason,
         count: 1,
@@ -121,9 +125,13 @@ pub(crate) fn cause_text(alloc: Global, cause: &Remark<'_>) -> Result<Vec<u8>, A
     Ok(text)
 }
 
-// A line for each SYSMOD that is left out, with its first cause.
-fn left_out(alloc: Global, remarks: &RemarkList, lines: &mut Vec<u8>) -> Result<(), AllocError> {
-    let mut found = 0usize;
+// Appends a line for each SYSMOD that is left out, with its first cause, and after `MOST_LINES` one for all others.
+fn put_all_left_out(
+    alloc: Global,
+    remarks: &RemarkList,
+    lines: &mut Vec<u8>,
+) -> Result<(), AllocError> {
+    let mut count = 0usize;
     for place in 0..remarks.len() {
         let Some(remark) = remarks.get(place) else {
             continue;
@@ -131,21 +139,21 @@ fn left_out(alloc: Global, remarks: &RemarkList, lines: &mut Vec<u8>) -> Result<
         if !is_left_out(&remark) {
             continue;
         }
-        found = found.saturating_add(1);
-        if found <= MOST_LINES {
+        count = count.saturating_add(1);
+        if count <= MOST_LINES {
             let cause = cause_of(remarks, place, remark);
             put_left_out(alloc, &remark, &cause, lines)?;
         }
     }
-    if found > MOST_LINES {
-        let more = found.saturating_sub(MOST_LINES);
+    if count > MOST_LINES {
+        let more = count.saturating_sub(MOST_LINES);
         let line = format!(in alloc; "LEFTOUT {more:>7} more, of which the remarks tell\n")?;
         lines.extend_from_slice(line.as_bytes())?;
     }
     Ok(())
 }
 
-// The line for a SYSMOD that is left out.
+// Appends the line for a SYSMOD that is left out.
 fn put_left_out(
     alloc: Global,
     remark: &Remark<'_>,
@@ -163,7 +171,7 @@ fn put_left_out(
 }
 
 /// How many remarks have the reason.
-pub(crate) fn number_of(remarks: &RemarkList, reason: RemarkReason) -> usize {
+pub(crate) fn count_with_reason(remarks: &RemarkList, reason: RemarkReason) -> usize {
     let mut number = 0usize;
     for place in 0..remarks.len() {
         if let Some(remark) = remarks.get(place) {
@@ -175,8 +183,8 @@ pub(crate) fn number_of(remarks: &RemarkList, reason: RemarkReason) -> usize {
     number
 }
 
-// A line where the number is not 0.
-fn warning(
+// Appends a line, unless the number is 0.
+fn put_warning(
     alloc: Global,
     word: &str,
     number: usize,
@@ -204,7 +212,7 @@ pub fn summary_of(
     }
 }
 
-/// The summary of a run over a command file: how many commands are carried, where it is written.
+/// The summary of a run over a command file: how many commands are carried, if a command file is written.
 pub fn command_summary(
     alloc: Global,
     carried: usize,
@@ -219,11 +227,11 @@ pub fn command_summary(
     } else {
         lines.extend_from_slice(b"COMMAND none is written: see what is refused in cntl.remarks\n")?;
     }
-    by_reason(alloc, remarks, &mut lines)?;
+    put_reasons(alloc, remarks, &mut lines)?;
     Ok(lines)
 }
 
-// What is left out and why, what else matters, and then how much there is of each.
+// The summary in lines: what is left out and why, what else matters, and then how much there is of each.
 fn service_summary(
     alloc: Global,
     decide: bool,
@@ -231,37 +239,42 @@ fn service_summary(
 ) -> Result<Vec<u8>, AllocError> {
     let remarks = &narrowed.remarks;
     let mut lines = Vec::new(alloc);
-    left_out(alloc, remarks, &mut lines)?;
-    warnings(alloc, narrowed, &mut lines)?;
+    put_all_left_out(alloc, remarks, &mut lines)?;
+    put_warnings(alloc, narrowed, &mut lines)?;
     if decide {
-        check_line(alloc, narrowed, &mut lines)?;
+        put_check_line(alloc, narrowed, &mut lines)?;
     }
-    tally(alloc, "SYSMOD", narrowed.sysmods, &mut lines)?;
-    tally(alloc, "HOLD", narrowed.holds, &mut lines)?;
-    tally(alloc, "RELEASE", narrowed.releases, &mut lines)?;
-    tally(alloc, "ASSIGN", narrowed.assigns, &mut lines)?;
-    by_reason(alloc, remarks, &mut lines)?;
+    put_tally(alloc, "SYSMOD", narrowed.sysmods, &mut lines)?;
+    put_tally(alloc, "HOLD", narrowed.holds, &mut lines)?;
+    put_tally(alloc, "RELEASE", narrowed.releases, &mut lines)?;
+    put_tally(alloc, "ASSIGN", narrowed.assigns, &mut lines)?;
+    put_reasons(alloc, remarks, &mut lines)?;
     Ok(lines)
 }
 
-// What else matters.
-fn warnings(alloc: Global, narrowed: &Narrowed, lines: &mut Vec<u8>) -> Result<(), AllocError> {
+// Appends warnings: of holds that moved, of statements in comments, and of SYSMODs left out that would forbid others.
+fn put_warnings(alloc: Global, narrowed: &Narrowed, lines: &mut Vec<u8>) -> Result<(), AllocError> {
     let remarks = &narrowed.remarks;
-    let outside = number_of(remarks, RemarkReason::HeldOutside);
+    let outside = count_with_reason(remarks, RemarkReason::HeldOutside);
     let words =
         "of SYSMODs stand in the hold file: they are on others, or the SYSMOD is not carried";
-    warning(alloc, "HELD", outside, words, lines)?;
-    let swallowed = number_of(remarks, RemarkReason::StatementInComment);
+    put_warning(alloc, "HELD", outside, words, lines)?;
+    let swallowed = count_with_reason(remarks, RemarkReason::StatementInComment);
     let words = "statements stand in a comment: is it closed where it should be?";
-    warning(alloc, "COMMENT", swallowed, words, lines)?;
+    put_warning(alloc, "COMMENT", swallowed, words, lines)?;
     let words = "left out have elements, NPRE or DELETE, which nothing asks for now";
-    warning(alloc, "FORBIDS", narrowed.forbidding, words, lines)
+    put_warning(alloc, "FORBIDS", narrowed.forbidding, words, lines)
 }
 
-// How many SYSMODs have stand-ins. If elements are passed over, what CHECK answers holds for these files together.
-fn check_line(alloc: Global, narrowed: &Narrowed, lines: &mut Vec<u8>) -> Result<(), AllocError> {
+// Appends how many SYSMODs have stand-ins, and that the files are only for CHECK. If elements are passed over, CHECK
+// must have all of the files together.
+fn put_check_line(
+    alloc: Global,
+    narrowed: &Narrowed,
+    lines: &mut Vec<u8>,
+) -> Result<(), AllocError> {
     let stand_ins = narrowed.stand_ins;
-    let passed_over = number_of(&narrowed.remarks, RemarkReason::PassedOver);
+    let passed_over = count_with_reason(&narrowed.remarks, RemarkReason::PassedOver);
     let which = if passed_over > 0 {
         "these files are for CHECK, all of them together"
     } else {
@@ -271,7 +284,13 @@ fn check_line(alloc: Global, narrowed: &Narrowed, lines: &mut Vec<u8>) -> Result
     lines.extend_from_slice(line.as_bytes())
 }
 
-fn tally(alloc: Global, word: &str, tally: Tally, lines: &mut Vec<u8>) -> Result<(), AllocError> {
+// Appends how many statements of a word were carried and left out.
+fn put_tally(
+    alloc: Global,
+    word: &str,
+    tally: Tally,
+    lines: &mut Vec<u8>,
+) -> Result<(), AllocError> {
     let carried = tally.carried;
     let left_out = tally.left_out;
     let line = format!(in alloc; "{word:<7} {carried:>7} carried {left_out:>7} left out\n")?;

@@ -1,11 +1,11 @@
 //! The summary of a run over files for programs: one object in JSON.
 
-use crate::summary::{cause_of, cause_text, counts_of, is_left_out, number_of};
+use crate::summary::{cause_of, cause_text, count_with_reason, counts_of, is_left_out};
 use intake_cards::{RemarkList, RemarkReason};
 use intake_carry::{Narrowed, Tally};
 use std::alloc::{AllocError, Global};
 
-// A text in quotation marks. A byte that is no printable ASCII is a question mark.
+// Appends a text in quotation marks. A byte that is no printable ASCII becomes a question mark.
 fn put_text(json: &mut Vec<u8>, text: &[u8]) -> Result<(), AllocError> {
     json.push(b'"')?;
     for byte in text {
@@ -22,7 +22,7 @@ fn put_text(json: &mut Vec<u8>, text: &[u8]) -> Result<(), AllocError> {
     Ok(())
 }
 
-// The name of a member of an object.
+// Appends the name of a member of an object, after a comma if it is not the first one.
 fn put_name(json: &mut Vec<u8>, name: &str) -> Result<(), AllocError> {
     if !json.as_slice().ends_with(b"{") {
         json.push(b',')?;
@@ -32,6 +32,7 @@ fn put_name(json: &mut Vec<u8>, name: &str) -> Result<(), AllocError> {
     Ok(())
 }
 
+// Appends a member of an object that is a number.
 fn put_number(
     alloc: Global,
     json: &mut Vec<u8>,
@@ -42,6 +43,7 @@ fn put_number(
     json.extend_from_slice(format!(in alloc; "{number}")?.as_bytes())
 }
 
+// Appends a member of an object that says how many statements of a word were carried and left out.
 fn put_tally(
     alloc: Global,
     json: &mut Vec<u8>,
@@ -56,8 +58,8 @@ fn put_tally(
     Ok(())
 }
 
-// Begins an object of a list.
-fn begin(json: &mut Vec<u8>) -> Result<(), AllocError> {
+// Begins an object of a list, after a comma if it is not the first one.
+fn begin_object(json: &mut Vec<u8>) -> Result<(), AllocError> {
     if !json.as_slice().ends_with(b"[") {
         json.push(b',')?;
     }
@@ -65,6 +67,7 @@ fn begin(json: &mut Vec<u8>) -> Result<(), AllocError> {
     Ok(())
 }
 
+// Appends the SYSMODs that are left out, each with its cause.
 fn put_left_out(alloc: Global, json: &mut Vec<u8>, remarks: &RemarkList) -> Result<(), AllocError> {
     put_name(json, "left_out")?;
     json.push(b'[')?;
@@ -74,7 +77,7 @@ fn put_left_out(alloc: Global, json: &mut Vec<u8>, remarks: &RemarkList) -> Resu
         };
         if is_left_out(&remark) {
             let cause = cause_of(remarks, place, remark);
-            begin(json)?;
+            begin_object(json)?;
             put_name(json, "statement")?;
             put_text(json, remark.statement)?;
             put_name(json, "id")?;
@@ -88,35 +91,36 @@ fn put_left_out(alloc: Global, json: &mut Vec<u8>, remarks: &RemarkList) -> Resu
     Ok(())
 }
 
+// Appends how many remarks there are of each deed and reason.
 fn put_remarks(alloc: Global, json: &mut Vec<u8>, remarks: &RemarkList) -> Result<(), AllocError> {
     put_name(json, "remarks")?;
     json.push(b'[')?;
-    for told in &counts_of(alloc, remarks)? {
-        begin(json)?;
-        put_number(alloc, json, "count", told.count)?;
+    for entry in &counts_of(alloc, remarks)? {
+        begin_object(json)?;
+        put_number(alloc, json, "count", entry.count)?;
         put_name(json, "deed")?;
-        put_text(json, told.deed.words().as_bytes())?;
+        put_text(json, entry.deed.words().as_bytes())?;
         put_name(json, "reason")?;
-        put_text(json, told.reason.words().as_bytes())?;
+        put_text(json, entry.reason.words().as_bytes())?;
         json.push(b'}')?;
     }
     json.push(b']')?;
     Ok(())
 }
 
-/// The same as the summary in lines: what is left out and why, what else matters, and how much there is of each.
+/// The summary as JSON: what is left out and why, what else matters, and how much there is of each.
 pub(crate) fn json_summary(alloc: Global, narrowed: &Narrowed) -> Result<Vec<u8>, AllocError> {
     let remarks = &narrowed.remarks;
     let mut json = Vec::new(alloc);
     json.push(b'{')?;
     put_left_out(alloc, &mut json, remarks)?;
-    let held = number_of(remarks, RemarkReason::HeldOutside);
+    let held = count_with_reason(remarks, RemarkReason::HeldOutside);
     put_number(alloc, &mut json, "holds_outside", held)?;
-    let swallowed = number_of(remarks, RemarkReason::StatementInComment);
+    let swallowed = count_with_reason(remarks, RemarkReason::StatementInComment);
     put_number(alloc, &mut json, "in_comments", swallowed)?;
     put_number(alloc, &mut json, "forbids", narrowed.forbidding)?;
     put_number(alloc, &mut json, "stand_ins", narrowed.stand_ins)?;
-    let passed_over = number_of(remarks, RemarkReason::PassedOver);
+    let passed_over = count_with_reason(remarks, RemarkReason::PassedOver);
     put_number(alloc, &mut json, "passed_over", passed_over)?;
     put_tally(alloc, &mut json, "sysmods", narrowed.sysmods)?;
     put_tally(alloc, &mut json, "holds", narrowed.holds)?;

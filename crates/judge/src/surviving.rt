@@ -7,43 +7,45 @@ ghost use Rattle.terms.specs.Lookups.{IsRising};
 ghost use Rattle.judge_system.specs.TestSets.{tests_of};
 ghost use Rattle.judge.specs.Surviving.{is_clash, SurvivesIn};
 
-use fields::{Attest, Id, IdList};
+use fields::{Id, IdList};
 use judge_system::TestSet;
 use std::alloc::{AllocError, Global};
 use terms::Test;
 
+// Whether it is the test that only survivors fail.
 fn is_clash(test: Test) -> bool
     ensures { result ≡ is_clash test }
 {
     matches!(test, Test::InClash)
 }
 
-// Whether it fails at most that test.
-fn survives(tests: TestSet) -> bool
+// Whether a candidate that fails these tests survives: it fails at most the test for clashes.
+fn has_only_clashes(tests: TestSet) -> bool
     ensures { result ≡ list_all is_clash (tests_of tests) }
 {
     tests.iter().all(is_clash)
 }
 
-// Adds the candidate that fails these tests, if it survives.
-fn add_if_surviving(found: &mut Vec<Id>, id: Id, tests: TestSet) -> Result<(), AllocError>
+// Adds the candidate, if it survives with these failed tests.
+fn add_survivor(found: &mut Vec<Id>, id: Id, tests: TestSet) -> Result<(), AllocError>
     ensures { OnOk result (found.new.items
         ≡ found.old.items ++ (if list_all is_clash (tests_of tests) then id ∷ [] else [])) }
 {
-    if survives(tests) {
+    if has_only_clashes(tests) {
         found.push(id)?;
     }
     Ok(())
 }
 
-fn set_at(sets: &[TestSet], place: usize) -> TestSet
+// The failed tests of the candidate at the place.
+fn test_set_at(sets: &[TestSet], place: usize) -> TestSet
     requires { place < length sets.now }
     ensures { slice_get sets.now place ≡ Some result }
 {
     sets[place]
 }
 
-/// The survivors among the candidates that fail these tests.
+/// The survivors among the candidates. `sets` has the tests that each candidate fails.
 pub(crate) fn survivors(alloc: Global, ids: &IdList, sets: &[TestSet]) -> Result<IdList, AllocError>
     requires { length sets.now ≡ length ids.now }
     ensures rising { IfOk result (λ survivors. IsRising survivors) }
@@ -53,9 +55,7 @@ pub(crate) fn survivors(alloc: Global, ids: &IdList, sets: &[TestSet]) -> Result
     let mut found = Vec::new(alloc);
     for i in 0..ids.len() {
         let id = ids.as_slice()[i];
-        add_if_surviving(&mut found, id, set_at(sets, i))?;
+        add_survivor(&mut found, id, test_set_at(sets, i))?;
     }
-    let survivors = IdList::from_vec(found);
-    survivors.attest();
-    Ok(survivors)
+    Ok(IdList::from_vec(found))
 }

@@ -9,7 +9,7 @@ use fields::Id;
 use std::alloc::{AllocError, Global};
 use sysmods::{Overs, VerChoice};
 
-// Whether both have one owner.
+// Whether one function owns both SYSMODs.
 fn have_one_owner(vers: &VerChoice<'_>, x: Id, y: Id) -> bool
     ensures { IsTrue result ↔ (owner vers.now.global.now (choice vers.now) x
         ≡ owner vers.now.global.now (choice vers.now) y) }
@@ -72,7 +72,7 @@ fn is_at_end(
 
 // A place of the chain such that the claim is over all before it. A claim that fits into the chain is over no other
 // one.
-fn search_end(
+fn search_place(
     alloc: Global,
     overs: &mut Overs<'_, '_>,
     chain: &[Claim],
@@ -115,8 +115,9 @@ fn is_in_front(
     is_below(alloc, overs, claim, &chain[place])
 }
 
-/// Where the claim fits into the chain, if it may share the element with each in it. Usually that is at its end.
-pub(crate) fn place_in(
+/// The place at which the claim fits into the chain, if it may share the element with each claim in it. Usually that is
+/// the end.
+pub(crate) fn place_in_chain(
     alloc: Global,
     overs: &mut Overs<'_, '_>,
     chain: &[Claim],
@@ -140,7 +141,7 @@ pub(crate) fn place_in(
     if !is_below(alloc, overs, first, claim)? {
         return Ok(None);
     }
-    let place = search_end(alloc, overs, chain, claim)?;
+    let place = search_place(alloc, overs, chain, claim)?;
     if !is_in_front(alloc, overs, chain, place, claim)? {
         return Ok(None);
     }

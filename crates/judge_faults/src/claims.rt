@@ -1,8 +1,8 @@
-//! What the candidates change that pass the tests of their own.
+//! The elements that candidates change which pass the tests of their own.
 ghost use Rattle.std.specs.Prelude.{◌≡◌, ◌↔◌, length, IsTrue, IfOk};
 ghost use Rattle.judge_faults.specs.Claims.{AreClaims, AreGrouped};
 
-use crate::own::{OwnFaults, own_at};
+use crate::own::{OwnFaults, own_faults_at};
 use fields::{Id, Name};
 use std::alloc::{AllocError, Global};
 use sysmods::GlobalZone;
@@ -17,7 +17,7 @@ pub(crate) struct Claim {
 }
 
 impl Claim {
-    /// Whether both are on one element.
+    /// Whether both claims are on one element.
     pub(crate) fn is_beside(&self, other: &Claim) -> bool
         ensures { IsTrue result ↔ (self.now.element ≡ other.now.element) }
     {
@@ -38,7 +38,7 @@ pub(crate) fn claims_of(
 {
     let mut claims = Vec::new(alloc);
     for i in 0..ids.len() {
-        if !own_at(faults, i).passes() {
+        if !own_faults_at(faults, i).passes() {
             continue;
         }
         let id = ids[i];

@@ -1,4 +1,4 @@
-//! Which candidates that pass the tests of their own the DELETEs take out.
+//! The candidates that the DELETEs take out, among those that pass the tests of their own.
 ghost use Rattle.std.specs.Prelude.{◌≡◌, List, length, IfOk};
 ghost use Rattle.terms.specs.Types.{Id as AnId};
 ghost use Rattle.terms.specs.Deleted.{deletions, is_deleted};
@@ -6,13 +6,13 @@ ghost use Rattle.sysmods.specs.Choices.{choice};
 ghost use Rattle.judge_faults.specs.Deletes.{AreDeletions, with_deleted, IsMarkedDeleted};
 ghost use Rattle.terms.specs.Beside.{Beside};
 
-use crate::own::{OwnFaults, own_at};
+use crate::own::{OwnFaults, own_faults_at};
 use fields::{Id, IdList};
 use std::alloc::{AllocError, Global};
 use sysmods::VerChoice;
 use zones::deletions;
 
-// Whether its chain contains one of the deletions. Usually there are none.
+// Whether the chain of the SYSMOD contains one of the deletions. Usually there are none.
 fn is_deleted(vers: &VerChoice<'_>, dels: &IdList, id: Id) -> bool
     ensures { result ≡ is_deleted vers.now.global.now (choice vers.now) dels.now id }
 {
@@ -33,7 +33,7 @@ fn with_deleted(vers: &VerChoice<'_>, dels: &IdList, own: OwnFaults, id: Id) -> 
 }
 
 // The faults of all candidates, with `deleted` for those that these deletions take out.
-fn all_with(
+fn all_with_deletions(
     alloc: Global,
     vers: &VerChoice<'_>,
     dels: &IdList,
@@ -47,7 +47,7 @@ fn all_with(
 {
     let mut all = Vec::new(alloc);
     for i in 0..ids.len() {
-        all.push(with_deleted(vers, dels, own_at(faults, i), ids[i]))?;
+        all.push(with_deleted(vers, dels, own_faults_at(faults, i), ids[i]))?;
     }
     Ok(all)
 }
@@ -67,11 +67,11 @@ pub(crate) fn all_with_deleted(
 {
     let mut passing = Vec::new(alloc);
     for i in 0..ids.len() {
-        if !own_at(faults, i).passes_alone() {
+        if !own_faults_at(faults, i).passes_alone() {
             continue;
         }
         passing.push(ids[i])?;
     }
     let dels = IdList::from_vec(deletions(alloc, vers, passing.as_slice())?);
-    all_with(alloc, vers, &dels, ids, faults)
+    all_with_deletions(alloc, vers, &dels, ids, faults)
 }

@@ -1,19 +1,15 @@
 //! The tests that look at the elements that a candidate changes.
-ghost use Rattle.std.specs.Prelude.{◌≡◌, ◌==◌, ◌↔◌, ◌&&◌, Any, find, option_copied, IsTrue, IfOk};
+ghost use Rattle.std.specs.Prelude.{◌≡◌, ◌↔◌, Any, IsTrue, IfOk};
 ghost use Rattle.std.specs.List.{list_any};
-ghost use Rattle.std.specs.Str.{bytes_eq};
-ghost use Rattle.terms.specs.Types.{type_number};
 ghost use Rattle.terms.specs.Over.{IsOver};
-ghost use Rattle.terms.specs.Changes.{is_replacement, has_replacement};
 ghost use Rattle.sysmods.specs.Choices.{choice};
 ghost use Rattle.zones.specs.Gone.{left_of};
 ghost use Rattle.judge_faults.specs.Own.{is_foreign_at, IsLower, IsLowerAt, has_base, is_bare_at};
 
-use fields::{Id, IdList, Name};
+use fields::{Id, IdList};
 use std::alloc::{AllocError, Global};
 use sysmods::{GlobalZone, Overs};
-use sysmods_values::{Action, ElemChange};
-use terms::ElemType;
+use sysmods_values::ElemChange;
 use zones::{Element, ZoneLess};
 
 // Whether the view has the element of the statement under another owner.
@@ -35,7 +31,7 @@ pub(crate) fn is_foreign(view: &ZoneLess<'_, '_>, owner: Id, changes: &[ElemChan
         .any(|change| is_foreign_at(view, owner, change))
 }
 
-// Whether it is not over one of these.
+// Whether some SYSMOD of the list is one that the candidate is not over.
 fn is_not_over_one(
     alloc: Global,
     overs: &mut Overs<'_, '_>,
@@ -53,7 +49,7 @@ fn is_not_over_one(
     Ok(false)
 }
 
-// Whether it is not over the RMID or a UMID of the element.
+// Whether the candidate is not over the RMID or a UMID of the element: the element is of a higher level.
 fn is_lower(
     alloc: Global,
     overs: &mut Overs<'_, '_>,
@@ -69,6 +65,7 @@ fn is_lower(
     is_not_over_one(alloc, overs, id, element.umids.as_slice())
 }
 
+// The same for the element of the statement in the view. If the view lacks it, the answer is no.
 fn is_lower_at(
     alloc: Global,
     view: &ZoneLess<'_, '_>,
@@ -76,7 +73,8 @@ fn is_lower_at(
     id: Id,
     change: &ElemChange,
 ) -> Result<bool, AllocError>
-    ensures lower { IfOk result (λ lower. IsTrue lower ↔ IsLowerAt (choice overs.old) (left_of view.now) id change.now) }
+    ensures lower { IfOk result (λ lower. IsTrue lower
+        ↔ IsLowerAt (choice overs.old) (left_of view.now) id change.now) }
     ensures same { overs.new ≡ overs.old }
 {
     match view.element(change.elem_type, change.name) {
@@ -85,7 +83,7 @@ fn is_lower_at(
     }
 }
 
-/// Whether an element of these statements was made by a SYSMOD that it is not over.
+/// Whether an element of these statements was made by a SYSMOD that the candidate is not over.
 pub(crate) fn is_lower_somewhere(
     alloc: Global,
     view: &ZoneLess<'_, '_>,
@@ -105,53 +103,19 @@ pub(crate) fn is_lower_somewhere(
     Ok(false)
 }
 
-fn is_about(change: &ElemChange, elem_type: ElemType, name: Name) -> bool
-    ensures { result ≡ ((type_number change.now.elem_type == type_number elem_type) && bytes_eq change.now.name name) }
-{
-    change.elem_type == elem_type && change.name == name
-}
-
-fn is_replacement(change: &ElemChange) -> bool
-    ensures { result ≡ is_replacement change.now.action }
-{
-    match change.action {
-        Action::Replaces { .. } => true,
-        Action::Updates { .. } => false,
-    }
-}
-
-// The first statement about the element.
-fn change_at(changes: &[ElemChange], elem_type: ElemType, name: Name) -> Option<&ElemChange>
-    ensures { option_copied result
-        ≡ find (λ h. (type_number h.elem_type == type_number elem_type) && bytes_eq h.name name) changes.now }
-{
-    changes
-        .iter()
-        .find(|change| is_about(change, elem_type, name))
-}
-
-fn has_replacement(global: &GlobalZone, id: Id, elem_type: ElemType, name: Name) -> bool
-    ensures { result ≡ has_replacement global.now id elem_type name }
-{
-    match change_at(global.changes_of(id), elem_type, name) {
-        Some(change) => is_replacement(change),
-        None => false,
-    }
-}
-
 // Whether this function is a candidate that replaces the element.
 fn has_base(global: &GlobalZone, ids: &IdList, fmid: Option<Id>, change: &ElemChange) -> bool
     ensures { result ≡ has_base global.now ids.now fmid change.now }
 {
     match fmid {
         Some(fmid) => {
-            ids.contains(fmid) && has_replacement(global, fmid, change.elem_type, change.name)
+            ids.contains(fmid) && global.has_replacement(fmid, change.elem_type, change.name)
         }
         None => false,
     }
 }
 
-// Whether it updates an element that the view lacks, and no base comes with it.
+// Whether the statement updates an element that the view lacks, and its function does not come along with a base.
 fn is_bare_at(
     global: &GlobalZone,
     view: &ZoneLess<'_, '_>,
@@ -161,7 +125,7 @@ fn is_bare_at(
 ) -> bool
     ensures { result ≡ is_bare_at global.now (left_of view.now) ids.now fmid change.now }
 {
-    !is_replacement(change)
+    !change.is_replacement()
         && view.element(change.elem_type, change.name).is_none()
         && !has_base(global, ids, fmid, change)
 }

@@ -5,13 +5,13 @@ ghost use Rattle.terms.specs.Failures.{all_tests};
 ghost use Rattle.judge_system.specs.TestSets.{tests_of};
 ghost use Rattle.judge_faults.specs.Rows.{fails_test, row_of};
 
-use crate::own::{OwnFaults, own_at};
+use crate::own::{OwnFaults, own_faults_at};
 use indexmap::IndexSet;
 use judge_system::TestSet;
 use std::alloc::{AllocError, Global};
 
 // The tests that a candidate fails, given what it fails by itself and whether it clashes with another one.
-fn failed(own: OwnFaults, clashes: bool) -> TestSet
+fn failed_test_set(own: OwnFaults, clashes: bool) -> TestSet
     ensures { tests_of result ≡ filter (fails_test own clashes) all_tests }
 {
     TestSet {
@@ -30,7 +30,7 @@ fn failed(own: OwnFaults, clashes: bool) -> TestSet
 }
 
 /// The tests that each candidate fails, given which candidates clash.
-pub(crate) fn all_failed(
+pub(crate) fn all_failed_tests(
     alloc: Global,
     faults: &[OwnFaults],
     clashing: &IndexSet<usize>,
@@ -41,7 +41,7 @@ pub(crate) fn all_failed(
     let mut sets = Vec::new(alloc);
     for i in 0..faults.len() {
         let clashes = clashing.contains(&i);
-        let tests = failed(own_at(faults, i), clashes);
+        let tests = failed_test_set(own_faults_at(faults, i), clashes);
         sets.push(tests)?;
     }
     Ok(sets)

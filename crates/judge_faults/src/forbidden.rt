@@ -19,8 +19,8 @@ use zones::{Entry, Zone, ZoneLess};
 /// For each id the applied functions that name it in NPRE.
 pub(crate) type Forbidders = Lists<Id, Id>;
 
-// Adds the ids that the SYSMOD of the entry names, if it is an applied function.
-fn add_function(
+// Adds the ids that the SYSMOD of the entry names in NPRE, if it is an applied function.
+fn add_forbidden_by(
     alloc: Global,
     vers: &VerChoice<'_>,
     entry: &Entry,
@@ -45,11 +45,12 @@ pub(crate) fn forbidders(
 {
     let mut forbidders = BTreeMap::new(alloc);
     for entry in zone.entries() {
-        add_function(alloc, vers, entry, &mut forbidders)?;
+        add_forbidden_by(alloc, vers, entry, &mut forbidders)?;
     }
     Ok(forbidders)
 }
 
+// Whether one of the ids is applied in the view.
 fn any_applied(view: &ZoneLess<'_, '_>, ids: &[Id]) -> bool
     ensures { result ≡ list_any (is_applied (left_of view.now)) ids.now }
 {
@@ -61,7 +62,8 @@ fn any_applied(view: &ZoneLess<'_, '_>, ids: &[Id]) -> bool
 pub(crate) fn is_forbidden(view: &ZoneLess<'_, '_>, forbidders: &Forbidders, id: Id) -> bool
     requires { AreForbidders view.now.vers.now.global.now (choice view.now.vers.now) view.now.zone.now.entries
         forbidders.now }
-    ensures { IsTrue result ↔ IsForbidden view.now.vers.now.global.now (choice view.now.vers.now) (left_of view.now) id }
+    ensures { IsTrue result
+        ↔ IsForbidden view.now.vers.now.global.now (choice view.now.vers.now) (left_of view.now) id }
 {
     view.zone.attest();
     any_applied(view, view.vers.npre(id)) || any_applied(view, listed(forbidders, id))

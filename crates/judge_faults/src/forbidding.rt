@@ -5,7 +5,7 @@ ghost use Rattle.judge_faults.specs.Claims.{PassesAt};
 ghost use Rattle.judge_faults.specs.Forbidding.{AreCandidates, IsOfNamed, IsByNpre, AreClashing};
 ghost use Rattle.judge_faults.specs.Sharing.{Marks};
 
-use crate::own::{OwnFaults, own_at};
+use crate::own::{OwnFaults, own_faults_at};
 use crate::sharing::shared_places;
 use fields::Id;
 use indexmap::IndexSet;
@@ -20,7 +20,7 @@ fn passing_place(ids: &[Id], faults: &[OwnFaults], id: Id) -> Option<usize>
     let Ok(place) = ids.binary_search(&id) else {
         return None;
     };
-    if !own_at(faults, place).passes() {
+    if !own_faults_at(faults, place).passes() {
         return None;
     }
     Some(place)
@@ -50,7 +50,7 @@ fn mark_named(
 }
 
 // Marks the candidate at the place and those that it names in NPRE, if both pass the tests of their own.
-fn mark_by(
+fn mark_by_npre(
     vers: &VerChoice<'_>,
     ids: &[Id],
     faults: &[OwnFaults],
@@ -62,7 +62,7 @@ fn mark_by(
     ensures { OnOk result (Marks (IsByNpre (choice vers.now) ids.now faults.now place) marked.old.keys
         marked.new.keys) }
 {
-    if !own_at(faults, place).passes() {
+    if !own_faults_at(faults, place).passes() {
         return Ok(());
     }
     let id = ids[place];
@@ -88,7 +88,7 @@ pub(crate) fn clashing_places(
     let mut marked = shared_places(alloc, overs, ids, faults)?;
     let vers = overs.vers();
     for i in 0..ids.len() {
-        mark_by(vers, ids, faults, i, &mut marked)?;
+        mark_by_npre(vers, ids, faults, i, &mut marked)?;
     }
     Ok(marked)
 }

@@ -42,7 +42,7 @@ pub(crate) struct OwnFaults {
 }
 
 impl OwnFaults {
-    /// Whether it passes the tests of its own.
+    /// Whether it passes the tests of its own, apart from DELETEs.
     pub(crate) fn passes_alone(self) -> bool
         ensures { result ≡ passes_alone self }
     {
@@ -64,7 +64,7 @@ impl OwnFaults {
     }
 }
 
-// Whether a hold of this kind keeps it off.
+// Whether a hold of this kind on the SYSMOD is not covered by BYPASS.
 fn has_standing_hold(global: &GlobalZone, bypass: &Bypass, kind: HoldKind, id: Id) -> bool
     ensures { result ≡ list_any (λ h. not (is_bypassed_hold bypass.now h)) (holds_of global.now kind id) }
 {
@@ -73,8 +73,8 @@ fn has_standing_hold(global: &GlobalZone, bypass: &Bypass, kind: HoldKind, id: I
         .any(|hold| !is_bypassed_hold(bypass, hold))
 }
 
-// Whether an element that it changes was made by a SYSMOD that it is not over. With BYPASS(ID) it never is.
-fn is_lower(
+// Whether an element that the candidate changes was made by a SYSMOD that it is not over. BYPASS(ID) skips this test.
+fn has_regression(
     alloc: Global,
     view: &ZoneLess<'_, '_>,
     overs: &mut Overs<'_, '_>,
@@ -92,6 +92,7 @@ fn is_lower(
     is_lower_somewhere(alloc, view, overs, id, changes)
 }
 
+// Whether there is a related target zone and it has applied the SYSMOD.
 fn has_applied(related: Option<&Zone>, id: Id) -> bool
     ensures { result ≡ option_map_or (λ target. is_applied target id) (option_copied related.entry) false }
 {
@@ -101,7 +102,8 @@ fn has_applied(related: Option<&Zone>, id: Id) -> bool
     }
 }
 
-// Whether it is accepted and no related target zone has applied it. With BYPASS(APPLYCHECK) it never is.
+// Whether ACCEPT takes the candidate although the related target zone has not applied it. BYPASS(APPLYCHECK) skips
+// this test.
 fn is_unapplied(zone: &Zone, related: Option<&Zone>, bypass: &Bypass, id: Id) -> bool
     ensures { result ≡ (is_distribution zone.now.kind && not bypass.now.applycheck && not
         (option_map_or (λ target. is_applied target id) (option_copied related.entry) false)) }
@@ -121,14 +123,14 @@ fn fitting_count(zone: &Zone, cands: &IdList, vers: &[Ver]) -> usize
         .count()
 }
 
-// Whether two of its `++VER`s fit.
+// Whether two or more of the `++VER`s of the SYSMOD fit.
 fn is_ambiguous(scope: &Scope<'_, '_>, id: Id) -> bool
     ensures { IsTrue result ↔ HasSeveralFit (setting_of scope.now) id }
 {
     fitting_count(scope.zone, scope.ids, scope.global().vers_of(id)) >= 2
 }
 
-// The tests of its own that the candidate fails, in its view.
+// The faults of one candidate by itself, in its view of the zone.
 fn own_faults(
     alloc: Global,
     scope: &Scope<'_, '_>,
@@ -152,7 +154,7 @@ fn own_faults(
     };
     let global = scope.global();
     let changes = global.changes_of(id);
-    let lower = is_lower(alloc, &view, overs, scope.bypass, id, changes)?;
+    let lower = has_regression(alloc, &view, overs, scope.bypass, id, changes)?;
     Ok(OwnFaults {
         system_held: has_standing_hold(global, scope.bypass, HoldKind::System, id),
         user_held: has_standing_hold(global, scope.bypass, HoldKind::User, id),
@@ -166,7 +168,7 @@ fn own_faults(
     })
 }
 
-/// The tests of its own that each candidate fails.
+/// The faults of each candidate by itself.
 pub(crate) fn all_faults(
     alloc: Global,
     scope: &Scope<'_, '_>,
@@ -187,7 +189,7 @@ pub(crate) fn all_faults(
 }
 
 /// What the candidate at the place fails by itself.
-pub(crate) fn own_at(faults: &[OwnFaults], place: usize) -> OwnFaults
+pub(crate) fn own_faults_at(faults: &[OwnFaults], place: usize) -> OwnFaults
     requires { place < length faults.now }
     ensures { slice_get faults.now place ≡ Some result }
 {

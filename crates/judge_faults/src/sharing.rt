@@ -5,7 +5,7 @@ ghost use Rattle.sysmods.specs.Choices.{choice};
 ghost use Rattle.judge_faults.specs.Sharing.{Marks, IsOfPair, IsAgainst, IsAmong, Clashes, AreMarked};
 ghost use Rattle.judge_faults.specs.Sharing.{IsRun, IsClashing};
 
-use crate::chains::{may_not_share, place_in};
+use crate::chains::{may_not_share, place_in_chain};
 use crate::claims::{Claim, claims_of};
 use crate::own::OwnFaults;
 use fields::Id;
@@ -70,8 +70,8 @@ struct Claimants {
     others: Vec<Claim>,
 }
 
-// Takes one more claim in.
-fn take_in(
+// Adds one more claim, and marks it and those that it clashes with.
+fn add_claim(
     alloc: Global,
     overs: &mut Overs<'_, '_>,
     claim: &Claim,
@@ -85,7 +85,7 @@ fn take_in(
         claimants.new.others.items before shared.new.keys) }
     ensures same { overs.new ≡ overs.old }
 {
-    let Some(place) = place_in(alloc, overs, claimants.chain.as_slice(), claim)? else {
+    let Some(place) = place_in_chain(alloc, overs, claimants.chain.as_slice(), claim)? else {
         mark_against(alloc, overs, claim, claimants.chain.as_slice(), shared)?;
         mark_against(alloc, overs, claim, claimants.others.as_slice(), shared)?;
         claimants.others.push(*claim)?;
@@ -112,7 +112,7 @@ fn mark_run(
         others: Vec::new(alloc),
     };
     for claim in claims {
-        take_in(alloc, overs, claim, &mut claimants, shared)?;
+        add_claim(alloc, overs, claim, &mut claimants, shared)?;
     }
     Ok(())
 }

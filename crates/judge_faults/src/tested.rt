@@ -5,7 +5,7 @@ ghost use Rattle.judge_system.specs.TestSets.{tests_of};
 ghost use Rattle.judge_faults.specs.Failed.{AreFailedTests};
 
 use crate::deleted::all_with_deleted;
-use crate::failed_tests::all_failed;
+use crate::failed_tests::all_failed_tests;
 use crate::forbidding::clashing_places;
 use crate::own::all_faults;
 use fields::Attest;
@@ -37,6 +37,6 @@ pub fn test_all<'a, 'b>(
     let alone = all_faults(alloc, scope, related, &mut overs)?;
     let faults = all_with_deleted(alloc, scope.vers, list, alone.as_slice())?;
     let clashing = clashing_places(alloc, &mut overs, list, faults.as_slice())?;
-    let tests = all_failed(alloc, faults.as_slice(), &clashing)?;
+    let tests = all_failed_tests(alloc, faults.as_slice(), &clashing)?;
     Ok(Tested { tests, overs })
 }

@@ -91,7 +91,8 @@ module _ (zone : Zone) (b : Bypass) (kind : NeedKind) where
   }
 
 -- two parts, one behind the other
-pub both_parts : (of : Id) (P Q : NeedKind → Id → Type 0) (a b c : List RequisiteOf) → AddsPart of P a b → AddsPart of Q b c
+pub both_parts : (of : Id) (P Q : NeedKind → Id → Type 0) (a b c : List RequisiteOf)
+    → AddsPart of P a b → AddsPart of Q b c
     → ((kind : NeedKind) (z : Id) → P kind z → ¬ Q kind z)
     → AddsPart of (λ kind z. P kind z ⊎ Q kind z) a c
 both_parts of P Q a b c p q apart = record {

@@ -11,15 +11,15 @@ use std::alloc::{AllocError, Global};
 use terms::NeedKind;
 use zones::Scope;
 
-/// Adds the pairs of an id with these.
+/// Adds a pair of the id and each of the others.
 pub(crate) fn add_pairs(pairs: &mut Vec<(Id, Id)>, id: Id, others: &[Id]) -> Result<(), AllocError>
     ensures { OnOk result (AddsPairs id others.now pairs.old.items pairs.new.items) }
 {
     pairs.extend(others.iter().map(|other| (id, *other)))
 }
 
-// The requisites, if BYPASS covers their kind.
-fn covered<'a>(scope: &Scope<'_, '_>, kind: NeedKind, requisites: &'a [Id]) -> &'a [Id]
+// These requisites if BYPASS covers their kind, or otherwise none.
+fn covered_requisites<'a>(scope: &Scope<'_, '_>, kind: NeedKind, requisites: &'a [Id]) -> &'a [Id]
     ensures { result.now ≡ if is_bypassed scope.now.bypass.now kind then requisites.now else [] }
 {
     if scope.is_bypassed(kind) {
@@ -29,14 +29,21 @@ fn covered<'a>(scope: &Scope<'_, '_>, kind: NeedKind, requisites: &'a [Id]) -> &
     }
 }
 
-// The requisites of a candidate that BYPASS covers.
-fn bypassed(alloc: Global, conditions: &Conditions<'_, '_>, id: Id) -> Result<Vec<Id>, AllocError>
+// The requisites of a candidate that BYPASS covers: PRE, REQ and those by `++IF`.
+fn bypassed_ids(
+    alloc: Global,
+    conditions: &Conditions<'_, '_>,
+    id: Id,
+) -> Result<Vec<Id>, AllocError>
     ensures { IfOk result (λ ids. (z : AnId) → Contains ids.items z
         ↔ Contains (bypassed_ids (setting_of conditions.now.scope) id) z) }
 {
     let scope = &conditions.scope;
-    let mut ids = Vec::from_slice(alloc, covered(scope, NeedKind::Pre, scope.pre(id)))?;
-    ids.extend_from_slice(covered(scope, NeedKind::Req, scope.req(id)))?;
+    let mut ids = Vec::from_slice(
+        alloc,
+        covered_requisites(scope, NeedKind::Pre, scope.pre(id)),
+    )?;
+    ids.extend_from_slice(covered_requisites(scope, NeedKind::Req, scope.req(id)))?;
     if scope.is_bypassed(NeedKind::Ifreq) {
         let by_ifs = conditions.requisites(alloc, id)?;
         ids.extend_from_slice(by_ifs.as_slice())?;
@@ -58,7 +65,7 @@ pub fn bypassed_pairs(
         return Ok(pairs);
     }
     for id in scope.ids.as_slice() {
-        let ids = bypassed(alloc, conditions, *id)?;
+        let ids = bypassed_ids(alloc, conditions, *id)?;
         add_pairs(&mut pairs, *id, ids.as_slice())?;
     }
     Ok(pairs)

@@ -2,7 +2,7 @@
 ghost use Rattle.std.specs.Prelude.{◌≡◌, ◌↔◌, ◌||◌, [], filter, map, Contains, IfOk, if◌then◌else◌};
 ghost use Rattle.terms.specs.declared.codes.NeedKind.TheVariants.{Ifreq};
 ghost use Rattle.terms.specs.Types.{Id as AnId};
-ghost use Rattle.terms.specs.Lookups.{is_applied, is_function};
+ghost use Rattle.terms.specs.Lookups.{IsZone, is_applied, is_function};
 ghost use Rattle.terms.specs.Conditions.{if_reqs};
 ghost use Rattle.terms.specs.Needs.{asked};
 ghost use Rattle.judge_needs.specs.Conditions.{AreStated, is_there, requisites_of};
@@ -10,7 +10,7 @@ ghost use Rattle.zones.specs.Gone.{left_of};
 ghost use Rattle.zones.specs.Scopes.{global_of, choice_of, setting_of};
 
 use crate::stated::{Stated, all_stated};
-use fields::{Attest, Id, IdList};
+use fields::{Id, IdList};
 use sorted::lists::listed;
 use std::alloc::{AllocError, Global};
 use zones::{Scope, ZoneLess};
@@ -20,6 +20,7 @@ use zones::{Scope, ZoneLess};
 pub struct Conditions<'a, 'b> {
     pub scope: Scope<'a, 'b>,
     stated: Stated,
+    ghost is_zone: { IsZone scope.zone.now },
     ghost are_stated: { AreStated (choice_of scope) scope.zone.now stated },
 }
 
@@ -34,7 +35,7 @@ impl<'a, 'b> Conditions<'a, 'b> {
         })
     }
 
-    // The requisites in its own `++IF`s whose function is applied or a candidate.
+    // The requisites in the candidate's own `++IF`s whose function is applied or a candidate.
     fn own_requisites(
         &self,
         alloc: Global,
@@ -56,8 +57,8 @@ impl<'a, 'b> Conditions<'a, 'b> {
             .collect(alloc)
     }
 
-    // What the remaining SYSMODs state for it, if it is a function.
-    fn stated_for(
+    // The requisites that the remaining SYSMODs state for the candidate in their `++IF`s, if it is a function.
+    fn stated_requisites_for(
         &self,
         alloc: Global,
         left: &ZoneLess<'_, '_>,
@@ -76,13 +77,12 @@ impl<'a, 'b> Conditions<'a, 'b> {
             .collect(alloc)
     }
 
-    /// The requisites of a candidate in its view of the zone.
+    /// The requisites of a candidate by `++IF`, its own and those that others state for it, in its view of the zone.
     pub(crate) fn requisites(&self, alloc: Global, id: Id) -> Result<IdList, AllocError>
         ensures { IfOk result (λ ids. (z : AnId) → Contains ids z
             ↔ Contains (asked (setting_of self.now.scope) [] id Ifreq) z) }
     {
         let scope = &self.scope;
-        scope.zone.attest();
         let deleted = scope.view_deletions(alloc, id)?;
         let dels = deleted.as_slice();
         let left = ZoneLess {
@@ -91,7 +91,7 @@ impl<'a, 'b> Conditions<'a, 'b> {
             zone: scope.zone,
         };
         let mut found = self.own_requisites(alloc, &left, id)?;
-        let stated = self.stated_for(alloc, &left, id)?;
+        let stated = self.stated_requisites_for(alloc, &left, id)?;
         found.extend_from_slice(stated.as_slice())?;
         Ok(IdList::from_vec(found))
     }

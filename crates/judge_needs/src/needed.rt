@@ -23,8 +23,8 @@ fn is_open(scope: &Scope<'_, '_>, left: &ZoneLess<'_, '_>, kind: NeedKind, id: I
     !scope.is_bypassed(kind) && !left.meets(kind, id)
 }
 
-// Adds what a candidate asks for and nothing meets.
-fn add_asked(
+// Adds a need of the candidate for each of these ids that neither BYPASS nor what is left of the zone meets.
+fn add_open_needs(
     scope: &Scope<'_, '_>,
     left: &ZoneLess<'_, '_>,
     of: Id,
@@ -44,8 +44,8 @@ fn add_asked(
     )
 }
 
-// What its DELETE orphans, if it is a survivor.
-fn orphaned(
+// The requisites that the candidate's DELETE orphans, if it is a survivor.
+fn orphaned_requisites(
     alloc: Global,
     scope: &Scope<'_, '_>,
     survivors: &IdList,
@@ -61,8 +61,8 @@ fn orphaned(
     Ok(IdList::new(alloc))
 }
 
-// Adds the needs of one candidate.
-fn add_open(
+// Adds the needs of one candidate, kind by kind.
+fn add_needs_of_candidate(
     alloc: Global,
     conditions: &Conditions<'_, '_>,
     left: &ZoneLess<'_, '_>,
@@ -75,13 +75,13 @@ fn add_open(
 {
     let scope = &conditions.scope;
     let fmid = scope.fmid(id);
-    add_asked(scope, left, id, NeedKind::Fmid, fmid.as_slice(), needs)?;
-    add_asked(scope, left, id, NeedKind::Pre, scope.pre(id), needs)?;
-    add_asked(scope, left, id, NeedKind::Req, scope.req(id), needs)?;
+    add_open_needs(scope, left, id, NeedKind::Fmid, fmid.as_slice(), needs)?;
+    add_open_needs(scope, left, id, NeedKind::Pre, scope.pre(id), needs)?;
+    add_open_needs(scope, left, id, NeedKind::Req, scope.req(id), needs)?;
     let by_ifs = conditions.requisites(alloc, id)?;
-    add_asked(scope, left, id, NeedKind::Ifreq, by_ifs.as_slice(), needs)?;
+    add_open_needs(scope, left, id, NeedKind::Ifreq, by_ifs.as_slice(), needs)?;
     let reasons = open_reasons(alloc, scope, id)?;
-    add_asked(
+    add_open_needs(
         scope,
         left,
         id,
@@ -89,8 +89,8 @@ fn add_open(
         reasons.as_slice(),
         needs,
     )?;
-    let lost = orphaned(alloc, scope, survivors, id)?;
-    add_asked(scope, left, id, NeedKind::Orphan, lost.as_slice(), needs)
+    let lost = orphaned_requisites(alloc, scope, survivors, id)?;
+    add_open_needs(scope, left, id, NeedKind::Orphan, lost.as_slice(), needs)
 }
 
 /// What the candidates need, given the survivors: each need once.
@@ -111,7 +111,7 @@ pub fn needs_of(
     };
     let mut needs = Vec::new(alloc);
     for id in scope.ids.as_slice() {
-        add_open(alloc, conditions, &left, survivors, *id, &mut needs)?;
+        add_needs_of_candidate(alloc, conditions, &left, survivors, *id, &mut needs)?;
     }
     Ok(needs)
 }

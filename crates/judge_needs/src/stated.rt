@@ -2,6 +2,7 @@
 ghost use Rattle.std.specs.Prelude.{◌≡◌, [], map, filter, OnOk, IfOk, if◌then◌else◌};
 ghost use Rattle.std.specs.List.{flat_map};
 ghost use Rattle.std.specs.Str.{bytes_eq};
+ghost use Rattle.terms.specs.Lookups.{IsZone};
 ghost use Rattle.judge_needs.specs.Conditions.{AddsMore, AreStated, a_requisite};
 ghost use Rattle.zones.specs.Scopes.{choice_of};
 
@@ -19,10 +20,11 @@ pub(crate) struct StatedRequisite {
     pub(crate) id: Id,
 }
 
-/// For each function the requisites that are stated for it.
+/// For each function, the requisites that are stated for it.
 pub(crate) type Stated = Lists<Id, StatedRequisite>;
 
-fn add_each(
+// Adds requisites that the SYSMOD `by` states for the function.
+fn add_requisites(
     alloc: Global,
     stated: &mut Stated,
     function: Id,
@@ -38,6 +40,7 @@ fn add_each(
     Ok(())
 }
 
+// Adds the requisites of these `++IF`s, which the SYSMOD `by` states.
 fn add_conditions(
     alloc: Global,
     stated: &mut Stated,
@@ -48,7 +51,7 @@ fn add_conditions(
         (filter (λ i. bytes_eq f i.function) conditions.now)))) }
 {
     for condition in conditions {
-        add_each(
+        add_requisites(
             alloc,
             stated,
             condition.function,
@@ -59,9 +62,10 @@ fn add_conditions(
     Ok(())
 }
 
-/// What all applied SYSMODs state.
+/// The requisites that all applied SYSMODs state, by the functions for which they state them.
 pub(crate) fn all_stated(alloc: Global, scope: &Scope<'_, '_>) -> Result<Stated, AllocError>
-    ensures { IfOk result (AreStated (choice_of scope.now) scope.now.zone.now) }
+    ensures form { IsZone scope.now.zone.now }
+    ensures stated { IfOk result (AreStated (choice_of scope.now) scope.now.zone.now) }
 {
     let mut stated = BTreeMap::new(alloc);
     for entry in scope.zone.entries() {

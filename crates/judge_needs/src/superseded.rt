@@ -12,7 +12,7 @@ ghost use Rattle.judge_needs.specs.Pairs.{AreSuperseded};
 
 use crate::bypassed::add_pairs;
 use fields::{Id, IdList};
-use judge_system::{RequisiteOf, takes_superseder};
+use judge_system::RequisiteOf;
 use sorted::{Keyed, Table};
 use std::alloc::{AllocError, Global};
 use sysmods::VerChoice;
@@ -41,12 +41,12 @@ fn needed_ids(alloc: Global, needs: &[RequisiteOf]) -> Result<Vec<Id>, AllocErro
 {
     needs
         .iter()
-        .filter(|need| takes_superseder(need.kind))
+        .filter(|need| need.kind.takes_superseder())
         .map(|need| need.id)
         .collect(alloc)
 }
 
-// Those of the ids that are needed.
+// The ids of the list that are needed.
 fn needed_among(alloc: Global, needed: &IdList, ids: &[Id]) -> Result<Vec<Id>, AllocError>
     ensures { IfOk result (λ found. found.items ≡ filter (is_in needed.now) ids.now) }
 {
@@ -56,9 +56,9 @@ fn needed_among(alloc: Global, needed: &IdList, ids: &[Id]) -> Result<Vec<Id>, A
         .collect(alloc)
 }
 
-// Those of the named ids that together supersede all that any of them supersedes. It leaves out those that the highest
-// one names in SUP itself; in cumulative service that names all others.
-fn enough(alloc: Global, vers: &VerChoice<'_>, named: &[Id]) -> Result<Vec<Id>, AllocError>
+// As few of the named ids as are easily found that together supersede all that any of them supersedes. It leaves out
+// those that the highest one names in SUP itself. In cumulative service the highest one names all others.
+fn sufficient_ids(alloc: Global, vers: &VerChoice<'_>, named: &[Id]) -> Result<Vec<Id>, AllocError>
     ensures { IfOk result (λ some. AreEnough (choice vers.now) named.now some.items) }
 {
     let Some(highest) = named.last() else {
@@ -74,8 +74,8 @@ fn enough(alloc: Global, vers: &VerChoice<'_>, named: &[Id]) -> Result<Vec<Id>, 
         .collect(alloc)
 }
 
-// Appends the needed ids that this one supersedes, from what is known or by a search.
-fn append_below(
+// Appends the needed ids that this SYSMOD supersedes. It searches for them only if they are not yet known.
+fn append_needed_below(
     alloc: Global,
     vers: &VerChoice<'_>,
     needed: &IdList,
@@ -97,7 +97,7 @@ fn append_below(
 }
 
 // The needed ids that a SYSMOD supersedes: those that it names in SUP, and those that these supersede.
-fn superseded(
+fn needed_superseded(
     alloc: Global,
     vers: &VerChoice<'_>,
     needed: &IdList,
@@ -109,9 +109,9 @@ fn superseded(
 {
     let named = vers.sup(id);
     let mut found = needed_among(alloc, needed, named)?;
-    let enough = enough(alloc, vers, named)?;
+    let enough = sufficient_ids(alloc, vers, named)?;
     for other in enough.as_slice() {
-        append_below(alloc, vers, needed, known, *other, &mut found)?;
+        append_needed_below(alloc, vers, needed, known, *other, &mut found)?;
     }
     Ok(IdList::from_vec(found))
 }
@@ -133,7 +133,7 @@ pub fn superseded_pairs(
     let mut known = Table::new(alloc);
     let mut pairs = Vec::new(alloc);
     for id in ids.as_slice() {
-        let below = superseded(alloc, vers, &needed, &known, *id)?;
+        let below = needed_superseded(alloc, vers, &needed, &known, *id)?;
         add_pairs(&mut pairs, *id, below.as_slice())?;
         known.push_last(Closure {
             id: *id,

@@ -18,6 +18,7 @@ use Rattle.std.proofs.lemmas.List.Elements.{All-map, All-weaker, Contains-get_or
 use Rattle.terms.specs.declared.codes.NeedKind.{NeedKind}
 use Rattle.terms.specs.declared.codes.Test.{Test}
 use Rattle.terms.specs.Types.{Id}
+use Rattle.terms.specs.Judging.{Judging}
 use Rattle.terms.specs.Kept.{StaysKept}
 use Rattle.terms.specs.Lookups.{IsRising, is_before, is_in}
 use Rattle.solve.specs.System.{Need, System, IsNeed, AreKept, holds}
@@ -26,7 +27,7 @@ use Rattle.solve.specs.Causes as numbered
 use Rattle.terms.specs.Failures.{IsOpenNeed, IsCauser, all_tests}
 use Rattle.terms.proofs.ListMembers.{in_map, map_in}
 use Rattle.terms.proofs.Pairs.{pairs_map}
-use Rattle.judge_system.proofs.SystemOfIds.{stays_from_kept, kept_from_stays}
+use Rattle.judge_system.proofs.SystemOfIds.{IsFormOf, stays_from_kept, kept_from_stays}
 use Rattle.terms.proofs.Places.{All-found, contains_at, found_at}
 use Rattle.judge_system.proofs.NumberedCauses.{causer_id, causer_number}
 use Rattle.solve.specs.Rows.{row_at}
@@ -77,37 +78,42 @@ rising_at ids places rising up within =
     (λ a b both. rising a b [] both.0 both.1) places
     (λ i j d less below. (up i j d less below, within j d below))
 
-module _ (ids kept : List Id) (E : Id → Type 0) (N : Id → NeedKind → Id → Type 0) (S : NeedKind → Id → Id → Type 0)
-    (p : System) (needed : List (NeedKind × Id)) (h : IsNumberedForm E N S ids p needed) (rising : IsRising ids)
-    (flags : List Bool)
-    (members : (x : Id) → Contains kept x ↔ ((n : ℕ) × (slice_get ids n ≡ Some x) × IsTrue (holds flags n))) where
-  same : (n : ℕ) (x : Id) → slice_get ids n ≡ Some x → Contains kept x ↔ IsTrue (holds flags n)
+module _ (judging : Judging) (kept : List Id) (p : System) (needed : List (NeedKind × Id))
+    (h : IsFormOf judging p needed)
+    (rising : IsRising judging.cands) (flags : List Bool)
+    (members : (x : Id) → Contains kept x
+    ↔ ((n : ℕ) × (slice_get judging.cands n ≡ Some x) × IsTrue (holds flags n))) where
+  abbrev cand_ids : List Id
+  cand_ids = judging.cands
+
+  same : (n : ℕ) (x : Id) → slice_get cand_ids n ≡ Some x → Contains kept x ↔ IsTrue (holds flags n)
   same n x at = (
-    λ there. let w = (members x).0 there in subst (λ k. IsTrue (holds flags k)) (one_number ids rising w.0 n x w.1 at)
-        w.2,
+    λ there.
+        let w = (members x).0 there in
+        subst (λ k. IsTrue (holds flags k)) (one_number cand_ids rising w.0 n x w.1 at) w.2,
     λ on. (members x).1 (n, at, on),
   )
 
-  within : (y : Id) → Contains kept y → Contains ids y
-  within y there = let w = (members y).0 there in contains_at ids w.0 y w.1
+  within : (y : Id) → Contains kept y → Contains cand_ids y
+  within y there = let w = (members y).0 there in contains_at cand_ids w.0 y w.1
 
-  once : (n m : ℕ) (x : Id) → slice_get ids n ≡ Some x → slice_get ids m ≡ Some x → n ≡ m
-  once = one_number ids rising
+  once : (n m : ℕ) (x : Id) → slice_get cand_ids n ≡ Some x → slice_get cand_ids m ≡ Some x → n ≡ m
+  once = one_number cand_ids rising
 
   -- the id of each number that serves
   id_of : (d : Need) (i : ℕ) → slice_get p.needs i ≡ Some d → (m : ℕ) → Contains d.any m
-      → (y : Id) × (slice_get ids m ≡ Some y)
+      → (y : Id) × (slice_get cand_ids m ≡ Some y)
   id_of d i at m there =
       let found = found_at d.any m there in
       let below = All-found (λ k. k < p.size) d.any found.0 m
       (All-found (IsNeed p.size) p.needs i d h.numbers.needs at).any found.1 in
-      (slice_index_or ids m [], slice_get-get_or ids m [] (subst (λ k. m < k) h.size below))
+      (slice_index_or cand_ids m [], slice_get-get_or cand_ids m [] (subst (λ k. m < k) h.size below))
 
   unserved_id : (d : Need) (i : ℕ) (kind : NeedKind) (z : Id) → slice_get p.needs i ≡ Some d
       → slice_get needed i ≡ Some (kind, z)
-      → list_any (holds flags) d.any ≡ false → (y : Id) → Contains kept y → ¬ S kind y z
+      → list_any (holds flags) d.any ≡ false → (y : Id) → Contains kept y → ¬ judging.serves kind y z
   unserved_id d i kind z at need none y there serves =
-      let place = found_at ids y (within y there) in
+      let place = found_at cand_ids y (within y there) in
       let spot = found_at d.any place.0 (((h.needs i d (kind, z) at need).any place.0 y place.1).1 serves) in
       let off = All-found (λ j. holds flags j ≡ false) d.any spot.0 place.0
       (All_from_no_list_any (holds flags) d.any none) spot.1 in
@@ -115,7 +121,7 @@ module _ (ids kept : List Id) (E : Id → Type 0) (N : Id → NeedKind → Id �
 
   unserved_number : (d : Need) (i : ℕ) (kind : NeedKind) (z : Id) → slice_get p.needs i ≡ Some d
       → slice_get needed i ≡ Some (kind, z)
-      → ((y : Id) → Contains kept y → ¬ S kind y z) → list_any (holds flags) d.any ≡ false
+      → ((y : Id) → Contains kept y → ¬ judging.serves kind y z) → list_any (holds flags) d.any ≡ false
   unserved_number d i kind z at need unserved =
       list_any_none (holds flags) d.any (λ k m below.
       let v = slice_index_or d.any k m in
@@ -127,17 +133,17 @@ module _ (ids kept : List Id) (E : Id → Type 0) (N : Id → NeedKind → Id �
   module _ (rows : List (Vec (NeedKind × Id) Heap)) (opened :
       HaveOpen flags p.needs needed (length needed) rows) where
     -- the open needs of a number are those of its id
-    pub open_needs : (n : ℕ) (x : Id) → slice_get ids n ≡ Some x → (kind : NeedKind) (z : Id)
-        → Contains (row_at rows n) (kind, z) ↔ IsOpenNeed ids kept E N S x kind z
+    pub open_needs : (n : ℕ) (x : Id) → slice_get cand_ids n ≡ Some x → (kind : NeedKind) (z : Id)
+        → Contains (row_at rows n) (kind, z) ↔ IsOpenNeed judging kept x kind z
     open_needs n x at kind z = (
       λ there.
           let w = (opened n (kind, z)).0 there in
           let both = and_parts (w.1.of == n) (not (list_any (holds flags) w.1.any)) w.5 in
           let meant = (h.needs w.0 w.1 (kind, z) w.3 w.4).of in
-          let whose : meant.0 ≡ x = same_Some meant.0 x (sym meant.1 ∙ ap (slice_get ids) (eqb-true w.1.of n both.0)
-          ∙ at) in
+          let whose : meant.0 ≡ x = same_Some meant.0 x (sym meant.1
+          ∙ ap (slice_get cand_ids) (eqb-true w.1.of n both.0) ∙ at) in
           record {
-            needs = subst (λ v. N v kind z) whose meant.2;
+            needs = subst (λ v. judging.needs v kind z) whose meant.2;
             unserved = unserved_id w.1 w.0 kind z w.3 w.4 (not-true (list_any (holds flags) w.1.any) both.1);
           },
       λ need.
@@ -156,21 +162,22 @@ module _ (ids kept : List Id) (E : Id → Type 0) (N : Id → NeedKind → Id �
   module _ (rows : List (Vec ℕ Heap)) (exact : (x y : ℕ) → Contains (row_at rows x) y ↔ numbered.IsCauser p flags x
       y) where
     -- the causers of a number are those of its id
-    pub causers_are_holds : (n : ℕ) (x : Id) → slice_get ids n ≡ Some x → (y : Id)
-        → Contains (map (λ m. slice_index_or ids m []) (row_at rows n)) y ↔ IsCauser ids kept E N S x y
+    pub causers_are_holds : (n : ℕ) (x : Id) → slice_get cand_ids n ≡ Some x → (y : Id)
+        → Contains (map (λ m. slice_index_or cand_ids m []) (row_at rows n)) y ↔ IsCauser judging kept x y
     causers_are_holds n x at y = (
       λ there.
-          let w = map_in (λ m. slice_index_or ids m []) (row_at rows n) y there in
+          let w = map_in (λ m. slice_index_or cand_ids m []) (row_at rows n) y there in
           let causer = (exact n w.0).0 w.1 in
-          let below : w.0 < length ids = subst (λ k. w.0 < k) h.size causer.0.0.0 in
-          let at_y : slice_get ids w.0 ≡ Some y = slice_get-get_or ids w.0 [] below ∙ ap (λ v. Some v) w.2 in
-          causer_id ids kept E N S p needed h flags same within n w.0 x y at at_y causer,
+          let below : w.0 < length cand_ids = subst (λ k. w.0 < k) h.size causer.0.0.0 in
+          let at_y : slice_get cand_ids w.0 ≡ Some y =
+          slice_get-get_or cand_ids w.0 [] below ∙ ap (λ v. Some v) w.2 in
+          causer_id judging kept p needed h flags same within n w.0 x y at at_y causer,
       λ causer.
-          let m = found_at ids y causer.root.failed.cand in
-          let number = causer_number ids kept E N S p needed h flags same within once n m.0 x y at m.1 causer in
-          let there = in_map (λ m. slice_index_or ids m []) (row_at rows n) m.0 ((exact n m.0).1 number) in
-          subst (Contains (map (λ m. slice_index_or ids m []) (row_at rows n))) (get_or_from_slice_get ids m.0 y [] m.1)
-          there,
+          let m = found_at cand_ids y causer.root.failed.cand in
+          let number = causer_number judging kept p needed h flags same within once n m.0 x y at m.1 causer in
+          let there = in_map (λ m. slice_index_or cand_ids m []) (row_at rows n) m.0 ((exact n m.0).1 number) in
+          subst (Contains (map (λ m. slice_index_or cand_ids m []) (row_at rows n)))
+          (get_or_from_slice_get cand_ids m.0 y [] m.1) there,
     )
 
 -- causers are candidates
@@ -181,12 +188,16 @@ causers_within p flags rows exact n k d below = ((exact n (get_or (row_at rows n
     (Contains-get_or (row_at rows n) k d below)).0.0.0
 
 -- What is found of the candidates by their numbers is so by the command's own tests, needs, and what serves a need.
-module _ (F : Id → Test → Type 0) (E : Id → Type 0) (N : Id → NeedKind → Id → Type 0)
-    (S : NeedKind → Id → Id → Type 0) (j : Judged) (is : IsJudged F E N S j.ids.keys j) (flags : List Bool)
+module _ (judging : Judging) (j : Judged)
+    (is : IsJudged judging.fails judging.eligible judging.needs judging.serves j.ids.keys j) (flags : List Bool)
     (are_kept : AreKept j.system flags) (kept : List Id) (failed : List (Id × Failure))
     (by : IsDecidedBy j flags kept failed) where
   abbrev ids : List Id
   ids = j.ids.keys
+
+  -- the candidates are those of the numbers
+  abbrev own : Judging
+  own = record judging { cands = ids }
 
   abbrev p : System
   p = j.system
@@ -194,17 +205,17 @@ module _ (F : Id → Test → Type 0) (E : Id → Type 0) (N : Id → NeedKind �
   abbrev needed : List (NeedKind × Id)
   needed = map need_of j.needs.items
 
-  h : IsNumberedForm E N S ids p needed
+  h : IsNumberedForm judging.eligible judging.needs judging.serves ids p needed
   h = is.numbered
 
-  stays : (x : Id) → Contains kept x ↔ StaysKept E N S x
+  stays : (x : Id) → Contains kept x ↔ StaysKept own x
   stays x = (
     λ there.
         let w = (by.members x).0 there in
-        stays_from_kept ids E N S p needed h w.0 x w.1 ((are_kept.members w.0).0 w.2),
+        stays_from_kept own p needed h w.0 x w.1 ((are_kept.members w.0).0 w.2),
     λ stays.
         let place = found_at ids x (is.within x (stays.1.eligible x stays.2)) in
-        let on = (are_kept.members place.0).1 (kept_from_stays ids E N S p needed h is.within place.0 x place.1 stays) in
+        let on = (are_kept.members place.0).1 (kept_from_stays own p needed h is.within place.0 x place.1 stays) in
         (by.members x).1 (place.0, place.1, on),
   )
 
@@ -213,7 +224,7 @@ module _ (F : Id → Test → Type 0) (E : Id → Type 0) (N : Id → NeedKind �
       by.opened
 
   failure : (n : ℕ) (x : Id) (f : machine.Failure) → slice_get ids n ≡ Some x → IsFailureAt ids by.found n f
-      → IsFailure ids kept F E N S x f
+      → IsFailure own kept x f
   failure n x f at told = record {
     fails = is.fails x;
     tests = told.tests_are
@@ -226,22 +237,22 @@ module _ (F : Id → Test → Type 0) (E : Id → Type 0) (N : Id → NeedKind �
     needs = told.needs.needs_are;
     ids_rising = λ kind. (told.needs.are_ids kind).rising;
     are_open = λ kind z.
-        let own = (told.needs.are_ids kind).members z in
-        let same = open_needs ids kept E N S p needed h is.rising flags by.members by.found.unserved.now opened n x at
+        let told_of = (told.needs.are_ids kind).members z in
+        let same = open_needs own kept p needed h is.rising flags by.members by.found.unserved.now opened n x at
         kind z in
-        (λ there. same.0 (own.0 there), λ need. own.1 (same.1 need));
+        (λ there. same.0 (told_of.0 there), λ need. told_of.1 (same.1 need));
     causers_rising = subst IsRising (sym told.causers_are) (rising_at ids (row_at by.found.causers.now n) is.rising
         (by.causers.rising n) (subst (λ size. All (λ m. m < size) (row_at by.found.causers.now n)) h.size
         (causers_within p flags by.found.causers.now by.causers.exact n)));
-    causers = λ y. subst (λ l. Contains l y ↔ IsCauser ids kept E N S x y) (sym told.causers_are)
-        (causers_are_holds ids kept E N S p needed h is.rising flags by.members by.found.causers.now by.causers.exact n
+    causers = λ y. subst (λ l. Contains l y ↔ IsCauser own kept x y) (sym told.causers_are)
+        (causers_are_holds own kept p needed h is.rising flags by.members by.found.causers.now by.causers.exact n
         x at y);
   }
 
   abbrev Fits : Id × machine.Failure → Type 0
-  Fits q = IsFailure ids kept F E N S q.0 q.1
+  Fits q = IsFailure own kept q.0 q.1
 
-  pub decided : AreDecided F E N S ids kept (map why_failed failed)
+  pub decided : AreDecided own kept (map why_failed failed)
   decided = record {
     rising = by.rising;
     members = stays;

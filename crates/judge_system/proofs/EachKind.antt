@@ -224,7 +224,8 @@ of_one_kind kind needs rise =
     (filter (is_of kind) needs)
     (λ i j d less within. (pairs i j d less within, passes i d (omega (arith, less, within)), passes j d within))
 
-members_of : (kind : NeedKind) (needs : List KindAndId) (z : Id) → Contains (ids_of needs kind) z ↔ Contains needs (kind, z)
+members_of : (kind : NeedKind) (needs : List KindAndId) (z : Id)
+    → Contains (ids_of needs kind) z ↔ Contains needs (kind, z)
 unfolding is_of ids_of
 members_of kind needs z = (
   λ h.

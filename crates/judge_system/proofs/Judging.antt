@@ -6,6 +6,7 @@ use Rattle.terms.specs.declared.codes.NeedKind.{NeedKind}
 use Rattle.terms.specs.declared.codes.Test.{Test}
 use Rattle.terms.specs.Types.{Id}
 use Rattle.terms.specs.Lookups.{IsRising, is_nil}
+use Rattle.terms.specs.Judging.{Judging}
 use Rattle.terms.specs.Failures.{all_tests}
 use Rattle.solve.specs.System.{AreKept}
 use Rattle.judge_system.specs.declared.failure.Failure.{Failure}
@@ -65,6 +66,10 @@ module _ (F : Id → Test → Type 0) (E : Id → Type 0) (N : Id → NeedKind �
             (numbered_as F E N S s are.said j.system (map need_of said.needs.items) system);
       }
 
+  -- what they are judged by
+  abbrev judging : Judging
+  judging = record { cands = cands; fails = F; eligible = E; needs = N; serves = S }
+
   module _ (j : Judged) (is : IsJudged F E N S cands j) where
     pub has_parts : HasParts j
     has_parts = record {
@@ -76,7 +81,7 @@ module _ (F : Id → Test → Type 0) (E : Id → Type 0) (N : Id → NeedKind �
 
     -- the kept numbers are the kept ids, and the causers of a number are those of its id
     pub decided_of : (flags : List Bool) → AreKept j.system flags → (kept : List Id) (failed : List (Id × Failure))
-        → IsDecidedBy j flags kept failed → AreDecided F E N S cands kept (map why_failed failed)
+        → IsDecidedBy j flags kept failed → AreDecided judging kept (map why_failed failed)
     decided_of flags are_kept kept failed by =
-        subst (λ ids. AreDecided F E N S ids kept (map why_failed failed)) is.ids_are
-        (decided F E N S j (subst (λ ids. IsJudged F E N S ids j) (sym is.ids_are) is) flags are_kept kept failed by)
+        subst (λ ids. AreDecided (record judging { cands = ids }) kept (map why_failed failed)) is.ids_are
+        (decided judging j (subst (λ ids. IsJudged F E N S ids j) (sym is.ids_are) is) flags are_kept kept failed by)

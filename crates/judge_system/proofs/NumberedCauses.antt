@@ -9,8 +9,9 @@ use Rattle.terms.specs.Types.{Id}
 use Rattle.terms.specs.declared.codes.NeedKind.{NeedKind}
 use Rattle.terms.specs.declared.codes.NeedKind.TheVariants.{Fmid}
 use Rattle.solve.specs.System.{Need, IsNeed, System, holds}
-use Rattle.judge_system.specs.NumberedForm.{IsNumberedForm}
+use Rattle.judge_system.proofs.SystemOfIds.{IsFormOf}
 use Rattle.solve.specs.Causes as numbered
+use Rattle.terms.specs.Judging.{Judging}
 use Rattle.terms.specs.Failures.{HasFailed, LeadsTo, LeadsThrough, HasBareNeed, IsRoot, IsCauser}
 
 none_within : {X : Type 0} (xs : List X) → ((x : X) → ¬ Contains xs x) → xs ≡ []
@@ -20,17 +21,20 @@ none_within (x ∷ xs) none = absurd (none x (contains_at (x ∷ xs) 0 x refl))
 not_both : {A : Type 0} (b : Bool) → IsTrue b → b ≡ false → A
 not_both b t f = absurd (true≢false (sym t ∙ f))
 
-module _ (ids kept : List Id) (E : Id → Type 0) (N : Id → NeedKind → Id → Type 0) (S : NeedKind → Id → Id → Type 0)
-    (p : System) (needed : List (NeedKind × Id)) (h : IsNumberedForm E N S ids p needed) (flags : List Bool)
-    (same : (n : ℕ) (x : Id) → slice_get ids n ≡ Some x → Contains kept x ↔ IsTrue (holds flags n)) where
-  failed_number : (n : ℕ) (x : Id) → slice_get ids n ≡ Some x → HasFailed ids kept E N S x
+module _ (judging : Judging) (kept : List Id) (p : System) (needed : List (NeedKind × Id))
+    (h : IsFormOf judging p needed) (flags : List Bool)
+    (same : (n : ℕ) (x : Id) → slice_get judging.cands n ≡ Some x → Contains kept x ↔ IsTrue (holds flags n)) where
+  abbrev ids : List Id
+  ids = judging.cands
+
+  failed_number : (n : ℕ) (x : Id) → slice_get ids n ≡ Some x → HasFailed judging kept x
       → numbered.HasFailed p flags n
   failed_number n x at failed = (
     subst (λ k. n < k) (sym h.size) (slice_get_within ids n x at),
     false_from_ne_true (holds flags n) (λ t. failed.not_kept ((same n x at).1 t)),
   )
 
-  failed_id : (n : ℕ) (x : Id) → slice_get ids n ≡ Some x → numbered.HasFailed p flags n → HasFailed ids kept E N S x
+  failed_id : (n : ℕ) (x : Id) → slice_get ids n ≡ Some x → numbered.HasFailed p flags n → HasFailed judging kept x
   failed_id n x at failed = record {
     cand = contains_at ids n x at;
     not_kept = λ k. not_both (holds flags n) ((same n x at).0 k) failed.1;
@@ -49,7 +53,7 @@ module _ (ids kept : List Id) (E : Id → Type 0) (N : Id → NeedKind → Id �
   -- a need's list has no kept number exactly if nothing kept serves its need
   unserved_numbers : (d : Need) (i : ℕ) (kind : NeedKind) (z : Id) → slice_get p.needs i ≡ Some d
       → slice_get needed i ≡ Some (kind, z)
-      → ((y : Id) → Contains kept y → ¬ S kind y z) → All (λ k. holds flags k ≡ false) d.any
+      → ((y : Id) → Contains kept y → ¬ judging.serves kind y z) → All (λ k. holds flags k ≡ false) d.any
   unserved_numbers d i kind z at need unserved k m below =
       let there : Contains d.any (slice_index_or d.any k m) =
       contains_at d.any k (slice_index_or d.any k m) (slice_get-get_or d.any k m below) in
@@ -61,7 +65,7 @@ module _ (ids kept : List Id) (E : Id → Type 0) (N : Id → NeedKind → Id �
   unserved_ids : (d : Need) (i : ℕ) (kind : NeedKind) (z : Id) → slice_get p.needs i ≡ Some d
       → slice_get needed i ≡ Some (kind, z)
       → ((y : Id) → Contains kept y → Contains ids y) → All (λ k. holds flags k ≡ false) d.any → (y : Id)
-      → Contains kept y → ¬ S kind y z
+      → Contains kept y → ¬ judging.serves kind y z
   unserved_ids d i kind z at need within none y k serves =
       let place = found_at ids y (within y k) in
       let there = ((h.needs i d (kind, z) at need).any place.0 y place.1).1 serves in
@@ -83,13 +87,13 @@ module _ (ids kept : List Id) (E : Id → Type 0) (N : Id → NeedKind → Id �
   -- whose need it is
   need_is : (d : Need) (i n : ℕ) (x z : Id) (kind : NeedKind) → slice_get p.needs i ≡ Some d
       → slice_get needed i ≡ Some (kind, z)
-      → d.of ≡ n → slice_get ids n ≡ Some x → N x kind z
+      → d.of ≡ n → slice_get ids n ≡ Some x → judging.needs x kind z
   need_is d i n x z kind at need of at_x =
       let meant = (h.needs i d (kind, z) at need).of in
-      subst (λ v. N v kind z) (same_Some meant.0 x (sym meant.1 ∙ ap (slice_get ids) of ∙ at_x)) meant.2
+      subst (λ v. judging.needs v kind z) (same_Some meant.0 x (sym meant.1 ∙ ap (slice_get ids) of ∙ at_x)) meant.2
 
   pub leads_number : (n m : ℕ) (x y : Id) → slice_get ids n ≡ Some x → slice_get ids m ≡ Some y
-      → LeadsTo ids kept E N S x y → numbered.LeadsTo p flags n m
+      → LeadsTo judging kept x y → numbered.LeadsTo p flags n m
   leads_number n m x y at_x at_y leads =
       let s = leads.serves in
       let a = h.all n x s.1 s.0 at_x s.2.needs in
@@ -101,7 +105,7 @@ module _ (ids kept : List Id) (E : Id → Type 0) (N : Id → NeedKind → Id �
 
   module _ (within : (y : Id) → Contains kept y → Contains ids y) where
     pub leads_id : (n m : ℕ) (x y : Id) → slice_get ids n ≡ Some x → slice_get ids m ≡ Some y
-        → numbered.LeadsTo p flags n m → LeadsTo ids kept E N S x y
+        → numbered.LeadsTo p flags n m → LeadsTo judging kept x y
     leads_id n m x y at_x at_y leads =
         let a = any_found (numbered.LeadsBy flags n m) p.needs leads.1 in
         let need = need_of a.1 a.0 a.2 in
@@ -125,14 +129,14 @@ module _ (ids kept : List Id) (E : Id → Type 0) (N : Id → NeedKind → Id �
 
     steps_id : (n m : ℕ) (steps : List ℕ) (x y : Id) → slice_get ids n ≡ Some x → slice_get ids m ≡ Some y
         → numbered.LeadsThrough p flags n steps m
-        → (ws : List Id) × LeadsThrough ids kept E N S x ws y
+        → (ws : List Id) × LeadsThrough judging kept x ws y
     steps_id n m [] x y at_x at_y e = ([], same_Some x y (sym at_x ∙ ap (slice_get ids) e ∙ at_y))
     steps_id n m (k ∷ ks) x y at_x at_y r =
         let w = led_id n k r.0 in
         let more = steps_id k m ks w.0 y w.1 at_y r.1 in
         (w.0 ∷ more.0, (leads_id n k x w.0 at_x w.1 r.0, more.1))
 
-    bare_id : (n : ℕ) (x : Id) → slice_get ids n ≡ Some x → numbered.HasBareNeed p n → HasBareNeed ids kept E N S x
+    bare_id : (n : ℕ) (x : Id) → slice_get ids n ≡ Some x → numbered.HasBareNeed p n → HasBareNeed judging kept x
     bare_id n x at_x bare =
         let a = any_found (λ d. (d.of ≡ n) × (d.any ≡ [])) p.needs bare in
         let need = need_of a.1 a.0 a.2 in (
@@ -145,7 +149,7 @@ module _ (ids kept : List Id) (E : Id → Type 0) (N : Id → NeedKind → Id �
               absurd (omega (arith, subst (λ l. listed.0 < length l) a.3.1 listed.1)),
         )
 
-    bare_number : (n : ℕ) (x : Id) → slice_get ids n ≡ Some x → HasBareNeed ids kept E N S x → numbered.HasBareNeed p n
+    bare_number : (n : ℕ) (x : Id) → slice_get ids n ≡ Some x → HasBareNeed judging kept x → numbered.HasBareNeed p n
     bare_number n x at_x bare =
         let a = h.all n x bare.1 bare.0 at_x bare.2 in
         any_at (λ d. (d.of ≡ n) × (d.any ≡ [])) p.needs a.0 a.1 a.2 (
@@ -156,7 +160,7 @@ module _ (ids kept : List Id) (E : Id → Type 0) (N : Id → NeedKind → Id �
               there)),
         )
 
-    root_id : (n : ℕ) (x : Id) → slice_get ids n ≡ Some x → numbered.IsRoot p flags n → IsRoot ids kept E N S x
+    root_id : (n : ℕ) (x : Id) → slice_get ids n ≡ Some x → numbered.IsRoot p flags n → IsRoot judging kept x
     root_id n x at root = record {
       failed = failed_id n x at root.0;
       why = elim root.1 [
@@ -165,7 +169,7 @@ module _ (ids kept : List Id) (E : Id → Type 0) (N : Id → NeedKind → Id �
       ];
     }
 
-    root_number : (n : ℕ) (x : Id) → slice_get ids n ≡ Some x → IsRoot ids kept E N S x → numbered.IsRoot p flags n
+    root_number : (n : ℕ) (x : Id) → slice_get ids n ≡ Some x → IsRoot judging kept x → numbered.IsRoot p flags n
     root_number n x at root = (
       failed_number n x at root.failed,
       elim root.why [
@@ -176,14 +180,14 @@ module _ (ids kept : List Id) (E : Id → Type 0) (N : Id → NeedKind → Id �
 
     -- the causers of an id from those of its number
     pub causer_id : (n m : ℕ) (x y : Id) → slice_get ids n ≡ Some x → slice_get ids m ≡ Some y
-        → numbered.IsCauser p flags n m → IsCauser ids kept E N S x y
+        → numbered.IsCauser p flags n m → IsCauser judging kept x y
     causer_id n m x y at_x at_y causer =
         let ws = steps_id n m causer.1.0 x y at_x at_y causer.1.1 in
         record { root = root_id m y at_y causer.0; steps = ws.0; reaches = ws.1 }
 
     module _ (once : (n m : ℕ) (x : Id) → slice_get ids n ≡ Some x → slice_get ids m ≡ Some x → n ≡ m) where
       steps_number : (n m : ℕ) (x y : Id) (ws : List Id) → slice_get ids n ≡ Some x → slice_get ids m ≡ Some y
-          → LeadsThrough ids kept E N S x ws y
+          → LeadsThrough judging kept x ws y
           → numbered.LeadsOn p flags n m
       steps_number n m x y [] at_x at_y e = ([], once n m x at_x (at_y ∙ ap (λ v. Some v) (sym e)))
       steps_number n m x y (w ∷ ws) at_x at_y r =
@@ -193,6 +197,6 @@ module _ (ids kept : List Id) (E : Id → Type 0) (N : Id → NeedKind → Id �
 
       -- and those of its number from those of the id
       pub causer_number : (n m : ℕ) (x y : Id) → slice_get ids n ≡ Some x → slice_get ids m ≡ Some y
-          → IsCauser ids kept E N S x y → numbered.IsCauser p flags n m
+          → IsCauser judging kept x y → numbered.IsCauser p flags n m
       causer_number n m x y at_x at_y causer =
           (root_number m y at_y causer.root, steps_number n m x y causer.steps at_x at_y causer.reaches)

@@ -28,7 +28,8 @@ adds_over old new d e = (
 
 module _ (ids : List Id) (pairs : List (Id × ℕ)) (flags : List Bool) where
   -- one more need
-  pub needs_next : (stated : List RequisiteOf) (i : ℕ) (w : RequisiteOf) (old new : System) → slice_get stated i ≡ Some w
+  pub needs_next : (stated : List RequisiteOf) (i : ℕ) (w : RequisiteOf) (old new : System)
+      → slice_get stated i ≡ Some w
       → AddsNeed ids pairs w old new → HasNeeds ids pairs flags (take i stated) old
       → HasNeeds ids pairs flags (take (i + 1) stated) new
   needs_next stated i w old new at a h =
@@ -41,7 +42,8 @@ module _ (ids : List Id) (pairs : List (Id × ℕ)) (flags : List Bool) where
       }
 
   module _ (stated : List RequisiteOf) (p : System) (h : HasNeeds ids pairs flags stated p) where
-    need_at : (i : ℕ) (w : RequisiteOf) → slice_get stated i ≡ Some w → slice_get (map need_of stated) i ≡ Some (need_of w)
+    need_at : (i : ℕ) (w : RequisiteOf) → slice_get stated i ≡ Some w
+        → slice_get (map need_of stated) i ≡ Some (need_of w)
     need_at i w at = slice_get-map need_of stated i ∙ ap (option_map need_of) at
 
     -- a numbered need and what it means are those of the need at their place
@@ -97,7 +99,8 @@ module _ (ids : List Id) (pairs : List (Id × ℕ)) (flags : List Bool) where
 
 -- the system of what is said
 pub said_problem : (s : Said) (flags : List Bool) (p : System) → IsRising s.cands → AllPairs (λ v w. v ≢ w) s.needs
-    → ((n : ℕ) (x : Id) → slice_get s.cands n ≡ Some x → IsTrue (holds flags n) ↔ IsEligible s x) → length flags ≡ length s.cands
+    → ((n : ℕ) (x : Id) → slice_get s.cands n ≡ Some x → IsTrue (holds flags n) ↔ IsEligible s x)
+    → length flags ≡ length s.cands
     → HasSystem s.cands s.superseded flags s.needs p
     → IsNumberedForm (IsEligible s) (Needs s) (Serves s.superseded) s.cands p (map need_of s.needs)
 said_problem s flags p rising once eligible many has =

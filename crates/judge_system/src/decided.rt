@@ -22,7 +22,7 @@ pub struct Decided {
 
 impl Judged<'_> {
     /// Turns numbers back into ids: the kept candidates, and why each other one is not kept. Its arguments are the kept
-    /// numbers and the causers of each number.
+    /// numbers, as a `Solver` returns them, and the causers of each number.
     pub fn decided(
         &self,
         alloc: Global,

@@ -5,7 +5,7 @@ ghost use Rattle.judge_system.specs.Findings.{AreFindings, IsFailureAt, AddsFail
 
 use crate::failure::Failure;
 use crate::kept::ids_at;
-use crate::needs::needs_of;
+use crate::needs::sorted_open_needs;
 use crate::test_set::TestSet;
 use fields::{Id, IdList};
 use std::alloc::{AllocError, Global};
@@ -32,7 +32,7 @@ fn failure_at(
 {
     let unserved = found.unserved[place].as_slice();
     let places = found.causers[place].as_slice();
-    let needs = needs_of(alloc, unserved)?;
+    let needs = sorted_open_needs(alloc, unserved)?;
     let causers = ids_at(alloc, ids, places)?;
     Ok(Failure {
         tests: found.tests[place],

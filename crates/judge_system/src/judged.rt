@@ -2,7 +2,7 @@
 ghost use Rattle.std.specs.Prelude.{◌≡◌, All, Contains, IfOk, length};
 ghost use Rattle.judge_system.specs.Judged.{IsNumberedAs};
 
-use crate::numbered::{all_eligible, numbered, with_numbers};
+use crate::numbered::{eligible_flags, number_ids, numbered_system};
 use crate::stated::{Assessment, RequisiteOf};
 use crate::test_set::TestSet;
 use fields::{Id, IdList};
@@ -48,9 +48,9 @@ impl<'a> Judged<'a> {
         ensures vers { IfOk result (λ j. j.vers ≡ vers.entry) }
         ensures overs { IfOk result (λ j. j.overs ≡ overs) }
     {
-        let eligible = all_eligible(alloc, said.tests.as_slice())?;
-        let ids = with_numbers(alloc, ids)?;
-        let system = numbered(
+        let eligible = eligible_flags(alloc, said.tests.as_slice())?;
+        let ids = number_ids(alloc, ids)?;
+        let system = numbered_system(
             alloc,
             &ids,
             said.superseded.as_slice(),

@@ -7,7 +7,8 @@ ghost use Rattle.solve.specs.System.{holds};
 use fields::{Id, IdList};
 use std::alloc::{AllocError, Global};
 
-fn add_if(ids: &mut Vec<Id>, is_kept: bool, id: Id) -> Result<(), AllocError>
+// Adds the id if its candidate is kept.
+fn add_if_kept(ids: &mut Vec<Id>, is_kept: bool, id: Id) -> Result<(), AllocError>
     ensures { OnOk result (ids.new.items ≡ ids.old.items ++ (if is_kept then id ∷ [] else [])) }
 {
     if is_kept {
@@ -16,7 +17,7 @@ fn add_if(ids: &mut Vec<Id>, is_kept: bool, id: Id) -> Result<(), AllocError>
     Ok(())
 }
 
-/// The ids whose flags say that they are kept.
+/// The ids of the kept candidates, by a flag for each place.
 pub(crate) fn kept_ids(alloc: Global, ids: &[Id], flags: &[bool]) -> Result<IdList, AllocError>
     requires { length flags.now ≡ length ids.now }
     ensures { IfOk result (λ kept. (x : AnId) → Contains kept x
@@ -24,7 +25,7 @@ pub(crate) fn kept_ids(alloc: Global, ids: &[Id], flags: &[bool]) -> Result<IdLi
 {
     let mut kept = Vec::new(alloc);
     for i in 0..ids.len() {
-        add_if(&mut kept, flags[i], ids[i])?;
+        add_if_kept(&mut kept, flags[i], ids[i])?;
     }
     Ok(IdList::from_vec(kept))
 }

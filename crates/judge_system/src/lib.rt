@@ -21,6 +21,5 @@ mod test_set;
 pub use decided::Decided;
 pub use failure::{Failure, OpenNeed};
 pub use judged::Judged;
-pub use serving::takes_superseder;
 pub use stated::{Assessment, RequisiteOf};
 pub use test_set::{TestSet, Tests};

@@ -14,7 +14,7 @@ use std::alloc::{AllocError, Global};
 use terms::NeedKind;
 
 // Adds the need to the row of its candidate, unless it is served.
-fn add_open(
+fn add_if_open(
     rows: &mut [Vec<(NeedKind, Id)>],
     kept: &Kept,
     need: &Need,
@@ -30,7 +30,7 @@ fn add_open(
     Ok(())
 }
 
-/// For each candidate the kinds and ids of its needs that no kept candidate serves.
+/// For each candidate, the kinds and ids of its needs that no kept candidate serves.
 pub(crate) fn open_needs(
     alloc: Global,
     system: &System,
@@ -47,13 +47,13 @@ pub(crate) fn open_needs(
     let needs = system.needs();
     for i in 0..needs.len() {
         let need = need_at(stated, i);
-        add_open(&mut rows, kept, &needs[i], (need.kind, need.id))?;
+        add_if_open(&mut rows, kept, &needs[i], (need.kind, need.id))?;
     }
     Ok(rows)
 }
 
-// The needs in the order of kinds and ids, each once.
-fn each_once(mut needs: Vec<(NeedKind, Id)>) -> Vec<(NeedKind, Id)>
+// The needs sorted by kind and id, each once.
+fn without_doubles(mut needs: Vec<(NeedKind, Id)>) -> Vec<(NeedKind, Id)>
     ensures { AreEachOnce needs.items result.items }
 {
     needs.sort_unstable();
@@ -61,14 +61,14 @@ fn each_once(mut needs: Vec<(NeedKind, Id)>) -> Vec<(NeedKind, Id)>
     needs
 }
 
-/// The needs by kind and id, each once.
-pub(crate) fn needs_of(
+/// The needs as a failure lists them: sorted by kind and id, each once.
+pub(crate) fn sorted_open_needs(
     alloc: Global,
     unserved: &[(NeedKind, Id)],
 ) -> Result<Vec<OpenNeed>, AllocError>
     ensures { IfOk result (λ needs. AreNeedsOf unserved.now (map need_view needs.items)) }
 {
-    each_once(Vec::from_slice(alloc, unserved)?)
+    without_doubles(Vec::from_slice(alloc, unserved)?)
         .into_iter()
         .map(|(kind, id)| OpenNeed { kind, id })
         .collect(alloc)

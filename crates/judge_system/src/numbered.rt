@@ -4,7 +4,7 @@ ghost use Rattle.terms.specs.Lookups.{IsRising, is_nil};
 ghost use Rattle.judge_system.specs.Numbered.{AddsNeed, HasNeeds, HasSystem};
 ghost use Rattle.judge_system.specs.TestSets.{tests_of};
 
-use crate::serving::{own_place, places_of, served};
+use crate::serving::{own_place, served_pairs, serving_places};
 use crate::stated::{RequisiteOf, need_at};
 use crate::test_set::TestSet;
 use fields::{Id, IdList};
@@ -14,15 +14,15 @@ use std::alloc::{AllocError, Global};
 use std::collections::BTreeSet;
 
 /// The greatest number of candidates whose count fits into 32 bits.
-const MOST: usize = u32::MAX as usize;
+const MOST_CANDIDATES: usize = u32::MAX as usize;
 
-/// The ids, numbered in their order.
-pub(crate) fn with_numbers(alloc: Global, ids: &IdList) -> Result<IndexSet<Id>, AllocError>
+/// The ids, numbered in their order. It returns an error if there are more than numbers of 32 bits.
+pub(crate) fn number_ids(alloc: Global, ids: &IdList) -> Result<IndexSet<Id>, AllocError>
     ensures ids { IfOk result (λ numbered. numbered.keys ≡ ids.now) }
     ensures rising { IfOk result (λ numbered. IsRising numbered.keys) }
     ensures few { IfOk result (λ numbered. length numbered.keys < 2 ^ 32) }
 {
-    if ids.len() > MOST {
+    if ids.len() > MOST_CANDIDATES {
         return Err(AllocError);
     }
     let mut numbered = IndexSet::new(alloc);
@@ -32,14 +32,14 @@ pub(crate) fn with_numbers(alloc: Global, ids: &IdList) -> Result<IndexSet<Id>, 
     Ok(numbered)
 }
 
-/// Whether each candidate fails no test.
-pub(crate) fn all_eligible(alloc: Global, sets: &[TestSet]) -> Result<Vec<bool>, AllocError>
+/// For each candidate, whether it fails no test.
+pub(crate) fn eligible_flags(alloc: Global, sets: &[TestSet]) -> Result<Vec<bool>, AllocError>
     ensures { IfOk result (λ flags. flags.items ≡ map (λ tests. is_nil (tests_of tests)) sets.now) }
 {
     sets.iter().map(|tests| tests.is_empty()).collect(alloc)
 }
 
-// Adds one need.
+// Adds one need to the system, by the numbers of its candidate and of those that serve it.
 fn number_need(
     alloc: Global,
     ids: &IndexSet<Id>,
@@ -53,14 +53,14 @@ fn number_need(
     requires of { Contains ids.now.keys need.of }
     ensures { OnOk result (AddsNeed ids.now.keys served.now.keys need system.old system.new) }
 {
-    let any = places_of(alloc, ids, served, need.kind, need.id)?;
+    let any = serving_places(alloc, ids, served, need.kind, need.id)?;
     let of = own_place(ids, need.of);
     system.add_need(Need { of, any })?;
     Ok(())
 }
 
 // The system of candidates with these flags and these needs.
-fn with_needs(
+fn system_with_needs(
     alloc: Global,
     ids: &IndexSet<Id>,
     served: &BTreeSet<(Id, u32)>,
@@ -82,8 +82,9 @@ fn with_needs(
     Ok(system)
 }
 
-/// The system of candidates with these flags and these needs; some candidates supersede an id that is needed.
-pub(crate) fn numbered(
+/// The system of candidates with these flags and these needs. `superseded` has the candidates with the ids that they
+/// supersede, because they may serve needs for these.
+pub(crate) fn numbered_system(
     alloc: Global,
     ids: &IndexSet<Id>,
     superseded: &[(Id, Id)],
@@ -97,7 +98,7 @@ pub(crate) fn numbered(
     requires flags { length eligible.items ≡ length ids.now.keys }
     ensures { IfOk result (λ system. HasSystem ids.now.keys superseded.now eligible.items stated.now system) }
 {
-    let served = served(alloc, ids, superseded)?;
-    let system = with_needs(alloc, ids, &served, stated, eligible)?;
+    let served = served_pairs(alloc, ids, superseded)?;
+    let system = system_with_needs(alloc, ids, &served, stated, eligible)?;
     Ok(system)
 }

@@ -33,7 +33,7 @@ pub(crate) fn own_place(ids: &IndexSet<Id>, id: Id) -> u32
     place_of(ids, id).unwrap()
 }
 
-// The candidates with their places.
+// Each candidate with its own place.
 fn own_pairs(alloc: Global, ids: &[Id]) -> Result<Vec<(Id, u32)>, AllocError>
     requires { length ids.now < 2 ^ 32 }
     ensures { IfOk result (λ pairs. AreOwn ids.now (length ids.now) pairs.items) }
@@ -62,8 +62,8 @@ fn add_superseded(
     Ok(())
 }
 
-/// The ids for which candidates stand, each with the place of the candidate, in order.
-pub(crate) fn served(
+/// Each id that a candidate is or supersedes, with the place of the candidate, in order.
+pub(crate) fn served_pairs(
     alloc: Global,
     ids: &IndexSet<Id>,
     superseded: &[(Id, Id)],
@@ -79,14 +79,7 @@ pub(crate) fn served(
     Ok(set)
 }
 
-/// Whether a SYSMOD that supersedes an id serves a need for it.
-pub fn takes_superseder(kind: NeedKind) -> bool
-    ensures { result ≡ takes_superseder kind }
-{
-    !matches!(kind, NeedKind::Fmid | NeedKind::Elem | NeedKind::Dep)
-}
-
-// The candidates that stand for an id: they serve a need for it that a superseder serves.
+// The places of the id and of its superseders: they serve a need that a superseder may serve.
 fn served_places(
     alloc: Global,
     ids: &IndexSet<Id>,
@@ -107,7 +100,7 @@ fn served_places(
     Ok(places)
 }
 
-// Otherwise only the id itself does, if it is a candidate.
+// The only candidate that serves a need which no superseder serves: the id itself, if it is a candidate.
 fn own_places(alloc: Global, ids: &IndexSet<Id>, id: Id) -> Result<Vec<u32>, AllocError>
     requires few { length ids.now.keys < 2 ^ 32 }
     requires rising { IsRising ids.now.keys }
@@ -124,7 +117,7 @@ fn own_places(alloc: Global, ids: &IndexSet<Id>, id: Id) -> Result<Vec<u32>, All
 }
 
 /// The places of the candidates that serve a need.
-pub(crate) fn places_of(
+pub(crate) fn serving_places(
     alloc: Global,
     ids: &IndexSet<Id>,
     served: &BTreeSet<(Id, u32)>,
@@ -137,7 +130,7 @@ pub(crate) fn places_of(
     ensures below { IfOk result (λ any. All (λ n. n < length ids.now.keys) any.items) }
     ensures rising { IfOk result (λ any. AllPairs (λ a b. a < b) any.items) }
 {
-    if takes_superseder(kind) {
+    if kind.takes_superseder() {
         served_places(alloc, ids, served, kind, id)
     } else {
         own_places(alloc, ids, id)

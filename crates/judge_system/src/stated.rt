@@ -5,7 +5,7 @@ use crate::test_set::TestSet;
 use fields::Id;
 use terms::NeedKind;
 
-/// A candidate needs this id.
+/// A need: the candidate `of` needs the id.
 #[derive(Clone, Copy)]
 pub struct RequisiteOf {
     pub of: Id,

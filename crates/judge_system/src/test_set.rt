@@ -9,7 +9,7 @@ use std::slice;
 use terms::Test;
 
 /// All tests, in the order of the codes.
-const ALL: &[Test] = &[
+const ALL_TESTS: &[Test] = &[
     Test::HeldBySystem,
     Test::HeldByUser,
     Test::ForbiddenByNpre,
@@ -44,7 +44,7 @@ pub struct TestSet {
 }
 
 impl TestSet {
-    /// No test.
+    /// The set without a test.
     pub fn none() -> TestSet
         ensures { result ≡ no_tests }
     {
@@ -65,7 +65,7 @@ impl TestSet {
         }
     }
 
-    /// Whether the test is among them.
+    /// Whether the set has the test.
     pub fn contains(self, test: Test) -> bool
         ensures { result ≡ is_in_set self test }
     {
@@ -86,7 +86,7 @@ impl TestSet {
         }
     }
 
-    /// Whether there are none.
+    /// Whether the set has no test.
     pub fn is_empty(self) -> bool
         ensures { result ≡ is_nil (tests_of self) }
     {
@@ -99,7 +99,7 @@ impl TestSet {
     {
         Tests {
             set: self,
-            rest: ALL.iter(),
+            rest: ALL_TESTS.iter(),
         }
     }
 }

@@ -11,31 +11,28 @@ use Rattle.terms.specs.declared.not_chosen.NotChosen.TheVariants as out
 use Rattle.terms.specs.Types.{Text, Id, Global, Zone, Bypass, Selection}
 use Rattle.terms.specs.Lookups.{IsRising}
 use Rattle.terms.specs.Choice.{place, counting}
-use Rattle.terms.specs.Tests.{Setting, Fails, IsEligible, AreSurvivors}
-use Rattle.terms.specs.Needs.{Needs, Serves, bypassed_ids}
+use Rattle.terms.specs.Tests.{Setting, AreSurvivors}
+use Rattle.terms.specs.Needs.{bypassed_ids}
 use Rattle.terms.specs.Candidates.{AreCandidates, not_chosen}
-use Rattle.terms.specs.Judged.{setting, IsKeptSet}
+use Rattle.terms.specs.Judging.{Judging}
+use Rattle.terms.specs.Judged.{setting, install_judging, IsKeptSet}
 use Rattle.terms.specs.Failures.{all_tests, all_needs, IsOpenNeed, IsCauser}
 use Rattle.terms.specs.Install.{Installation, TakesEffect, HasInstalled}
 use Rattle.machine.specs.Outcome.{Status, Already, Applied, Accepted, Superseded, Failed, Failure, Deleted, Missing}
 use Rattle.machine.specs.Outcome.{NoVer, NotApplied, Line, StatusLine}
 use Rattle.machine.specs.Receiving.{place_of}
 
--- Why a candidate is not kept: its failed tests, its open needs by kind and id, and its causers. Given are the
--- candidates and the kept ones, the tests that each fails, which of them are eligible, and the needs.
-module _ (cands kept : List Id) (FailsTest : Id → Test → Type 0) (Eligible : Id → Type 0)
-    (Wants : Id → NeedKind → Id → Type 0) (ServedBy : NeedKind → Id → Id → Type 0) where
-  pub record IsFailure (x : Id) (f : Failure) : Type 0 where
-    pub fails : Test → Bool
-    pub tests : f.tests ≡ filter fails all_tests
-    pub failed : (t : Test) → IsTrue (fails t) ↔ FailsTest x t
-    pub ids_of : NeedKind → List Id
-    pub needs : f.needs ≡ flat_map (λ kind. map (λ z. record { kind = kind; id = z }) (ids_of kind)) all_needs
-    pub ids_rising : (kind : NeedKind) → IsRising (ids_of kind)
-    pub are_open : (kind : NeedKind) (z : Id) → Contains (ids_of kind) z ↔ IsOpenNeed cands kept Eligible Wants ServedBy
-        x kind z
-    pub causers_rising : IsRising f.causers
-    pub causers : (y : Id) → Contains f.causers y ↔ IsCauser cands kept Eligible Wants ServedBy x y
+-- Why a candidate is not among the kept ones: its failed tests, its open needs by kind and id, and its causers.
+pub record IsFailure (judging : Judging) (kept : List Id) (x : Id) (f : Failure) : Type 0 where
+  pub fails : Test → Bool
+  pub tests : f.tests ≡ filter fails all_tests
+  pub failed : (t : Test) → IsTrue (fails t) ↔ judging.fails x t
+  pub ids_of : NeedKind → List Id
+  pub needs : f.needs ≡ flat_map (λ kind. map (λ z. record { kind = kind; id = z }) (ids_of kind)) all_needs
+  pub ids_rising : (kind : NeedKind) → IsRising (ids_of kind)
+  pub are_open : (kind : NeedKind) (z : Id) → Contains (ids_of kind) z ↔ IsOpenNeed judging kept x kind z
+  pub causers_rising : IsRising f.causers
+  pub causers : (y : Id) → Contains f.causers y ↔ IsCauser judging kept x y
 
 -- what APPLY or ACCEPT decides: its setting, the survivors of its tests, the kept set, and what is installed
 pub record Decision : Type 0 where
@@ -81,8 +78,7 @@ pub data HasStatus (d : Decision) (sel : Selection) (x : Id) : Status → Type 0
   IsInstalled : TakesEffect d.installing x → HasStatus d sel x (installed_status d.setting.zone.kind)
   IsSuperseded : Contains d.kept x → (¬ TakesEffect d.installing x) → HasStatus d sel x Superseded
   IsFailed : (f : Failure) → Contains d.setting.cands x → (¬ Contains d.kept x)
-      → IsFailure d.setting.cands d.kept (Fails d.setting) (IsEligible d.setting) (Needs d.setting d.survivors)
-      (Serves d.setting.choice) x f
+      → IsFailure (install_judging d.setting d.survivors) d.kept x f
       → HasStatus d sel x (Failed f)
   IsNotChosen : (why : NotChosen) → not_chosen d.setting.global d.setting.zone sel x ≡ Some why
       → HasStatus d sel x (not_chosen_status why)

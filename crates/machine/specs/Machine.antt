@@ -4,7 +4,8 @@ use Rattle.std.specs.Prelude.{◌≡◌, ◌⊎◌, ℕ, Bool, true, false, IsTr
 use Rattle.std.specs.Prelude.{Result, Ok, Err, if◌then◌else◌}
 use Rattle.std.specs.List.{flat_map}
 use Rattle.std.specs.Option.{option_map_or, option_and_then}
-use Rattle.terms.specs.Types.{Text, Id, Global, Zone, Item, HoldItem, ReceiveWhat, Install, RestoreList, Command, Set}
+use Rattle.terms.specs.Types.{ZoneName, Date, Id, Global, Zone, Item, HoldItem, ReceiveWhat, Install, RestoreList}
+use Rattle.terms.specs.Types.{Command, Set}
 use Rattle.terms.specs.Types.{Receive, Reject, Apply, Accept, Restore, ListZone, Report}
 use Rattle.terms.specs.Ptfin.{McsFault, IsPtfin, IsPtfinFault}
 use Rattle.terms.specs.HoldFile.{IsHoldFile, IsHoldFileFault}
@@ -56,9 +57,9 @@ pub record Rejects (s : State) (ids : List Id) (t : State) (outcome : Outcome) :
 
 -- APPLY and ACCEPT install into the zone of the boundary. ACCEPT also looks at the related target zone. With CHECK they
 -- print the same and change nothing.
-pub record InstallsThere (date : Text) (s : State) (c : Command) (i : Install) (related : Text → Option Zone)
+pub record InstallsThere (date : Date) (s : State) (c : Command) (i : Install) (related : ZoneName → Option Zone)
     (t : State) (outcome : Outcome) : Type 0 where
-  pub name : Text
+  pub name : ZoneName
   pub at : s.boundary ≡ Some name
   pub zone : Zone
   pub is_there : zone_named s.zones name ≡ Some zone
@@ -70,7 +71,7 @@ pub record InstallsThere (date : Text) (s : State) (c : Command) (i : Install) (
 
 -- RESTORE takes SYSMODs off the target zone of the boundary, back to the level of its distribution zone.
 pub record RestoresThere (s : State) (what : RestoreList) (check : Bool) (t : State) (outcome : Outcome) : Type 0 where
-  pub name : Text
+  pub name : ZoneName
   pub at : s.boundary ≡ Some name
   pub zone : Zone
   pub is_there : zone_named s.zones name ≡ Some zone
@@ -95,7 +96,7 @@ pub record ReportsThere (s : State) (outcome : Outcome) : Type 0 where
   pub prints : outcome ≡ Ran (header_of Report s.boundary) lines
 
 -- a command that may run
-abbrev pub RunsThere : Text → Files → State → Command → State → Outcome → Type 0
+abbrev pub RunsThere : Date → Files → State → Command → State → Outcome → Type 0
 RunsThere date files s (Set name) t outcome =
     (t ≡ record s { boundary = Some name }) × (outcome ≡ Ran (header_of (Set name) s.boundary) [])
 RunsThere date files s (Receive what) t outcome = Takes files s what t outcome
@@ -108,7 +109,7 @@ RunsThere date files s (ListZone text) t outcome =
 RunsThere date files s Report t outcome = (t ≡ s) × ReportsThere s outcome
 
 -- a command; one that may not run is refused and changes nothing
-abbrev pub Performs : Text → Files → State → Command → State → Outcome → Type 0
+abbrev pub Performs : Date → Files → State → Command → State → Outcome → Type 0
 Performs date files s c t outcome =
     ((why : Refusal) × (misplaced s c ≡ Some why) × (t ≡ s) × (outcome ≡ Refused (header_of c s.boundary) why))
     ⊎ ((misplaced s c ≡ None) × RunsThere date files s c t outcome)
@@ -117,7 +118,7 @@ Performs date files s c t outcome =
 -- fault. Or a zone is defined.
 pub data Act : Type 0 where
   Begin : Act
-  Perform : Text → Files → Command → Act
+  Perform : Date → Files → Command → Act
   Faulty : ControlFault → Act
   Define : ZoneDefinition → Act
 
@@ -139,7 +140,7 @@ Prints s a t bytes = (outcomes : List Outcome) × Steps s a t outcomes × (bytes
 
 -- a job's date, command file and other files, or a zone to define
 pub data Job : Type 0 where
-  RunFiles : Text → List ℕ → Files → Job
+  RunFiles : Date → List ℕ → Files → Job
   NewZone : ZoneDefinition → Job
 
 -- The acts of a job are its commands, or the fault of its command file.

@@ -5,7 +5,8 @@ use Rattle.terms.specs.declared.kinds.Kind.{Kind}
 use Rattle.terms.specs.declared.kinds.HoldKind.{HoldKind}
 use Rattle.terms.specs.declared.kinds.ElemType.{ElemType}
 use Rattle.terms.specs.declared.kinds.ZoneKind.{ZoneKind}
-use Rattle.terms.specs.Types.{Text, Id, Global, Entry, Element, Zone, Command, Set, Receive, Reject, Apply, Accept}
+use Rattle.terms.specs.Types.{Reason, Source, Name, Library, ZoneName, Id, Global, Entry, Element, Zone, Command, Set}
+use Rattle.terms.specs.Types.{Receive, Reject, Apply, Accept}
 use Rattle.terms.specs.Types.{Restore, ListZone, Report}
 use Rattle.terms.specs.declared.codes.CommandWord.{CommandWord}
 use Rattle.terms.specs.declared.codes.CommandWord.TheVariants as word
@@ -20,11 +21,11 @@ use Rattle.terms.specs.declared.codes.NeedKind.{NeedKind}
 -- the command's word, the boundary if there is one (for SET the zone that it names), and whether CHECK was given
 pub record Header : Type 0 where
   pub word : CommandWord
-  pub boundary : Option Text
+  pub boundary : Option ZoneName
   pub check : Bool
 
 -- the header of a command under a boundary
-abbrev pub header_of : Command → Option Text → Header
+abbrev pub header_of : Command → Option ZoneName → Header
 header_of (Set zone) b = record { word = word.Set; boundary = Some zone; check = false }
 header_of (Receive what) b = record { word = word.Receive; boundary = b; check = false }
 header_of (Reject ids) b = record { word = word.Reject; boundary = b; check = false }
@@ -64,11 +65,11 @@ pub data Status : Type 0 where
   Received : Status
   Already : Status
   RefusedId : IdRefusal → Status
-  Assigned : Text → Status
+  Assigned : Source → Status
   Unknown : Status
-  Held : Text → Status
-  Replaced : Text → Status
-  Released : Text → Status
+  Held : Reason → Status
+  Replaced : Reason → Status
+  Released : Reason → Status
   Rejected : Status
   Applied : Status
   Accepted : Status
@@ -83,23 +84,23 @@ pub data Status : Type 0 where
 -- what LIST prints of an element, without its records
 pub record ElementRow : Type 0 where
   pub elem_type : ElemType
-  pub name : Text
+  pub name : Name
   pub fmid : Id
   pub rmid : Id
   pub umids : List Id
-  pub distlib : Text
-  pub syslib : Text
+  pub distlib : Library
+  pub syslib : Library
 
 -- An entry is printed with its zone's kind, an ERRSYSMOD with its reason and its resolvers.
 pub data Line : Type 0 where
   StatusLine : Id → Place → Status → Line
   NothingLine : Line
-  SysmodLine : Id → Kind → List Text → Line
-  HoldLine : Id → HoldKind → Text → Bool → Line
+  SysmodLine : Id → Kind → List Source → Line
+  HoldLine : Id → HoldKind → Reason → Bool → Line
   EntryLine : ZoneKind → Entry → Line
   ElementLine : ElementRow → Line
   TextLine : List ℕ → Line
-  ErrsysmodLine : Id → Text → List Id → Line
+  ErrsysmodLine : Id → Reason → List Id → Line
 
 -- the fault of a command file, with the number of the record where the command begins
 pub record ControlFault : Type 0 where

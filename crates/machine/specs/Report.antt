@@ -4,6 +4,7 @@ use Rattle.std.specs.Prelude.{Some, None, codes, decimal, if◌then◌else◌}
 use Rattle.std.specs.List.{flat_map, join_with_byte}
 use Rattle.terms.specs.declared.kinds.ZoneKind.{ZoneKind}
 use Rattle.terms.specs.declared.kinds.ZoneKind.TheVariants.{Target, Distribution}
+use Rattle.terms.specs.Bytes.{newline, blank, comma, digit_zero}
 use Rattle.terms.specs.Types.{Text, Id, Entry}
 use Rattle.terms.specs.Lookups.{date_of}
 use Rattle.terms.specs.Spelling.{word_text, kind_text, hold_text, type_text, statement_code_text, command_code_text}
@@ -19,20 +20,20 @@ use Rattle.machine.specs.Outcome.{lines_code}
 
 -- words with one blank between them, and the newline
 abbrev pub words_line : List Text → Text
-words_line words = join_with_byte 32 words ++ 10 ∷ []
+words_line words = join_with_byte blank words ++ newline ∷ []
 
 -- the same with two blanks before
 abbrev pub detail_line : List Text → Text
-detail_line words = 32 ∷ 32 ∷ words_line words
+detail_line words = blank ∷ blank ∷ words_line words
 
 -- the text, padded to so many places
 abbrev pub left_in : ℕ → Text → Text
-left_in n text = text ++ replicate (n - length text) 32
+left_in n text = text ++ replicate (n - length text) blank
 
 -- the members joined by commas, or -
 abbrev pub list_text : List Text → Text
 list_text [] = codes "-"
-list_text (x ∷ xs) = join_with_byte 44 (x ∷ xs)
+list_text (x ∷ xs) = join_with_byte comma (x ∷ xs)
 
 abbrev pub optional_text : Option Text → Text
 optional_text None = codes "-"
@@ -135,13 +136,13 @@ line_text (HoldLine id kind reason internal) =
     words_line (codes "HOLD" ∷ id ∷ left_in 6 (hold_text kind) ∷ reason ∷ mark_text internal ∷ [])
 line_text (EntryLine kind entry) = entry_text kind entry
 line_text (ElementLine row) = element_text row
-line_text (TextLine r) = 32 ∷ 32 ∷ r ++ 10 ∷ []
+line_text (TextLine r) = blank ∷ blank ∷ r ++ newline ∷ []
 line_text (ErrsysmodLine id reason resolvers) =
     words_line (codes "ERRSYSMOD" ∷ id ∷ reason ∷ []) ++ resolver_text resolvers
 
 -- RC and two digits
 abbrev pub code_text : ℕ → Text
-code_text n = words_line (codes "RC" ∷ ((48 + n / 10) ∷ (48 + n % 10) ∷ []) ∷ [])
+code_text n = words_line (codes "RC" ∷ ((digit_zero + n / 10) ∷ (digit_zero + n % 10) ∷ []) ∷ [])
 
 unfoldable pub text : Outcome → Text
 text (Ran h lines) = header_text h ++ flat_map line_text lines ++ code_text (lines_code lines)

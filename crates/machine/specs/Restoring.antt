@@ -2,11 +2,9 @@
 -- (IBM z/OS SMP/E Commands, RESTORE processing. The lines are this project's.)
 use Rattle.std.specs.Prelude.{◌≡◌, ◌↔◌, List, [], Contains, map}
 use Rattle.terms.specs.Types.{Id, Global, Zone, RestoreList}
-use Rattle.terms.specs.Lookups.{IsRising, is_in}
+use Rattle.terms.specs.Lookups.{IsRising}
 use Rattle.terms.specs.Choice.{counting}
-use Rattle.terms.specs.Needs.{Serves}
-use Rattle.terms.specs.Restore.{Restoring, NeedsInRestore, AreListed, restore_candidates, FailsRestore, MayBeRestored}
-use Rattle.terms.specs.Restore.{IsRestored, Restores}
+use Rattle.terms.specs.Restore.{Restoring, AreListed, restore_candidates, restore_judging, IsRestored, Restores}
 use Rattle.machine.specs.Outcome.{Status, Restored, NotApplied, Failed, Failure, Line, StatusLine}
 use Rattle.machine.specs.Receiving.{place_of}
 use Rattle.machine.specs.Installing.{IsFailure}
@@ -15,8 +13,7 @@ use Rattle.machine.specs.Installing.{IsFailure}
 pub data HasRestoreStatus (r : Restoring) (ids kept : List Id) (x : Id) : Status → Type 0 where
   IsBack : Contains kept x → HasRestoreStatus r ids kept x Restored
   StaysOn : (f : Failure) → Contains (restore_candidates r ids) x → (¬ Contains kept x)
-      → IsFailure (restore_candidates r ids) kept (FailsRestore r) (MayBeRestored r ids) (NeedsInRestore r (is_in ids))
-      (Serves r.choice) x f
+      → IsFailure (restore_judging r ids) kept x f
       → HasRestoreStatus r ids kept x (Failed f)
   WasNotOn : Contains ids x → (¬ Contains (restore_candidates r ids) x) → HasRestoreStatus r ids kept x NotApplied
 

@@ -9,7 +9,8 @@ use Rattle.std.specs.Cmp.Lexicographic.{slice_cmp}
 use Rattle.std.specs.Ordering.{nat_cmp}
 use Rattle.terms.specs.declared.kinds.ZoneKind.{ZoneKind}
 use Rattle.terms.specs.declared.kinds.ZoneKind.TheVariants.{Target, Distribution}
-use Rattle.terms.specs.Types.{Text, zone_number, Global, Zone, a_zone, NamedZone, Command, Set, Receive, Reject, Apply}
+use Rattle.terms.specs.Types.{Srel, ZoneName, zone_number, Global, Zone, a_zone, NamedZone, Command, Set, Receive}
+use Rattle.terms.specs.Types.{Reject, Apply}
 use Rattle.terms.specs.Types.{Accept, Restore, ListZone, Report, is_distribution}
 use Rattle.terms.specs.Rising.{with_item}
 use Rattle.machine.specs.Outcome.{Refusal, NoBoundary, NoZone, WrongKind}
@@ -18,13 +19,13 @@ use Rattle.machine.specs.Outcome.{Refusal, NoBoundary, NoZone, WrongKind}
 pub record State : Type 0 where
   pub global : Global
   pub zones : List NamedZone
-  pub boundary : Option Text
+  pub boundary : Option ZoneName
 
-abbrev pub global_name : Text
+abbrev pub global_name : ZoneName
 global_name = codes "GLOBAL"
 
 -- the zone of this name
-abbrev pub zone_named : List NamedZone → Text → Option Zone
+abbrev pub zone_named : List NamedZone → ZoneName → Option Zone
 zone_named zones name = option_map (λ z. z.zone) (find (λ z. bytes_eq z.name name) zones)
 
 -- the zone that the boundary names; none if that is the global zone
@@ -32,11 +33,11 @@ abbrev pub current_zone : State → Option Zone
 current_zone s = option_and_then (zone_named s.zones) s.boundary
 
 -- the target zone that is related to a distribution zone, if there is one
-abbrev pub target_of : List NamedZone → Text → Option Zone
+abbrev pub target_of : List NamedZone → ZoneName → Option Zone
 target_of zones name = option_map (λ z. z.zone) (find (λ z. option_map_or (bytes_eq name) z.zone.related false) zones)
 
 -- the state with this zone in place of the one of its name
-abbrev pub with_zone : State → Text → Zone → State
+abbrev pub with_zone : State → ZoneName → Zone → State
 with_zone s name zone = record s {
   zones = with_item (slice_cmp nat_cmp) (λ z. z.name) s.zones
       (record { name = name; zone = zone });
@@ -70,10 +71,10 @@ misplaced s Report = unless_at (at_zone s) s
 
 -- what defines a zone: its name, kind and SREL, and the name of a related zone
 pub record ZoneDefinition : Type 0 where
-  pub name : Text
+  pub name : ZoneName
   pub kind : ZoneKind
-  pub srel : Text
-  pub related : Option Text
+  pub srel : Srel
+  pub related : Option ZoneName
 
 -- NameTaken: a zone has the name, or the name is GLOBAL. WrongRelated: a target zone needs a distribution zone to which
 -- no other is related, and a distribution zone has no related zone. OtherSrel: the related zone has another SREL.
@@ -85,23 +86,23 @@ pub data ZoneFault : Type 0 where
   TooMany : ZoneFault
 
 -- whether some zone names this one as its related zone
-abbrev pub is_related : List NamedZone → Text → Bool
+abbrev pub is_related : List NamedZone → ZoneName → Bool
 is_related zones name = list_any (λ z. option_map_or (bytes_eq name) z.zone.related false) zones
 
 -- whether it is a distribution zone to which no target zone is related
-abbrev pub is_free : List NamedZone → Text → Bool
+abbrev pub is_free : List NamedZone → ZoneName → Bool
 is_free zones name =
     option_map_or (λ z. is_distribution z.kind) (zone_named zones name) false
     && not (is_related zones name)
 
 -- whether the related zone suits the kind: for a target zone an unrelated distribution zone, for a distribution zone
 -- none
-abbrev pub has_right_related : List NamedZone → ZoneKind → Option Text → Bool
+abbrev pub has_right_related : List NamedZone → ZoneKind → Option ZoneName → Bool
 has_right_related zones Target related = option_map_or (is_free zones) related false
 has_right_related zones Distribution related = not (is_some related)
 
 -- whether the related zone, if there is one, has this SREL
-abbrev pub has_same_srel : List NamedZone → Text → Option Text → Bool
+abbrev pub has_same_srel : List NamedZone → Srel → Option ZoneName → Bool
 has_same_srel zones srel related =
     option_map_or (λ name. option_map_or (λ z. bytes_eq z.srel srel) (zone_named zones name) false) related
     (not (is_some related))

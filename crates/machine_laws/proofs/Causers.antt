@@ -15,10 +15,10 @@ use Rattle.terms.specs.declared.not_chosen.NotChosen.TheVariants as out
 use Rattle.terms.specs.Types.{Text, Id, Global, Zone, Bypass, Selection, RestoreList}
 use Rattle.terms.specs.Lookups.{is_in, is_applied, applied_ids}
 use Rattle.terms.specs.Tests.{Setting, Fails, FailsAlone, IsEligible}
-use Rattle.terms.specs.Needs.{Needs, Serves, asked}
-use Rattle.terms.specs.Judged.{Stays}
+use Rattle.terms.specs.Needs.{asked}
+use Rattle.terms.specs.Judged.{Stays, install_judging}
 use Rattle.terms.specs.Failures.{HasFailed, IsCauser}
-use Rattle.terms.specs.Restore.{Restoring, NeedsInRestore, restore_candidates, FailsRestore, MayBeRestored}
+use Rattle.terms.specs.Restore.{Restoring, NeedsInRestore, restore_candidates, restore_judging}
 use Rattle.terms.proofs.Ids.{in_or_not}
 use Rattle.machine.specs.Outcome.{Status, Failed, Failure, Line, StatusLine, Place}
 use Rattle.machine.specs.Receiving.{place_of}
@@ -65,9 +65,8 @@ module _ (d : Decision) (sel : Selection) where
   -- x failed, by this failure
   abbrev FailedBy : Id → Failure → Type 0
   FailedBy x f =
-      HasFailed d.setting.cands d.kept (IsEligible d.setting) (Needs d.setting d.survivors) (Serves d.setting.choice) x
-      × IsFailure d.setting.cands d.kept (Fails d.setting) (IsEligible d.setting) (Needs d.setting d.survivors)
-      (Serves d.setting.choice) x f
+      HasFailed (install_judging d.setting d.survivors) d.kept x
+      × IsFailure (install_judging d.setting d.survivors) d.kept x f
 
   installed_not : (kind : ZoneKind) (f : Failure) → installed_status kind ≢ Failed f
   installed_not Target f same = cc same
@@ -86,8 +85,7 @@ module _ (d : Decision) (sel : Selection) where
   failed_by x s f (IsFailed h c off why) same =
       let is : h ≡ f = cc same in (
         record { cand = c; not_kept = off },
-        subst (λ f. IsFailure d.setting.cands d.kept (Fails d.setting) (IsEligible d.setting)
-            (Needs d.setting d.survivors) (Serves d.setting.choice) x f) is why,
+        subst (λ f. IsFailure (install_judging d.setting d.survivors) d.kept x f) is why,
       )
   failed_by x s f (IsNotChosen why at) same = absurd (unchosen_not why f same)
 
@@ -102,20 +100,16 @@ module _ (d : Decision) (sel : Selection) where
 pub install_caused : (g : Global) (zone : Zone) (related : Option Zone) (sel : Selection) (bypass : Bypass)
     (date : Text) (d : Decision) → IsDecision g zone related sel bypass date d → (lines : List Line)
     → AreInstallLines d sel lines → (x : Id) (f : Failure) → HasFailedLine lines x f
-    → IsCaused d.setting.cands d.kept (IsEligible d.setting) (Needs d.setting d.survivors)
-    (Serves d.setting.choice) lines f
+    → IsCaused (install_judging d.setting d.survivors) d.kept lines f
 install_caused g zone related sel bypass date d decides lines are x f (place, printed) = record {
-  some = names_causer d.setting.cands d.kept (Fails d.setting) (IsEligible d.setting) (Needs d.setting d.survivors)
-      (Serves d.setting.choice) (asked d.setting d.survivors) (λ x z kind needs. needs.asks) (λ x is. is.0.0.0) members
-      x f by.0 by.1;
+  some = names_causer (install_judging d.setting d.survivors) d.kept (asked d.setting d.survivors)
+      (λ x z kind needs. needs.asks) (λ x is. is.0.0.0) members x f by.0 by.1;
   each = λ y causer.
-      let is : IsCauser d.setting.cands d.kept (IsEligible d.setting) (Needs d.setting d.survivors)
-      (Serves d.setting.choice) x y = (by.1.causers y).0 causer in
+      let is : IsCauser (install_judging d.setting d.survivors) d.kept x y = (by.1.causers y).0 causer in
       let line = line_of y is.root.failed in (
         line.0,
         line.1,
-        cause_of d.setting.cands d.kept (Fails d.setting) (IsEligible d.setting) (Needs d.setting d.survivors)
-            (Serves d.setting.choice) y line.0 (passes_all d.setting) line.2.1 is.root,
+        cause_of (install_judging d.setting d.survivors) d.kept y line.0 (passes_all d.setting) line.2.1 is.root,
       );
 }
   where
@@ -130,18 +124,16 @@ install_caused g zone related sel bypass date d decides lines are x f (place, pr
         (subst (λ ls. Contains ls (StatusLine x place (Failed f))) are.lines_are printed) in
         failed_by d sel x (are.status x) f (are.each x found.0) found.1
 
-    printed_of : (y : Id) → HasFailed d.setting.cands d.kept (IsEligible d.setting) (Needs d.setting d.survivors)
-        (Serves d.setting.choice) y → Contains are.ids y
+    printed_of : (y : Id) → HasFailed (install_judging d.setting d.survivors) d.kept y → Contains are.ids y
     printed_of y failed = elim (in_or_not are.ids y) [
       | inl is ↦ is
-      | inr unprinted ↦ absurd (failure_stably d.setting.cands d.kept (Fails d.setting) (IsEligible d.setting)
-          (Needs d.setting d.survivors) (Serves d.setting.choice) (asked d.setting d.survivors)
-          (λ x z kind needs. needs.asks) y
+      | inr unprinted ↦ absurd (failure_stably (install_judging d.setting d.survivors) d.kept
+          (asked d.setting d.survivors) (λ x z kind needs. needs.asks) y
           (λ made. unprinted (are.all y (Failed made.0) (IsFailed made.0 failed.cand failed.not_kept made.1))))
     ]
 
-    line_of : (y : Id) → HasFailed d.setting.cands d.kept (IsEligible d.setting) (Needs d.setting d.survivors)
-        (Serves d.setting.choice) y → (h : Failure) × HasFailedLine lines y h × FailedBy d sel y h
+    line_of : (y : Id) → HasFailed (install_judging d.setting d.survivors) d.kept y
+        → (h : Failure) × HasFailedLine lines y h × FailedBy d sel y h
     line_of y failed =
         let is = printed_of y failed in
         let has = status_failed d sel (sound g zone related sel bypass date d decides) y (are.status y) (are.each y is)
@@ -173,10 +165,7 @@ needs_applied r listed x z need.Orphan needs = absurd needs
 module _ (r : Restoring) (ids kept : List Id) where
   -- x failed, by this failure
   abbrev RestoreFailedBy : Id → Failure → Type 0
-  RestoreFailedBy x f =
-      HasFailed (restore_candidates r ids) kept (MayBeRestored r ids) (NeedsInRestore r (is_in ids)) (Serves r.choice) x
-      × IsFailure (restore_candidates r ids) kept (FailsRestore r) (MayBeRestored r ids) (NeedsInRestore r (is_in ids))
-      (Serves r.choice) x f
+  RestoreFailedBy x f = HasFailed (restore_judging r ids) kept x × IsFailure (restore_judging r ids) kept x f
 
   restore_failed_by : (x : Id) (s : Status) (f : Failure) → HasRestoreStatus r ids kept x s → s ≡ Failed f
       → RestoreFailedBy x f
@@ -184,8 +173,7 @@ module _ (r : Restoring) (ids kept : List Id) where
   restore_failed_by x s f (StaysOn h c off why) same =
       let is : h ≡ f = cc same in (
         record { cand = c; not_kept = off },
-        subst (λ f. IsFailure (restore_candidates r ids) kept (FailsRestore r) (MayBeRestored r ids)
-            (NeedsInRestore r (is_in ids)) (Serves r.choice) x f) is why,
+        subst (λ f. IsFailure (restore_judging r ids) kept x f) is why,
       )
   restore_failed_by x s f (WasNotOn listed off) same = absurd (cc same)
 
@@ -197,28 +185,22 @@ module _ (r : Restoring) (ids kept : List Id) where
 
 pub restore_caused : (g : Global) (zone accepted : Zone) (what : RestoreList) (new : Zone) (lines : List Line)
     (is : RestoresListed g zone accepted what new lines) (x : Id) (f : Failure) → HasFailedLine lines x f
-    → IsCaused (restore_candidates is.setting is.ids) is.kept (MayBeRestored is.setting is.ids)
-    (NeedsInRestore is.setting (is_in is.ids)) (Serves is.setting.choice) lines f
+    → IsCaused (restore_judging is.setting is.ids) is.kept lines f
 restore_caused g zone accepted what new lines is x f (place, printed) = record {
-  some = names_causer cands is.kept (FailsRestore r) (MayBeRestored r is.ids) (NeedsInRestore r (is_in is.ids))
-      (Serves r.choice) (λ x kind. applied_ids r.zone) (needs_applied r (is_in is.ids)) (λ x of. of.cand) is.members
-      x f by.0 by.1;
+  some = names_causer (restore_judging r is.ids) is.kept (λ x kind. applied_ids r.zone) (needs_applied r (is_in is.ids))
+      (λ x of. of.cand) is.members x f by.0 by.1;
   each = λ y causer.
-      let of : IsCauser cands is.kept (MayBeRestored r is.ids) (NeedsInRestore r (is_in is.ids)) (Serves r.choice) x y =
-      (by.1.causers y).0 causer in
+      let of : IsCauser (restore_judging r is.ids) is.kept x y = (by.1.causers y).0 causer in
       let line = line_of y of.root.failed in (
         line.0,
         line.1,
-        cause_of cands is.kept (FailsRestore r) (MayBeRestored r is.ids) (NeedsInRestore r (is_in is.ids))
-            (Serves r.choice) y line.0 (λ x of passes. record { cand = of; passes = passes }) line.2.1 of.root,
+        cause_of (restore_judging r is.ids) is.kept y line.0 (λ x of passes. record { cand = of; passes = passes })
+            line.2.1 of.root,
       );
 }
   where
     r : Restoring
     r = is.setting
-
-    cands : List Id
-    cands = restore_candidates r is.ids
 
     by : RestoreFailedBy r is.ids is.kept x f
     by =
@@ -226,8 +208,8 @@ restore_caused g zone accepted what new lines is x f (place, printed) = record {
         (subst (λ ls. Contains ls (StatusLine x place (Failed f))) is.lines_are printed) in
         restore_failed_by r is.ids is.kept x (is.status x) f (is.each x found.0) found.1
 
-    line_of : (y : Id) → HasFailed cands is.kept (MayBeRestored r is.ids) (NeedsInRestore r (is_in is.ids))
-        (Serves r.choice) y → (h : Failure) × HasFailedLine lines y h × RestoreFailedBy r is.ids is.kept y h
+    line_of : (y : Id) → HasFailed (restore_judging r is.ids) is.kept y
+        → (h : Failure) × HasFailedLine lines y h × RestoreFailedBy r is.ids is.kept y h
     line_of y failed =
         let there = (filter_in (is_applied r.zone) is.ids y failed.cand).0 in
         let has = restore_status_failed r is.ids is.kept y (is.status y) (is.each y there) failed.cand

@@ -12,6 +12,7 @@ use Rattle.terms.specs.declared.codes.Test.TheVariants as test
 use Rattle.terms.specs.Types.{Id}
 use Rattle.terms.specs.Lookups.{IsRising}
 use Rattle.terms.specs.Rising.{with_item}
+use Rattle.terms.specs.Judging.{Judging}
 use Rattle.terms.specs.Kept.{StaysKept}
 use Rattle.terms.specs.Failures.{HasFailed, IsOpenNeed, IsRoot, IsCauser, all_tests, all_needs}
 use Rattle.terms.proofs.Placing.{Rises_with_item}
@@ -83,13 +84,11 @@ those_stably P (x ∷ xs) refuted = those_stably P xs (λ found. either_stably (
   )
 ]))
 
-module _ (cands kept : List Id) (FailsTest : Id → Test → Type 0) (Eligible : Id → Type 0)
-    (Wants : Id → NeedKind → Id → Type 0) (ServedBy : NeedKind → Id → Id → Type 0) where
+module _ (judging : Judging) (kept : List Id) where
   -- A candidate that fails no test is eligible.
   pub cause_of : (x : Id) (f : Failure)
-      → ((x : Id) → Contains cands x → ((t : Test) → ¬ FailsTest x t) → Eligible x)
-      → IsFailure cands kept FailsTest Eligible Wants ServedBy x f → IsRoot cands kept Eligible Wants ServedBy x
-      → IsCause cands kept Eligible Wants ServedBy x f
+      → ((x : Id) → Contains judging.cands x → ((t : Test) → ¬ judging.fails x t) → judging.eligible x)
+      → IsFailure judging kept x f → IsRoot judging kept x → IsCause judging kept x f
   cause_of x f passes is root = elim root.why [
     | inl out ↦ inl (λ nil. out (passes x root.failed.cand (λ t fails.
         none_in_nil f.tests t nil (subst (λ ts. Contains ts t) (sym is.tests)
@@ -99,14 +98,14 @@ module _ (cands kept : List Id) (FailsTest : Id → Test → Type 0) (Eligible :
 
   -- What each needs of a kind stands in a list.
   module _ (asked : Id → NeedKind → List Id)
-      (asks : (x z : Id) (kind : NeedKind) → Wants x kind z → Contains (asked x kind) z) where
-    pub failure_stably : (x : Id)
-        → ¬ ¬ ((f : Failure) × IsFailure cands kept FailsTest Eligible Wants ServedBy x f)
+      (asks : (x z : Id) (kind : NeedKind) → judging.needs x kind z → Contains (asked x kind) z) where
+    pub failure_stably : (x : Id) → ¬ ¬ ((f : Failure) × IsFailure judging kept x f)
     failure_stably x refuted =
-        all_stably (λ t. FailsTest x t ⊎ (¬ FailsTest x t)) all_tests (λ t is. either_stably (FailsTest x t)) (λ fails.
-        all_stably (λ kind. (ids : List Id) × AreThose (IsOpenNeed cands kept Eligible Wants ServedBy x kind)
-        (asked x kind) ids) all_needs (λ kind is. those_stably _ (asked x kind)) (λ needed.
-        those_stably (IsCauser cands kept Eligible Wants ServedBy x) cands (λ causers.
+        all_stably (λ t. judging.fails x t ⊎ (¬ judging.fails x t)) all_tests
+        (λ t is. either_stably (judging.fails x t)) (λ fails.
+        all_stably (λ kind. (ids : List Id) × AreThose (IsOpenNeed judging kept x kind) (asked x kind) ids) all_needs
+        (λ kind is. those_stably _ (asked x kind)) (λ needed.
+        those_stably (IsCauser judging kept x) judging.cands (λ causers.
         refuted (
           record {
             tests = filter (λ t. is_so (fails t (each_test t))) all_tests;
@@ -133,10 +132,10 @@ module _ (cands kept : List Id) (FailsTest : Id → Test → Type 0) (Eligible :
         ))))
 
     -- What is kept is the union of all sets that support themselves.
-    module _ (are_cands : (x : Id) → Eligible x → Contains cands x)
-        (members : (x : Id) → Contains kept x ↔ StaysKept Eligible Wants ServedBy x) where
-      pub names_causer : (x : Id) (f : Failure) → HasFailed cands kept Eligible Wants ServedBy x
-          → IsFailure cands kept FailsTest Eligible Wants ServedBy x f → f.causers ≢ []
+    module _ (are_cands : (x : Id) → judging.eligible x → Contains judging.cands x)
+        (members : (x : Id) → Contains kept x ↔ StaysKept judging x) where
+      pub names_causer : (x : Id) (f : Failure) → HasFailed judging kept x → IsFailure judging kept x f
+          → f.causers ≢ []
       names_causer x f failed is nil =
-          some_causer cands kept Eligible Wants ServedBy are_cands asked asks members x failed
+          some_causer judging kept are_cands asked asks members x failed
           (λ y causer. none_in_nil f.causers y nil ((is.causers y).1 causer))

@@ -126,7 +126,8 @@ module _ (g : Global) (zone : Zone) (x : Id) (facts : List Fact) (are : AreFacts
   to_deletes = are.changes_are.of_elements ++ delete_facts s x
 
   changes_within : All Clear to_changes
-  changes_within = All_front Clear to_changes (map NeededFact are.needed_by) (subst (All Clear) are.facts_are clear.each)
+  changes_within = All_front Clear to_changes (map NeededFact are.needed_by)
+      (subst (All Clear) are.facts_are clear.each)
 
   npre_within : All Clear (to_deletes ++ npre_facts s x)
   npre_within = subst (All Clear) are.changes_are.facts_are (All_back Clear to_asked are.changes changes_within)
@@ -245,7 +246,8 @@ module _ (g : Global) (zone : Zone) (x : Id) (facts : List Fact) (are : AreFacts
 
   pub no_user : holds_of g User x ≡ []
   no_user = nil_without (holds_of g User x) (λ h is.
-      let error = (on_hold h (Contains-append_right (holds_of g Error x ++ holds_of g System x) (holds_of g User x) h is)).0 in
+      let error =
+      (on_hold h (Contains-append_right (holds_of g Error x ++ holds_of g System x) (holds_of g User x) h is)).0 in
       never (sym (ap (λ k. hold_number k == hold_number User) error) ∙ of_kind User h is))
 
   -- ---- what it asks for
@@ -257,7 +259,8 @@ module _ (g : Global) (zone : Zone) (x : Id) (facts : List Fact) (are : AreFacts
   answered r ByItself answer ok = never ok
   answered r (Open ids) answer ok = never ok
 
-  supplied : (r : Requisite) → Contains (requisites s x are.asked_are.orphans) r → IsTrue (is_met (left_by s x) r.kind r.id)
+  supplied : (r : Requisite) → Contains (requisites s x are.asked_are.orphans) r
+      → IsTrue (is_met (left_by s x) r.kind r.id)
   supplied r is =
       let it = beside_passes _ Clear (requisites s x are.asked_are.orphans) are.asked_are.of_requisites
       are.asked_are.requisites_are requisites_clear r is in
@@ -286,7 +289,8 @@ module _ (g : Global) (zone : Zone) (x : Id) (facts : List Fact) (are : AreFacts
       let at = flat_in (λ (i : IfReq). i.req) (filter (λ i. bytes_eq x i.function) ifs) z is in
       let both = filter_in (λ (i : IfReq). bytes_eq x i.function) ifs at.0 at.1 in
       let there : is_in (x ∷ []) at.0.function ≡ true =
-      is_in_from_Contains (x ∷ []) at.0.function (subst (Contains (x ∷ [])) (same_from x at.0.function both.1) (here x [])) in
+      is_in_from_Contains (x ∷ []) at.0.function
+      (subst (Contains (x ∷ [])) (same_from x at.0.function both.1) (here x [])) in
       in_flat (λ (i : IfReq). i.req) _ at.0 z (in_filter _ ifs at.0 both.0 (or_right _ _ there)) at.2
 
   stated_if : (b : Bool) (ids : List Id) (z : Id)

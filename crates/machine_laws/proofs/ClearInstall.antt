@@ -23,7 +23,7 @@ use Rattle.terms.specs.Candidates.{is_open, is_mass_chosen, is_start, IsCandidat
 use Rattle.terms.specs.Tests.{Setting, FailsAlone, PassesAlone, Survives, AreSurvivors, IsEligible, is_bypassed_hold}
 use Rattle.terms.specs.Needs.{Needs, Serves, asked, is_met, zone_left}
 use Rattle.terms.specs.Kept.{SupportsItself}
-use Rattle.terms.specs.Judged.{setting, Stays, IsKeptSet}
+use Rattle.terms.specs.Judged.{setting, install_judging, Stays, IsKeptSet}
 use Rattle.terms.specs.Install.{TakesEffect}
 use Rattle.report.specs.Facts.{Fact, AreFacts, alone}
 use Rattle.terms.proofs.Ids.{Contains_from_is_in, is_in_from_Contains}
@@ -33,8 +33,8 @@ use Rattle.machine.specs.Installing.{InstallsSelected, Decision, HasStatus, IsIn
 use Rattle.machine.specs.Installing.{IsSuperseded, IsFailed, IsNotChosen}
 use Rattle.machine.specs.Installing.{installed_status}
 use Rattle.machine_laws.specs.Clear.{AreClear, only}
-use Rattle.machine_laws.proofs.ClearFacts.{stands, one_fits, no_system, no_user, met, changed, updates_there, not_deleted}
-use Rattle.machine_laws.proofs.ClearFacts.{names_none, none_forbids}
+use Rattle.machine_laws.proofs.ClearFacts.{stands, one_fits, no_system, no_user, met, changed, updates_there}
+use Rattle.machine_laws.proofs.ClearFacts.{not_deleted, names_none, none_forbids}
 
 never : {A : Type 0} → false ≡ true → A
 never e = absurd (true≢false (sym e))
@@ -157,7 +157,7 @@ module _ (g : Global) (zone : Zone) (x : Id) (facts : List Fact) (target : zone.
   -- ---- the kept set
 
   supports : (survivors : List Id) → survivors ≡ x ∷ []
-      → SupportsItself (IsEligible s) (Needs s survivors) (Serves s.choice) (is_in (x ∷ []))
+      → SupportsItself (install_judging s survivors) (is_in (x ∷ []))
   supports survivors same = record {
     eligible = λ y is. subst (IsEligible s) (sym (is_one x y is)) eligible;
     served = λ y z kind is needs.

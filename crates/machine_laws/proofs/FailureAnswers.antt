@@ -5,6 +5,7 @@ use Rattle.std.specs.List.{flat_map}
 use Rattle.terms.specs.declared.codes.NeedKind.{NeedKind}
 use Rattle.terms.specs.declared.codes.Test.{Test}
 use Rattle.terms.specs.Types.{Id}
+use Rattle.terms.specs.Judging.{Judging}
 use Rattle.machine.specs.Outcome.{Failure, OpenNeed}
 use Rattle.terms.specs.Failures.{all_tests, all_needs}
 use Rattle.machine.specs.Installing.{IsFailure}
@@ -18,10 +19,8 @@ needs_of ids = flat_map (λ kind. map (λ z. record { kind = kind; id = z }) (id
 a_failure : List Test → List OpenNeed → List Id → Failure
 a_failure tests needs causers = record { tests = tests; needs = needs; causers = causers }
 
-module _ (cands kept : List Id) (FailsTest : Id → Test → Type 0) (Eligible : Id → Type 0)
-    (Wants : Id → NeedKind → Id → Type 0) (ServedBy : NeedKind → Id → Id → Type 0) where
-  pub failure_only : (x : Id) (f h : Failure) → IsFailure cands kept FailsTest Eligible Wants ServedBy x f
-      → IsFailure cands kept FailsTest Eligible Wants ServedBy x h → f ≡ h
+module _ (judging : Judging) (kept : List Id) where
+  pub failure_only : (x : Id) (f h : Failure) → IsFailure judging kept x f → IsFailure judging kept x h → f ≡ h
   unfolding a_failure
   failure_only x f h is is' =
       let fails : is.fails ≡ is'.fails = fun_ext (λ t. same_truth (is.fails t) (is'.fails t)

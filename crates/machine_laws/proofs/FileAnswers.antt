@@ -5,21 +5,19 @@ use Rattle.terms.specs.declared.codes.StatementCode.{StatementCode}
 use Rattle.terms.specs.declared.codes.StatementCode.TheVariants.{BadStatementForm, UnknownStatementWord}
 use Rattle.terms.specs.declared.codes.StatementCode.TheVariants.{BadStatementOperand}
 use Rattle.terms.specs.declared.codes.StatementCode.TheVariants.{WrongPlace, BadText, OverLimit}
-use Rattle.terms.specs.declared.statement_words.StatementWord.{StatementWord}
-use Rattle.terms.specs.Types.{Text, Lines, HoldItem}
+use Rattle.terms.specs.Types.{Lines, HoldItem}
 use Rattle.terms.specs.Records.{HasRecords, rec_fault_record}
 use Rattle.terms.specs.Groups.{Group, TakesGroup, starts_outside}
-use Rattle.terms.specs.Statement.{Piece}
 use Rattle.terms.specs.Words.{TakesWord}
 use Rattle.terms.specs.Statements.{statement_text}
 use Rattle.terms.specs.Commands.{IsCommandFile, IsCommandFileFault}
-use Rattle.terms.specs.Ptfin.{IsKnown, IsUnknown, McsFault, IsPtfin, IsPtfinFault}
+use Rattle.terms.specs.Ptfin.{Parts, HasParts, IsUnknown, McsFault, IsPtfin, IsPtfinFault}
 use Rattle.terms.specs.HoldFile.{StandsInHoldFile, HasItem, IsWithin, IsGoodItem, IsItemFault, BeginsWithItems}
 use Rattle.terms.specs.HoldFile.{IsNextItemFault, IsHoldFile, IsHoldFileFault}
 use Rattle.terms.proofs.Exact.{statement_only, fault_no_statement}
 use Rattle.terms.proofs.ExactFiles.{records_only, rec_fault_no_records, rec_fault_only, group_only}
 use Rattle.terms.proofs.ExactFiles.{begins_inside}
-use Rattle.terms.proofs.ExactPtfin.{SameParts, known_only, ptfin_only, ptfin_fault_no_items}
+use Rattle.terms.proofs.ExactPtfin.{parts_only, ptfin_only, ptfin_fault_no_items}
 use Rattle.terms.proofs.ExactFaults.{ptfin_fault_only}
 use Rattle.terms.proofs.ExactHoldFile.{item_fault_no_good, hold_file_only, hold_file_fault_no_items}
 use Rattle.terms.proofs.ExactCommandFiles.{file_only, file_fault_only, fault_no_file}
@@ -27,66 +25,52 @@ use Rattle.machine_laws.specs.Answers.{IsReadOnce}
 use Rattle.terms.proofs.ExactFaults.{faults_same}
 
 -- what is at fault behind a known word
-abbrev IsBehind : StatementWord → Option Text → List Piece → Lines → StatementCode → Type 0
-IsBehind w own rest inline WrongPlace = ¬ StandsInHoldFile w inline
-IsBehind w own rest inline BadStatementOperand = StandsInHoldFile w inline
-    × ((item : HoldItem) → ¬ HasItem w own rest item)
-IsBehind w own rest inline OverLimit = (item : HoldItem) × StandsInHoldFile w inline × HasItem w own rest item
+abbrev IsBehind : Parts → StatementCode → Type 0
+IsBehind p WrongPlace = ¬ StandsInHoldFile p.word p.inline
+IsBehind p BadStatementOperand = StandsInHoldFile p.word p.inline
+    × ((item : HoldItem) → ¬ HasItem p.word p.own p.rest item)
+IsBehind p OverLimit = (item : HoldItem) × StandsInHoldFile p.word p.inline × HasItem p.word p.own p.rest item
     × (¬ IsWithin item)
-IsBehind w own rest inline _ = ⊥
+IsBehind p _ = ⊥
 
-behind_codes : (w : StatementWord) (own : Option Text) (rest : List Piece) (inline : Lines) (a b : StatementCode)
-    → IsBehind w own rest inline a → IsBehind w own rest inline b → a ≡ b
-behind_codes w own rest inline BadStatementForm b f g = absurd f
-behind_codes w own rest inline UnknownStatementWord b f g = absurd f
-behind_codes w own rest inline BadText b f g = absurd f
-behind_codes w own rest inline BadStatementOperand BadStatementForm f g = absurd g
-behind_codes w own rest inline BadStatementOperand UnknownStatementWord f g = absurd g
-behind_codes w own rest inline BadStatementOperand BadStatementOperand f g = refl
-behind_codes w own rest inline BadStatementOperand WrongPlace f g = absurd (g f.0)
-behind_codes w own rest inline BadStatementOperand BadText f g = absurd g
-behind_codes w own rest inline BadStatementOperand OverLimit f g = absurd (f.1 g.0 g.2)
-behind_codes w own rest inline WrongPlace BadStatementForm f g = absurd g
-behind_codes w own rest inline WrongPlace UnknownStatementWord f g = absurd g
-behind_codes w own rest inline WrongPlace BadStatementOperand f g = absurd (f g.0)
-behind_codes w own rest inline WrongPlace WrongPlace f g = refl
-behind_codes w own rest inline WrongPlace BadText f g = absurd g
-behind_codes w own rest inline WrongPlace OverLimit f g = absurd (f g.1)
-behind_codes w own rest inline OverLimit BadStatementForm f g = absurd g
-behind_codes w own rest inline OverLimit UnknownStatementWord f g = absurd g
-behind_codes w own rest inline OverLimit BadStatementOperand f g = absurd (g.1 f.0 f.2)
-behind_codes w own rest inline OverLimit WrongPlace f g = absurd (g f.1)
-behind_codes w own rest inline OverLimit BadText f g = absurd g
-behind_codes w own rest inline OverLimit OverLimit f g = refl
+behind_codes : (p : Parts) (a b : StatementCode) → IsBehind p a → IsBehind p b → a ≡ b
+behind_codes p BadStatementForm b f g = absurd f
+behind_codes p UnknownStatementWord b f g = absurd f
+behind_codes p BadText b f g = absurd f
+behind_codes p BadStatementOperand BadStatementForm f g = absurd g
+behind_codes p BadStatementOperand UnknownStatementWord f g = absurd g
+behind_codes p BadStatementOperand BadStatementOperand f g = refl
+behind_codes p BadStatementOperand WrongPlace f g = absurd (g f.0)
+behind_codes p BadStatementOperand BadText f g = absurd g
+behind_codes p BadStatementOperand OverLimit f g = absurd (f.1 g.0 g.2)
+behind_codes p WrongPlace BadStatementForm f g = absurd g
+behind_codes p WrongPlace UnknownStatementWord f g = absurd g
+behind_codes p WrongPlace BadStatementOperand f g = absurd (f g.0)
+behind_codes p WrongPlace WrongPlace f g = refl
+behind_codes p WrongPlace BadText f g = absurd g
+behind_codes p WrongPlace OverLimit f g = absurd (f g.1)
+behind_codes p OverLimit BadStatementForm f g = absurd g
+behind_codes p OverLimit UnknownStatementWord f g = absurd g
+behind_codes p OverLimit BadStatementOperand f g = absurd (g.1 f.0 f.2)
+behind_codes p OverLimit WrongPlace f g = absurd (g f.1)
+behind_codes p OverLimit BadText f g = absurd g
+behind_codes p OverLimit OverLimit f g = refl
 
 record KnownFault (records : Lines) (code : StatementCode) : Type 0 where
-  w : StatementWord
-  own : Option Text
-  rest : List Piece
-  inline : Lines
-  known : IsKnown records w own rest inline
-  fault : IsBehind w own rest inline code
-
-same_behind : (w v : StatementWord) (own other : Option Text) (rest more : List Piece) (inline text : Lines)
-    (code : StatementCode) → SameParts w v own other rest more inline text → IsBehind w own rest inline code
-    → IsBehind v other more text code
-same_behind w v own other rest more inline text code p f =
-    subst (λ i. IsBehind v other more i code) p.inlines
-    (subst (λ r. IsBehind v other r inline code) p.rests
-    (subst (λ o. IsBehind v o rest inline code) p.owns
-    (subst (λ x. IsBehind x own rest inline code) p.words f)))
+  p : Parts
+  known : HasParts records p
+  fault : IsBehind p code
 
 known_codes : (records : Lines) (a b : StatementCode) → KnownFault records a → KnownFault records b → a ≡ b
-known_codes records a b f g =
-    let parts = known_only records f.w g.w f.own g.own f.rest g.rest f.inline g.inline f.known g.known in
-    behind_codes g.w g.own g.rest g.inline a b (same_behind f.w g.w f.own g.own f.rest g.rest f.inline g.inline a parts
-    f.fault) g.fault
+known_codes records a b f g = behind_codes g.p a b
+    (subst (λ p. IsBehind p a) (parts_only records f.p g.p f.known g.known) f.fault) g.fault
 
 unknown_known : (records : Lines) (code : StatementCode) → IsUnknown records → KnownFault records code → ⊥
 unknown_known records code u f =
-    let same = statement_only records f.known.pieces u.pieces f.inline u.inline f.known.statement u.statement in
-    u.unknown f.w f.own f.rest (subst (λ p. TakesWord p (record { word = statement_text f.w; list = f.own }) f.rest)
-    same.0 f.known.begins)
+    let same = statement_only records f.known.pieces u.pieces f.p.inline u.inline f.known.statement u.statement in
+    u.unknown f.p.word f.p.own f.p.rest
+    (subst (λ p. TakesWord p (record { word = statement_text f.p.word; list = f.p.own }) f.p.rest) same.0
+    f.known.begins)
 
 -- whether a fault is of the form, of the word, or behind a known word
 data Judged (records : Lines) : StatementCode → Type 0 where
@@ -97,44 +81,25 @@ data Judged (records : Lines) : StatementCode → Type 0 where
 judged : (records : Lines) (code : StatementCode) → IsItemFault records code → Judged records code
 judged records BadStatementForm f = OfForm f
 judged records UnknownStatementWord f = OfWord f
-judged records BadStatementOperand (w, own, rest, inline, known, stands, none) = Behind BadStatementOperand (record {
-  w = w;
-  own = own;
-  rest = rest;
-  inline = inline;
-  known = known;
-  fault = (stands, none);
-})
-judged records WrongPlace (w, own, rest, inline, known, fault) = Behind WrongPlace (record {
-  w = w;
-  own = own;
-  rest = rest;
-  inline = inline;
-  known = known;
-  fault = fault;
-})
+judged records BadStatementOperand (p, known, stands, none) =
+    Behind BadStatementOperand (record { p = p; known = known; fault = (stands, none) })
+judged records WrongPlace (p, known, fault) = Behind WrongPlace (record { p = p; known = known; fault = fault })
 judged records BadText f = absurd f
-judged records OverLimit (w, own, rest, inline, item, known, stands, has, over) = Behind OverLimit (record {
-  w = w;
-  own = own;
-  rest = rest;
-  inline = inline;
-  known = known;
-  fault = (item, stands, has, over);
-})
+judged records OverLimit (p, item, known, stands, has, over) =
+    Behind OverLimit (record { p = p; known = known; fault = (item, stands, has, over) })
 
 judged_codes : (records : Lines) (a b : StatementCode) → Judged records a → Judged records b → a ≡ b
 judged_codes records a b (OfForm f) (OfForm g) = refl
 judged_codes records a b (OfForm f) (OfWord g) =
     absurd (fault_no_statement records f.0 g.pieces g.inline f.1 g.statement)
 judged_codes records a b (OfForm f) (Behind code g) =
-    absurd (fault_no_statement records f.0 g.known.pieces g.inline f.1 g.known.statement)
+    absurd (fault_no_statement records f.0 g.known.pieces g.p.inline f.1 g.known.statement)
 judged_codes records a b (OfWord f) (OfForm g) =
     absurd (fault_no_statement records g.0 f.pieces f.inline g.1 f.statement)
 judged_codes records a b (OfWord f) (OfWord g) = refl
 judged_codes records a b (OfWord f) (Behind code g) = absurd (unknown_known records code f g)
 judged_codes records a b (Behind code f) (OfForm g) =
-    absurd (fault_no_statement records g.0 f.known.pieces f.inline g.1 f.known.statement)
+    absurd (fault_no_statement records g.0 f.known.pieces f.p.inline g.1 f.known.statement)
 judged_codes records a b (Behind code f) (OfWord g) = absurd (unknown_known records code g f)
 judged_codes records a b (Behind code f) (Behind code' g) = known_codes records code code' f g
 

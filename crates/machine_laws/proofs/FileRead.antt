@@ -1,19 +1,18 @@
--- It can't be refuted that each file is of items or has a fault.
+-- It cannot be refuted that each file consists of items or has a fault.
 use Rattle.std.proofs.Common.{◌≡◌, ◌⊎◌, ◌≤◌, inl, inr, ℕ, zero, suc, Bool, true, false, List, [], ◌∷◌, length, Option}
 use Rattle.std.proofs.Common.{refl, arith}
 use Rattle.terms.specs.declared.codes.StatementCode.{StatementCode}
 use Rattle.terms.specs.declared.codes.StatementCode.TheVariants.{BadStatementForm, UnknownStatementWord}
 use Rattle.terms.specs.declared.codes.StatementCode.TheVariants.{BadStatementOperand}
 use Rattle.terms.specs.declared.codes.StatementCode.TheVariants.{WrongPlace, BadText, OverLimit}
-use Rattle.terms.specs.declared.statement_words.StatementWord.{StatementWord}
-use Rattle.terms.specs.Types.{Text, Lines, HoldItem}
+use Rattle.terms.specs.Types.{Lines, HoldItem}
 use Rattle.terms.specs.Records.{HasRecords, rec_fault_record}
 use Rattle.terms.specs.Groups.{starts_outside}
-use Rattle.terms.specs.Statement.{Piece, StFault, IsStFault}
+use Rattle.terms.specs.Statement.{StFault, IsStFault}
 use Rattle.terms.specs.Statements.{Statement}
-use Rattle.terms.specs.Ptfin.{Begun, SoFar, sysmod_in, nothing, items_of, after, IsPlaced, HasValue, IsWithin}
-use Rattle.terms.specs.Ptfin.{HasGoodText}
-use Rattle.terms.specs.Ptfin.{IsGoodStatement, IsStatementFault, IsKnown, BeginsWithStatements, IsPtfin, McsFault}
+use Rattle.terms.specs.Ptfin.{Begun, SoFar, sysmod_in, nothing, items_of, after, Parts, these_parts, IsPlaced}
+use Rattle.terms.specs.Ptfin.{HasValue, IsWithin, HasGoodText}
+use Rattle.terms.specs.Ptfin.{IsGoodStatement, IsStatementFault, HasParts, BeginsWithStatements, IsPtfin, McsFault}
 use Rattle.terms.specs.Ptfin.{IsNextFault, IsPtfinFault}
 use Rattle.terms.specs.HoldFile.{IsGoodItem, IsItemFault, BeginsWithItems, IsHoldFile, IsNextItemFault, IsHoldFileFault}
 use Rattle.machine_laws.specs.Answers.{IsRead}
@@ -22,8 +21,7 @@ use Rattle.terms.specs.Ptfin.{IsFileFault, IsUnknown}
 
 -- Records are no statement, or begin with no known word, or with a known one.
 no_statement : (records : Lines) → ¬ ((why : StFault) × IsStFault records why) → ¬ IsUnknown records
-    → ((w : StatementWord) (own : Option Text) (rest : List Piece) (inline : Lines)
-    → ¬ IsKnown records w own rest inline) → ⊥
+    → ((p : Parts) → ¬ HasParts records p) → ⊥
 no_statement records fault unknown known = statement_read records (λ read. elim read [
   | inr why ↦ fault why
   | inl is ↦ unknown (record {
@@ -31,7 +29,7 @@ no_statement records fault unknown known = statement_read records (λ read. elim
     inline = is.1;
     statement = is.2;
     unknown = λ w own rest takes.
-        known w own rest is.1 (record { pieces = is.0; statement = is.2; begins = takes });
+        known (these_parts w own rest is.1) (record { pieces = is.0; statement = is.2; begins = takes });
   })
 ])
 
@@ -42,37 +40,23 @@ module _ (current : Option Begun) (later records : Lines) where
   GoodOrFault = ((s : Statement) × IsGoodStatement current later records s)
       ⊎ ((code : StatementCode) × IsStatementFault current later records code)
 
-  known_judged : (w : StatementWord) (own : Option Text) (rest : List Piece) (inline : Lines)
-      → IsKnown records w own rest inline → ¬ ¬ GoodOrFault
-  known_judged w own rest inline known none = none (inr (
-    BadStatementOperand,
-    (
-      w,
-      own,
-      rest,
-      inline,
-      known,
-      (placed, no_value),
-    ),
-  ))
+  known_judged : (p : Parts) → HasParts records p → ¬ ¬ GoodOrFault
+  known_judged p known none = none (inr (BadStatementOperand, (p, known, (placed, no_value))))
     where
-      placed : IsPlaced (sysmod_in current) later w own rest inline
-      placed why misplaced = none (inr (WrongPlace, (w, own, rest, inline, known, (why, misplaced))))
+      placed : IsPlaced (sysmod_in current) later p
+      placed why misplaced = none (inr (WrongPlace, (p, known, (why, misplaced))))
 
-      no_value : (s : Statement) → ¬ HasValue (sysmod_in current) w own rest inline s
-      no_value s value = none (inr (OverLimit, (w, own, rest, inline, known, (s, placed, value, over))))
+      no_value : (s : Statement) → ¬ HasValue (sysmod_in current) p s
+      no_value s value = none (inr (OverLimit, (p, known, (s, placed, value, over))))
         where
-          over : ¬ IsWithin current s inline
-          over within = none (inr (BadText, (w, own, rest, inline, known, (s, placed, value, within, bad))))
+          over : ¬ IsWithin current s p.inline
+          over within = none (inr (BadText, (p, known, (s, placed, value, within, bad))))
             where
               bad : ¬ HasGoodText s
               bad text = none (inl (
                 s,
                 (
-                  w,
-                  own,
-                  rest,
-                  inline,
+                  p,
                   known,
                   record { placed = placed; value = value; within = within; text = text },
                 ),
@@ -82,7 +66,7 @@ module _ (current : Option Begun) (later records : Lines) where
   good_or_fault none =
       no_statement records (λ fault. none (inr (BadStatementForm, fault)))
       (λ unknown. none (inr (UnknownStatementWord, unknown)))
-      (λ w own rest inline known. known_judged w own rest inline known none)
+      (λ p known. known_judged p known none)
 
 -- ---- PTFIN
 
@@ -165,41 +149,31 @@ module _ (records : Lines) where
   abbrev GoodItemOrFault : Type 0
   GoodItemOrFault = ((item : HoldItem) × IsGoodItem records item) ⊎ ((code : StatementCode) × IsItemFault records code)
 
-  known_item : (w : StatementWord) (own : Option Text) (rest : List Piece) (inline : Lines)
-      → IsKnown records w own rest inline → ¬ ¬ GoodItemOrFault
-  known_item w own rest inline known none =
+  known_item : (p : Parts) → HasParts records p → ¬ ¬ GoodItemOrFault
+  known_item p known none =
       none (inr (
         WrongPlace,
         (
-          w,
-          own,
-          rest,
-          inline,
+          p,
           known,
           λ stands.
               none (inr (
                 BadStatementOperand,
                 (
-                  w,
-                  own,
-                  rest,
-                  inline,
+                  p,
                   known,
                   stands,
                   λ item has.
                       none (inr (
                         OverLimit,
                         (
-                          w,
-                          own,
-                          rest,
-                          inline,
+                          p,
                           item,
                           known,
                           stands,
                           has,
                           λ within.
-                              none (inl (item, (w, own, rest, inline, known, stands, has, within))),
+                              none (inl (item, (p, known, stands, has, within))),
                         ),
                       )),
                 ),
@@ -211,7 +185,7 @@ module _ (records : Lines) where
   good_item_or_fault none =
       no_statement records (λ fault. none (inr (BadStatementForm, fault)))
       (λ unknown. none (inr (UnknownStatementWord, unknown)))
-      (λ w own rest inline known. known_item w own rest inline known none)
+      (λ p known. known_item p known none)
 
 abbrev BeginsItems : ℕ → Lines → Type 0
 BeginsItems n records =

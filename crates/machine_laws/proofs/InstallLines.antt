@@ -9,8 +9,8 @@ use Rattle.terms.specs.Types.{Text, Id, Global, Zone, Bypass, Selection}
 use Rattle.terms.specs.Lookups.{is_in}
 use Rattle.terms.specs.Global.{IsGlobal}
 use Rattle.terms.specs.Candidates.{is_open, not_chosen}
-use Rattle.terms.specs.Tests.{Setting, Fails, IsEligible}
-use Rattle.terms.specs.Needs.{Needs, Serves}
+use Rattle.terms.specs.Tests.{Setting}
+use Rattle.terms.specs.Judged.{install_judging}
 use Rattle.terms.specs.Install.{Installation, TakesEffect}
 use Rattle.terms.proofs.RisingAlike.{rises_only}
 use Rattle.machine.specs.Outcome.{Status, Failed, Line, StatusLine}
@@ -70,8 +70,7 @@ module _ (d : Decision) (sel : Selection) (is : IsSound d sel) where
   status_only x s t (IsFailed f c out why) (IsInstalled e) = absurd (out (in_kept x e))
   status_only x s t (IsFailed f c out why) (IsSuperseded k other) = absurd (out k)
   status_only x s t (IsFailed f c out why) (IsFailed f' c' out' why') =
-      ap (λ f. Failed f) (failure_only d.setting.cands d.kept (Fails d.setting) (IsEligible d.setting)
-      (Needs d.setting d.survivors) (Serves d.setting.choice) x f f' why why')
+      ap (λ f. Failed f) (failure_only (install_judging d.setting d.survivors) d.kept x f f' why why')
   status_only x s t (IsFailed f c out why) (IsNotChosen reason at) = chosen x reason c at
   status_only x s t (IsNotChosen why at) (IsInstalled e) = chosen x why (is.within x (in_kept x e)) at
   status_only x s t (IsNotChosen why at) (IsSuperseded k other) = chosen x why (is.within x k) at

@@ -14,7 +14,7 @@ use Rattle.terms.specs.Statement.{TakesPiece, HasPieces, is_solid, solid, IsStat
 use Rattle.terms.specs.Words.{Word, list_pieces, word_pieces, HasWords}
 use Rattle.terms.specs.Operands.{operand}
 use Rattle.terms.specs.Statements.{statement_text}
-use Rattle.terms.specs.Ptfin.{IsKnown}
+use Rattle.terms.specs.Ptfin.{Parts, HasParts}
 use Rattle.store_schema.specs.Forms.{IsPaired}
 use Rattle.machine_laws.proofs.Paired.{list_paired}
 use Rattle.terms.proofs.Each.{recursion_append, recursion_front, recursion_back}
@@ -121,14 +121,12 @@ words_printable (w ∷ ws) h = (
 )
 
 -- the operands of a statement
-pub operands_printable : (records : Lines) (w : StatementWord) (own : Option Text) (rest : List Piece) (inline : Lines)
-    (operands : List Word)
-    → IsKnown records w own rest inline → HasWords rest operands → AllByRecursion IsRecord records
-    → AllByRecursion HasPrintableList operands
-operands_printable records w own rest inline operands known are each =
-    let pieces = statement_printable records known.pieces inline known.statement each in
-    let first : List Piece = word_pieces (record { word = statement_text w; list = own }) in
-    let behind = recursion_back HasPrintable first rest (subst (λ ps. AllByRecursion HasPrintable ps)
+pub operands_printable : (records : Lines) (p : Parts) (operands : List Word) → HasParts records p
+    → HasWords p.rest operands → AllByRecursion IsRecord records → AllByRecursion HasPrintableList operands
+operands_printable records p operands known are each =
+    let pieces = statement_printable records known.pieces p.inline known.statement each in
+    let first : List Piece = word_pieces (record { word = statement_text p.word; list = p.own }) in
+    let behind = recursion_back HasPrintable first p.rest (subst (λ ps. AllByRecursion HasPrintable ps)
     known.begins.pieces_are pieces) in
     words_printable operands (subst (λ ps. AllByRecursion HasPrintable ps) are behind)
 

@@ -38,7 +38,7 @@ use Rattle.terms.specs.Statements.{SaysChange, IsVerOf, IsIfOf, IsOwnHoldOf, IsC
 use Rattle.terms.specs.Ptfin.{Begun, SoFar, nothing, items_of, begun, place_of, with_ver, with_change}
 use Rattle.terms.specs.Ptfin.{with_if_at, with_if, with_hold, after, sysmod_in, MayStand, NamesFmid, HasVerLike}
 use Rattle.terms.specs.Ptfin.{IsSecond, CannotStand, LastHeader, Second, UpdateInFunction}
-use Rattle.terms.specs.Ptfin.{IsHeader, IsUpdateWord, IsPlaced, IsKnown, IsGood, BeginsWithStatements, IsPtfin}
+use Rattle.terms.specs.Ptfin.{IsHeader, IsUpdateWord, Parts, IsPlaced, HasParts, IsGood, BeginsWithStatements, IsPtfin}
 use Rattle.terms.proofs.ElementOrder.{change_cmp_total}
 use Rattle.terms.proofs.OperandWords.{words_of, count, count_once, seldom}
 use Rattle.terms.proofs.BypassMembers.{list_of, behind_operand}
@@ -460,13 +460,13 @@ inline_records records pieces inline (ps, tail, ends, idle, is) each =
     λ k d below. ((those k d below).0, λ i b within. omega (arith, ((those k d below).1 i b within).1))
 
 -- the state behind a good statement
-module _ (c : SoFar) (later records : Lines) (w : StatementWord) (own : Option Text) (rest : List Piece)
-    (inline : Lines) (known : IsKnown records w own rest inline) (each : AllByRecursion IsRecord records) where
-  may : (v : StatementWord) → w ≡ v → IsPlaced (sysmod_in c.current) later w own rest inline
+module _ (c : SoFar) (later records : Lines) (p : Parts) (known : HasParts records p)
+    (each : AllByRecursion IsRecord records) where
+  may : (v : StatementWord) → p.word ≡ v → IsPlaced (sysmod_in c.current) later p
       → ¬ ¬ MayStand (sysmod_in c.current) v
   may v same placed = subst (λ x. ¬ ¬ MayStand (sysmod_in c.current) x) same (placed CannotStand)
 
-  good_after : (left : Lines) (s : Statement) → IsGoodSoFar c left → IsGood c.current later w own rest inline s
+  good_after : (left : Lines) (s : Statement) → IsGoodSoFar c left → IsGood c.current later p s
       → IsGoodSoFar (after c s) later
   good_after left (SaysHeader kind id) g good =
       let says = good.value.2 in
@@ -474,40 +474,40 @@ module _ (c : SoFar) (later records : Lines) (w : StatementWord) (own : Option T
         whole = items_good c left g (some_vers (word.Header kind) (λ s stands. stands) c.current
             (may (word.Header kind) says.0 good.placed));
         current = (
-          header_growing kind id (one_form IsId own id says.1.0),
+          header_growing kind id (one_form IsId p.own id says.1.0),
           inr (λ e. good.placed LastHeader (subst (λ v. IsHeader v) (sym says.0) tt, e)),
         );
       }
   good_after left (SaysVer v) g good = record {
     whole = g.whole;
-    current = ver_current own good.value.0 left later v rest c.current g.current good.value.1
-        (subst (λ x. ¬ IsSomeAnd (sysmod_in c.current) (λ s. IsSecond s x own rest)) good.value.2.0
+    current = ver_current p.own good.value.0 left later v p.rest c.current g.current good.value.1
+        (subst (λ x. ¬ IsSomeAnd (sysmod_in c.current) (λ s. IsSecond s x p.own p.rest)) good.value.2.0
         (good.placed Second)) good.within.0 good.value.2.1;
   }
   good_after left (SaysIf i) g good = record {
     whole = g.whole;
-    current = if_current own good.value.0 left later i c.current g.current (may word.If good.value.2.0 good.placed)
+    current = if_current p.own good.value.0 left later i c.current g.current (may word.If good.value.2.0 good.placed)
         good.value.2.1;
   }
   good_after left (SaysHold h) g good = record {
     whole = g.whole;
-    current = hold_current own good.value.0 left later h c.current g.current (may word.Hold good.value.2.0 good.placed)
-        good.within
-        (operands_printable records w own rest inline good.value.0 known good.value.1 each) good.value.2.1;
+    current = hold_current p.own good.value.0 left later h c.current g.current
+        (may word.Hold good.value.2.0 good.placed) good.within
+        (operands_printable records p good.value.0 known good.value.1 each) good.value.2.1;
   }
   good_after left (SaysAssign a) g good =
       let says = good.value.2 in
       record {
         whole = recursion_append IsItem (items_of c) (AnAssign a ∷ [])
             (items_good c left g (some_vers word.Assign (λ s stands. stands) c.current
-            (may word.Assign says.0 good.placed))) (source_formed own good.value.0 a says.1, tt);
+            (may word.Assign says.0 good.placed))) (source_formed p.own good.value.0 a says.1, tt);
         current = tt;
       }
   good_after left (SaysChange x) g good = record {
     whole = g.whole;
-    current = change_current w own good.value.0 inline x left later c.current g.current (good.placed CannotStand)
-        (good.placed UpdateInFunction) good.value.2
-        (inline_records records known.pieces inline known.statement each) good.text;
+    current = change_current p.word p.own good.value.0 p.inline x left later c.current g.current
+        (good.placed CannotStand) (good.placed UpdateInFunction) good.value.2
+        (inline_records records known.pieces p.inline known.statement each) good.text;
   }
 
 all_good : (ss : List Statement) (c : SoFar) (n : ℕ) (records : Lines) (d : SoFar) (m : ℕ) → IsGoodSoFar c records
@@ -515,11 +515,11 @@ all_good : (ss : List Statement) (c : SoFar) (n : ℕ) (records : Lines) (d : So
     → BeginsWithStatements c n records ss d m [] → IsGoodSoFar d []
 all_good [] c n records d m g each (same, at, none) = subst (λ e. IsGoodSoFar e []) same
     (subst (λ rs. IsGoodSoFar c rs) none g)
-all_good (s ∷ ss) c n records d m g each (group, next, later, takes, (w, own, rest, inline, known, good), more) =
+all_good (s ∷ ss) c n records d m g each (group, next, later, takes, (p, known, good), more) =
     let parts = subst (λ rs. AllByRecursion IsRecord rs) takes.records_are each in
     let inside = recursion_front IsRecord group.records later parts in
     all_good ss (after c s) next later d m
-    (good_after c later group.records w own rest inline known inside records s g good)
+    (good_after c later group.records p known inside records s g good)
     (recursion_back IsRecord group.records later parts) more
 
 last_vers : (left : Lines) (o : Option Begun) → left ≡ [] → IfSome o (IsOpen left) → IfSome o (λ b. b.sysmod.vers ≢ [])

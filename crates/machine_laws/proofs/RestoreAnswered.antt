@@ -5,9 +5,7 @@ use Rattle.std.proofs.lemmas.List.Elements.{Contains-append_left, Contains-appen
 use Rattle.terms.specs.Types.{Id, Global, Zone, RestoreList, RestoreSelect, RestoreGroup}
 use Rattle.terms.specs.Lookups.{IsZone, IsRising, is_in, applied_ids}
 use Rattle.terms.specs.Choice.{counting}
-use Rattle.terms.specs.Needs.{Serves}
-use Rattle.terms.specs.Restore.{Restoring, NeedsInRestore, IsListed, AreListed, restore_candidates, FailsRestore}
-use Rattle.terms.specs.Restore.{MayBeRestored, IsRestored}
+use Rattle.terms.specs.Restore.{Restoring, IsListed, AreListed, restore_candidates, restore_judging, IsRestored}
 use Rattle.terms.proofs.Ids.{in_or_not, is_in_from_Contains, Contains_from_is_in}
 use Rattle.machine.specs.Outcome.{Status, Restored, NotApplied, Failed, Line, StatusLine}
 use Rattle.machine.specs.Receiving.{place_of}
@@ -73,8 +71,7 @@ module _ (r : Restoring) (ids kept : List Id) where
   says_answered x there refuted = elim (in_or_not kept x) [
     | inl is ↦ refuted (Restored, IsBack is)
     | inr stays ↦ elim (in_or_not (restore_candidates r ids) x) [
-      | inl cand ↦ failure_stably (restore_candidates r ids) kept (FailsRestore r) (MayBeRestored r ids)
-          (NeedsInRestore r (is_in ids)) (Serves r.choice) (λ y kind. applied_ids r.zone)
+      | inl cand ↦ failure_stably (restore_judging r ids) kept (λ y kind. applied_ids r.zone)
           (needs_applied r (is_in ids)) x
           (λ made. refuted (Failed made.0, StaysOn made.0 cand stays made.1))
       | inr off ↦ refuted (NotApplied, WasNotOn there off)

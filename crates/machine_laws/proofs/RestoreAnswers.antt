@@ -9,9 +9,7 @@ use Rattle.terms.specs.declared.kinds.ElemType.{ElemType}
 use Rattle.terms.specs.Types.{Text, Id, Entry, Global, Zone, RestoreList}
 use Rattle.terms.specs.Lookups.{IsRising, is_in, has_change, element_of}
 use Rattle.terms.specs.Choice.{counting}
-use Rattle.terms.specs.Needs.{Serves}
-use Rattle.terms.specs.Restore.{Restoring, NeedsInRestore, AreListed, restore_candidates, FailsRestore, MayBeRestored}
-use Rattle.terms.specs.Restore.{IsRestored, Restores}
+use Rattle.terms.specs.Restore.{Restoring, AreListed, restore_candidates, restore_judging, IsRestored, Restores}
 use Rattle.terms.proofs.SameZones.{same_zone}
 use Rattle.machine.specs.Outcome.{Status, Failed, Line, StatusLine}
 use Rattle.machine.specs.Receiving.{place_of}
@@ -54,8 +52,7 @@ module _ (r : Restoring) (ids kept : List Id) (members : (x : Id) → Contains k
   status_only x s t (IsBack k) (WasNotOn listed off) = absurd (off (within x k))
   status_only x s t (StaysOn f c out why) (IsBack k) = absurd (out k)
   status_only x s t (StaysOn f c out why) (StaysOn f' c' out' why') =
-      ap (λ f. Failed f) (failure_only (restore_candidates r ids) kept (FailsRestore r) (MayBeRestored r ids)
-      (NeedsInRestore r (is_in ids)) (Serves r.choice) x f f' why why')
+      ap (λ f. Failed f) (failure_only (restore_judging r ids) kept x f f' why why')
   status_only x s t (StaysOn f c out why) (WasNotOn listed off) = absurd (off c)
   status_only x s t (WasNotOn listed off) (IsBack k) = absurd (off (within x k))
   status_only x s t (WasNotOn listed off) (StaysOn f c out why) = absurd (off c)

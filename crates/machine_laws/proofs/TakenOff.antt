@@ -59,7 +59,8 @@ module _ (is_gone : Id → Bool) (zone new : Zone) (z : IsZone zone)
       ∙ ap (passing has_content) (find_map (λ e. bytes_eq e.id x) (entry_less is_gone) (λ e. refl) zone.entries)
 
   -- a field of the entry, which is there for what it holds
-  field_left : {Y : Type 0} (f : Entry → Y) (d : Y) (g : Y → Y) → ((e : Entry) → has_content e ≡ false → f e ≡ d) → d ≡ g d
+  field_left : {Y : Type 0} (f : Entry → Y) (d : Y) (g : Y → Y)
+      → ((e : Entry) → has_content e ≡ false → f e ≡ d) → d ≡ g d
       → (x : Id) → ((e : Entry) → e.id ≡ x → f (entry_less is_gone e) ≡ g (f e))
       → option_map_or f (entry_of new x) d ≡ g (option_map_or f (entry_of zone x) d)
   field_left f d g unheld none x some = ap (λ o. option_map_or f o d) (left x) ∙ by (entry_of zone x) refl

@@ -5,7 +5,7 @@ use Rattle.terms.specs.Types.{Text, Lines}
 use Rattle.terms.specs.Statement.{Piece, TheWord, IsStatement}
 use Rattle.terms.specs.Words.{Word, list_pieces, TakesWord, BeginsNoWords}
 use Rattle.terms.specs.Statements.{statement_text}
-use Rattle.terms.specs.Ptfin.{IsKnown, IsUnknown}
+use Rattle.terms.specs.Ptfin.{these_parts, HasParts, IsUnknown}
 
 -- no word stands first where nothing does
 pub no_pieces : (pieces : List Piece) (w : Word) (rest : List Piece) → pieces ≡ [] → TakesWord pieces w rest → ⊥
@@ -46,7 +46,7 @@ unknown_word records pieces inline first rest s t other = record {
 
 pub known_word : (records : Lines) (pieces : List Piece) (inline : Lines) (first : Word) (rest : List Piece)
     (w : StatementWord) → IsStatement records pieces inline → TakesWord pieces first rest
-    → statement_text w ≡ first.word → IsKnown records w first.list rest inline
+    → statement_text w ≡ first.word → HasParts records (these_parts w first.list rest inline)
 known_word records pieces inline first rest w s t is = record {
   pieces = pieces;
   statement = s;

@@ -1,5 +1,5 @@
 -- What a replacement says, and its text.
-use Rattle.std.proofs.Common.{◌≡◌, ◌↔◌, List, [], Option, Some, refl, sym, ◌∙◌, ap, subst, inl, inr, ◌⊎◌}
+use Rattle.std.proofs.Common.{◌≡◌, ◌↔◌, List, [], Option, Some, refl, sym, ◌∙◌, ap, subst}
 use Rattle.std.specs.List.{flat_map}
 use Rattle.std.proofs.lemmas.Option.{same_Some}
 use Rattle.terms.specs.declared.kinds.ElemType.{ElemType}
@@ -12,9 +12,11 @@ use Rattle.terms.specs.Forms.{IsName}
 use Rattle.terms.specs.Operands.{HasOwn}
 use Rattle.terms.specs.Statement.{Piece}
 use Rattle.terms.specs.Words.{Word, word_pieces, HasWords}
-use Rattle.terms.specs.Texts.{IsNumbered, IsReplacement, IsActionOf, IsUpdate, IsNumberedFault, IsUpdateFault}
+use Rattle.terms.specs.Texts.{IsNumbered, TakesUpdates, IsReplacement, IsActionOf, IsUpdate, IsNumberedFault}
+use Rattle.terms.specs.Texts.{IsUpdateFault}
 use Rattle.terms.specs.Statements.{changed_type, Statement, SaysChange, HasAction, IsChangeOf}
-use Rattle.terms.specs.Ptfin.{Begun, sysmod_in, IsUpdateWord, HasValue, IsWithin}
+use Rattle.terms.specs.Ptfin.{these_parts, Begun, sysmod_in, IsUpdateWord, HasValue, IsWithin}
+use Rattle.terms.proofs.Texts.{form_numbered}
 use Rattle.terms.proofs.Updates.{numbered_no_fault, update_no_fault}
 use Rattle.mcs.specs.declared.fault.StatementError.{StatementError}
 use Rattle.mcs.specs.declared.fault.StatementError.TheVariants.{Memory, Fault}
@@ -27,15 +29,10 @@ pub replacement_fits : (type : ElemType) (name distlib syslib : Text) (text : Li
 replacement_fits Mac name d s text = (λ h. h, λ h. h)
 replacement_fits type name d s text = (λ h. h, λ h. h)
 
-pub numbered_form : (type : ElemType) (text : Lines) → (type ≡ Mac) ⊎ (type ≡ Src) → IsReplacement type text
-    → IsNumbered text
-numbered_form type text (inl e) r = (subst (λ t. IsReplacement t text) e r).1
-numbered_form type text (inr e) r = (subst (λ t. IsReplacement t text) e r).1
-
-pub not_numbered : (type : ElemType) (inline lines : Lines) (fault : TextFault) → (type ≡ Mac) ⊎ (type ≡ Src)
-    → lines ≡ inline → IsNumberedFault lines fault → IsReplacement type inline → ⊥
-not_numbered type inline lines fault is same f r =
-    numbered_no_fault lines fault (subst IsNumbered (sym same) (numbered_form type inline is r)) f
+pub not_numbered : (type : ElemType) (inline lines : Lines) (fault : TextFault) → TakesUpdates type → lines ≡ inline
+    → IsNumberedFault lines fault → IsReplacement type inline → ⊥
+not_numbered type inline lines fault takes same f r =
+    numbered_no_fault lines fault (subst IsNumbered (sym same) (form_numbered type inline takes r.1)) f
 
 abbrev pub a_change : ElemType → Text → Text → Text → Lines → Change
 a_change type name distlib syslib text = record { elem_type = type; name = name; action = Replaces distlib syslib text }
@@ -43,7 +40,7 @@ a_change type name distlib syslib text = record { elem_type = type; name = name;
 pub change_value : (current : Option Sysmod) (w : StatementWord) (own : Option Text) (rest : List Piece)
     (inline lines : Lines) (type : ElemType) (ws : List Word) (name distlib syslib : Text) → w ≡ word.Replace type
     → HasWords rest ws → HasNames own ws name distlib syslib → lines ≡ inline
-    → HasValue current w own rest inline (SaysChange (a_change type name distlib syslib lines))
+    → HasValue current (these_parts w own rest inline) (SaysChange (a_change type name distlib syslib lines))
 change_value current w own rest inline lines type ws name distlib syslib is h n same = (
   ws,
   h,
@@ -71,12 +68,13 @@ names_excluded w own ws inline type c is none h = no_names own ws inline type c.
 
 pub text_fault : (current : Option Begun) (w : StatementWord) (own : Option Text) (rest : List Piece) (inline : Lines)
     (type : ElemType) (name distlib syslib : Text) (error : StatementError) → IsTextError type inline error
-    → HasValue (sysmod_in current) w own rest inline (SaysChange (a_change type name distlib syslib inline))
+    → HasValue (sysmod_in current) (these_parts w own rest inline)
+    (SaysChange (a_change type name distlib syslib inline))
     → IsWithin current (SaysChange (a_change type name distlib syslib inline)) inline
-    → IsSaidError current w own rest inline error
+    → IsSaidError current (these_parts w own rest inline) error
 text_fault current w own rest inline type name d s Memory e value within = tt
 text_fault current w own rest inline type name d s (Fault code) e value within =
-    subst (λ k. IsSaidFault current w own rest inline k) (sym e.0) (
+    subst (λ k. IsSaidFault current (these_parts w own rest inline) k) (sym e.0) (
       SaysChange (a_change type name d s inline),
       value,
       within,
@@ -95,7 +93,7 @@ has_update w inline lines is same = absurd is
 pub update_value : (current : Option Sysmod) (w : StatementWord) (own : Option Text) (rest : List Piece)
     (inline lines : Lines) (type : ElemType) (name : Text) → (changed_type w ≡ Some type) × IsUpdateWord w → rest ≡ []
     → HasOwn IsName own name → lines ≡ inline
-    → HasValue current w own rest inline (SaysChange (an_update type name lines))
+    → HasValue current (these_parts w own rest inline) (SaysChange (an_update type name lines))
 update_value current w own rest inline lines type name is none n same =
     ([], none, record { type_is = is.0; name = n; action = has_update w inline lines is.1 same })
 
@@ -118,7 +116,7 @@ update_excluded w own rest ws inline c is none words h = none c.name h.name
 pub no_update : (current : Option Sysmod) (w : StatementWord) (own : Option Text) (rest : List Piece) (inline : Lines)
     (type : ElemType) → (changed_type w ≡ Some type) × IsUpdateWord w
     → ((name : Text) → HasOwn IsName own name → rest ≡ [] → ⊥) → (s : Statement)
-    → HasValue current w own rest inline s → ⊥
+    → HasValue current (these_parts w own rest inline) s → ⊥
 no_update current w own rest inline type is none =
     change_excludes current w own rest inline type is.0
     (λ ws c words r. update_excluded w own rest ws inline c is.1 none words r)
@@ -148,10 +146,10 @@ not_update name inline lines fault same f u = update_no_fault name lines fault
 pub update_fault : (current : Option Begun) (w : StatementWord) (own : Option Text) (rest : List Piece) (inline : Lines)
     (type : ElemType) (name : Text) (error : StatementError) → (changed_type w ≡ Some type) × IsUpdateWord w
     → IsUpdateTextError name inline error
-    → HasValue (sysmod_in current) w own rest inline (SaysChange (an_update type name inline))
+    → HasValue (sysmod_in current) (these_parts w own rest inline) (SaysChange (an_update type name inline))
     → IsWithin current (SaysChange (an_update type name inline)) inline
-    → IsSaidError current w own rest inline error
+    → IsSaidError current (these_parts w own rest inline) error
 update_fault current w own rest inline type name Memory is e value within = tt
 update_fault current w own rest inline type name (Fault code) is e value within =
-    subst (λ k. IsSaidFault current w own rest inline k) (sym e.0)
+    subst (λ k. IsSaidFault current (these_parts w own rest inline) k) (sym e.0)
     (SaysChange (an_update type name inline), value, within, λ good. e.1 (update_to w type name inline is good))

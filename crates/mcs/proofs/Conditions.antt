@@ -9,7 +9,7 @@ use Rattle.terms.specs.Statement.{Piece}
 use Rattle.terms.specs.Words.{Word, plain, HasWords, IsShort}
 use Rattle.terms.specs.Operands.{HasOne, HasSorted}
 use Rattle.terms.specs.Statements.{SaysIf, IsIfOf}
-use Rattle.terms.specs.Ptfin.{Begun, sysmod_in, last_of, HasValue, IsWithin}
+use Rattle.terms.specs.Ptfin.{these_parts, Begun, sysmod_in, last_of, HasValue, IsWithin}
 use Rattle.terms.proofs.ExactOperands.{has_sorted_only}
 use Rattle.terms.proofs.ExactWords.{words_only}
 use Rattle.rec80.specs.declared.operand_errors.OperandError.{OperandError}
@@ -62,7 +62,7 @@ IfOf s own rest i = (ws : List Word) × HasWords rest ws × IsIfOf s own ws i
 
 pub if_value : (current : Option Begun) (b : Begun) (w : StatementWord) (own : Option Text) (rest : List Piece)
     (inline : Lines) (i : IfReq) → current ≡ Some b → w ≡ word.If → IfOf b.sysmod own rest i
-    → HasValue (sysmod_in current) w own rest inline (SaysIf i)
+    → HasValue (sysmod_in current) (these_parts w own rest inline) (SaysIf i)
 if_value current b w own rest inline i at is h = (
   h.0,
   h.1,
@@ -75,7 +75,7 @@ if_value current b w own rest inline i at is h = (
 pub if_error : (current : Option Begun) (b : Begun) (w : StatementWord) (own : Option Text) (rest : List Piece)
     (inline : Lines) (ws : List Word) (error : OperandError) → current ≡ Some b → w ≡ word.If → HasWords rest ws
     → Excludes error ((i : IfReq) × IsIfOf b.sysmod own ws i)
-    → IsSaidError current w own rest inline (value_error error)
+    → IsSaidError current (these_parts w own rest inline) (value_error error)
 if_error current b w own rest inline ws Memory at is h x = tt
 if_error current b w own rest inline ws Bad at is h x =
     if_excludes (sysmod_in current) w own rest inline is (λ ws' i h' k.
@@ -84,7 +84,8 @@ if_error current b w own rest inline ws Bad at is h x =
 
 -- what stands among the words keeps out every ++IF
 pub if_no_words : (current : Option Begun) (w : StatementWord) (own : Option Text) (rest : List Piece) (inline : Lines)
-    → w ≡ word.If → ((ws : List Word) → HasWords rest ws → ⊥) → IsSaidError current w own rest inline (value_error Bad)
+    → w ≡ word.If → ((ws : List Word) → HasWords rest ws → ⊥)
+    → IsSaidError current (these_parts w own rest inline) (value_error Bad)
 if_no_words current w own rest inline is none = if_excludes (sysmod_in current) w own rest inline is
     (λ ws i h k. none ws h)
 
@@ -100,7 +101,7 @@ if_within current b i inline at h = (
 
 pub if_said : (current : Option Begun) (b : Begun) (w : StatementWord) (own : Option Text) (rest : List Piece)
     (inline : Lines) (i : IfReq) → current ≡ Some b → w ≡ word.If → IfOf b.sysmod own rest i → HasPlace b i
-    → IsStatementSaid current w own rest inline (SaysIf i)
+    → IsStatementSaid current (these_parts w own rest inline) (SaysIf i)
 if_said current b w own rest inline i at is h within = record {
   value = if_value current b w own rest inline i at is h;
   within = (
@@ -109,9 +110,3 @@ if_said current b w own rest inline i at is h within = record {
   );
   text = tt;
 }
-
--- nothing is said outside a SYSMOD
-pub if_outside : (current : Option Begun) (w : StatementWord) (own : Option Text) (rest : List Piece) (inline : Lines)
-    → current ≡ None → w ≡ word.If → IsSaidError current w own rest inline (value_error Bad)
-if_outside current w own rest inline at is = if_excludes (sysmod_in current) w own rest inline is
-    (λ ws i h k. subst (λ c. IsSomeAnd (sysmod_in c) (λ y. IsIfOf y own ws i)) at k)

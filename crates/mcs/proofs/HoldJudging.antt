@@ -12,7 +12,7 @@ use Rattle.terms.specs.Statement.{Piece}
 use Rattle.terms.specs.Words.{Word, HasWords}
 use Rattle.terms.specs.HoldStatements.{IsHoldOf, IsReleaseOf}
 use Rattle.terms.specs.HoldFile.{StandsInHoldFile, HasItem, IsGoodItem}
-use Rattle.terms.specs.Ptfin.{IsKnown}
+use Rattle.terms.specs.Ptfin.{Parts, HasParts}
 use Rattle.rec80.specs.declared.operand_errors.OperandError.{OperandError}
 use Rattle.rec80.specs.declared.operand_errors.OperandError.TheVariants as operand
 use Rattle.rec80.specs.Failing.{Excludes}
@@ -77,28 +77,26 @@ text_behind (word.Replace type) inline some m = m
 text_behind word.UpdateMac inline some m = m
 text_behind word.UpdateSrc inline some m = m
 
-pub good_item : (records : Lines) (w : StatementWord) (own : Option Text) (rest : List Piece) (inline : Lines)
-    (r : Result HoldItem StatementError) → IsKnown records w own rest inline → StandsInHoldFile w inline
-    → IfOk r (λ i. IsItemSaid w own rest (item_of i)) → IfOk r (λ i. IsGoodItem records (item_of i))
-good_item records w own rest inline (Ok i) known may said = (w, own, rest, inline, known, may, said.value, said.within)
-good_item records w own rest inline (Err e) known may said = tt
+pub good_item : (records : Lines) (p : Parts) (r : Result HoldItem StatementError) → HasParts records p
+    → StandsInHoldFile p.word p.inline → IfOk r (λ i. IsItemSaid p.word p.own p.rest (item_of i))
+    → IfOk r (λ i. IsGoodItem records (item_of i))
+good_item records p (Ok i) known may said = (p, known, may, said.value, said.within)
+good_item records p (Err e) known may said = tt
 
-error_of : (records : Lines) (w : StatementWord) (own : Option Text) (rest : List Piece) (inline : Lines)
-    (e : StatementError) → IsKnown records w own rest inline → StandsInHoldFile w inline → IsSaidError w own rest e
-    → IsItemError records e
-error_of records w own rest inline Memory known may f = tt
-error_of records w own rest inline (Fault BadStatementForm) known may f = absurd f
-error_of records w own rest inline (Fault UnknownStatementWord) known may f = absurd f
-error_of records w own rest inline (Fault BadStatementOperand) known may f = (w, own, rest, inline, known, may, f)
-error_of records w own rest inline (Fault WrongPlace) known may f = absurd f
-error_of records w own rest inline (Fault BadText) known may f = absurd f
-error_of records w own rest inline (Fault OverLimit) known may f = (w, own, rest, inline, f.0, known, may, f.1, f.2)
+error_of : (records : Lines) (p : Parts) (e : StatementError) → HasParts records p
+    → StandsInHoldFile p.word p.inline → IsSaidError p.word p.own p.rest e → IsItemError records e
+error_of records p Memory known may f = tt
+error_of records p (Fault BadStatementForm) known may f = absurd f
+error_of records p (Fault UnknownStatementWord) known may f = absurd f
+error_of records p (Fault BadStatementOperand) known may f = (p, known, may, f)
+error_of records p (Fault WrongPlace) known may f = absurd f
+error_of records p (Fault BadText) known may f = absurd f
+error_of records p (Fault OverLimit) known may f = (p, f.0, known, may, f.1, f.2)
 
-pub bad_item : (records : Lines) (w : StatementWord) (own : Option Text) (rest : List Piece) (inline : Lines)
-    (r : Result HoldItem StatementError) → IsKnown records w own rest inline → StandsInHoldFile w inline
-    → IfErr r (IsSaidError w own rest) → IfErr r (IsItemError records)
-bad_item records w own rest inline (Ok i) known may f = tt
-bad_item records w own rest inline (Err e) known may f = error_of records w own rest inline e known may f
+pub bad_item : (records : Lines) (p : Parts) (r : Result HoldItem StatementError) → HasParts records p
+    → StandsInHoldFile p.word p.inline → IfErr r (IsSaidError p.word p.own p.rest) → IfErr r (IsItemError records)
+bad_item records p (Ok i) known may f = tt
+bad_item records p (Err e) known may f = error_of records p e known may f
 
 pub may_hold : (w : StatementWord) (inline : Lines) → w ≡ word.Hold → inline ≡ [] → StandsInHoldFile w inline
 may_hold w inline is none = subst (λ x. StandsInHoldFile x inline) (sym is) none
@@ -107,6 +105,6 @@ pub may_release : (w : StatementWord) (inline : Lines) → w ≡ word.Release �
 may_release w inline is none = subst (λ x. StandsInHoldFile x inline) (sym is) none
 
 -- a statement that may not stand there
-pub misplaced : (records : Lines) (w : StatementWord) (own : Option Text) (rest : List Piece) (inline : Lines)
-    → IsKnown records w own rest inline → (StandsInHoldFile w inline → ⊥) → IsItemError records (Fault WrongPlace)
-misplaced records w own rest inline known not_there = (w, own, rest, inline, known, not_there)
+pub misplaced : (records : Lines) (p : Parts) → HasParts records p → (StandsInHoldFile p.word p.inline → ⊥)
+    → IsItemError records (Fault WrongPlace)
+misplaced records p known not_there = (p, known, not_there)

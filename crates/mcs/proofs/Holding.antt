@@ -1,5 +1,5 @@
 -- What a ++HOLD of a SYSMOD says, and why one says nothing.
-use Rattle.std.proofs.Common.{◌≡◌, IsTrue, List, Option, Some, None, sym, ◌∙◌, subst}
+use Rattle.std.proofs.Common.{◌≡◌, IsTrue, List, Option, Some, sym, ◌∙◌, subst}
 use Rattle.std.specs.Prelude.{IsSomeAnd}
 use Rattle.terms.specs.declared.statement_words.StatementWord.{StatementWord}
 use Rattle.terms.specs.declared.statement_words.StatementWord.TheVariants as word
@@ -10,7 +10,7 @@ use Rattle.terms.specs.Statement.{Piece}
 use Rattle.terms.specs.Words.{Word, HasWords}
 use Rattle.terms.specs.HoldStatements.{IsHoldOf, HasShortComment}
 use Rattle.terms.specs.Statements.{SaysHold, IsOwnHoldOf}
-use Rattle.terms.specs.Ptfin.{Begun, sysmod_in, HasValue}
+use Rattle.terms.specs.Ptfin.{these_parts, Begun, sysmod_in, HasValue}
 use Rattle.terms.proofs.ExactHolds.{kind_only}
 use Rattle.terms.proofs.ExactOperands.{own_only}
 use Rattle.terms.proofs.ExactWords.{words_only}
@@ -48,7 +48,7 @@ own_hold s own rest ws h words is at internal = (
 
 pub hold_value : (current : Option Begun) (b : Begun) (w : StatementWord) (own : Option Text) (rest : List Piece)
     (inline : Lines) (h : Hold) → current ≡ Some b → w ≡ word.Hold → OwnHoldOf b.sysmod own rest h
-    → HasValue (sysmod_in current) w own rest inline (SaysHold h)
+    → HasValue (sysmod_in current) (these_parts w own rest inline) (SaysHold h)
 hold_value current b w own rest inline h at is o = (
   o.0,
   o.1,
@@ -58,7 +58,7 @@ hold_value current b w own rest inline h at is o = (
 pub hold_error : (current : Option Begun) (b : Begun) (w : StatementWord) (own : Option Text) (rest : List Piece)
     (inline : Lines) (error : OperandError) → current ≡ Some b → w ≡ word.Hold
     → Excludes error ((h : Hold) × OwnHoldOf b.sysmod own rest h)
-    → IsSaidError current w own rest inline (value_error error)
+    → IsSaidError current (these_parts w own rest inline) (value_error error)
 hold_error current b w own rest inline Memory at is x = tt
 hold_error current b w own rest inline Bad at is x =
     hold_excludes (sysmod_in current) w own rest inline is (λ ws h k o.
@@ -66,16 +66,10 @@ hold_error current b w own rest inline Bad at is x =
 
 pub hold_said : (current : Option Begun) (b : Begun) (w : StatementWord) (own : Option Text) (rest : List Piece)
     (inline : Lines) (h : Hold) → current ≡ Some b → w ≡ word.Hold → OwnHoldOf b.sysmod own rest h → HasShortComment h
-    → IsStatementSaid current w own rest inline (SaysHold h)
+    → IsStatementSaid current (these_parts w own rest inline) (SaysHold h)
 hold_said current b w own rest inline h at is o within = record {
   value =
       hold_value current b w own rest inline h at is o;
   within = within;
   text = tt;
 }
-
--- nothing is said outside a SYSMOD
-pub hold_outside : (current : Option Begun) (w : StatementWord) (own : Option Text) (rest : List Piece) (inline : Lines)
-    → current ≡ None → w ≡ word.Hold → IsSaidError current w own rest inline (value_error Bad)
-hold_outside current w own rest inline at is = hold_excludes (sysmod_in current) w own rest inline is
-    (λ ws h k o. subst (λ c. IsSomeAnd (sysmod_in c) (λ y. IsOwnHoldOf y own ws h)) at o)

@@ -6,7 +6,6 @@ use Rattle.std.specs.List.{flat_map}
 use Rattle.std.specs.Str.{bytes_eq}
 use Rattle.std.proofs.lemmas.List.Elements.{All-nil, All-cons, All-head, All-tail, All-append, All-take, All-filter}
 use Rattle.terms.proofs.Each.{All_front, All_back}
-use Rattle.terms.specs.declared.statement_words.StatementWord.{StatementWord}
 use Rattle.terms.specs.Types.{Text, Lines}
 use Rattle.terms.specs.Records.{IsPrintable, IsRecord, front}
 use Rattle.terms.specs.Statement.{Piece, TheWord, TheList, Blank, Comment, Stray, followed, joined, behind_close}
@@ -14,7 +13,7 @@ use Rattle.terms.specs.Statement.{TakesPiece, HasPieces, is_solid}
 use Rattle.terms.specs.Statements.{statement_text}
 use Rattle.terms.specs.Words.{Word, word_pieces, list_pieces, HasWords}
 use Rattle.terms.specs.Operands.{operand}
-use Rattle.terms.specs.Ptfin.{IsKnown}
+use Rattle.terms.specs.Ptfin.{Parts, HasParts}
 use Rattle.mcs.specs.Holds.{IsPrintablePiece, ArePrintable}
 
 own_printable : (list : Option Text) (more : List Piece) → ArePrintable (list_pieces list ++ more)
@@ -97,12 +96,12 @@ pieces_printable text (p ∷ ps) rest h printable =
     All-cons IsPrintablePiece p ps first.0 (pieces_printable h.0 ps rest h.2 first.1)
 
 -- A statement in records is printable.
-pub known_printable : (records : Lines) (w : StatementWord) (own : Option Text) (rest : List Piece) (inline : Lines)
-    → All IsRecord records → IsKnown records w own rest inline → ArePrintable rest
-known_printable records w own rest inline h known =
+pub known_printable : (records : Lines) (p : Parts)
+    → All IsRecord records → HasParts records p → ArePrintable p.rest
+known_printable records p h known =
     let s = known.statement in
     let pieces = pieces_printable (joined records) s.0 _ s.2.has_pieces (joined_printable records h) in
     let solid_ones : ArePrintable known.pieces = subst ArePrintable (sym s.4)
     (All-filter is_solid IsPrintablePiece s.0 pieces) in
-    All_back IsPrintablePiece (word_pieces (record { word = statement_text w; list = own })) rest
+    All_back IsPrintablePiece (word_pieces (record { word = statement_text p.word; list = p.own })) p.rest
     (subst ArePrintable known.begins.pieces_are solid_ones)

@@ -13,7 +13,7 @@ use Rattle.terms.specs.Words.{Word, word_pieces, HasWords}
 use Rattle.terms.specs.Operands.{HasOwn}
 use Rattle.terms.specs.Statements.{changed_type, Statement, SaysHeader, SaysVer, SaysIf, SaysHold, SaysAssign}
 use Rattle.terms.specs.Statements.{SaysChange, IsVerOf, IsIfOf, IsOwnHoldOf, IsAssignOf, IsChangeOf}
-use Rattle.terms.specs.Ptfin.{Begun, HasValue}
+use Rattle.terms.specs.Ptfin.{these_parts, Begun, HasValue}
 use Rattle.mcs.specs.Said.{IsStatementSaid}
 
 no_change : (w : StatementWord) (own : Option Text) (ws : List Word) (inline : Lines) (c : Change)
@@ -22,7 +22,7 @@ no_change w own ws inline c none h = cc (none, h.type_is)
 
 pub header_said : (current : Option Begun) (w : StatementWord) (own : Option Text) (rest : List Piece) (inline : Lines)
     (kind : Kind) (id : Id) → w ≡ word.Header kind → HasOwn IsId own id → rest ≡ []
-    → IsStatementSaid current w own rest inline (SaysHeader kind id)
+    → IsStatementSaid current (these_parts w own rest inline) (SaysHeader kind id)
 header_said current w own rest inline kind id is h none = record {
   value = ([], none, (is, (h, refl)));
   within = tt;
@@ -31,7 +31,7 @@ header_said current w own rest inline kind id is h none = record {
 
 pub header_excludes : (current : Option Sysmod) (w : StatementWord) (own : Option Text) (rest : List Piece)
     (inline : Lines) (kind : Kind) → w ≡ word.Header kind → ((id : Id) → HasOwn IsId own id → rest ≡ [] → ⊥)
-    → (s : Statement) → HasValue current w own rest inline s → ⊥
+    → (s : Statement) → HasValue current (these_parts w own rest inline) s → ⊥
 header_excludes current w own rest inline kind is none (SaysHeader k id) v =
     none id v.2.1.0 (v.1 ∙ ap (flat_map word_pieces) v.2.1.1)
 header_excludes current w own rest inline kind is none (SaysVer x) v = absurd (cc (is, v.2.0))
@@ -43,7 +43,8 @@ header_excludes current w own rest inline kind is none (SaysChange c) v =
 
 pub ver_excludes : (current : Option Sysmod) (w : StatementWord) (own : Option Text) (rest : List Piece)
     (inline : Lines) → w ≡ word.Ver → ((ws : List Word) (v : Ver) → HasWords rest ws
-    → IsSomeAnd current (λ s. IsVerOf s own ws v) → ⊥) → (s : Statement) → HasValue current w own rest inline s → ⊥
+    → IsSomeAnd current (λ s. IsVerOf s own ws v) → ⊥) → (s : Statement)
+    → HasValue current (these_parts w own rest inline) s → ⊥
 ver_excludes current w own rest inline is none (SaysHeader k id) v = absurd (cc (is, v.2.0))
 ver_excludes current w own rest inline is none (SaysVer x) v = none v.0 x v.1 v.2.1
 ver_excludes current w own rest inline is none (SaysIf x) v = absurd (cc (is, v.2.0))
@@ -53,7 +54,7 @@ ver_excludes current w own rest inline is none (SaysChange c) v = no_change w ow
 
 pub if_excludes : (current : Option Sysmod) (w : StatementWord) (own : Option Text) (rest : List Piece) (inline : Lines)
     → w ≡ word.If → ((ws : List Word) (i : IfReq) → HasWords rest ws → IsSomeAnd current (λ s. IsIfOf s own ws i) → ⊥)
-    → (s : Statement) → HasValue current w own rest inline s → ⊥
+    → (s : Statement) → HasValue current (these_parts w own rest inline) s → ⊥
 if_excludes current w own rest inline is none (SaysHeader k id) v = absurd (cc (is, v.2.0))
 if_excludes current w own rest inline is none (SaysVer x) v = absurd (cc (is, v.2.0))
 if_excludes current w own rest inline is none (SaysIf x) v = none v.0 x v.1 v.2.1
@@ -63,7 +64,8 @@ if_excludes current w own rest inline is none (SaysChange c) v = no_change w own
 
 pub hold_excludes : (current : Option Sysmod) (w : StatementWord) (own : Option Text) (rest : List Piece)
     (inline : Lines) → w ≡ word.Hold → ((ws : List Word) (h : Hold) → HasWords rest ws
-    → IsSomeAnd current (λ s. IsOwnHoldOf s own ws h) → ⊥) → (s : Statement) → HasValue current w own rest inline s → ⊥
+    → IsSomeAnd current (λ s. IsOwnHoldOf s own ws h) → ⊥) → (s : Statement)
+    → HasValue current (these_parts w own rest inline) s → ⊥
 hold_excludes current w own rest inline is none (SaysHeader k id) v = absurd (cc (is, v.2.0))
 hold_excludes current w own rest inline is none (SaysVer x) v = absurd (cc (is, v.2.0))
 hold_excludes current w own rest inline is none (SaysIf x) v = absurd (cc (is, v.2.0))
@@ -73,7 +75,7 @@ hold_excludes current w own rest inline is none (SaysChange c) v = no_change w o
 
 pub assign_excludes : (current : Option Sysmod) (w : StatementWord) (own : Option Text) (rest : List Piece)
     (inline : Lines) → w ≡ word.Assign → ((ws : List Word) (a : Assign) → HasWords rest ws → IsAssignOf own ws a → ⊥)
-    → (s : Statement) → HasValue current w own rest inline s → ⊥
+    → (s : Statement) → HasValue current (these_parts w own rest inline) s → ⊥
 assign_excludes current w own rest inline is none (SaysHeader k id) v = absurd (cc (is, v.2.0))
 assign_excludes current w own rest inline is none (SaysVer x) v = absurd (cc (is, v.2.0))
 assign_excludes current w own rest inline is none (SaysIf x) v = absurd (cc (is, v.2.0))
@@ -86,7 +88,7 @@ assign_excludes current w own rest inline is none (SaysChange c) v =
 pub change_excludes : (current : Option Sysmod) (w : StatementWord) (own : Option Text) (rest : List Piece)
     (inline : Lines) (type : ElemType) → changed_type w ≡ Some type
     → ((ws : List Word) (c : Change) → HasWords rest ws → IsChangeOf w own ws inline c → ⊥) → (s : Statement)
-    → HasValue current w own rest inline s → ⊥
+    → HasValue current (these_parts w own rest inline) s → ⊥
 change_excludes current w own rest inline type is none (SaysHeader k id) v = absurd (cc (is, ap changed_type v.2.0))
 change_excludes current w own rest inline type is none (SaysVer x) v = absurd (cc (is, ap changed_type v.2.0))
 change_excludes current w own rest inline type is none (SaysIf x) v = absurd (cc (is, ap changed_type v.2.0))

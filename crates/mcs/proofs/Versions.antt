@@ -9,7 +9,7 @@ use Rattle.terms.specs.Statement.{Piece}
 use Rattle.terms.specs.Words.{Word, HasWords, IsShort}
 use Rattle.terms.specs.Operands.{operand, AreOperands, HasOwn, HasOptional}
 use Rattle.terms.specs.Statements.{SaysVer, SuitsKind, ver_operands, lists_of, IsVerOf}
-use Rattle.terms.specs.Ptfin.{Begun, sysmod_in, HasValue, IsWithin}
+use Rattle.terms.specs.Ptfin.{these_parts, Begun, sysmod_in, HasValue, IsWithin}
 use Rattle.terms.proofs.ExactOperands.{optional_only, texts_only}
 use Rattle.terms.proofs.ExactWords.{words_only}
 use Rattle.rec80.specs.declared.operand_errors.OperandError.{OperandError}
@@ -66,7 +66,7 @@ lists_are s own ws v w i h =
 
 pub ver_value : (current : Option Begun) (b : Begun) (w : StatementWord) (own : Option Text) (rest : List Piece)
     (inline : Lines) (ws : List Word) (v : Ver) → current ≡ Some b → w ≡ word.Ver → HasWords rest ws
-    → IsVerOf b.sysmod own ws v → HasValue (sysmod_in current) w own rest inline (SaysVer v)
+    → IsVerOf b.sysmod own ws v → HasValue (sysmod_in current) (these_parts w own rest inline) (SaysVer v)
 ver_value current b w own rest inline ws v at is h i = (
   ws,
   h,
@@ -75,7 +75,8 @@ ver_value current b w own rest inline ws v at is h i = (
 
 pub ver_error : (current : Option Begun) (b : Begun) (w : StatementWord) (own : Option Text) (rest : List Piece)
     (inline : Lines) (ws : List Word) (error : OperandError) → current ≡ Some b → w ≡ word.Ver → HasWords rest ws
-    → Excludes error ((v : Ver) × IsVerOf b.sysmod own ws v) → IsSaidError current w own rest inline (value_error error)
+    → Excludes error ((v : Ver) × IsVerOf b.sysmod own ws v)
+    → IsSaidError current (these_parts w own rest inline) (value_error error)
 ver_error current b w own rest inline ws Memory at is h x = tt
 ver_error current b w own rest inline ws Bad at is h x =
     ver_excludes (sysmod_in current) w own rest inline is (λ ws' v h' i.
@@ -85,7 +86,7 @@ ver_error current b w own rest inline ws Bad at is h x =
 pub ver_said : (current : Option Begun) (b : Begun) (w : StatementWord) (own : Option Text) (rest : List Piece)
     (inline : Lines) (ws : List Word) (v : Ver) → current ≡ Some b → w ≡ word.Ver → HasWords rest ws
     → IsVerOf b.sysmod own ws v → (length b.sysmod.vers < 8) × All IsShort (lists_of v)
-    → IsStatementSaid current w own rest inline (SaysVer v)
+    → IsStatementSaid current (these_parts w own rest inline) (SaysVer v)
 ver_said current b w own rest inline ws v at is h i within = record {
   value = ver_value current b w own rest inline ws v at is h i;
   within = (subst (λ c. IfSome c (λ x. length x.sysmod.vers < 8)) (sym at) within.0, within.1);

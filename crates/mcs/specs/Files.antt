@@ -1,7 +1,7 @@
 -- What has been read so far, as the definitions see it.
-use Rattle.std.specs.Prelude.{◌≡◌, ℕ, List, map, Option, option_map, IfSome, IsTrue}
+use Rattle.std.specs.Prelude.{◌≡◌, ℕ, List, map, Option, option_map, IsSome, IsSomeAnd, IsTrue}
 use Rattle.terms.specs.declared.kinds.HoldKind.TheVariants.{System}
-use Rattle.terms.specs.Statements.{Statement, SaysHold}
+use Rattle.terms.specs.Statements.{Statement, SaysHeader, SaysVer, SaysIf, SaysHold, SaysAssign, SaysChange}
 use Rattle.terms.specs.Types as terms
 use Rattle.terms.specs.Ptfin as ptfin
 use Rattle.terms.specs.Types.{Lines}
@@ -29,10 +29,19 @@ begun_in current = option_map begun_of current
 abbrev pub so_far : SoFar → ptfin.SoFar
 so_far c = record { whole = items c.whole.items; current = begun_in c.current }
 
--- A hold belongs to the SYSMOD that has begun, and is internal.
-abbrev pub Suits : Option ptfin.Begun → Statement → Type 0
-Suits current (SaysHold h) = IfSome current (λ b. IsTrue h.internal × (h.kind ≡ System) × (h.id ≡ b.sysmod.id))
-Suits current _ = Unit {0}
+-- The hold is internal, and belongs to the SYSMOD.
+abbrev pub IsOwnHold : Begun → terms.Hold → Type 0
+IsOwnHold b h = IsTrue h.internal × (h.kind ≡ System) × (h.id ≡ b.sysmod.id)
+
+-- Whatever belongs to a SYSMOD follows the header of one. The SYSMOD of an ++IF has a last ++VER, and a hold is its
+-- SYSMOD's own.
+abbrev pub Suits : Option Begun → Statement → Type 0
+Suits current (SaysHeader kind id) = Unit {0}
+Suits current (SaysVer v) = IsSome current
+Suits current (SaysIf i) = IsSomeAnd current (λ b. IsSome b.last)
+Suits current (SaysHold h) = IsSomeAnd current (λ b. IsOwnHold b h)
+Suits current (SaysAssign a) = Unit {0}
+Suits current (SaysChange c) = IsSome current
 
 -- the first fault of the file, or that memory ran out
 abbrev pub IsPtfinError : List ℕ → McsError → Type 0

@@ -2,14 +2,13 @@
 use Rattle.std.specs.Prelude.{List, Option, Result, IfOk, IfErr}
 use Rattle.terms.specs.declared.codes.StatementCode.{StatementCode}
 use Rattle.terms.specs.declared.codes.StatementCode.TheVariants.{BadStatementOperand, BadText, OverLimit}
-use Rattle.terms.specs.declared.statement_words.StatementWord.{StatementWord}
-use Rattle.terms.specs.Types.{Text, Lines}
+use Rattle.terms.specs.Types.{Lines}
 use Rattle.terms.specs.Statement.{Piece}
 use Rattle.terms.specs.Statements.{Statement}
-use Rattle.terms.specs.Ptfin.{Begun, sysmod_in, HasValue, IsWithin, HasGoodText, IsStatementFault}
+use Rattle.terms.specs.Ptfin.{Begun, Parts, sysmod_in, HasValue, IsWithin, HasGoodText, IsStatementFault}
 use Rattle.rec80.specs.Read.{IsRead}
 use Rattle.mcs.specs.declared.begin.Known.{Known}
-use Rattle.mcs.specs.KnownWords.{own_list}
+use Rattle.mcs.specs.KnownWords.{parts_of}
 use Rattle.mcs.specs.Holds.{ArePrintable}
 use Rattle.mcs.specs.declared.file.Begun as file
 use Rattle.mcs.specs.declared.said.Statement.{Statement as Said}
@@ -18,27 +17,23 @@ use Rattle.mcs.specs.Statements.{statement_of}
 use Rattle.mcs.specs.declared.fault.StatementError.{StatementError}
 use Rattle.mcs.specs.declared.fault.StatementError.TheVariants.{Memory, Fault}
 
--- The statement says so, within its limits and with a good text.
-pub record IsStatementSaid (current : Option Begun) (w : StatementWord) (own : Option Text) (rest : List Piece)
-    (inline : Lines)
-    (s : Statement) : Type 0 where
-  pub value : HasValue (sysmod_in current) w own rest inline s
-  pub within : IsWithin current s inline
+-- The statement of these parts says so, within its limits and with a good text.
+pub record IsStatementSaid (current : Option Begun) (p : Parts) (s : Statement) : Type 0 where
+  pub value : HasValue (sysmod_in current) p s
+  pub within : IsWithin current s p.inline
   pub text : HasGoodText s
 
 -- It says nothing, exceeds a limit, or its text is bad.
-abbrev pub IsSaidFault : Option Begun → StatementWord → Option Text → List Piece → Lines → StatementCode → Type 0
-IsSaidFault current w own rest inline BadStatementOperand = (s : Statement) → ¬ HasValue
-    (sysmod_in current) w own rest inline s
-IsSaidFault current w own rest inline OverLimit = (s : Statement) × HasValue (sysmod_in current) w own rest inline s
-    × (¬ IsWithin current s inline)
-IsSaidFault current w own rest inline BadText =
-    (s : Statement) × HasValue (sysmod_in current) w own rest inline s × IsWithin current s inline × (¬ HasGoodText s)
-IsSaidFault current w own rest inline _ = ⊥
+abbrev pub IsSaidFault : Option Begun → Parts → StatementCode → Type 0
+IsSaidFault current p BadStatementOperand = (s : Statement) → ¬ HasValue (sysmod_in current) p s
+IsSaidFault current p OverLimit = (s : Statement) × HasValue (sysmod_in current) p s × (¬ IsWithin current s p.inline)
+IsSaidFault current p BadText =
+    (s : Statement) × HasValue (sysmod_in current) p s × IsWithin current s p.inline × (¬ HasGoodText s)
+IsSaidFault current p _ = ⊥
 
-abbrev pub IsSaidError : Option Begun → StatementWord → Option Text → List Piece → Lines → StatementError → Type 0
-IsSaidError current w own rest inline Memory = Unit {0}
-IsSaidError current w own rest inline (Fault code) = IsSaidFault current w own rest inline code
+abbrev pub IsSaidError : Option Begun → Parts → StatementError → Type 0
+IsSaidError current p Memory = Unit {0}
+IsSaidError current p (Fault code) = IsSaidFault current p code
 
 -- the first fault of a statement, or that memory ran out
 abbrev pub IsStatementError : Option Begun → Lines → Lines → StatementError → Type 0
@@ -49,17 +44,16 @@ IsStatementError current later records (Fault code) = IsStatementFault current l
 abbrev pub Says : Option file.Begun → Known → Result Said StatementError → Type 0
 Says current known result =
     (rest : List Piece) → IsRead rest known.operands
-    → IfOk result (λ s. IsStatementSaid (begun_in current) known.word (own_list known) rest known.inline.now
-    (statement_of s))
+    → IfOk result (λ s. IsStatementSaid (begun_in current) (parts_of known rest) (statement_of s))
 
 -- It says nothing, and the error is its first fault, or that memory ran out.
 abbrev pub Fails : Option file.Begun → Known → Result Said StatementError → Type 0
 Fails current known result =
     (rest : List Piece) → IsRead rest known.operands
-    → IfErr result (IsSaidError (begun_in current) known.word (own_list known) rest known.inline.now)
+    → IfErr result (IsSaidError (begun_in current) (parts_of known rest))
 
 -- The same, if its lists have only bytes that a record may have.
 abbrev pub FailsPrintable : Option file.Begun → Known → Result Said StatementError → Type 0
 FailsPrintable current known result =
     (rest : List Piece) → IsRead rest known.operands → ArePrintable rest
-    → IfErr result (IsSaidError (begun_in current) known.word (own_list known) rest known.inline.now)
+    → IfErr result (IsSaidError (begun_in current) (parts_of known rest))

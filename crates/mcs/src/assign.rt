@@ -1,5 +1,5 @@
 //! `++ASSIGN`.
-ghost use Rattle.std.specs.Prelude.{◌≡◌, ◌↔◌, ℕ, List, IsTrue, IfOk, IfErr, IsSomeAnd};
+ghost use Rattle.std.specs.Prelude.{◌≡◌, ◌↔◌, ℕ, List, Option, IsTrue, IfOk, IfErr, IsSomeAnd};
 ghost use Rattle.terms.specs.declared.statement_words.StatementWord.TheVariants as word;
 ghost use Rattle.terms.specs.Types.{Assign as AnyAssign};
 ghost use Rattle.terms.specs.Forms.{IsId};
@@ -10,15 +10,16 @@ ghost use Rattle.terms.specs.Statements.{IsAssignOf};
 ghost use Rattle.rec80.specs.Views.{words_of};
 ghost use Rattle.rec80.specs.Failing.{Excludes};
 ghost use Rattle.rec80.specs.Read.{IsRead};
+ghost use Rattle.mcs.specs.declared.file.Begun.{Begun};
 ghost use Rattle.mcs.specs.KnownWords.{own_list};
 ghost use Rattle.mcs.specs.Said.{Says, Fails};
 
 use crate::begin::Known;
-use crate::fault::{StatementError, no_value};
-use crate::file::{Assign, Begun};
+use crate::fault::{StatementError, statement_error};
+use crate::file::Assign;
 use crate::said::Statement;
 use fields::{Id, Source};
-use rec80::{OperandError, Word, listed_ids, operand, required};
+use rec80::{OperandError, Word, ids_in_file_order, operand, required};
 use std::alloc::Global;
 use terms::StatementCode;
 
@@ -35,7 +36,7 @@ fn required_ids(alloc: Global, words: &[Word<'_>], name: &[u8]) -> Result<Vec<Id
     let Some(word) = operand(words, name) else {
         return Err(OperandError::Bad);
     };
-    listed_ids(alloc, &word)
+    ids_in_file_order(alloc, &word)
 }
 
 // The `++ASSIGN`.
@@ -50,7 +51,7 @@ fn read_assign(alloc: Global, known: &Known<'_>) -> Result<Assign, OperandError>
     if known.first.list.is_some() {
         return Err(OperandError::Bad);
     }
-    let Some(words) = known.operands.named(OPERANDS) else {
+    let Some(words) = known.operands.words_named(OPERANDS) else {
         return Err(OperandError::Bad);
     };
     let Some(source) = required::<Source>(words, b"SOURCEID") else {
@@ -72,19 +73,14 @@ fn is_within(assign: &Assign) -> bool
 
 /// What an `++ASSIGN` says. Returns `Memory` if memory runs out. `Fault` is `BadStatementOperand` if it has anything
 /// but SOURCEID and TO, each in its form, and `OverLimit` if TO has more than 1,000 ids.
-pub fn assign_statement(
-    alloc: Global,
-    current: &Option<Begun>,
-    known: &Known<'_>,
-) -> Result<Statement, StatementError>
+pub fn assign_statement(alloc: Global, known: &Known<'_>) -> Result<Statement, StatementError>
     requires { known.now.word ≡ word.Assign }
-    ensures said { Says current.now known.now result }
-    ensures fault { Fails current.now known.now result }
+    ensures said { (current : Option Begun) → Says current known.now result }
+    ensures fault { (current : Option Begun) → Fails current known.now result }
 {
-    let _ = current;
     let assign = match read_assign(alloc, known) {
         Ok(assign) => assign,
-        Err(error) => return Err(no_value(error)),
+        Err(error) => return Err(statement_error(error)),
     };
     if !is_within(&assign) {
         return Err(StatementError::Fault(StatementCode::OverLimit));

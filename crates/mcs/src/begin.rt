@@ -1,10 +1,10 @@
 //! The word with which a statement begins.
 ghost use Rattle.std.specs.Prelude.{List, IfOk, IfErr};
 ghost use Rattle.terms.specs.Statement.{Piece};
-ghost use Rattle.terms.specs.Ptfin.{IsKnown};
+ghost use Rattle.terms.specs.Ptfin.{HasParts};
 ghost use Rattle.rec80.specs.Read.{IsRead};
 ghost use Rattle.mcs.specs.Forms.{IsFormError};
-ghost use Rattle.mcs.specs.KnownWords.{own_list};
+ghost use Rattle.mcs.specs.KnownWords.{parts_of};
 
 use crate::fault::StatementError;
 use crate::statement_kinds::statement_word;
@@ -21,11 +21,11 @@ pub struct Known<'a> {
     pub inline: &'a [Record],
 }
 
-/// The statement's word and its operands. Returns `Memory` if memory runs out. `Fault` is `BadStatementForm` if the
-/// statement's form is bad, and `UnknownStatementWord` if it does not begin with a known word.
-pub fn begun<'a>(alloc: Global, group: &Group<'a>) -> Result<Known<'a>, StatementError>
+/// Reads the statement's word and its operands. Returns `Memory` if memory runs out. `Fault` is `BadStatementForm` if
+/// the statement's form is bad, and `UnknownStatementWord` if it does not begin with a known word.
+pub fn begin_statement<'a>(alloc: Global, group: &Group<'a>) -> Result<Known<'a>, StatementError>
     ensures ok { IfOk result (λ b. (rest : List Piece)
-        × IsKnown group.now.records.now b.word (own_list b) rest b.inline.now × IsRead rest b.operands) }
+        × HasParts group.now.records.now (parts_of b rest) × IsRead rest b.operands) }
     ensures fault { IfErr result (IsFormError group.now.records.now) }
 {
     let Ok(mut words) = statement(group) else {

@@ -9,7 +9,6 @@ ghost use Rattle.terms.specs.Texts.{IsReplacement, IsUpdate};
 ghost use Rattle.rec80.specs.Read.{IsRead};
 ghost use Rattle.mcs.specs.KnownWords.{own_list};
 ghost use Rattle.mcs.specs.Elements.{HasNames, IsTextError, IsUpdateTextError};
-ghost use Rattle.mcs.specs.Files.{begun_in};
 ghost use Rattle.mcs.specs.Said.{Says, Fails};
 
 use crate::begin::Known;
@@ -34,6 +33,7 @@ struct ElementNames {
     syslib: Name,
 }
 
+// The names of the element, DISTLIB and SYSLIB, or `None` if one is missing or bad, or there are other operands.
 fn read_names(known: &Known<'_>) -> Option<ElementNames>
     ensures some { (rest : List Piece) → IsRead rest known.now.operands
         → IfSome result (λ n. (ws : List grammar.Word) × grammar.HasWords rest ws
@@ -42,7 +42,7 @@ fn read_names(known: &Known<'_>) -> Option<ElementNames>
         → IfNone result ((ws : List grammar.Word) (name distlib syslib : List ℕ) → grammar.HasWords rest ws
         → HasNames (own_list known.now) ws name distlib syslib → ⊥) }
 {
-    let Some(words) = known.operands.named(OPERANDS) else {
+    let Some(words) = known.operands.words_named(OPERANDS) else {
         return None;
     };
     let Some(name) = one::<Name>(&known.first) else {
@@ -61,6 +61,7 @@ fn read_names(known: &Known<'_>) -> Option<ElementNames>
     })
 }
 
+// The inline records as lines.
 fn lines(alloc: Global, inline: &[Record]) -> Result<Vec<Line>, AllocError>
     ensures { IfOk result (λ lines. lines.items ≡ inline.now) }
 {
@@ -71,8 +72,9 @@ fn lines(alloc: Global, inline: &[Record]) -> Result<Vec<Line>, AllocError>
     Ok(lines)
 }
 
-// The records as the text of a replacement.
-fn text_of(
+// The records as the text of a replacement. The error is `BadText` if there are none, or a macro or source has bad
+// numbers.
+fn read_replacement_text(
     alloc: Global,
     elem_type: ElemType,
     inline: &[Record],
@@ -85,14 +87,12 @@ fn text_of(
         return Err(StatementError::Fault(StatementCode::BadText));
     }
     let lines = lines(alloc, inline)?;
-    match elem_type {
-        ElemType::Mac | ElemType::Src => match Numbered::read(lines) {
-            Ok(text) => Ok(text.into_lines()),
-            Err(_) => Err(StatementError::Fault(StatementCode::BadText)),
-        },
-        ElemType::Clist | ElemType::Data | ElemType::Exec | ElemType::Parm | ElemType::Proc => {
-            Ok(lines)
-        }
+    if !elem_type.is_numbered() {
+        return Ok(lines);
+    }
+    match Numbered::read(lines) {
+        Ok(text) => Ok(text.into_lines()),
+        Err(_) => Err(StatementError::Fault(StatementCode::BadText)),
     }
 }
 
@@ -101,22 +101,22 @@ fn text_of(
 /// has more than 99,999 records; and `BadText` if there is no text, or the text of a macro or source is not numbered.
 pub fn change_statement(
     alloc: Global,
-    current: &Option<Begun>,
+    begun: &Begun,
     elem_type: ElemType,
     known: &Known<'_>,
 ) -> Result<Statement, StatementError>
     requires { known.now.word ≡ word.Replace elem_type }
-    ensures said { Says current.now known.now result }
-    ensures fault { Fails current.now known.now result }
+    ensures said { Says (Some begun.now) known.now result }
+    ensures fault { Fails (Some begun.now) known.now result }
 {
     let Some(names) = read_names(known) else {
         return Err(StatementError::Fault(StatementCode::BadStatementOperand));
     };
     let inline = known.inline;
-    if !is_within(current, inline) {
+    if !is_within(begun, inline) {
         return Err(StatementError::Fault(StatementCode::OverLimit));
     }
-    let lines = match text_of(alloc, elem_type, inline) {
+    let lines = match read_replacement_text(alloc, elem_type, inline) {
         Ok(lines) => lines,
         Err(error) => return Err(error),
     };
@@ -137,8 +137,8 @@ pub fn change_statement(
     }))
 }
 
-// The records as an update of the element of this name.
-fn update_of(alloc: Global, name: Name, inline: &[Record]) -> Result<Update, StatementError>
+// The records as an update of the element of this name. The error is `BadText` if they are none.
+fn read_update(alloc: Global, name: Name, inline: &[Record]) -> Result<Update, StatementError>
     ensures text { IfOk result (λ update. update ≡ inline.now) }
     ensures good { IfOk result (λ update. IsUpdate name inline.now) }
     ensures bad { IfErr result (IsUpdateTextError name inline.now) }
@@ -156,13 +156,13 @@ fn update_of(alloc: Global, name: Name, inline: &[Record]) -> Result<Update, Sta
 /// `BadText` if the text is not an update of the element.
 pub fn update_statement(
     alloc: Global,
-    current: &Option<Begun>,
+    begun: &Begun,
     elem_type: ElemType,
     known: &Known<'_>,
 ) -> Result<Statement, StatementError>
     requires { (changed_type known.now.word ≡ Some elem_type) × IsUpdateWord known.now.word }
-    ensures said { Says current.now known.now result }
-    ensures fault { Fails current.now known.now result }
+    ensures said { Says (Some begun.now) known.now result }
+    ensures fault { Fails (Some begun.now) known.now result }
 {
     if !known.operands.is_empty() {
         return Err(StatementError::Fault(StatementCode::BadStatementOperand));
@@ -171,10 +171,10 @@ pub fn update_statement(
         return Err(StatementError::Fault(StatementCode::BadStatementOperand));
     };
     let inline = known.inline;
-    if !is_within(current, inline) {
+    if !is_within(begun, inline) {
         return Err(StatementError::Fault(StatementCode::OverLimit));
     }
-    let update = match update_of(alloc, name, inline) {
+    let update = match read_update(alloc, name, inline) {
         Ok(update) => update,
         Err(error) => return Err(error),
     };
@@ -186,13 +186,8 @@ pub fn update_statement(
 }
 
 // Whether the SYSMOD may have one more element, and the text is no longer than the limit.
-fn is_within(current: &Option<Begun>, inline: &[Record]) -> bool
-    ensures { IsTrue result ↔ (IfSome (begun_in current.now) (λ b. length b.sysmod.changes < 999)
-        × (length inline.now ≤ 99999)) }
+fn is_within(begun: &Begun, inline: &[Record]) -> bool
+    ensures { IsTrue result ↔ ((length begun.now.sysmod.changes < 999) × (length inline.now ≤ 99999)) }
 {
-    let fits = match current {
-        Some(begun) => begun.sysmod.changes.len() < 999,
-        None => true,
-    };
-    fits && inline.len() <= 99999
+    begun.sysmod.changes.len() < 999 && inline.len() <= 99999
 }

@@ -13,8 +13,8 @@ ghost use Rattle.mcs.specs.Trimmed.{SkipsSomeBlanks, DropsBlanks, BeginsNoBlank}
 use rec80::{OperandError, Text, Word, operand};
 use std::alloc::{AllocError, Global};
 
-// A copy of the text.
-fn bytes_of(alloc: Global, text: &Text<'_>) -> Result<Vec<u8>, AllocError>
+// A copy of the bytes of the text.
+fn copy_bytes(alloc: Global, text: &Text<'_>) -> Result<Vec<u8>, AllocError>
     ensures { IfOk result (λ bytes. bytes.items ≡ text_of text.now) }
 {
     let mut bytes = Vec::new(alloc);
@@ -26,9 +26,9 @@ fn bytes_of(alloc: Global, text: &Text<'_>) -> Result<Vec<u8>, AllocError>
     Ok(bytes)
 }
 
-// The text after the blanks.
+// The text after its leading blanks.
 #[tactic(auto, using(crate::proofs::Trimming::skips_more))]
-fn behind_blanks(text: &[u8]) -> &[u8]
+fn skip_leading_blanks(text: &[u8]) -> &[u8]
     ensures skips { SkipsSomeBlanks text.now result.now }
     ensures dark { BeginsNoBlank result.now }
 {
@@ -42,8 +42,8 @@ fn behind_blanks(text: &[u8]) -> &[u8]
     rest
 }
 
-// The text before the blanks at the end.
-fn before_blanks(text: &[u8]) -> &[u8]
+// The text before its trailing blanks.
+fn drop_trailing_blanks(text: &[u8]) -> &[u8]
     ensures drops { DropsBlanks text.now result.now }
     ensures dark { BeginsNoBlank (reverse result.now) }
 {
@@ -58,25 +58,25 @@ fn before_blanks(text: &[u8]) -> &[u8]
 }
 
 // The text without the blanks at both ends, if anything is left.
-fn trimmed(text: &[u8]) -> Option<&[u8]>
+fn trim(text: &[u8]) -> Option<&[u8]>
     ensures cut { IfSome result (λ cut. IsTrimmed text.now cut.now) }
     ensures none { IfNone result ((cut : List ℕ) → IsTrimmed text.now cut → ⊥) }
 {
-    let cut = before_blanks(behind_blanks(text));
+    let cut = drop_trailing_blanks(skip_leading_blanks(text));
     if cut.is_empty() {
         return None;
     }
     Some(cut)
 }
 
-// The text with the blanks at both ends cut.
-fn comment_in(alloc: Global, text: &Text<'_>) -> Result<String, OperandError>
+// The text of a comment without the blanks at both ends. It is bad if nothing is left, or it is not UTF-8.
+fn read_comment(alloc: Global, text: &Text<'_>) -> Result<String, OperandError>
     ensures cut { IfOk result (λ comment. IsTrimmed (text_of text.now) (string_bytes comment)) }
     ensures bad { All IsPrintable (text_of text.now) → IfErr result (λ e. Excludes e ((cut : List ℕ)
         × IsTrimmed (text_of text.now) cut)) }
 {
-    let bytes = bytes_of(alloc, text)?;
-    let Some(cut) = trimmed(bytes.as_slice()) else {
+    let bytes = copy_bytes(alloc, text)?;
+    let Some(cut) = trim(bytes.as_slice()) else {
         return Err(OperandError::Bad);
     };
     let Ok(comment) = std::str::from_utf8(cut) else {
@@ -104,7 +104,7 @@ pub fn optional_comment(
     let Some(list) = word.list else {
         return Err(OperandError::Bad);
     };
-    match comment_in(alloc, &list) {
+    match read_comment(alloc, &list) {
         Ok(comment) => Ok(Some(comment)),
         Err(error) => Err(error),
     }

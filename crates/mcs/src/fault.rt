@@ -35,8 +35,8 @@ impl<T: Drop> From<AllocFailed<T>> for StatementError {
     }
 }
 
-/// The error of a statement that has no value.
-pub fn no_value(error: OperandError) -> StatementError
+/// The error of a statement with a bad operand, which therefore has no value.
+pub fn statement_error(error: OperandError) -> StatementError
     ensures { result ≡ value_error error }
 {
     match error {

@@ -1,10 +1,9 @@
 //! The items of a PTFIN, and what its statements make so far.
-ghost use Rattle.std.specs.Prelude.{◌≡◌, IfOk, option_map};
-ghost use Rattle.terms.specs.Statements.{SaysHold};
+ghost use Rattle.std.specs.Prelude.{◌≡◌, IfOk, IsSome};
 ghost use Rattle.terms.specs.Ptfin.{nothing, after, items_of, with_ver as begun_with_ver, with_if as begun_with_if};
 ghost use Rattle.terms.specs.Ptfin.{with_hold as begun_with_hold, with_change as begun_with_change};
 ghost use Rattle.mcs.specs.Statements.{statement_of};
-ghost use Rattle.mcs.specs.Files.{Suits, begun_in, so_far, items};
+ghost use Rattle.mcs.specs.Files.{Suits, IsOwnHold, begun_of, begun_in, so_far, items};
 
 use crate::said::Statement;
 use fields::{Id, Source};
@@ -48,7 +47,7 @@ pub(crate) struct SoFar {
     pub current: Option<Begun>,
 }
 
-// The items, followed by the SYSMOD.
+// The items, followed by the SYSMOD that has begun.
 fn with_current(mut whole: Vec<Item>, current: Option<Begun>) -> Result<Vec<Item>, AllocError>
     ensures { IfOk result (λ found. items found.items ≡ items_of (record {
       whole = items whole.items;
@@ -61,60 +60,49 @@ fn with_current(mut whole: Vec<Item>, current: Option<Begun>) -> Result<Vec<Item
     Ok(whole)
 }
 
-fn with_ver(current: Option<Begun>, ver: Ver) -> Result<Option<Begun>, AllocError>
-    ensures { IfOk result (λ found. begun_in found ≡ option_map (begun_with_ver ver) (begun_in current)) }
+// The SYSMOD with one more `++VER`, which becomes its last.
+fn with_ver(begun: Begun, ver: Ver) -> Result<Begun, AllocError>
+    ensures { IfOk result (λ next. begun_of next ≡ begun_with_ver ver (begun_of begun)) }
 {
-    let Some(begun) = current else {
-        return Ok(None);
-    };
     let mut sysmod = begun.sysmod;
     let place = sysmod.insert_ver(ver)?;
-    Ok(Some(Begun {
+    Ok(Begun {
         sysmod,
         last: Some(place),
-    }))
+    })
 }
 
-fn with_if(current: Option<Begun>, condition: IfReq) -> Result<Option<Begun>, AllocError>
-    ensures { IfOk result (λ found. begun_in found ≡ option_map (begun_with_if condition) (begun_in current)) }
+// The SYSMOD with one more `++IF` in its last `++VER`.
+fn with_if(begun: Begun, condition: IfReq) -> Result<Begun, AllocError>
+    requires { IsSome begun.last }
+    ensures { IfOk result (λ next. begun_of next ≡ begun_with_if condition (begun_of begun)) }
 {
-    let Some(begun) = current else {
-        return Ok(None);
-    };
-    let Some(place) = begun.last else {
-        return Ok(Some(begun));
-    };
+    let last = begun.last;
+    let place = last.unwrap();
     let mut sysmod = begun.sysmod;
     sysmod.push_if(place, condition)?;
-    Ok(Some(Begun {
-        sysmod,
-        last: Some(place),
-    }))
+    Ok(Begun { sysmod, last })
 }
 
-fn with_hold(current: Option<Begun>, hold: Hold) -> Result<Option<Begun>, AllocError>
-    requires { Suits (begun_in current) (SaysHold hold) }
-    ensures { IfOk result (λ found. begun_in found ≡ option_map (begun_with_hold hold) (begun_in current)) }
+// The SYSMOD with one more hold.
+fn with_hold(begun: Begun, hold: Hold) -> Result<Begun, AllocError>
+    requires { IsOwnHold begun hold }
+    ensures { IfOk result (λ next. begun_of next ≡ begun_with_hold hold (begun_of begun)) }
 {
-    let Some(begun) = current else {
-        return Ok(None);
-    };
     let last = begun.last;
     let mut sysmod = begun.sysmod;
     sysmod.push_hold(hold)?;
-    Ok(Some(Begun { sysmod, last }))
+    Ok(Begun { sysmod, last })
 }
 
-fn with_change(current: Option<Begun>, change: ElemChange) -> Result<Option<Begun>, AllocError>
-    ensures { IfOk result (λ found. begun_in found ≡ option_map (begun_with_change change) (begun_in current)) }
+// The SYSMOD with this element statement.
+fn with_change(begun: Begun, change: ElemChange) -> Result<Begun, AllocError>
+    ensures { IfOk result (λ next. begun_of next ≡ begun_with_change change (begun_of begun)) }
 {
-    let Some(begun) = current else {
-        return Ok(None);
-    };
     let last = begun.last;
     let mut sysmod = begun.sysmod;
     sysmod.insert_change(change)?;
-    Ok(Some(Begun { sysmod, last }))
+    Ok(Begun { sysmod, last })
 }
 
 impl SoFar {
@@ -128,9 +116,9 @@ impl SoFar {
         }
     }
 
-    /// What they make with one more statement.
-    pub fn and(self, alloc: Global, statement: Statement) -> Result<SoFar, AllocError>
-        requires { Suits (begun_in self.current) (statement_of statement) }
+    /// What the statements so far make with one more, which is in its place.
+    pub fn add_statement(self, alloc: Global, statement: Statement) -> Result<SoFar, AllocError>
+        requires { Suits self.current (statement_of statement) }
         ensures { IfOk result (λ next. so_far next ≡ after (so_far self) (statement_of statement)) }
     {
         let SoFar { whole, current } = self;
@@ -152,24 +140,24 @@ impl SoFar {
             }
             Statement::Ver(ver) => Ok(SoFar {
                 whole,
-                current: with_ver(current, ver)?,
+                current: Some(with_ver(current.unwrap(), ver)?),
             }),
             Statement::If(condition) => Ok(SoFar {
                 whole,
-                current: with_if(current, condition)?,
+                current: Some(with_if(current.unwrap(), condition)?),
             }),
             Statement::Hold(hold) => Ok(SoFar {
                 whole,
-                current: with_hold(current, hold)?,
+                current: Some(with_hold(current.unwrap(), hold)?),
             }),
             Statement::Change(change) => Ok(SoFar {
                 whole,
-                current: with_change(current, change)?,
+                current: Some(with_change(current.unwrap(), change)?),
             }),
         }
     }
 
-    /// The items.
+    /// The items of the file, if no statement follows.
     pub fn into_items(self) -> Result<Vec<Item>, AllocError>
         ensures { IfOk result (λ found. items found.items ≡ items_of (so_far self)) }
     {

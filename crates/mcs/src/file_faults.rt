@@ -18,9 +18,9 @@ pub fn error_at(number: usize, error: StatementError) -> McsError
     }
 }
 
-/// The statements of a file. A `Fault` here precedes all faults of the statements: `BadStatementForm` at the first bad
-/// record, otherwise `WrongPlace` at record 1 if no statement begins there. It never returns `Memory`.
-pub fn statements(bytes: &[u8]) -> Result<Groups<'_>, McsError>
+/// Splits a file into its statements. A `Fault` here precedes all faults of the statements: `BadStatementForm` at the
+/// first bad record, otherwise `WrongPlace` at record 1 if no statement begins there. It never returns `Memory`.
+pub fn split_statements(bytes: &[u8]) -> Result<Groups<'_>, McsError>
     ensures ok { IfOk result (λ groups. (groups.number ≡ 1) × HasRecords bytes.now groups.rest.now) }
     ensures fault { IfErr result (IsFileError bytes.now) }
 {

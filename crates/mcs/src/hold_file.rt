@@ -6,7 +6,7 @@ ghost use Rattle.mcs.specs.declared.error.McsError.TheVariants.{Memory};
 ghost use Rattle.mcs.specs.HoldItems.{items, IsHoldFileError};
 
 use crate::error::McsError;
-use crate::file_faults::{error_at, statements};
+use crate::file_faults::{error_at, split_statements};
 use crate::hold_item::{HoldItem, read_item};
 use std::alloc::Global;
 
@@ -19,7 +19,7 @@ pub fn read_hold(alloc: Global, bytes: &[u8]) -> Result<Vec<HoldItem>, McsError>
     ensures good { (found : List AnyItem) → IsHoldFile bytes.now found → IfErr result (λ e. e ≡ Memory) }
     ensures fault { IfErr result (IsHoldFileError bytes.now) }
 {
-    let mut left = statements(bytes)?;
+    let mut left = split_statements(bytes)?;
     let mut found = Vec::new(alloc);
     while let Some(group) = left.next_group() {
         match read_item(alloc, &group) {

@@ -9,8 +9,8 @@ ghost use Rattle.mcs.specs.KnownWords.{own_list};
 ghost use Rattle.mcs.specs.Holds.{ArePrintable};
 ghost use Rattle.mcs.specs.HoldItems.{item_of, IsItemSaid, IsSaidError, IsItemError};
 
-use crate::begin::{Known, begun};
-use crate::fault::{StatementError, no_value};
+use crate::begin::{Known, begin_statement};
+use crate::fault::{StatementError, statement_error};
 use crate::hold_operands::{Release, has_short_comment, hold_of_operands, release_of_operands};
 use rec80::Group;
 use std::alloc::Global;
@@ -34,7 +34,7 @@ fn hold_item(alloc: Global, known: &Known<'_>) -> Result<HoldItem, StatementErro
 {
     let hold = match hold_of_operands(alloc, known, false) {
         Ok(hold) => hold,
-        Err(error) => return Err(no_value(error)),
+        Err(error) => return Err(statement_error(error)),
     };
     if !has_short_comment(&hold) {
         return Err(StatementError::Fault(StatementCode::OverLimit));
@@ -64,7 +64,7 @@ pub(crate) fn read_item(alloc: Global, group: &Group<'_>) -> Result<HoldItem, St
     ensures good { IfOk result (λ item. IsGoodItem group.now.records.now (item_of item)) }
     ensures fault { All IsRecord group.now.records.now → IfErr result (IsItemError group.now.records.now) }
 {
-    let known = match begun(alloc, group) {
+    let known = match begin_statement(alloc, group) {
         Ok(known) => known,
         Err(error) => return Err(error),
     };

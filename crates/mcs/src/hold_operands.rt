@@ -12,7 +12,7 @@ ghost use Rattle.mcs.specs.Holds.{HasKey, ArePrintable};
 
 use crate::begin::Known;
 use crate::comment::optional_comment;
-use crate::kind::kind_word;
+use crate::kind::read_hold_kind;
 use crate::listed_values::required_reason;
 use fields::{Class, HoldDate, Id, Reason};
 use rec80::{BadOperand, OperandError, Word, one, optional, required};
@@ -62,7 +62,7 @@ fn read_key(known: &Known<'_>, words: &[Word<'_>]) -> Option<Release>
     let Some(id) = one::<Id>(&known.first) else {
         return None;
     };
-    let Some(kind) = kind_word(words) else {
+    let Some(kind) = read_hold_kind(words) else {
         return None;
     };
     let Some(fmid) = required::<Id>(words, b"FMID") else {
@@ -89,7 +89,7 @@ pub fn release_of_operands(known: &Known<'_>) -> Result<Release, BadOperand>
         → OnErr result ((ws : List grammar.Word) (r : AnyRelease) → grammar.HasWords rest ws
         → IsReleaseOf (own_list known.now) ws r → ⊥) }
 {
-    let Some(words) = known.operands.named(RELEASE_OPERANDS) else {
+    let Some(words) = known.operands.words_named(RELEASE_OPERANDS) else {
         return Err(BadOperand);
     };
     match read_key(known, words) {
@@ -113,7 +113,7 @@ pub fn hold_of_operands(
         → IfErr result (λ e. Excludes e ((ws : List grammar.Word) × (h : AnyHold) × grammar.HasWords rest ws
         × IsHoldOf (own_list known.now) ws h)) }
 {
-    let Some(words) = known.operands.named(HOLD_OPERANDS) else {
+    let Some(words) = known.operands.words_named(HOLD_OPERANDS) else {
         return Err(OperandError::Bad);
     };
     let Some(key) = read_key(known, words) else {

@@ -1,5 +1,5 @@
 //! `++IF`.
-ghost use Rattle.std.specs.Prelude.{◌≡◌, ◌↔◌, ◌<◌, [], ◌∷◌, length, codes, IsTrue, IfOk, IfErr, IfSome, IfNone};
+ghost use Rattle.std.specs.Prelude.{◌≡◌, ◌↔◌, ◌<◌, [], ◌∷◌, length, codes, IsTrue, IfOk, IfErr, IfSome, IfNone, Some};
 ghost use Rattle.std.specs.Prelude.{option_copied};
 ghost use Rattle.terms.specs.declared.statement_words.StatementWord.TheVariants as word;
 ghost use Rattle.terms.specs.Types.{IfReq as AnyIf};
@@ -13,7 +13,7 @@ ghost use Rattle.mcs.specs.Files.{begun_of};
 ghost use Rattle.mcs.specs.Said.{Says, Fails};
 
 use crate::begin::Known;
-use crate::fault::{StatementError, no_value};
+use crate::fault::{StatementError, statement_error};
 use crate::file::Begun;
 use crate::said::Statement;
 use fields::Id;
@@ -22,8 +22,8 @@ use std::alloc::Global;
 use sysmods_values::{IfReq, Sysmod, Ver};
 use terms::StatementCode;
 
-// Whether the word is this one.
-fn is_named(word: &Word<'_>, name: &[u8]) -> bool
+// Whether the word is spelled so.
+fn is_spelled(word: &Word<'_>, name: &[u8]) -> bool
     ensures { IsTrue result ↔ ((word_of word.now).word ≡ name.now) }
 {
     word.word == name
@@ -36,7 +36,7 @@ struct IfLists<'a> {
     req: Word<'a>,
 }
 
-// FMID, THEN and REQ, in this order and nothing else.
+// The words FMID and REQ, if the operands are FMID, THEN and REQ in this order, and THEN has no list.
 fn read_lists<'a>(words: &[Word<'a>]) -> Option<IfLists<'a>>
     ensures some { IfSome result (λ l. (words_of words.now
         ≡ word_of l.fmid ∷ grammar.plain (codes "THEN") ∷ word_of l.req ∷ [])
@@ -47,7 +47,7 @@ fn read_lists<'a>(words: &[Word<'a>]) -> Option<IfLists<'a>>
     let [fmid, then, req] = words else {
         return None;
     };
-    if !is_named(fmid, b"FMID") || !is_named(then, b"THEN") || !is_named(req, b"REQ") {
+    if !is_spelled(fmid, b"FMID") || !is_spelled(then, b"THEN") || !is_spelled(req, b"REQ") {
         return None;
     }
     if then.list.is_some() {
@@ -89,7 +89,7 @@ fn read_if(
     Ok(IfReq { function, req })
 }
 
-// The last `++VER`.
+// The last `++VER` of the SYSMOD, to which an `++IF` belongs.
 fn last_ver(begun: &Begun) -> Option<&Ver>
     ensures { option_copied result ≡ last_of (begun_of begun.now) }
 {
@@ -97,7 +97,7 @@ fn last_ver(begun: &Begun) -> Option<&Ver>
     begun.sysmod.vers.get(place)
 }
 
-// Whether the last `++VER` may have this `++IF` too.
+// Whether the last `++VER` may have one more `++IF`, and REQ of this one is not too long.
 fn is_within(begun: &Begun, condition: &IfReq) -> bool
     ensures { IsTrue result ↔ (IfSome (last_of (begun_of begun.now)) (λ v. length v.ifs < 100)
         × grammar.IsShort condition.now.req) }
@@ -109,27 +109,24 @@ fn is_within(begun: &Begun, condition: &IfReq) -> bool
     has_place && condition.req.len() <= 1000
 }
 
-/// What an `++IF` says. Returns `Memory` if memory runs out. `Fault` is `BadStatementOperand` if no SYSMOD has begun,
-/// if it lacks FMID, THEN and REQ in this order, each in its form, or if REQ names the SYSMOD itself. It is `OverLimit`
-/// if the last `++VER` has 100 `++IF`s already, or REQ has more than 1,000 ids.
+/// What an `++IF` says. Returns `Memory` if memory runs out. `Fault` is `BadStatementOperand` if it lacks FMID, THEN
+/// and REQ in this order, each in its form, or if REQ names the SYSMOD itself. It is `OverLimit` if the last `++VER`
+/// has 100 `++IF`s already, or REQ has more than 1,000 ids.
 pub fn if_statement(
     alloc: Global,
-    current: &Option<Begun>,
+    begun: &Begun,
     known: &Known<'_>,
 ) -> Result<Statement, StatementError>
     requires { known.now.word ≡ word.If }
-    ensures said { Says current.now known.now result }
-    ensures fault { Fails current.now known.now result }
+    ensures said { Says (Some begun.now) known.now result }
+    ensures fault { Fails (Some begun.now) known.now result }
 {
-    let Some(begun) = current else {
-        return Err(StatementError::Fault(StatementCode::BadStatementOperand));
-    };
     let Some(words) = known.operands.only() else {
         return Err(StatementError::Fault(StatementCode::BadStatementOperand));
     };
     let condition = match read_if(alloc, &begun.sysmod, known, words) {
         Ok(condition) => condition,
-        Err(error) => return Err(no_value(error)),
+        Err(error) => return Err(statement_error(error)),
     };
     if !is_within(begun, &condition) {
         return Err(StatementError::Fault(StatementCode::OverLimit));

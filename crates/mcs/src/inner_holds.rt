@@ -1,5 +1,5 @@
 //! `++HOLD` inside a SYSMOD.
-ghost use Rattle.std.specs.Prelude.{◌≡◌, ◌↔◌, List, IsTrue, IfOk, IfErr};
+ghost use Rattle.std.specs.Prelude.{◌≡◌, ◌↔◌, List, IsTrue, IfOk, IfErr, Some};
 ghost use Rattle.terms.specs.declared.statement_words.StatementWord.TheVariants as word;
 ghost use Rattle.terms.specs.declared.kinds.HoldKind.TheVariants.{System};
 ghost use Rattle.terms.specs.Types.{Hold as AnyHold};
@@ -13,7 +13,7 @@ ghost use Rattle.mcs.specs.Holds.{ArePrintable};
 ghost use Rattle.mcs.specs.Said.{Says, FailsPrintable};
 
 use crate::begin::Known;
-use crate::fault::{StatementError, no_value};
+use crate::fault::{StatementError, statement_error};
 use crate::file::Begun;
 use crate::hold_operands::{has_short_comment, hold_of_operands};
 use crate::said::Statement;
@@ -22,15 +22,15 @@ use std::alloc::Global;
 use sysmods_values::{Hold, Sysmod};
 use terms::{HoldKind, StatementCode};
 
-// Whether it is a SYSTEM hold of the SYSMOD.
-fn is_own(sysmod: &Sysmod, hold: &Hold) -> bool
+// Whether it is a SYSTEM hold on this SYSMOD.
+fn is_own_system_hold(sysmod: &Sysmod, hold: &Hold) -> bool
     ensures { IsTrue result ↔ ((hold.now.kind ≡ System) × (hold.now.id ≡ sysmod.now.id)) }
 {
     matches!(hold.kind, HoldKind::System) && hold.id == sysmod.id
 }
 
-// The `++HOLD` of the SYSMOD.
-fn read_own_hold(alloc: Global, sysmod: &Sysmod, known: &Known<'_>) -> Result<Hold, OperandError>
+// The SYSTEM hold on the SYSMOD that a `++HOLD` inside it states.
+fn read_inner_hold(alloc: Global, sysmod: &Sysmod, known: &Known<'_>) -> Result<Hold, OperandError>
     ensures ok { (rest : List Piece) → IsRead rest known.now.operands
         → IfOk result (λ h. (ws : List grammar.Word) × grammar.HasWords rest ws
         × IsOwnHoldOf sysmod.now (own_list known.now) ws h) }
@@ -42,30 +42,27 @@ fn read_own_hold(alloc: Global, sysmod: &Sysmod, known: &Known<'_>) -> Result<Ho
         Ok(hold) => hold,
         Err(error) => return Err(error),
     };
-    if !is_own(sysmod, &hold) {
+    if !is_own_system_hold(sysmod, &hold) {
         return Err(OperandError::Bad);
     }
     Ok(hold)
 }
 
-/// What a `++HOLD` in a SYSMOD says. Returns `Memory` if memory runs out. `Fault` is `BadStatementOperand` if no SYSMOD
-/// has begun, if an operand is unknown, repeated, missing or of a bad form, or if the hold is not a SYSTEM hold on this
-/// SYSMOD. It is `OverLimit` if its comment has more than 200 characters.
+/// What a `++HOLD` in a SYSMOD says. Returns `Memory` if memory runs out. `Fault` is `BadStatementOperand` if an
+/// operand is unknown, repeated, missing or of a bad form, or if the hold is not a SYSTEM hold on this SYSMOD. It is
+/// `OverLimit` if its comment has more than 200 characters.
 pub fn hold_statement(
     alloc: Global,
-    current: &Option<Begun>,
+    begun: &Begun,
     known: &Known<'_>,
 ) -> Result<Statement, StatementError>
     requires { known.now.word ≡ word.Hold }
-    ensures said { Says current.now known.now result }
-    ensures fault { FailsPrintable current.now known.now result }
+    ensures said { Says (Some begun.now) known.now result }
+    ensures fault { FailsPrintable (Some begun.now) known.now result }
 {
-    let Some(begun) = current else {
-        return Err(StatementError::Fault(StatementCode::BadStatementOperand));
-    };
-    let hold = match read_own_hold(alloc, &begun.sysmod, known) {
+    let hold = match read_inner_hold(alloc, &begun.sysmod, known) {
         Ok(hold) => hold,
-        Err(error) => return Err(no_value(error)),
+        Err(error) => return Err(statement_error(error)),
     };
     if !has_short_comment(&hold) {
         return Err(StatementError::Fault(StatementCode::OverLimit));

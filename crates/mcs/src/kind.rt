@@ -8,7 +8,7 @@ ghost use Rattle.mcs.specs.Holds.{kind_from};
 use rec80::{Word, flag, operand};
 use terms::HoldKind;
 
-// The kind of the only kind word.
+// The kind of the only flag that is set, if just one is.
 fn kind_from(error: bool, system: bool, user: bool) -> Option<HoldKind>
     ensures { result ≡ kind_from error system user }
 {
@@ -21,7 +21,7 @@ fn kind_from(error: bool, system: bool, user: bool) -> Option<HoldKind>
 }
 
 /// The kind of a hold, whose word is one of the operands.
-pub fn kind_word(words: &[Word<'_>]) -> Option<HoldKind>
+pub fn read_hold_kind(words: &[Word<'_>]) -> Option<HoldKind>
     ensures some { IfSome result (λ kind. HasKind (words_of words.now) kind) }
     ensures none { IfNone result ((kind : AnyKind)
         → HasKind (words_of words.now) kind → ⊥) }

@@ -1,5 +1,5 @@
 //! The values of reasons and of lists of ids.
-ghost use Rattle.std.specs.Prelude.{◌↔◌, ℕ, List, IsTrue, IfOk, IfErr, IfSome, IfNone};
+ghost use Rattle.std.specs.Prelude.{ℕ, List, IfOk, IfErr, IfSome, IfNone};
 ghost use Rattle.terms.specs.Forms.{IsId, IsReason};
 ghost use Rattle.terms.specs.Operands.{operand, HasRequired, HasTexts};
 ghost use Rattle.rec80.specs.Views.{words_of};
@@ -9,16 +9,6 @@ use fields::{IdList, Reason};
 use rec80::{OperandError, Word, ids, operand, required};
 use std::alloc::Global;
 use terms::HoldKind;
-
-// Whether the reason may be that of a hold of the kind.
-fn suits_kind(kind: HoldKind, reason: Reason) -> bool
-    ensures { IsTrue result ↔ IsReason kind reason }
-{
-    match kind {
-        HoldKind::Error => reason.is_id(),
-        HoldKind::System | HoldKind::User => true,
-    }
-}
 
 /// The reason, which must be present, of a hold of the kind.
 pub fn required_reason(kind: HoldKind, words: &[Word<'_>], name: &[u8]) -> Option<Reason>
@@ -30,15 +20,15 @@ pub fn required_reason(kind: HoldKind, words: &[Word<'_>], name: &[u8]) -> Optio
     let Some(reason) = required::<Reason>(words, name) else {
         return None;
     };
-    if !suits_kind(kind, reason) {
+    if !reason.suits(kind) {
         return None;
     }
     Some(reason)
 }
 
-/// The ids of an operand, none if it is absent. Returns `Memory` if memory runs out, and `Bad` if the operand is
-/// present and has no list of ids, or has an id twice.
-pub fn listed_ids(alloc: Global, words: &[Word<'_>], name: &[u8]) -> Result<IdList, OperandError>
+/// The ids of an operand in rising order, none if it is absent. Returns `Memory` if memory runs out, and `Bad` if the
+/// operand is present and has no list of ids, or has an id twice.
+pub fn rising_ids(alloc: Global, words: &[Word<'_>], name: &[u8]) -> Result<IdList, OperandError>
     ensures ok { IfOk result (λ ids. HasTexts IsId (operand name.now (words_of words.now)) ids) }
     ensures bad { IfErr result (λ e. Excludes e ((ids : List (List ℕ))
         × HasTexts IsId (operand name.now (words_of words.now)) ids)) }

@@ -6,7 +6,7 @@ ghost use Rattle.terms.specs.Statements.{changed_type};
 ghost use Rattle.terms.specs.Statement.{Piece};
 ghost use Rattle.terms.specs.Ptfin.{MayStand, NamesFmid, IsSecond, Disorder, IsMisplaced, sysmod_in};
 ghost use Rattle.rec80.specs.Read.{IsRead};
-ghost use Rattle.mcs.specs.KnownWords.{own_list};
+ghost use Rattle.mcs.specs.KnownWords.{own_list, parts_of};
 ghost use Rattle.mcs.specs.Files.{begun_in};
 
 use crate::begin::Known;
@@ -33,7 +33,7 @@ fn changed_type(word: StatementWord) -> Option<ElemType>
     }
 }
 
-// Whether a statement of the word may come next.
+// Whether a statement of the word may come after those of the SYSMOD that has begun, or first if none has.
 fn may_stand(current: &Option<Begun>, word: StatementWord) -> bool
     ensures { IsTrue result ↔ MayStand (sysmod_in (begun_in current.now)) word }
 {
@@ -68,7 +68,7 @@ fn named_fmid(operands: &Operands<'_>) -> Option<Id>
     if operands.has_twice(FMID) {
         return None;
     }
-    let list = operands.list_behind(b"FMID");
+    let list = operands.list_after(b"FMID");
     one::<Id>(&Word {
         word: b"FMID",
         list,
@@ -86,7 +86,7 @@ fn has_fmid(ver: &Ver, named: Option<Id>) -> bool
 }
 
 // Whether the `++VER`, in a SYSMOD of the kind, excludes another one of the SREL and FMID.
-fn is_like(kind: Kind, ver: &Ver, srel: Srel, named: Option<Id>) -> bool
+fn excludes_second(kind: Kind, ver: &Ver, srel: Srel, named: Option<Id>) -> bool
     ensures { IsTrue result ↔ ((ver.now.srel ≡ srel) × ((kind ≡ Function) ⊎ IsSomeAnd ver.now.fmid
         (λ f. named ≡ Some f))) }
 {
@@ -94,11 +94,12 @@ fn is_like(kind: Kind, ver: &Ver, srel: Srel, named: Option<Id>) -> bool
 }
 
 // Whether one of the `++VER`s, in a SYSMOD of the kind, excludes another one of the SREL and FMID.
-fn has_like(kind: Kind, vers: &[Ver], srel: Srel, named: Option<Id>) -> bool
+fn any_excludes_second(kind: Kind, vers: &[Ver], srel: Srel, named: Option<Id>) -> bool
     ensures { IsTrue result ↔ Any (λ v. (v.srel ≡ srel) × ((kind ≡ Function) ⊎ IsSomeAnd v.fmid
         (λ f. named ≡ Some f))) vers.now }
 {
-    vers.iter().any(|ver| is_like(kind, ver, srel, named))
+    vers.iter()
+        .any(|ver| excludes_second(kind, ver, srel, named))
 }
 
 // Whether it is a second `++VER` of one SREL in a function, or of one SREL and FMID in another SYSMOD.
@@ -108,7 +109,12 @@ fn is_second_ver(sysmod: &Sysmod, known: &Known<'_>) -> bool
         → IsTrue result ↔ IsSecond sysmod.now known.now.word (own_list known.now) rest }
 {
     match one::<Srel>(&known.first) {
-        Some(srel) => has_like(sysmod.kind, &sysmod.vers, srel, named_fmid(&known.operands)),
+        Some(srel) => any_excludes_second(
+            sysmod.kind,
+            &sysmod.vers,
+            srel,
+            named_fmid(&known.operands),
+        ),
         None => false,
     }
 }
@@ -133,8 +139,7 @@ fn is_second(sysmod: &Sysmod, known: &Known<'_>) -> bool
 /// Whether the statement is out of order after the statements so far.
 pub fn is_misplaced(current: &Option<Begun>, later: &[Record], known: &Known<'_>) -> bool
     ensures { (rest : List Piece) → IsRead rest known.now.operands → IsTrue result ↔ ((why : Disorder)
-        × IsMisplaced (sysmod_in (begun_in current.now)) later.now known.now.word (own_list known.now) rest
-        known.now.inline.now why) }
+        × IsMisplaced (sysmod_in (begun_in current.now)) later.now (parts_of known.now rest) why) }
 {
     if !may_stand(current, known.word) {
         return true;

@@ -7,7 +7,7 @@ ghost use Rattle.mcs.specs.Files.{items, IsPtfinError};
 
 use crate::error::McsError;
 use crate::file::{Item, SoFar};
-use crate::file_faults::{error_at, statements};
+use crate::file_faults::{error_at, split_statements};
 use crate::statement::read_statement;
 use std::alloc::Global;
 
@@ -19,11 +19,11 @@ pub fn read_ptfin(alloc: Global, bytes: &[u8]) -> Result<Vec<Item>, McsError>
     ensures good { (found : List AnyItem) → IsPtfin bytes.now found → IfErr result (λ e. e ≡ Memory) }
     ensures fault { IfErr result (IsPtfinError bytes.now) }
 {
-    let mut left = statements(bytes)?;
+    let mut left = split_statements(bytes)?;
     let mut made = SoFar::new(alloc);
     while let Some(group) = left.next_group() {
         match read_statement(alloc, &made.current, left.rest, &group) {
-            Ok(statement) => made = made.and(alloc, statement)?,
+            Ok(statement) => made = made.add_statement(alloc, statement)?,
             Err(error) => return Err(error_at(group.number, error)),
         }
     }

@@ -1,14 +1,14 @@
 //! One statement of a PTFIN, after those before it.
-ghost use Rattle.std.specs.Prelude.{◌≢◌, All, IfOk, IfErr};
+ghost use Rattle.std.specs.Prelude.{◌≢◌, All, IfOk, IfErr, Some, None};
 ghost use Rattle.terms.specs.declared.statement_words.StatementWord.TheVariants as word;
 ghost use Rattle.terms.specs.Records.{IsRecord};
-ghost use Rattle.terms.specs.Ptfin.{IsGoodStatement};
+ghost use Rattle.terms.specs.Ptfin.{MayStand, IsGoodStatement};
 ghost use Rattle.mcs.specs.Files.{begun_in};
-ghost use Rattle.mcs.specs.Said.{Says, FailsPrintable, IsStatementError};
+ghost use Rattle.mcs.specs.Said.{Says, Fails, FailsPrintable, IsStatementError};
 ghost use Rattle.mcs.specs.Statements.{statement_of};
 
 use crate::assign::assign_statement;
-use crate::begin::{Known, begun};
+use crate::begin::{Known, begin_statement};
 use crate::change::{change_statement, update_statement};
 use crate::fault::StatementError;
 use crate::file::Begun;
@@ -22,26 +22,45 @@ use rec80::{Group, Record};
 use std::alloc::Global;
 use terms::{ElemType, StatementCode, StatementWord};
 
-// What a statement of this word says.
-fn said_by(
+// What a statement says if no SYSMOD has begun. Only a header and an `++ASSIGN` may come then.
+fn read_outside_sysmod(alloc: Global, known: &Known<'_>) -> Result<Statement, StatementError>
+    requires { MayStand None known.now.word }
+    ensures said { Says None known.now result }
+    ensures fault { Fails None known.now result }
+{
+    match known.word {
+        StatementWord::Header(kind) => header_statement(kind, known),
+        StatementWord::Assign => assign_statement(alloc, known),
+        StatementWord::Ver
+        | StatementWord::If
+        | StatementWord::Hold
+        | StatementWord::Release
+        | StatementWord::Replace(_)
+        | StatementWord::UpdateMac
+        | StatementWord::UpdateSrc => Err(StatementError::Fault(StatementCode::WrongPlace)),
+    }
+}
+
+// What a statement says after those of the SYSMOD that has begun.
+fn read_inside_sysmod(
     alloc: Global,
-    current: &Option<Begun>,
+    begun: &Begun,
     known: &Known<'_>,
 ) -> Result<Statement, StatementError>
     requires { known.now.word ≢ word.Release }
-    ensures said { Says current.now known.now result }
-    ensures fault { FailsPrintable current.now known.now result }
+    ensures said { Says (Some begun.now) known.now result }
+    ensures fault { FailsPrintable (Some begun.now) known.now result }
 {
     match known.word {
-        StatementWord::Header(kind) => header_statement(current, kind, known),
-        StatementWord::Ver => ver_statement(alloc, current, known),
-        StatementWord::If => if_statement(alloc, current, known),
-        StatementWord::Hold => hold_statement(alloc, current, known),
+        StatementWord::Header(kind) => header_statement(kind, known),
+        StatementWord::Ver => ver_statement(alloc, begun, known),
+        StatementWord::If => if_statement(alloc, begun, known),
+        StatementWord::Hold => hold_statement(alloc, begun, known),
         StatementWord::Release => Err(StatementError::Fault(StatementCode::WrongPlace)),
-        StatementWord::Assign => assign_statement(alloc, current, known),
-        StatementWord::Replace(elem_type) => change_statement(alloc, current, elem_type, known),
-        StatementWord::UpdateMac => update_statement(alloc, current, ElemType::Mac, known),
-        StatementWord::UpdateSrc => update_statement(alloc, current, ElemType::Src, known),
+        StatementWord::Assign => assign_statement(alloc, known),
+        StatementWord::Replace(elem_type) => change_statement(alloc, begun, elem_type, known),
+        StatementWord::UpdateMac => update_statement(alloc, begun, ElemType::Mac, known),
+        StatementWord::UpdateSrc => update_statement(alloc, begun, ElemType::Src, known),
     }
 }
 
@@ -59,12 +78,15 @@ pub fn read_statement(
     ensures fault { All IsRecord group.now.records.now
         → IfErr result (IsStatementError (begun_in current.now) later.now group.now.records.now) }
 {
-    let known = match begun(alloc, group) {
+    let known = match begin_statement(alloc, group) {
         Ok(known) => known,
         Err(error) => return Err(error),
     };
     if is_misplaced(current, later, &known) {
         return Err(StatementError::Fault(StatementCode::WrongPlace));
     }
-    said_by(alloc, current, &known)
+    match current {
+        Some(begun) => read_inside_sysmod(alloc, begun, &known),
+        None => read_outside_sysmod(alloc, &known),
+    }
 }

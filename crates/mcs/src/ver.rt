@@ -14,9 +14,9 @@ ghost use Rattle.mcs.specs.VerOperands.{HasLists};
 ghost use Rattle.mcs.specs.Said.{Says, Fails};
 
 use crate::begin::Known;
-use crate::fault::{StatementError, no_value};
+use crate::fault::{StatementError, statement_error};
 use crate::file::Begun;
-use crate::listed_values::listed_ids;
+use crate::listed_values::rising_ids;
 use crate::said::Statement;
 use fields::{Id, IdList, Srel};
 use rec80::{OperandError, Word, one, operand, optional};
@@ -27,7 +27,7 @@ use terms::{Kind, StatementCode};
 /// The operands of `++VER`.
 const OPERANDS: &[&[u8]] = &[b"FMID", b"PRE", b"REQ", b"SUP", b"NPRE", b"DELETE"];
 
-// Whether the operands are those of a SYSMOD of the kind.
+// Whether a SYSMOD of the kind may have these operands: service needs FMID, and only a function has NPRE and DELETE.
 fn suits_kind(kind: Kind, words: &[Word<'_>]) -> bool
     ensures { IsTrue result ↔ SuitsKind kind (words_of words.now) }
 {
@@ -41,8 +41,8 @@ fn suits_kind(kind: Kind, words: &[Word<'_>]) -> bool
     }
 }
 
-// Whether no list names the SYSMOD.
-fn names_others(own: Id, ver: &Ver) -> bool
+// Whether no list of the `++VER` names its own SYSMOD.
+fn no_list_names(own: Id, ver: &Ver) -> bool
     ensures { result ≡ list_all (λ ids. not (is_in ids own)) (lists_of ver.now) }
 {
     !ver.pre.contains(own)
@@ -72,17 +72,18 @@ fn has_fmid(ver: &Ver, id: Id) -> bool
     }
 }
 
+// The lists of PRE, REQ, SUP, NPRE and DELETE, each empty if the operand is absent.
 fn read_lists(alloc: Global, words: &[Word<'_>]) -> Result<VerLists, OperandError>
     ensures ok { IfOk result (λ lists. HasLists (words_of words.now) lists.pre lists.req lists.sup lists.npre
         lists.del) }
     ensures bad { IfErr result (λ e. Excludes e ((pre req sup npre del : List (List ℕ))
         × HasLists (words_of words.now) pre req sup npre del)) }
 {
-    let pre = listed_ids(alloc, words, b"PRE")?;
-    let req = listed_ids(alloc, words, b"REQ")?;
-    let sup = listed_ids(alloc, words, b"SUP")?;
-    let npre = listed_ids(alloc, words, b"NPRE")?;
-    let del = listed_ids(alloc, words, b"DELETE")?;
+    let pre = rising_ids(alloc, words, b"PRE")?;
+    let req = rising_ids(alloc, words, b"REQ")?;
+    let sup = rising_ids(alloc, words, b"SUP")?;
+    let npre = rising_ids(alloc, words, b"NPRE")?;
+    let del = rising_ids(alloc, words, b"DELETE")?;
     Ok(VerLists {
         pre,
         req,
@@ -92,7 +93,8 @@ fn read_lists(alloc: Global, words: &[Word<'_>]) -> Result<VerLists, OperandErro
     })
 }
 
-fn made_of(alloc: Global, srel: Srel, fmid: Option<Id>, lists: VerLists) -> Ver
+// The `++VER` of this SREL, FMID and lists, without `++IF`s.
+fn ver_of_lists(alloc: Global, srel: Srel, fmid: Option<Id>, lists: VerLists) -> Ver
     ensures { result ≡ record {
       srel = srel;
       fmid = fmid;
@@ -149,17 +151,17 @@ fn read_ver(
         Ok(lists) => lists,
         Err(error) => return Err(error),
     };
-    let ver = made_of(alloc, srel, fmid, lists);
+    let ver = ver_of_lists(alloc, srel, fmid, lists);
     if has_fmid(&ver, sysmod.id) {
         return Err(OperandError::Bad);
     }
-    if !names_others(sysmod.id, &ver) {
+    if !no_list_names(sysmod.id, &ver) {
         return Err(OperandError::Bad);
     }
     Ok(ver)
 }
 
-// Whether the SYSMOD may have this `++VER` too.
+// Whether the SYSMOD may have one more `++VER`, and no list of this one is too long.
 fn is_within(sysmod: &Sysmod, ver: &Ver) -> bool
     ensures { IsTrue result ↔ ((length sysmod.now.vers < 8) × All IsShort (lists_of ver.now)) }
 {
@@ -171,27 +173,24 @@ fn is_within(sysmod: &Sysmod, ver: &Ver) -> bool
         && ver.del.len() <= 1000
 }
 
-/// What a `++VER` says. Returns `Memory` if memory runs out. `Fault` is `BadStatementOperand` if no SYSMOD has begun,
-/// if an operand is unknown, repeated or of a bad form, if service has no FMID or has NPRE or DELETE, or if an operand
-/// names the SYSMOD itself. It is `OverLimit` if the SYSMOD has 8 `++VER`s already, or a list has more than 1,000 ids.
+/// What a `++VER` says. Returns `Memory` if memory runs out. `Fault` is `BadStatementOperand` if an operand is unknown,
+/// repeated or of a bad form, if service has no FMID or has NPRE or DELETE, or if an operand names the SYSMOD itself.
+/// It is `OverLimit` if the SYSMOD has 8 `++VER`s already, or a list has more than 1,000 ids.
 pub fn ver_statement(
     alloc: Global,
-    current: &Option<Begun>,
+    begun: &Begun,
     known: &Known<'_>,
 ) -> Result<Statement, StatementError>
     requires { known.now.word ≡ word.Ver }
-    ensures said { Says current.now known.now result }
-    ensures fault { Fails current.now known.now result }
+    ensures said { Says (Some begun.now) known.now result }
+    ensures fault { Fails (Some begun.now) known.now result }
 {
-    let Some(begun) = current else {
-        return Err(StatementError::Fault(StatementCode::BadStatementOperand));
-    };
-    let Some(words) = known.operands.named(OPERANDS) else {
+    let Some(words) = known.operands.words_named(OPERANDS) else {
         return Err(StatementError::Fault(StatementCode::BadStatementOperand));
     };
     let ver = match read_ver(alloc, &begun.sysmod, known, words) {
         Ok(ver) => ver,
-        Err(error) => return Err(no_value(error)),
+        Err(error) => return Err(statement_error(error)),
     };
     if !is_within(&begun.sysmod, &ver) {
         return Err(StatementError::Fault(StatementCode::OverLimit));

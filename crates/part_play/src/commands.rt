@@ -90,7 +90,7 @@ fn put_commands(spelled: &mut RowText, commands: &[Command]) {
 }
 
 /// The commands of the file, or the record and the code of its first fault.
-pub(crate) fn commanded(alloc: Global, bytes: &[u8]) -> RowText {
+pub(crate) fn commands_text(alloc: Global, bytes: &[u8]) -> RowText {
     let mut spelled = RowText::new();
     match read_cntl(alloc, bytes) {
         Ok(commands) => put_commands(&mut spelled, commands.as_slice()),

@@ -1,11 +1,11 @@
 //! Files: what is read from them, as a whole and cut at each byte.
 
-use crate::commands::commanded;
-use crate::holds::held;
-use crate::ptfin::received;
+use crate::commands::commands_text;
+use crate::holds::hold_file_text;
+use crate::ptfin::ptfin_text;
 use crate::spelled::RowText;
-use crate::texts::{copied, text_read, update_read};
-use crate::words::{commands_in, grouped, lines_of_list, pieces_of, stated};
+use crate::texts::{copy_sizes, text_size, update_size};
+use crate::words::{group_sizes, lines_of_list, pieces_of, statement_text, words_of_commands};
 use rec80::records;
 use std::alloc::Global;
 use std::test::Fail;
@@ -13,12 +13,12 @@ use std::test::Fail;
 /// What this reader makes of the file.
 pub(crate) fn read_file(alloc: Global, name: &str, file: &[u8]) -> Result<RowText, Fail> {
     match name.as_bytes() {
-        b"COMMANDS" => Ok(commanded(alloc, file)),
-        b"PTFIN" => Ok(received(alloc, file)),
-        b"HOLD" => Ok(held(alloc, file)),
-        b"TEXT" => text_read(alloc, file),
-        b"UPDATE" => update_read(alloc, file),
-        b"COPY" => copied(alloc, file),
+        b"COMMANDS" => Ok(commands_text(alloc, file)),
+        b"PTFIN" => Ok(ptfin_text(alloc, file)),
+        b"HOLD" => Ok(hold_file_text(alloc, file)),
+        b"TEXT" => text_size(alloc, file),
+        b"UPDATE" => update_size(alloc, file),
+        b"COPY" => copy_sizes(alloc, file),
         _ => read_records(name, file),
     }
 }
@@ -27,9 +27,9 @@ pub(crate) fn read_file(alloc: Global, name: &str, file: &[u8]) -> Result<RowTex
 fn read_records(name: &str, file: &[u8]) -> Result<RowText, Fail> {
     let found = records(file)?;
     match name.as_bytes() {
-        b"STATEMENT" => Ok(stated(found)),
-        b"GROUPS" => Ok(grouped(found)),
-        b"WORDS" => Ok(commands_in(found)),
+        b"STATEMENT" => Ok(statement_text(found)),
+        b"GROUPS" => Ok(group_sizes(found)),
+        b"WORDS" => Ok(words_of_commands(found)),
         b"PIECES" => Ok(pieces_of(found)),
         b"LINES" => Ok(lines_of_list(found)),
         _ => Err(Fail::from("no reader has this name")),

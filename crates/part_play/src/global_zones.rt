@@ -12,7 +12,7 @@ use terms::HoldKind;
 
 /// What each of the actions, with a comma between two, answers in the global zone that has received the file.
 pub(crate) fn read_global(alloc: Global, file: &[u8], actions: &str) -> Result<RowText, Fail> {
-    let mut global = received(alloc, file)?;
+    let mut global = zone_that_received(alloc, file)?;
     let mut spelled = RowText::new();
     for action in actions.split(',') {
         let (word, ids) = action.split_once(' ').ok_or("an action has an id")?;
@@ -23,7 +23,7 @@ pub(crate) fn read_global(alloc: Global, file: &[u8], actions: &str) -> Result<R
 }
 
 // The global zone that has received the file.
-fn received(alloc: Global, file: &[u8]) -> Result<GlobalZone, Fail> {
+fn zone_that_received(alloc: Global, file: &[u8]) -> Result<GlobalZone, Fail> {
     let mut global = GlobalZone::new(alloc);
     for item in read_ptfin(alloc, file)? {
         if let Item::Sysmod(sysmod) = item {
@@ -45,25 +45,25 @@ fn act(
     spelled: &mut RowText,
 ) -> Result<(), Fail> {
     match word.as_bytes() {
-        b"HOLD" => spelled.put(held(global, read_id(ids)?)?),
-        b"RELEASE" => spelled.put(released(global, read_id(ids)?)?),
-        b"ASSIGN" => spelled.put(assigned(global, read_id(ids)?)?),
-        b"REJECT" => spelled.put(rejected(global, read_id(ids)?)),
+        b"HOLD" => spelled.put(put_test_hold(global, read_id(ids)?)?),
+        b"RELEASE" => spelled.put(remove_test_hold(global, read_id(ids)?)?),
+        b"ASSIGN" => spelled.put(assign_test_source(global, read_id(ids)?)?),
+        b"REJECT" => spelled.put(reject_sysmod(global, read_id(ids)?)),
         _ => return ask(alloc, global, word, ids, spelled),
     }
     Ok(())
 }
 
-fn reason() -> Result<Reason, &'static str> {
+fn test_reason() -> Result<Reason, &'static str> {
     Reason::read(b"WAIT").ok_or("no reason")
 }
 
-// Puts an external hold.
-fn held(global: &mut GlobalZone, id: Id) -> Result<&'static [u8], Fail> {
+// Puts an external hold on the SYSMOD.
+fn put_test_hold(global: &mut GlobalZone, id: Id) -> Result<&'static [u8], Fail> {
     let hold = Hold {
         id,
         kind: HoldKind::User,
-        reason: reason()?,
+        reason: test_reason()?,
         fmid: id,
         class: None,
         date: None,
@@ -76,15 +76,15 @@ fn held(global: &mut GlobalZone, id: Id) -> Result<&'static [u8], Fail> {
     })
 }
 
-fn released(global: &mut GlobalZone, id: Id) -> Result<&'static [u8], &'static str> {
-    Ok(match global.release(id, HoldKind::User, reason()?) {
+fn remove_test_hold(global: &mut GlobalZone, id: Id) -> Result<&'static [u8], &'static str> {
+    Ok(match global.release(id, HoldKind::User, test_reason()?) {
         Ok(()) => b"released",
         Err(ReleaseError::NoHold) => b"no hold",
         Err(ReleaseError::Internal) => b"internal",
     })
 }
 
-fn assigned(global: &mut GlobalZone, id: Id) -> Result<&'static [u8], Fail> {
+fn assign_test_source(global: &mut GlobalZone, id: Id) -> Result<&'static [u8], Fail> {
     let source = Source::read(b"SRC1").ok_or("no source")?;
     Ok(if global.assign(source, id)? {
         b"assigned"
@@ -93,7 +93,7 @@ fn assigned(global: &mut GlobalZone, id: Id) -> Result<&'static [u8], Fail> {
     })
 }
 
-fn rejected(global: &mut GlobalZone, id: Id) -> &'static [u8] {
+fn reject_sysmod(global: &mut GlobalZone, id: Id) -> &'static [u8] {
     match global.reject(id) {
         Ok(()) => b"rejected",
         Err(RejectError::NotReceived) => b"not received",

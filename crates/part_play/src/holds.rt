@@ -58,7 +58,7 @@ pub(crate) fn put_error(spelled: &mut RowText, error: McsError) {
 }
 
 /// The items of the hold file, or the record and the code of its fault.
-pub(crate) fn held(alloc: Global, bytes: &[u8]) -> RowText {
+pub(crate) fn hold_file_text(alloc: Global, bytes: &[u8]) -> RowText {
     let mut spelled = RowText::new();
     match read_hold(alloc, bytes) {
         Ok(items) => put_items(&mut spelled, items.as_slice()),

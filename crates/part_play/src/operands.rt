@@ -2,7 +2,7 @@
 
 use crate::spelled::RowText;
 use fields::{Source, ZoneName};
-use rec80::{Record, Records, Word, flag, ids, listed_ids, one, operand, records, rising};
+use rec80::{Record, Records, Word, flag, ids, ids_in_file_order, one, operand, records, rising};
 use std::alloc::Global;
 use std::test::Fail;
 
@@ -14,11 +14,11 @@ fn operand_in<'a>(alloc: Global, cards: &'a [Record], name: &[u8]) -> Option<Wor
     operand(operands.only()?, name)
 }
 
-// Whether there is such an operand, and its list as ids, as so many ids in any order, as sources and as the name of a
-// zone, if it is that.
-fn taken(alloc: Global, cards: &[Record], name: &[u8]) -> RowText {
+/// Whether the file's first command has such an operand, and its list as ids, as so many ids in any order, as sources
+/// and as the name of a zone, if it is that.
+pub(crate) fn operand_text(alloc: Global, file: &[u8], name: &[u8]) -> Result<RowText, Fail> {
     let mut spelled = RowText::new();
-    let found = operand_in(alloc, cards, name);
+    let found = operand_in(alloc, records(file)?.all, name);
     spelled.put(match flag(&found) {
         Ok(true) => b"there",
         Ok(false) => b"none ",
@@ -31,14 +31,14 @@ fn taken(alloc: Global, cards: &[Record], name: &[u8]) -> RowText {
             spelled.put_words(&[b"zone", zone.as_bytes()]);
         }
     }
-    spelled
+    Ok(spelled)
 }
 
 fn put_ids(alloc: Global, spelled: &mut RowText, word: &Word<'_>) {
     if let Ok(list) = ids(alloc, word) {
         spelled.put_ids(b"ids", &list);
     }
-    if let Ok(list) = listed_ids(alloc, word) {
+    if let Ok(list) = ids_in_file_order(alloc, word) {
         spelled.put(b" listed ");
         spelled.put_number(list.len());
     }
@@ -50,9 +50,4 @@ fn put_sources(alloc: Global, spelled: &mut RowText, word: &Word<'_>) {
             spelled.put_words(&[source.as_bytes()]);
         }
     }
-}
-
-/// How the operand of this name of the file's first command is taken.
-pub(crate) fn operand_taken(alloc: Global, file: &[u8], name: &[u8]) -> Result<RowText, Fail> {
-    Ok(taken(alloc, records(file)?.all, name))
 }

@@ -76,7 +76,7 @@ fn put_items(spelled: &mut RowText, items: &[Item]) {
 }
 
 /// The items of the file, or the record and the code of its fault.
-pub(crate) fn received(alloc: Global, bytes: &[u8]) -> RowText {
+pub(crate) fn ptfin_text(alloc: Global, bytes: &[u8]) -> RowText {
     let mut spelled = RowText::new();
     match read_ptfin(alloc, bytes) {
         Ok(items) => put_items(&mut spelled, items.as_slice()),

@@ -12,7 +12,7 @@ use sysmods_values::{Sysmod, Ver};
 /// The answer to a question about the first of the file's two SYSMODs, or what the first one is once it has got the
 /// named part of the second one.
 pub(crate) fn read_sysmod(alloc: Global, file: &[u8], text: &str) -> Result<RowText, Fail> {
-    let (mut fix, mut other) = two(alloc, file)?;
+    let (mut fix, mut other) = last_two_sysmods(alloc, file)?;
     spell_sysmod(alloc, &mut fix, &mut other, text)
 }
 
@@ -33,8 +33,8 @@ fn spell_sysmod(
     Ok(spelled)
 }
 
-// The last two items of the file.
-fn two(alloc: Global, file: &[u8]) -> Result<(Sysmod, Sysmod), Fail> {
+// The last two SYSMODs of the file.
+fn last_two_sysmods(alloc: Global, file: &[u8]) -> Result<(Sysmod, Sysmod), Fail> {
     let mut items = read_ptfin(alloc, file)?;
     let second = items.pop();
     match (items.pop(), second) {

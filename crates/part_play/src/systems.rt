@@ -13,7 +13,7 @@ pub(crate) fn read_system(alloc: Global, name: &str, text: &str) -> Result<RowTe
     match name.as_bytes() {
         b"SOLVE" => solved(alloc, text),
         b"CHAIN" => chained(alloc, text),
-        b"WHOLE" => whole(alloc, text),
+        b"WHOLE" => need_count(alloc, text),
         b"OTHER" => other_size(alloc, text),
         b"RULES" => grown(alloc, text),
         _ => Err(Fail::from("no system has this name")),
@@ -47,10 +47,10 @@ pub(crate) fn numbers_of(alloc: Global, text: &str) -> Result<Vec<u32>, Fail> {
     Ok(numbers)
 }
 
-// The letters of the candidates, and the needs.
-fn cut(text: &str) -> (&str, &str) {
+// The text before the first blank, and the text after it; all of it and nothing if it has none.
+fn split_at_blank(text: &str) -> (&str, &str) {
     match text.split_once(' ') {
-        Some((letters, needs)) => (letters, needs),
+        Some((before, after)) => (before, after),
         None => (text, ""),
     }
 }
@@ -71,8 +71,8 @@ fn add_need(alloc: Global, s: &mut System, of: u32, any: &[u32]) -> Result<(), F
 }
 
 // The system, to which candidates and needs are added one by one.
-fn system(alloc: Global, text: &str) -> Result<System, Fail> {
-    let (letters, needs) = cut(text);
+fn system_of(alloc: Global, text: &str) -> Result<System, Fail> {
+    let (letters, needs) = split_at_blank(text);
     let mut s = System::new(alloc, Vec::new(alloc))?;
     for letter in letters.as_bytes() {
         s.add_candidate(*letter == b'T')?;
@@ -86,7 +86,7 @@ fn system(alloc: Global, text: &str) -> Result<System, Fail> {
 
 // Which candidates stay, how many strikes that takes, and the causers of each.
 fn solved(alloc: Global, text: &str) -> Result<RowText, Fail> {
-    let s = system(alloc, text)?;
+    let s = system_of(alloc, text)?;
     let mut spelled = RowText::new();
     let kept = put_kept(alloc, &s, &mut spelled)?;
     put_causers(alloc, &s, &kept, &mut spelled)?;
@@ -116,18 +116,18 @@ fn put_causers(alloc: Global, s: &System, kept: &Kept, spelled: &mut RowText) ->
     Ok(())
 }
 
-// The causers in the first system for what the second one keeps, behind the size of that, its members and whether a
+// The causers in the first system for what the second one keeps, after the size of that, its members and whether a
 // number past its end is one.
 fn other_size(alloc: Global, text: &str) -> Result<RowText, Fail> {
     let (first, second) = text.split_once('/').ok_or("two systems")?;
-    let kept = Sweep.greatest(alloc, &system(alloc, second.trim())?)?;
+    let kept = Sweep.greatest(alloc, &system_of(alloc, second.trim())?)?;
     let mut spelled = RowText::new();
     spelled.put_number(kept.size() as usize);
     spelled.put(b" ");
     for number in 0..=kept.size() {
         spelled.put(if kept.contains(number) { b"T" } else { b"F" });
     }
-    let s = system(alloc, first.trim())?;
+    let s = system_of(alloc, first.trim())?;
     put_causers(alloc, &s, &kept, &mut spelled)?;
     Ok(spelled)
 }
@@ -155,8 +155,8 @@ fn chain_with(alloc: Global, last: u32, more: &str) -> Result<Vec<Need>, Fail> {
 // How many candidates stay in a chain of so many, and how many strikes that takes. All are eligible, but the last one
 // perhaps not. It may have further needs.
 fn chained(alloc: Global, text: &str) -> Result<RowText, Fail> {
-    let (last, more) = cut(text);
-    let (letter, more) = cut(more);
+    let (last, more) = split_at_blank(text);
+    let (letter, more) = split_at_blank(more);
     let last: u32 = last.parse()?;
     let mut eligible = vec![in alloc; true; last as usize]?;
     eligible.push(letter == "T")?;
@@ -172,8 +172,8 @@ fn chained(alloc: Global, text: &str) -> Result<RowText, Fail> {
 }
 
 // How many needs the system has that is made of them, or why it is not made.
-fn whole(alloc: Global, text: &str) -> Result<RowText, Fail> {
-    let (letters, needs) = cut(text);
+fn need_count(alloc: Global, text: &str) -> Result<RowText, Fail> {
+    let (letters, needs) = split_at_blank(text);
     let mut spelled = RowText::new();
     match System::from_needs(flags_of(alloc, letters)?, chain_with(alloc, 0, needs)?) {
         Ok(s) => spelled.put_number(s.needs().len()),

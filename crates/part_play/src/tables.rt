@@ -2,11 +2,11 @@
 
 use crate::files::{read_cut, read_file};
 use crate::global_zones::read_global;
-use crate::operands::operand_taken;
+use crate::operands::operand_text;
 use crate::spelled::RowText;
 use crate::sysmod_values::read_sysmod;
 use crate::systems::read_system;
-use crate::texts::merged;
+use crate::texts::merged_text;
 use crate::values::read_value;
 use scripts::{Performs, ScriptStep, card_file};
 use std::alloc::Global;
@@ -111,8 +111,8 @@ fn read(alloc: Global, reader: Reader<'_>, text: &str) -> Result<RowText, Fail> 
 // What is found in the file that stands in front of the table.
 fn read_beside(alloc: Global, name: &str, file: &[u8], text: &str) -> Result<RowText, Fail> {
     match name.as_bytes() {
-        b"OPERAND" => operand_taken(alloc, file, text.as_bytes()),
-        b"MERGE" => merged(alloc, file, file_of(alloc, text)?.as_slice()),
+        b"OPERAND" => operand_text(alloc, file, text.as_bytes()),
+        b"MERGE" => merged_text(alloc, file, file_of(alloc, text)?.as_slice()),
         b"SYSMOD" => read_sysmod(alloc, file, text),
         b"GLOBAL" => read_global(alloc, file, text),
         _ => Err(Fail::from("no table has this name")),

@@ -27,7 +27,7 @@ fn put_fault(spelled: &mut RowText, fault: TextFault) {
 }
 
 /// The number of records of the text, or its fault.
-pub(crate) fn text_read(alloc: Global, file: &[u8]) -> Result<RowText, Fail> {
+pub(crate) fn text_size(alloc: Global, file: &[u8]) -> Result<RowText, Fail> {
     let mut spelled = RowText::new();
     match Numbered::read(lines_in(alloc, file)?) {
         Ok(text) => spelled.put_number(text.lines().len()),
@@ -37,7 +37,7 @@ pub(crate) fn text_read(alloc: Global, file: &[u8]) -> Result<RowText, Fail> {
 }
 
 /// The number of records of the update of M1, or its fault.
-pub(crate) fn update_read(alloc: Global, file: &[u8]) -> Result<RowText, Fail> {
+pub(crate) fn update_size(alloc: Global, file: &[u8]) -> Result<RowText, Fail> {
     let mut spelled = RowText::new();
     match Update::read(alloc, lines_in(alloc, file)?, b"M1") {
         Ok(update) => spelled.put_number(update.records().len()),
@@ -53,12 +53,12 @@ fn update_copy(alloc: Global, file: &[u8]) -> Result<Update, Fail> {
 }
 
 /// How many records a copy of the update has, and how many of them it gives.
-pub(crate) fn copied(alloc: Global, file: &[u8]) -> Result<RowText, Fail> {
+pub(crate) fn copy_sizes(alloc: Global, file: &[u8]) -> Result<RowText, Fail> {
     let update = update_copy(alloc, file)?;
     let mut spelled = RowText::new();
     spelled.put_number(update.records().len());
     spelled.put(b" ");
-    spelled.put_number(update.given(alloc)?.lines().len());
+    spelled.put_number(update.given_records(alloc)?.lines().len());
     Ok(spelled)
 }
 
@@ -71,7 +71,7 @@ fn merge_of(alloc: Global, text: &[u8], update: &[u8]) -> Result<Numbered, Fail>
 
 /// The columns of each record of what the update makes of the text, up to 72 without the blanks at their end and then
 /// its number.
-pub(crate) fn merged(alloc: Global, text: &[u8], update: &[u8]) -> Result<RowText, Fail> {
+pub(crate) fn merged_text(alloc: Global, text: &[u8], update: &[u8]) -> Result<RowText, Fail> {
     let merged = merge_of(alloc, text, update)?;
     let bytes = bytes_of(alloc, merged.lines())?;
     let mut spelled = RowText::new();

@@ -52,7 +52,7 @@ fn put_fault(spelled: &mut RowText, error: StmtError) {
 }
 
 /// The words of the statement that these records are, or its fault.
-pub(crate) fn stated(found: Records<'_>) -> RowText {
+pub(crate) fn statement_text(found: Records<'_>) -> RowText {
     let mut spelled = RowText::new();
     let group = Group {
         number: 1,
@@ -74,7 +74,7 @@ fn put_groups(spelled: &mut RowText, mut groups: Groups<'_>) {
 }
 
 /// The number of records of each of a file's statements.
-pub(crate) fn grouped(found: Records<'_>) -> RowText {
+pub(crate) fn group_sizes(found: Records<'_>) -> RowText {
     let mut spelled = RowText::new();
     match found.groups() {
         Ok(groups) => put_groups(&mut spelled, groups),
@@ -102,7 +102,7 @@ fn put_commands(spelled: &mut RowText, mut commands: Commands<'_>) {
 }
 
 /// The words of each command after the number of its record, or the first fault.
-pub(crate) fn commands_in(found: Records<'_>) -> RowText {
+pub(crate) fn words_of_commands(found: Records<'_>) -> RowText {
     let mut spelled = RowText::new();
     put_commands(&mut spelled, found.commands());
     spelled

@@ -6,8 +6,8 @@ ghost use Rattle.rec80.specs.Walks.{st_fault};
 
 use crate::error::StmtError;
 use crate::record_files::{Record, Records};
-use crate::statements::start;
-use crate::walk::{behind_gaps, inline_behind};
+use crate::statements::first_place;
+use crate::walk::{inline_records, skip_gaps};
 use crate::words::Words;
 use thiserror::Error;
 
@@ -61,15 +61,15 @@ impl<'a> Commands<'a> {
         ensures fault { IfErr result (λ e. IsCutFault self.old.number self.old.rest.now e.number (st_fault e.why)) }
         ensures err { OnErr result (self.new ≡ self.old) }
     {
-        let Some(first) = start(self.rest) else {
+        let Some(first) = first_place(self.rest) else {
             return Ok(None);
         };
-        let from = behind_gaps(&first);
+        let from = skip_gaps(&first);
         if from.is_end() {
             return Ok(None);
         }
         let number = self.number + (self.rest.len() - from.later.len() - 1);
-        let later = match inline_behind(&from) {
+        let later = match inline_records(&from) {
             Ok(later) => later,
             Err(why) => return Err(CommandError { number, why }),
         };

@@ -13,8 +13,8 @@ pub(crate) struct Cursor<'a> {
     pub later: &'a [Record],
 }
 
-/// Columns 1 to 72.
-pub fn columns(card: &Record) -> &[u8]
+/// Columns 1 to 72, which hold the text of a record.
+pub fn text_columns(card: &Record) -> &[u8]
     ensures { result.now ≡ front card.now }
 {
     &card[..72]
@@ -39,7 +39,7 @@ impl<'a> Cursor<'a> {
         Some((
             b' ',
             Cursor {
-                line: columns(card),
+                line: text_columns(card),
                 later,
             },
         ))

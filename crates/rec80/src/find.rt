@@ -17,7 +17,7 @@ use crate::text::Text;
 use crate::words::Word;
 
 // The first word of that name.
-fn first<'w, 'a>(words: &'w [Word<'a>], name: &[u8]) -> Option<&'w Word<'a>>
+fn find_word<'w, 'a>(words: &'w [Word<'a>], name: &[u8]) -> Option<&'w Word<'a>>
     ensures { option_copied result ≡ find (λ w. bytes_eq w.word.now name.now) words.now }
 {
     words.iter().find(|word| word.word == name)
@@ -27,7 +27,7 @@ fn first<'w, 'a>(words: &'w [Word<'a>], name: &[u8]) -> Option<&'w Word<'a>>
 pub fn operand<'a>(words: &[Word<'a>], name: &[u8]) -> Option<Word<'a>>
     ensures { option_map word_of result ≡ operand name.now (words_of words.now) }
 {
-    first(words, name).copied()
+    find_word(words, name).copied()
 }
 
 // How many words have that name.
@@ -37,6 +37,7 @@ fn count_of(words: &[Word<'_>], name: &[u8]) -> usize
     words.iter().filter(|word| name == word.word).count()
 }
 
+// Whether at least two words have that name.
 fn is_twice(words: &[Word<'_>], name: &[u8]) -> bool
     ensures { result ≡ is_often 2 (map (λ w. w.word) (words_of words.now)) name.now }
 {

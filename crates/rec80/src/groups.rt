@@ -29,23 +29,28 @@ pub struct Groups<'a> {
     ghost room: { number + length rest.now < 2 ^ 64 },
 }
 
-fn is_first(card: &Record) -> bool
+// Whether the record is the first of a statement, which begins with `++`.
+fn begins_statement(card: &Record) -> bool
     ensures { result ≡ begins_statement card.now }
 {
     card[0] == b'+' && card[1] == b'+'
 }
 
-fn is_later(card: &Record) -> bool
+// Whether the record belongs to a statement that began before it.
+fn continues_statement(card: &Record) -> bool
     ensures { result ≡ not (begins_statement card.now) }
 {
-    !is_first(card)
+    !begins_statement(card)
 }
 
 // How many records come before the next statement.
-fn later_len(records: &[Record]) -> usize
+fn continuing_len(records: &[Record]) -> usize
     ensures { result ≡ prefix_len (λ r. not (begins_statement r)) records.now }
 {
-    records.iter().take_while(|card| is_later(card)).count()
+    records
+        .iter()
+        .take_while(|card| continues_statement(card))
+        .count()
 }
 
 // The first statement's records, and the rest.
@@ -56,7 +61,7 @@ fn split_group(records: &[Record]) -> (&[Record], &[Record])
     ensures group { IsGroup result.0.now }
     ensures rest { starts_outside result.1.now ≡ false }
 {
-    records.split_at(1 + later_len(&records[1..]))
+    records.split_at(1 + continuing_len(&records[1..]))
 }
 
 impl<'a> Records<'a> {
@@ -66,7 +71,7 @@ impl<'a> Records<'a> {
         ensures outside { IsErr result ↔ IsTrue (starts_outside self.now.all.now) }
     {
         if let Some(card) = self.all.first()
-            && !is_first(card)
+            && !begins_statement(card)
         {
             return Err(StartsOutside);
         }

@@ -9,12 +9,12 @@ ghost use Rattle.rec80.specs.Cursors.{text_of};
 ghost use Rattle.rec80.specs.Lists.{SkipsBlanks, LeavesMembers, members_text};
 ghost use Rattle.rec80.specs.Views.{word_of};
 
-use crate::members::{Members, NoMembers, split_member};
+use crate::members::{Members, NoMembers, split_member_word};
 use crate::text::Text;
 use crate::words::Word;
 
 // The text after the blanks.
-fn behind_blanks<'a>(text: &Text<'a>) -> Text<'a>
+fn skip_blanks<'a>(text: &Text<'a>) -> Text<'a>
     ensures { SkipsBlanks (text_of text.now) (text_of result) }
 {
     let mut at = *text;
@@ -28,7 +28,7 @@ fn behind_blanks<'a>(text: &Text<'a>) -> Text<'a>
 }
 
 // The text before the first parenthesis, and the text after it.
-fn split_inner<'a>(inside: &Text<'a>) -> (Text<'a>, Text<'a>)
+fn split_at_paren<'a>(inside: &Text<'a>) -> (Text<'a>, Text<'a>)
     ensures cut { text_of inside.now ≡ text_of result.0 ++ text_of result.1 }
     ensures each { All (λ b. is_inner_byte b ≡ true) (text_of result.0) }
     ensures stops { Stops is_inner_byte (text_of result.1) }
@@ -46,7 +46,7 @@ fn split_inner<'a>(inside: &Text<'a>) -> (Text<'a>, Text<'a>)
 }
 
 // The text after the byte, if it begins with the byte.
-fn behind_byte<'a>(text: &Text<'a>, byte: u8) -> Option<Text<'a>>
+fn skip_byte<'a>(text: &Text<'a>, byte: u8) -> Option<Text<'a>>
     ensures found { IfSome result (λ next. text_of text.now ≡ byte ∷ text_of next) }
     ensures none { IfNone result ((next : List ℕ) → text_of text.now ≡ byte ∷ next → ⊥) }
 {
@@ -55,17 +55,17 @@ fn behind_byte<'a>(text: &Text<'a>, byte: u8) -> Option<Text<'a>>
 }
 
 // A member's own list, if it has one, and the text after it. None if a list begins and is not closed.
-fn own_list<'a>(behind: &Text<'a>) -> Option<(Option<Text<'a>>, Text<'a>)>
+fn member_list<'a>(behind: &Text<'a>) -> Option<(Option<Text<'a>>, Text<'a>)>
     ensures list { IfSome result (λ x. TakesInner (text_of behind.now) (option_map text_of x.0) (text_of x.1)) }
     ensures none { IfNone result ((list : Option (List ℕ)) (after : List ℕ)
         → TakesInner (text_of behind.now) list after → ⊥) }
 {
-    let dark = behind_blanks(behind);
-    let Some(inside) = behind_byte(&dark, b'(') else {
+    let dark = skip_blanks(behind);
+    let Some(inside) = skip_byte(&dark, b'(') else {
         return Some((None, *behind));
     };
-    let (list, close) = split_inner(&inside);
-    let Some(after) = behind_byte(&close, b')') else {
+    let (list, close) = split_at_paren(&inside);
+    let Some(after) = skip_byte(&close, b')') else {
         return None;
     };
     Some((Some(list), after))
@@ -77,21 +77,21 @@ fn member_start<'a>(rest: &Text<'a>, first: bool) -> Option<Text<'a>>
     ensures only { (gap next : List ℕ) → text_of rest.now ≡ gap ++ next → IsBefore first gap → BeginsMember next
         → MatchOption result ⊥ (λ t. next ≡ text_of t) }
 {
-    let dark = behind_blanks(rest);
+    let dark = skip_blanks(rest);
     if first {
         return Some(dark);
     }
-    if let Some(next) = behind_byte(&dark, b',') {
-        return Some(behind_blanks(&next));
+    if let Some(next) = skip_byte(&dark, b',') {
+        return Some(skip_blanks(&next));
     }
-    let Some(_) = behind_byte(rest, b' ') else {
+    let Some(_) = skip_byte(rest, b' ') else {
         return None;
     };
     Some(dark)
 }
 
 // The next member, and the text after it.
-fn member_in<'a>(rest: &Text<'a>, first: bool) -> Option<(Word<'a>, Text<'a>)>
+fn split_next_member<'a>(rest: &Text<'a>, first: bool) -> Option<(Word<'a>, Text<'a>)>
     ensures member { IfSome result (λ x. TakesNext first (text_of rest.now) (word_of x.0) (text_of x.1)) }
     ensures none { IfNone result ((m : grammar.Word) (after : List ℕ) → TakesNext first (text_of rest.now) m after
         → ⊥) }
@@ -99,10 +99,10 @@ fn member_in<'a>(rest: &Text<'a>, first: bool) -> Option<(Word<'a>, Text<'a>)>
     let Some(start) = member_start(rest, first) else {
         return None;
     };
-    let Some((word, behind)) = split_member(&start) else {
+    let Some((word, behind)) = split_member_word(&start) else {
         return None;
     };
-    let Some((list, after)) = own_list(&behind) else {
+    let Some((list, after)) = member_list(&behind) else {
         return None;
     };
     Some((Word { word, list }, after))
@@ -113,7 +113,7 @@ fn is_blank(rest: &Text) -> bool
     ensures blank { result ≡ true → AreBlanks (text_of rest.now) }
     ensures dark { result ≡ false → AreBlanks (text_of rest.now) → ⊥ }
 {
-    behind_blanks(rest).is_end()
+    skip_blanks(rest).is_end()
 }
 
 impl<'a> Members<'a> {
@@ -135,7 +135,7 @@ impl<'a> Members<'a> {
         if !self.first && is_blank(&self.rest) {
             return Ok(None);
         }
-        let Some((member, after)) = member_in(&self.rest, self.first) else {
+        let Some((member, after)) = split_next_member(&self.rest, self.first) else {
             return Err(NoMembers);
         };
         self.rest = after;

@@ -22,6 +22,7 @@ pub struct Members<'a> {
     pub(crate) first: bool,
 }
 
+// Whether the name of a member may have the byte.
 fn is_part_of_member(byte: u8) -> bool
     ensures { result ≡ is_member_byte byte }
 {
@@ -38,7 +39,7 @@ fn member_len(line: &[u8]) -> usize
 }
 
 /// The member that begins here, and the text after it. No member continues in the next record.
-pub(crate) fn split_member<'a>(text: &Text<'a>) -> Option<(&'a [u8], Text<'a>)>
+pub(crate) fn split_member_word<'a>(text: &Text<'a>) -> Option<(&'a [u8], Text<'a>)>
     ensures run { IfSome result (λ x. TakesRun (text_of text.now) x.0.now (text_of x.1)) }
     ensures none { IfNone result ((word after : List ℕ) → TakesRun (text_of text.now) word after → ⊥) }
 {

@@ -31,9 +31,9 @@ pub fn rising<T: Member>(alloc: Global, word: &Word<'_>) -> Result<Rising<T>, Op
     Ok(rising)
 }
 
-/// The members of the word's list, in the order of the file. Returns `Memory` if memory runs out, and `Bad` if the word
-/// has no list of such members or a member occurs twice.
-pub fn listed<T: Member>(alloc: Global, word: &Word<'_>) -> Result<Vec<T>, OperandError>
+/// The members of the word's list in the order of the file, which need not rise. Returns `Memory` if memory runs out,
+/// and `Bad` if the word has no list of such members or a member occurs twice.
+pub fn list_in_file_order<T: Member>(alloc: Global, word: &Word<'_>) -> Result<Vec<T>, OperandError>
     ensures listed { IfOk result (λ list. HasListed T.form (word_of word.now) (map T.text list.items)) }
     ensures bad { IfErr result (λ e. Excludes e ((values : List (List ℕ))
         × HasListed T.form (word_of word.now) values)) }
@@ -50,13 +50,13 @@ pub fn listed<T: Member>(alloc: Global, word: &Word<'_>) -> Result<Vec<T>, Opera
     Ok(read)
 }
 
-/// The ids of the word's list, in the order of the file. Returns `Memory` if memory runs out, and `Bad` if the word has
-/// no list of ids or an id occurs twice.
-pub fn listed_ids(alloc: Global, word: &Word<'_>) -> Result<Vec<Id>, OperandError>
+/// The ids of the word's list in the order of the file, which need not rise. Returns `Memory` if memory runs out, and
+/// `Bad` if the word has no list of ids or an id occurs twice.
+pub fn ids_in_file_order(alloc: Global, word: &Word<'_>) -> Result<Vec<Id>, OperandError>
     ensures listed { IfOk result (λ list. HasListed IsId (word_of word.now) list.items) }
     ensures bad { IfErr result (λ e. Excludes e ((values : List (List ℕ)) × HasListed IsId (word_of word.now) values)) }
 {
-    listed::<Id>(alloc, word)
+    list_in_file_order::<Id>(alloc, word)
 }
 
 /// The ids of the word's list in rising order. Returns `Memory` if memory runs out, and `Bad` if the word has no list

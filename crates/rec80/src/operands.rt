@@ -25,7 +25,7 @@ pub struct Operands<'a> {
 }
 
 impl<'a> Operands<'a> {
-    // Takes in the next piece: a word, or what is there instead of one.
+    // Adds the next word, or notes that something else is there instead of one.
     fn add(&mut self, found: Result<Word<'a>, NoWord>) -> Result<(), AllocError>
         ensures word { OnOk result (IfOk found.entry (λ w. (self.new.words.items ≡ self.old.words.items ++ w ∷ [])
             × (self.new.alone ≡ self.old.alone))) }
@@ -61,7 +61,7 @@ impl<'a> Operands<'a> {
     }
 
     /// The words, if they are operands of these names only, each at most once, and there is nothing else.
-    pub fn named(&self, names: &[&[u8]]) -> Option<&[Word<'a>]>
+    pub fn words_named(&self, names: &[&[u8]]) -> Option<&[Word<'a>]>
         ensures words { IfSome result (λ ws. (pieces : List Piece) → IsRead pieces self.now
             → HasWords pieces (words_of ws.now)) }
         ensures operands { IfSome result (λ ws. AreOperands (map (λ name. name.now) names.now) (words_of ws.now)) }
@@ -78,7 +78,7 @@ impl<'a> Operands<'a> {
     }
 
     /// Whether there is a word of that name, whatever else there is.
-    pub fn is_there(&self, name: &[u8]) -> bool
+    pub fn has_word(&self, name: &[u8]) -> bool
         ensures { (pieces : List Piece) → IsRead pieces self.now → result ≡ is_often 1 (words_in pieces) name.now }
     {
         operand(self.words.as_slice(), name).is_some()
@@ -93,7 +93,7 @@ impl<'a> Operands<'a> {
     }
 
     /// The list that directly follows the first word of that name, whatever else there is.
-    pub fn list_behind(&self, name: &[u8]) -> Option<Text<'a>>
+    pub fn list_after(&self, name: &[u8]) -> Option<Text<'a>>
         ensures { (pieces : List Piece) → IsRead pieces self.now
             → option_map text_of result ≡ list_behind name.now pieces }
     {

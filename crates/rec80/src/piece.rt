@@ -8,7 +8,7 @@ ghost use Rattle.rec80.specs.Cursors.{rest_of, IsAhead};
 ghost use Rattle.rec80.specs.Pieces.{TakesGap, piece_of, StopsAt};
 
 use crate::cursor::Cursor;
-use crate::scan::{behind_both, behind_comment, behind_parens};
+use crate::scan::{skip_comment, skip_pair, split_parens};
 use crate::text::Text;
 
 /// A part of a statement or a command: a word, a list in parentheses, or any other character except a blank or a comma.
@@ -30,7 +30,7 @@ pub enum Stop {
 
 /// The place after one blank, comma or comment.
 #[tactic(auto, using(crate::proofs::Places::ahead_trans))]
-pub fn behind_gap<'a>(at: &Cursor<'a>) -> Option<Cursor<'a>>
+pub fn skip_gap<'a>(at: &Cursor<'a>) -> Option<Cursor<'a>>
     ensures gap { IfSome result (λ x. TakesGap (rest_of at.now) (rest_of x)) }
     ensures end { IfNone result (BeginsNoGap (rest_of at.now)) }
     ensures ahead { IfSome result (λ x. IsAhead at.now x) }
@@ -39,11 +39,12 @@ pub fn behind_gap<'a>(at: &Cursor<'a>) -> Option<Cursor<'a>>
     if byte == b' ' || byte == b',' {
         return Some(next);
     }
-    let inside = behind_both(byte, &next, b'/', b'*')?;
-    behind_comment(&inside)
+    let inside = skip_pair(byte, &next, b'/', b'*')?;
+    skip_comment(&inside)
 }
 
-fn is_part_of_word(byte: u8) -> bool
+/// Whether a word may have the byte.
+pub fn is_part_of_word(byte: u8) -> bool
     ensures { result ≡ is_word_byte byte }
 {
     byte.is_ascii_uppercase()
@@ -82,7 +83,7 @@ fn split_word<'a>(at: &Cursor<'a>) -> (&'a [u8], Cursor<'a>)
 /// The piece that begins here, and the place after it. The error says why none begins: `End` if nothing is left,
 /// `Period` at a period, `OpenComment` at a comment that is not closed, and `BadParens` at a parenthesis that has no
 /// partner or holds a third level.
-pub fn solid_piece<'a>(at: &Cursor<'a>) -> Result<(Piece<'a>, Cursor<'a>), Stop>
+pub fn split_piece<'a>(at: &Cursor<'a>) -> Result<(Piece<'a>, Cursor<'a>), Stop>
     requires { BeginsNoGap (rest_of at.now) }
     ensures piece { IfOk result (λ x. TakesPiece (rest_of at.now) (piece_of x.0) (rest_of x.1)) }
     ensures stop { IfErr result (λ s. StopsAt s (rest_of at.now)) }
@@ -102,12 +103,12 @@ pub fn solid_piece<'a>(at: &Cursor<'a>) -> Result<(Piece<'a>, Cursor<'a>), Stop>
         return Err(Stop::BadParens);
     }
     if byte == b'(' {
-        return match behind_parens(&next) {
+        return match split_parens(&next) {
             Some((list, after)) => Ok((Piece::List(list), after)),
             None => Err(Stop::BadParens),
         };
     }
-    if behind_both(byte, &next, b'/', b'*').is_some() {
+    if skip_pair(byte, &next, b'/', b'*').is_some() {
         return Err(Stop::OpenComment);
     }
     Ok((Piece::Stray(byte), next))

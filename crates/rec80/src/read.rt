@@ -6,6 +6,7 @@ ghost use Rattle.rec80.specs.Faults.{rec_fault};
 use crate::error::RecError;
 use crate::record_files::Records;
 
+// Whether a record may have the byte: a blank or a printable character.
 fn is_printable(byte: u8) -> bool
     ensures { IsTrue result ↔ IsPrintable byte }
 {

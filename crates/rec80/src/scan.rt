@@ -7,8 +7,8 @@ ghost use Rattle.rec80.specs.Cursors.{rest_of, IsAhead, text_of};
 use crate::cursor::Cursor;
 use crate::text::Text;
 
-/// The place after two bytes, if these are the given two.
-pub fn behind_both<'a>(byte: u8, next: &Cursor<'a>, first: u8, second: u8) -> Option<Cursor<'a>>
+/// The place after the byte and the one that comes next, if these are `first` and `second`.
+pub fn skip_pair<'a>(byte: u8, next: &Cursor<'a>, first: u8, second: u8) -> Option<Cursor<'a>>
     requires { 0 < second }
     ensures found { is_some result ≡ (byte == first && slice_index (rest_of next.now) 0 == second) }
     ensures after { IfSome result (λ x. rest_of next.now ≡ second ∷ rest_of x) }
@@ -21,16 +21,16 @@ pub fn behind_both<'a>(byte: u8, next: &Cursor<'a>, first: u8, second: u8) -> Op
     if other == second { Some(after) } else { None }
 }
 
-/// The place after the first `*/`.
+/// The place after the first `*/`, if there is one.
 #[tactic(auto, using(crate::proofs::Places::ahead_trans))]
-pub fn behind_comment<'a>(inside: &Cursor<'a>) -> Option<Cursor<'a>>
+pub fn skip_comment<'a>(inside: &Cursor<'a>) -> Option<Cursor<'a>>
     ensures end { MatchOption result (behind_close (rest_of inside.now) ≡ None)
         (λ x. behind_close (rest_of inside.now) ≡ Some (rest_of x)) }
     ensures ahead { IfSome result (λ x. IsAhead inside.now x) }
 {
     let mut at = *inside;
     while let Some((byte, next)) = at.next_byte() {
-        if let Some(after) = behind_both(byte, &next, b'*', b'/') {
+        if let Some(after) = skip_pair(byte, &next, b'*', b'/') {
             return Some(after);
         }
         at = next;
@@ -38,9 +38,9 @@ pub fn behind_comment<'a>(inside: &Cursor<'a>) -> Option<Cursor<'a>>
     None
 }
 
-/// The text up to the parenthesis that closes it, and the place after that. None if it is not closed, or if a third one
-/// opens.
-pub fn behind_parens<'a>(inside: &Cursor<'a>) -> Option<(Text<'a>, Cursor<'a>)>
+/// The text up to the parenthesis that closes it, and the place after that. None if no parenthesis closes it, or if a
+/// third level opens.
+pub fn split_parens<'a>(inside: &Cursor<'a>) -> Option<(Text<'a>, Cursor<'a>)>
     ensures end { MatchOption result (behind_list false (rest_of inside.now) ≡ None)
         (λ x. behind_list false (rest_of inside.now) ≡ Some (rest_of x.1)) }
     ensures text { IfSome result (λ x. rest_of inside.now ≡ text_of x.0 ++ 41 ∷ rest_of x.1) }

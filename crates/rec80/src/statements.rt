@@ -5,22 +5,22 @@ ghost use Rattle.rec80.specs.Cursors.{rest_of, IsIn};
 ghost use Rattle.rec80.specs.Walks.{st_fault};
 ghost use Rattle.rec80.specs.Views.{left_of};
 
-use crate::cursor::{Cursor, columns};
+use crate::cursor::{Cursor, text_columns};
 use crate::error::StmtError;
 use crate::groups::Group;
 use crate::record_files::Record;
-use crate::walk::inline_behind;
+use crate::walk::inline_records;
 use crate::words::Words;
 
 /// The beginning of the records, if there are any.
-pub fn start<'a>(records: &'a [Record]) -> Option<Cursor<'a>>
+pub fn first_place<'a>(records: &'a [Record]) -> Option<Cursor<'a>>
     ensures text { IfSome result (λ x. rest_of x ≡ joined records.now) }
     ensures place { IfSome result (λ x. IsIn records.now x) }
     ensures none { IfNone result (records.now ≡ []) }
 {
     let (first, later) = records.split_first()?;
     Some(Cursor {
-        line: columns(first),
+        line: text_columns(first),
         later,
     })
 }
@@ -35,9 +35,9 @@ pub fn statement<'a>(group: &Group<'a>) -> Result<Words<'a>, StmtError>
         → IsOk result }
     ensures fault { IfErr result (λ e. IsStFault group.now.records.now (st_fault e)) }
 {
-    let Some(rest) = start(group.records) else {
+    let Some(rest) = first_place(group.records) else {
         return Err(StmtError::NoPeriod);
     };
-    let inline = inline_behind(&rest)?;
+    let inline = inline_records(&rest)?;
     Ok(Words { rest, inline })
 }

@@ -2,7 +2,7 @@
 ghost use Rattle.std.specs.Prelude.{◌≡◌, ◌≤◌, [], ◌∷◌, ◌++◌, true, false, length, take, MatchOption};
 ghost use Rattle.rec80.specs.Cursors.{text_of, line_of};
 
-use crate::cursor::{Cursor, columns};
+use crate::cursor::{Cursor, text_columns};
 use crate::record_files::Record;
 
 /// The text in a pair of parentheses. The records that it runs over are joined by one blank.
@@ -31,7 +31,7 @@ impl<'a> Text<'a> {
         }
         let (card, later) = self.later.split_first()?;
         let next = Cursor {
-            line: columns(card),
+            line: text_columns(card),
             later,
         };
         Some(next.text(self.more - 1))

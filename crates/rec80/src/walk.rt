@@ -7,16 +7,16 @@ ghost use Rattle.rec80.specs.Walks.{SkipsGaps, Walks, EndsFrom, BreaksFrom};
 
 use crate::cursor::Cursor;
 use crate::error::StmtError;
-use crate::piece::{Stop, behind_gap, solid_piece};
+use crate::piece::{Stop, skip_gap, split_piece};
 use crate::record_files::Record;
 
 /// The place after the gaps that begin here.
-pub fn behind_gaps<'a>(at: &Cursor<'a>) -> Cursor<'a>
+pub fn skip_gaps<'a>(at: &Cursor<'a>) -> Cursor<'a>
     ensures gaps { SkipsGaps (rest_of at.now) (rest_of result) }
     ensures ahead { IsAhead at.now result }
 {
     let mut place = *at;
-    while let Some(next) = behind_gap(&place) {
+    while let Some(next) = skip_gap(&place) {
         place = next;
     }
     place
@@ -28,10 +28,10 @@ pub fn first_stop<'a>(from: &Cursor<'a>) -> (Cursor<'a>, Stop)
     ensures stop { StopsAt result.1 (rest_of result.0) }
     ensures ahead { IsAhead from.now result.0 }
 {
-    let mut at = behind_gaps(from);
+    let mut at = skip_gaps(from);
     loop {
-        match solid_piece(&at) {
-            Ok((_, next)) => at = behind_gaps(&next),
+        match split_piece(&at) {
+            Ok((_, next)) => at = skip_gaps(&next),
             Err(stop) => return (at, stop),
         }
     }
@@ -42,7 +42,7 @@ fn is_idle(tail: &[u8]) -> bool
     ensures idle { IsTrue result → IsIdle tail.now }
     ensures text { result ≡ false → IsIdle tail.now → ⊥ }
 {
-    let end = behind_gaps(&Cursor {
+    let end = skip_gaps(&Cursor {
         line: tail,
         later: &[],
     });
@@ -52,7 +52,7 @@ fn is_idle(tail: &[u8]) -> bool
 /// The records after the one in which the statement that begins here ends. Returns `NoPeriod` if it has no period,
 /// `OpenComment` if a comment before the period is not closed, `BadParens` if a parenthesis has no partner or a third
 /// level opens, and `TextAfterPeriod` if more than blanks and comments follow the period in its record.
-pub fn inline_behind<'a>(from: &Cursor<'a>) -> Result<&'a [Record], StmtError>
+pub fn inline_records<'a>(from: &Cursor<'a>) -> Result<&'a [Record], StmtError>
     ensures ok { IfOk result (λ inline. (ps : List Piece) × (tail : List ℕ) × EndsFrom from.now ps tail inline.now
         × IsIdle tail) }
     ensures fault { IfErr result (λ e. BreaksFrom from.now e) }

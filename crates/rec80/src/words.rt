@@ -8,11 +8,11 @@ ghost use Rattle.rec80.specs.Pieces.{piece_of};
 ghost use Rattle.rec80.specs.Views.{left_of, word_of};
 
 use crate::cursor::Cursor;
-use crate::piece::{Piece, solid_piece};
+use crate::piece::{Piece, split_piece};
 use crate::record_files::Record;
-use crate::scan::behind_parens;
+use crate::scan::split_parens;
 use crate::text::Text;
-use crate::walk::behind_gaps;
+use crate::walk::skip_gaps;
 use thiserror::Error;
 
 /// A word, and the text in the parentheses after it, if there are any.
@@ -35,7 +35,7 @@ pub struct Words<'a> {
 }
 
 // The list that begins here, and the place after it.
-fn own_list<'a>(at: &Cursor<'a>) -> Option<(Text<'a>, Cursor<'a>)>
+fn list_at<'a>(at: &Cursor<'a>) -> Option<(Text<'a>, Cursor<'a>)>
     ensures list { IfSome result (λ x. TakesPiece (rest_of at.now) (TheList (text_of x.0)) (rest_of x.1)) }
     ensures none { IfNone result ((list after : List ℕ) → TakesPiece (rest_of at.now) (TheList list) after → ⊥) }
 {
@@ -43,7 +43,7 @@ fn own_list<'a>(at: &Cursor<'a>) -> Option<(Text<'a>, Cursor<'a>)>
     if byte != b'(' {
         return None;
     }
-    behind_parens(&next)
+    split_parens(&next)
 }
 
 impl<'a> Words<'a> {
@@ -62,15 +62,15 @@ impl<'a> Words<'a> {
         ensures shorter { IfOk result (λ found. IfSome found (λ w. length (left_of self.new) < length
             (left_of self.old))) }
     {
-        let at = behind_gaps(&self.rest);
-        let Ok((piece, next)) = solid_piece(&at) else {
+        let at = skip_gaps(&self.rest);
+        let Ok((piece, next)) = split_piece(&at) else {
             return Ok(None);
         };
         let Piece::Word(word) = piece else {
             return Err(NoWord);
         };
-        let behind = behind_gaps(&next);
-        if let Some((list, after)) = own_list(&behind) {
+        let behind = skip_gaps(&next);
+        if let Some((list, after)) = list_at(&behind) {
             self.rest = after;
             return Ok(Some(Word {
                 word,
@@ -112,8 +112,8 @@ impl<'a> Words<'a> {
         ensures inline { self.new.inline.now ≡ self.old.inline.now }
         ensures shorter { IfSome result (λ p. length (left_of self.new) < length (left_of self.old)) }
     {
-        let at = behind_gaps(&self.rest);
-        let Ok((piece, next)) = solid_piece(&at) else {
+        let at = skip_gaps(&self.rest);
+        let Ok((piece, next)) = split_piece(&at) else {
             return None;
         };
         self.rest = next;

@@ -8,8 +8,8 @@ use Rattle.terms.specs.declared.kinds.ZoneKind.TheVariants.{Target, Distribution
 use Rattle.terms.specs.Types.{Applied, Entry, Element, Global, Zone}
 use Rattle.machine.specs.Outcome.{Line, lines_code, EntryLine, TextLine, SysmodLine, HoldLine, list_global, list_zone}
 use Rattle.machine.specs.Outcome.{element_lines}
-use Rattle.machine.specs.Report.{words_line, detail_line, list_text, optional_text, applied_words, entry_text, mark_text}
-use Rattle.machine.specs.Report.{resolver_text}
+use Rattle.machine.specs.Report.{words_line, detail_line, list_text, optional_text, applied_words, entry_text}
+use Rattle.machine.specs.Report.{mark_text, resolver_text}
 use Rattle.report.specs.Views.{applied_word}
 use Rattle.report.specs.WordTexts.{applied_text}
 

@@ -142,7 +142,8 @@ abbrev pub left_by : Setting → Id → Zone
 left_by s x = zone_left s (x ∷ [])
 
 abbrev pub IsResolution : Setting → Id → Requisite → Resolution → Type 0
-IsResolution s x r (Supplied ids) = IsTrue (is_met (left_by s x) r.kind r.id) × (ids ≡ suppliers (left_by s x) r.kind r.id)
+IsResolution s x r (Supplied ids) =
+    IsTrue (is_met (left_by s x) r.kind r.id) × (ids ≡ suppliers (left_by s x) r.kind r.id)
 IsResolution s x r Waived = IsFalse (is_met (left_by s x) r.kind r.id) × IsTrue (is_waived s.zone x r)
 IsResolution s x r ByItself =
     IsFalse (is_met (left_by s x) r.kind r.id) × IsFalse (is_waived s.zone x r) × MayServe s r.kind r.id x
@@ -224,7 +225,8 @@ numbered_facts fit counts n (v ∷ vs) =
 
 abbrev pub ver_facts : Setting → Id → List Fact
 ver_facts s x =
-    numbered_facts (fits s.zone (is_in s.cands)) (place s.global s.zone s.cands x + 1) 1 (vers_of s.global s.zone.srel x)
+    numbered_facts (fits s.zone (is_in s.cands)) (place s.global s.zone s.cands x + 1) 1
+    (vers_of s.global s.zone.srel x)
 
 abbrev pub IsRequisiteFact : Setting → Id → Requisite → Fact → Type 0
 IsRequisiteFact s x r fact = (a : Resolution) × (fact ≡ RequisiteFact r a) × IsResolution s x r a
@@ -235,7 +237,8 @@ holds_on g x = holds_of g Error x ++ holds_of g System x ++ holds_of g User x
 
 -- for an ERROR hold the answer to its reason
 abbrev pub HasResolution : Setting → Id → Hold → HoldKind → Option Resolution → Type 0
-HasResolution s x h Error o = (a : Resolution) × (o ≡ Some a) × IsResolution s x (a_requisite HoldError x None h.reason) a
+HasResolution s x h Error o =
+    (a : Resolution) × (o ≡ Some a) × IsResolution s x (a_requisite HoldError x None h.reason) a
 HasResolution s x h _ o = o ≡ None
 
 abbrev pub IsHoldFact : Setting → Id → Hold → Fact → Type 0

@@ -18,7 +18,8 @@ pub(crate) struct OpenError {
     pub(crate) reason: Id,
 }
 
-fn append_open(
+// Appends the hold if it is an ERROR hold whose reason the zone does not supply.
+fn append_open_error(
     zone: &Zone,
     id: Id,
     hold: &Hold,
@@ -36,8 +37,9 @@ fn append_open(
     Ok(())
 }
 
+// Appends the ERROR holds on the SYSMOD that the zone leaves open.
 #[tactic(auto, using(crate::proofs::OpenHolds::open_holds))]
-fn append_holds(
+fn append_open_errors(
     global: &GlobalZone,
     zone: &Zone,
     id: Id,
@@ -46,19 +48,19 @@ fn append_holds(
     ensures { OnOk result (found.new.items ≡ found.old.items ++ open_on global.now zone.now id) }
 {
     for hold in global.holds_of(HoldKind::Error, id) {
-        append_open(zone, id, hold, found)?;
+        append_open_error(zone, id, hold, found)?;
     }
     Ok(())
 }
 
-// Whether it is applied and not superseded.
+// Whether the entry's SYSMOD is applied and not superseded.
 fn is_current(entry: &Entry) -> bool
     ensures { result ≡ is_current entry.now }
 {
     entry.applied.is_some() && entry.supby.is_empty()
 }
 
-/// The open ERROR holds, by the entries and then by reason.
+/// The ERROR holds on current SYSMODs that the zone leaves open, by the entries and then by reason.
 pub(crate) fn open_errors(
     alloc: Global,
     global: &GlobalZone,
@@ -70,7 +72,7 @@ pub(crate) fn open_errors(
     let mut found = Vec::new(alloc);
     for entry in zone.entries() {
         if is_current(entry) {
-            append_holds(global, zone, entry.id, &mut found)?;
+            append_open_errors(global, zone, entry.id, &mut found)?;
         }
     }
     Ok(found)

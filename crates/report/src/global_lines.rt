@@ -10,7 +10,7 @@ use crate::sink::Sink;
 use fields::spelling::{hold_text, kind_text};
 use sysmods::GlobalZone;
 
-/// The SYSMODs and the holds of a global zone.
+/// Puts LIST's lines of a global zone: its SYSMODs and its holds.
 pub(crate) fn put_global<W: Sink>(global: &GlobalZone, page: &mut Page<'_, W>)
     ensures { Paged W.Sink page.old page.new (flat_map line_text (list_global global.now)) }
 {

@@ -11,8 +11,8 @@ use sysmods::GlobalZone;
 use terms::CommandWord;
 use zones::{Zone, choose};
 
-// A line for each hold, with the SYSMODs that resolve its reason. Without holds it searches nothing.
-fn lines_of(
+// An ERRSYSMOD line for each open hold, with the SYSMODs that resolve its reason. Without holds it searches nothing.
+fn errsysmod_lines(
     alloc: Global,
     global: &GlobalZone,
     zone: &Zone,
@@ -37,7 +37,7 @@ fn lines_of(
     Ok(lines)
 }
 
-/// REPORT ERRSYSMODS of the zone of this name.
+/// Finds what REPORT ERRSYSMODS prints of the zone, which has this name.
 pub fn errsysmods(
     alloc: Global,
     zone_name: ZoneName,
@@ -48,7 +48,7 @@ pub fn errsysmods(
 {
     global.attest();
     let errors = open_errors(alloc, global, zone)?;
-    let lines = lines_of(alloc, global, zone, &errors)?;
+    let lines = errsysmod_lines(alloc, global, zone, &errors)?;
     Ok(Outcome::Ran {
         header: Header {
             word: CommandWord::Report,

@@ -35,7 +35,7 @@ pub enum LineWord<'a> {
     Applied(ZoneKind, &'a Option<Applied>),
 }
 
-// Ids joined by commas, or `-`.
+// Puts ids on the page, joined by commas, or `-` if there are none.
 fn put_ids<W: Sink>(ids: &[Id], page: &mut Page<'_, W>)
     ensures { Paged W.Sink page.old page.new (list_text ids.now) }
 {
@@ -50,7 +50,7 @@ fn put_ids<W: Sink>(ids: &[Id], page: &mut Page<'_, W>)
     }
 }
 
-// Sources joined by commas, or `-`.
+// Puts sources on the page, joined by commas, or `-` if there are none.
 fn put_sources<W: Sink>(sources: &[Source], page: &mut Page<'_, W>)
     ensures { Paged W.Sink page.old page.new (list_text sources.now) }
 {
@@ -75,6 +75,7 @@ pub fn applied_word(kind: ZoneKind) -> &'static [u8]
     }
 }
 
+// Puts the word and the date of an applied SYSMOD on the page, or `-`.
 fn put_applied<W: Sink>(kind: ZoneKind, applied: &Option<Applied>, page: &mut Page<'_, W>)
     ensures { Paged W.Sink page.old page.new (applied_text kind applied.now) }
 {
@@ -88,6 +89,7 @@ fn put_applied<W: Sink>(kind: ZoneKind, applied: &Option<Applied>, page: &mut Pa
     }
 }
 
+// Puts the text of a word on the page.
 fn put_word<W: Sink>(word: LineWord<'_>, page: &mut Page<'_, W>)
     ensures { Paged W.Sink page.old page.new (word_text word.entry) }
 {
@@ -115,7 +117,8 @@ fn put_word<W: Sink>(word: LineWord<'_>, page: &mut Page<'_, W>)
     }
 }
 
-/// A line that begins with these bytes. A line that begins with blanks and then a word has one blank less here.
+/// Puts a line on the page that begins with `start`, with a blank before each word. A line that begins with blanks and
+/// then a word has one blank less in `start`.
 pub(crate) fn put_words<W: Sink>(start: &[u8], words: &[LineWord<'_>], page: &mut Page<'_, W>)
     ensures paged { Paged W.Sink page.old page.new (words_line (start.now ∷ map word_text words.now)) }
     ensures some { 0 < length page.new.waiting.items }
@@ -135,7 +138,7 @@ fn write_words<W: Sink>(start: &[u8], words: &[LineWord<'_>], w: &mut W) -> Resu
 {
     let mut page = Page::new(w);
     put_words(start, words, &mut page);
-    page.empty()
+    page.flush()
 }
 
 /// Appends such a line to a text.

@@ -22,7 +22,7 @@ use fields::{Id, Reason};
 use judge_system::{Failure, TestSet};
 use terms::StatementCode;
 
-/// A command's word, its boundary or `-`, and CHECK.
+/// Puts the first line of a report: the command's word, its boundary or `-`, and CHECK if it only checks.
 pub(crate) fn put_header<W: Sink>(header: &Header, page: &mut Page<'_, W>)
     ensures { Paged W.Sink page.old page.new (header_text (header_view header.now)) }
 {
@@ -35,7 +35,7 @@ pub(crate) fn put_header<W: Sink>(header: &Header, page: &mut Page<'_, W>)
     put_words(word, &[zone], page);
 }
 
-// The place of a fault, and its code.
+// Puts the line of a command that a fault of its file refused: the record of the fault, and its code.
 fn put_fault<W: Sink>(word: &[u8], number: usize, code: StatementCode, page: &mut Page<'_, W>)
     ensures { Paged W.Sink page.old page.new
         (words_line (codes "REFUSED" ∷ word.now ∷ codes "RECORD" ∷ decimal number ∷ statement_code_text code ∷ [])) }
@@ -49,7 +49,7 @@ fn put_fault<W: Sink>(word: &[u8], number: usize, code: StatementCode, page: &mu
     put_words(b"REFUSED", &words, page);
 }
 
-/// The one line of a refused command.
+/// Puts the one line of a refused command.
 pub(crate) fn put_refusal<W: Sink>(refusal: &Refusal, page: &mut Page<'_, W>)
     ensures { Paged W.Sink page.old page.new (refused_text (refusal_view refusal.now)) }
 {
@@ -62,6 +62,7 @@ pub(crate) fn put_refusal<W: Sink>(refusal: &Refusal, page: &mut Page<'_, W>)
     }
 }
 
+// The text that follows the id in a status line.
 fn place_text(place: &Place) -> &[u8]
     ensures { result.now ≡ place_text (place_view place.now) }
 {
@@ -72,6 +73,7 @@ fn place_text(place: &Place) -> &[u8]
     }
 }
 
+// The word that says what became of an id.
 fn status_word(status: &Status) -> &[u8]
     ensures { result.now ≡ status_word (status_view status.now) }
 {
@@ -97,6 +99,7 @@ fn status_word(status: &Status) -> &[u8]
     }
 }
 
+// What follows the status word: why the id was refused, the source, or the reason of the hold.
 fn status_detail(status: &Status) -> Option<&[u8]>
     ensures { at_most_one (option_map (λ t. t.now) result) ≡ status_detail (status_view status.now) }
 {
@@ -110,7 +113,7 @@ fn status_detail(status: &Status) -> Option<&[u8]>
     }
 }
 
-// A line for each test that was failed.
+// Puts a line for each test that was failed.
 fn put_tests<W: Sink>(tests: TestSet, page: &mut Page<'_, W>)
     ensures { Paged W.Sink page.old page.new
         (flat_map (λ t. detail_line (codes "TEST" ∷ test_text t ∷ [])) (tests_of tests)) }
@@ -120,7 +123,7 @@ fn put_tests<W: Sink>(tests: TestSet, page: &mut Page<'_, W>)
     }
 }
 
-// The lines after FAILED.
+// Puts the lines after FAILED: the failed tests, the open needs and the causers.
 fn put_failure<W: Sink>(failure: &Failure, page: &mut Page<'_, W>)
     ensures { Paged W.Sink page.old page.new (failure_text (failure_view failure.now)) }
 {
@@ -137,7 +140,7 @@ fn put_failure<W: Sink>(failure: &Failure, page: &mut Page<'_, W>)
     }
 }
 
-// A status line, without further lines.
+// Puts a status line, without the lines that belong to it.
 fn put_status<'a, W: Sink>(id: Id, place: &'a Place, status: &'a Status, page: &mut Page<'_, W>)
     ensures { Paged W.Sink page.old page.new (words_line (id ∷ left_in 8 (place_text (place_view place.now))
         ∷ status_word (status_view status.now) ∷ status_detail (status_view status.now))) }
@@ -150,8 +153,8 @@ fn put_status<'a, W: Sink>(id: Id, place: &'a Place, status: &'a Status, page: &
     }
 }
 
-// A held SYSMOD with its reason, and the SYSMODs that resolve it: `RESOLVER` lines, or one that says that there are
-// none.
+// Puts a held SYSMOD with its reason, and the SYSMODs that resolve it: `RESOLVER` lines, or one that says that there
+// are none.
 fn put_errsysmod<'a, W: Sink>(
     id: &'a Id,
     reason: &'a Reason,
@@ -171,7 +174,7 @@ fn put_errsysmod<'a, W: Sink>(
     }
 }
 
-/// A line, with the lines that belong to it.
+/// Puts a line, with the lines that belong to it.
 pub(crate) fn put_line<W: Sink>(line: &ReportLine, page: &mut Page<'_, W>)
     ensures { Paged W.Sink page.old page.new (line_text (line_view line.now)) }
 {

@@ -35,14 +35,14 @@ impl<'a, W: Sink> Page<'a, W> {
         if self.waiting.try_extend_from_slice(piece).is_ok() {
             return;
         }
-        let _ = self.empty();
+        let _ = self.flush();
         if self.waiting.try_extend_from_slice(piece).is_err() {
             let _ = write_all(piece, self.sink);
         }
     }
 
     /// Sends what waits to the sink.
-    pub(crate) fn empty(&mut self) -> Result<(), WriteFault>
+    pub(crate) fn flush(&mut self) -> Result<(), WriteFault>
         ensures paged { Paged W.Sink self.old self.new [] }
         ensures waiting { self.new.waiting.items ≡ [] }
         ensures fault { 0 < length self.old.waiting.items → W.has_failed self.new.sink.now ≡ is_err result }

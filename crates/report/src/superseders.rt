@@ -1,5 +1,5 @@
-//! The received SYSMODs that serve a need for an id, or resolve the reason of a hold: the one of this id, and those that
-//! supersede it.
+//! The received SYSMODs that serve a need for an id, or resolve the reason of a hold: the one of this id, and those
+//! that supersede it.
 ghost use Rattle.std.specs.Prelude.{◌≡◌, ◌↔◌, ◌⊎◌, filter, Contains, IfOk, IsTrue};
 ghost use Rattle.terms.specs.Types.{Id as AnId};
 ghost use Rattle.terms.specs.Lookups.{is_in};
@@ -11,12 +11,17 @@ ghost use Rattle.report.specs.Superseders.{direct_superseders};
 
 use fields::{Id, IdList, Srel};
 use indexmap::IndexSet;
-use judge_system::takes_superseder;
 use std::alloc::{AllocError, Global};
 use sysmods::VerChoice;
 use terms::NeedKind;
 
-fn among(alloc: Global, vers: &VerChoice<'_>, id: Id, namers: &[Id]) -> Result<Vec<Id>, AllocError>
+// The SYSMODs among these that name the id in SUP.
+fn superseders_among(
+    alloc: Global,
+    vers: &VerChoice<'_>,
+    id: Id,
+    namers: &[Id],
+) -> Result<Vec<Id>, AllocError>
     ensures { IfOk result (λ ids. ids.items ≡ filter (λ y. is_in (sup_of (choice vers.now) y) id) namers.now) }
 {
     namers
@@ -38,11 +43,11 @@ fn direct_superseders(
 {
     let mut namers = Vec::new(alloc);
     vers.global().append_namers(srel, id, &mut namers)?;
-    among(alloc, vers, id, namers.as_slice())
+    superseders_among(alloc, vers, id, namers.as_slice())
 }
 
 // The id, and all received SYSMODs that supersede it. It goes through each once.
-fn with_superseders(
+fn id_and_superseders(
     alloc: Global,
     vers: &VerChoice<'_>,
     srel: Srel,
@@ -77,8 +82,8 @@ pub fn serving_ids(
     requires { vers.now.srel ≡ srel }
     ensures { IfOk result (λ ids. (y : AnId) → Contains ids.items y ↔ Serves (choice vers.now) kind y id) }
 {
-    if takes_superseder(kind) {
-        return with_superseders(alloc, vers, srel, id);
+    if kind.takes_superseder() {
+        return id_and_superseders(alloc, vers, srel, id);
     }
     Ok(vec![in alloc; id]?)
 }
@@ -95,7 +100,7 @@ pub(crate) fn resolvers(
         ↔ (IsTrue (has_ver vers.now.global.now vers.now.srel y)
         × ((y ≡ reason) ⊎ Supersedes (choice vers.now) y reason))) }
 {
-    let mut ids = with_superseders(alloc, vers, srel, reason)?;
+    let mut ids = id_and_superseders(alloc, vers, srel, reason)?;
     ids.retain(|id| vers.has_ver(*id));
     Ok(IdList::from_vec(ids))
 }

@@ -17,6 +17,7 @@ use crate::zone_lines::put_zone;
 use fields::spelling::command_code_text;
 use terms::IdRefusal;
 
+// The return code of a line.
 fn line_code(line: &ReportLine) -> u8
     ensures code { result ≡ line_code (line_view line.now) }
     ensures most { result ≤ 12 }
@@ -108,5 +109,5 @@ pub fn write_report<W: Sink>(outcome: &Outcome<'_>, w: &mut W) -> Result<u8, Wri
 {
     let mut page = Page::new(w);
     let code = put_outcome(outcome, &mut page);
-    page.empty().map(|()| code)
+    page.flush().map(|()| code)
 }

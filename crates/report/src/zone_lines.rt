@@ -13,7 +13,7 @@ use fields::spelling::type_text;
 use terms::ZoneKind;
 use zones::{Element, Entry, Zone};
 
-/// The words of LIST's line of an entry, behind the first.
+/// The words of LIST's line of an entry, after the first.
 pub fn entry_words<'a>(kind: ZoneKind, entry: &'a Entry) -> [LineWord<'a>; 8]
     ensures { words_line (codes "ENTRY" ∷ map word_text result) ≡ entry_text kind entry.now }
 {
@@ -29,7 +29,7 @@ pub fn entry_words<'a>(kind: ZoneKind, entry: &'a Entry) -> [LineWord<'a>; 8]
     ]
 }
 
-// An element, and with TEXT its records.
+// Puts the line of an element, and with TEXT its records.
 fn put_element<W: Sink>(element: &Element, text: bool, page: &mut Page<'_, W>)
     ensures { Paged W.Sink page.old page.new (flat_map line_text (element_lines text element.now)) }
 {
@@ -55,7 +55,7 @@ fn put_element<W: Sink>(element: &Element, text: bool, page: &mut Page<'_, W>)
     }
 }
 
-/// The entries and the elements of a zone, with TEXT their records too.
+/// Puts LIST's lines of a zone: its entries and its elements, and with TEXT their records.
 pub(crate) fn put_zone<W: Sink>(zone: &Zone, text: bool, page: &mut Page<'_, W>)
     ensures { Paged W.Sink page.old page.new (flat_map line_text (list_zone text zone.now)) }
 {

@@ -1,5 +1,5 @@
--- What other candidates of the same APPLY or ACCEPT have to do with the failure of one of them: they delete its function
--- (J8), or they clash with it (J9).
+-- What other candidates of the same APPLY or ACCEPT have to do with the failure of one of them: they delete its
+-- function (J8), or they clash with it (J9).
 use Rattle.std.specs.Prelude.{◌≡◌, ◌≢◌, ◌⊎◌, ◌||◌, Bool, true, false, not, List, [], ◌∷◌, ◌++◌, Option, None, Some}
 use Rattle.std.specs.Prelude.{filter, if◌then◌else◌}
 use Rattle.std.specs.List.{flat_map, list_any, list_all}

@@ -28,7 +28,8 @@ use Rattle.report_verdict.specs.declared.conflict.Conflict.{Conflict}
 use Rattle.report_verdict.specs.declared.conflict.Conflict.TheVariants.{Deletes, Forbids, ForbiddenBy, Shares}
 use Rattle.report_verdict.specs.Conflicts.{by_delete, by_clash}
 
--- What the words rest on: BYPASS, the facts of the id, its conflicts with other candidates, and the lines of the report.
+-- What the words rest on: BYPASS, the facts of the id, its conflicts with other candidates, and the lines of the
+-- report.
 pub record Basis : Type 0 where
   pub bypass : Bypass
   pub facts : List Fact
@@ -143,8 +144,10 @@ test_told a t =
 
 -- the answer of the fact to what is needed
 abbrev pub answered : NeedKind → Id → Fact → Option Resolution
-answered kind z (RequisiteFact r a) = if bytes_eq (need_text kind) (need_text r.kind) && bytes_eq z r.id then Some a else None
-answered kind z (HoldFact h o) = if bytes_eq (need_text kind) (need_text HoldError) && bytes_eq z h.reason then o else None
+answered kind z (RequisiteFact r a) =
+    if bytes_eq (need_text kind) (need_text r.kind) && bytes_eq z r.id then Some a else None
+answered kind z (HoldFact h o) =
+    if bytes_eq (need_text kind) (need_text HoldError) && bytes_eq z h.reason then o else None
 answered kind z _ = None
 
 abbrev pub or_other : Option Resolution → Option Resolution → Option Resolution

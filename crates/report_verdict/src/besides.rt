@@ -1,8 +1,7 @@
-//! Which other candidates serve what an id asks for, and what BYPASS covers.
+//! The lines of a candidate's requisites and holds: which other candidates supply them, and which ones BYPASS covers.
 ghost use Rattle.std.specs.Prelude.{◌≡◌, ◌++◌, ◌∷◌, [], map, option_map, OnOk};
 ghost use Rattle.std.specs.List.{flat_map};
 ghost use Rattle.std.specs.String.{string_bytes};
-ghost use Rattle.terms.specs.Needs.{is_bypassed};
 ghost use Rattle.machine.specs.Report.{optional_text};
 ghost use Rattle.report.specs.Views.{line_view, status_view};
 ghost use Rattle.report.specs.Facts.{RequisiteFact, HoldFact};
@@ -23,6 +22,7 @@ use sysmods_values::Hold;
 use terms::NeedKind;
 use zones::is_bypassed_hold;
 
+// Whether the status is one of a candidate.
 fn is_candidate(status: &Status) -> bool
     ensures { result ≡ is_candidate (status_view status.now) }
 {
@@ -35,8 +35,8 @@ fn is_candidate(status: &Status) -> bool
     }
 }
 
-// Appends what becomes of the SYSMOD that serves what is asked for, if this line is about it.
-fn put_supply_by<'a>(
+// Appends what becomes of the SYSMOD `by`, which would supply the requisite, if this line is about it.
+fn put_supplier_line<'a>(
     kind: NeedKind,
     id: &'a [u8],
     by: &'a Id,
@@ -47,8 +47,8 @@ fn put_supply_by<'a>(
 {
     match line {
         ReportLine::Status { id: of, status, .. } => {
-            let is_it = *by == *of && is_candidate(status);
-            if !is_it {
+            let is_about_it = *by == *of && is_candidate(status);
+            if !is_about_it {
                 return Ok(());
             }
             let supply = LineWord::Of(b"SUPPLY");
@@ -63,7 +63,8 @@ fn put_supply_by<'a>(
     }
 }
 
-fn put_supply_in<'a>(
+// Appends what becomes of the SYSMOD `by`, which would supply the requisite, if a line is about it.
+fn put_supplier<'a>(
     kind: NeedKind,
     id: &'a [u8],
     by: &'a Id,
@@ -74,12 +75,13 @@ fn put_supply_in<'a>(
         ≡ text.old.items ++ flat_map (supply_by kind id.now by.now) (map line_view lines.now)) }
 {
     for line in lines {
-        put_supply_by(kind, id, by, line, text)?;
+        put_supplier_line(kind, id, by, line, text)?;
     }
     Ok(())
 }
 
-fn put_supplies<'a>(
+// Appends what becomes of the SYSMODs that would supply the requisite.
+fn put_suppliers<'a>(
     kind: NeedKind,
     id: &'a [u8],
     ids: &'a [Id],
@@ -90,13 +92,13 @@ fn put_supplies<'a>(
         ++ flat_map (λ y. flat_map (supply_by kind id.now y) (map line_view lines.now)) ids.now) }
 {
     for by in ids {
-        put_supply_in(kind, id, by, lines, text)?;
+        put_supplier(kind, id, by, lines, text)?;
     }
     Ok(())
 }
 
-// Appends what becomes of the candidates that serve what is asked for.
-fn put_supply_of<'a>(
+// Appends what becomes of the SYSMODs that would supply an open requisite.
+fn put_resolution_suppliers<'a>(
     kind: NeedKind,
     id: &'a [u8],
     answer: &'a Resolution,
@@ -107,17 +109,22 @@ fn put_supply_of<'a>(
         ++ supply_of (map line_view lines.now) kind id.now (answer_view answer.now)) }
 {
     match answer {
-        Resolution::Open(ids) => put_supplies(kind, id, ids.as_slice(), lines, text),
+        Resolution::Open(ids) => put_suppliers(kind, id, ids.as_slice(), lines, text),
         _ => Ok(()),
     }
 }
 
-fn put_supply(fact: &Fact<'_>, lines: &[ReportLine], text: &mut Vec<u8>) -> Result<(), AllocError>
+// Appends what becomes of the SYSMODs that would supply the requisite, or resolve the ERROR hold, of this fact.
+fn put_fact_suppliers(
+    fact: &Fact<'_>,
+    lines: &[ReportLine],
+    text: &mut Vec<u8>,
+) -> Result<(), AllocError>
     ensures { OnOk result (text.new.items
         ≡ text.old.items ++ supply_told (map line_view lines.now) (fact_view fact.now)) }
 {
     match fact {
-        Fact::Requisite { requisite, answer } => put_supply_of(
+        Fact::Requisite { requisite, answer } => put_resolution_suppliers(
             requisite.kind,
             requisite.id.as_bytes(),
             answer,
@@ -125,7 +132,7 @@ fn put_supply(fact: &Fact<'_>, lines: &[ReportLine], text: &mut Vec<u8>) -> Resu
             text,
         ),
         Fact::Hold { hold, resolution } => match resolution {
-            Some(answer) => put_supply_of(
+            Some(answer) => put_resolution_suppliers(
                 NeedKind::HoldError,
                 hold.reason.as_bytes(),
                 answer,
@@ -138,18 +145,8 @@ fn put_supply(fact: &Fact<'_>, lines: &[ReportLine], text: &mut Vec<u8>) -> Resu
     }
 }
 
-fn is_bypassed(bypass: &Bypass, kind: NeedKind) -> bool
-    ensures { result ≡ is_bypassed bypass.now kind }
-{
-    match kind {
-        NeedKind::Pre => bypass.pre,
-        NeedKind::Req => bypass.req,
-        NeedKind::Ifreq => bypass.ifreq,
-        _ => false,
-    }
-}
-
-fn is_lacking(answer: &Resolution) -> bool
+// Whether no applied SYSMOD supplies the requisite.
+fn is_unsupplied(answer: &Resolution) -> bool
     ensures { result ≡ is_lacking (answer_view answer.now) }
 {
     match answer {
@@ -168,7 +165,7 @@ fn put_bypassed_requisite(
     ensures { OnOk result (text.new.items ≡ text.old.items
         ++ bypassed_told bypass.now (RequisiteFact requisite.now (answer_view answer.now))) }
 {
-    let covered = is_bypassed(bypass, requisite.kind) && is_lacking(answer);
+    let covered = bypass.covers(requisite.kind) && is_unsupplied(answer);
     if !covered {
         return Ok(());
     }
@@ -178,6 +175,7 @@ fn put_bypassed_requisite(
     append_words(b"   ", &[bypassed, kind, id], text)
 }
 
+// The comment of a hold, or `-`.
 fn comment_text(comment: &Option<String>) -> &[u8]
     ensures { result.now ≡ optional_text (option_map string_bytes comment.now) }
 {
@@ -215,7 +213,8 @@ fn put_bypassed_hold(
     append_words(b"   ", &words, text)
 }
 
-fn put_bypassed(bypass: &Bypass, fact: &Fact<'_>, text: &mut Vec<u8>) -> Result<(), AllocError>
+// Appends the line of a requisite or a hold that BYPASS covers.
+fn put_bypassed_fact(bypass: &Bypass, fact: &Fact<'_>, text: &mut Vec<u8>) -> Result<(), AllocError>
     ensures { OnOk result (text.new.items ≡ text.old.items ++ bypassed_told bypass.now (fact_view fact.now)) }
 {
     match fact {
@@ -227,7 +226,8 @@ fn put_bypassed(bypass: &Bypass, fact: &Fact<'_>, text: &mut Vec<u8>) -> Result<
     }
 }
 
-fn put_all_supplies(
+// Appends what becomes of the SYSMODs that would supply the requisites of these facts.
+fn put_all_suppliers(
     facts: &[Fact<'_>],
     lines: &[ReportLine],
     text: &mut Vec<u8>,
@@ -236,12 +236,13 @@ fn put_all_supplies(
         ++ flat_map (supply_told (map line_view lines.now)) (map fact_view facts.now)) }
 {
     for fact in facts {
-        put_supply(fact, lines, text)?;
+        put_fact_suppliers(fact, lines, text)?;
     }
     Ok(())
 }
 
-fn put_all_bypassed(
+// Appends the lines of the requisites and the holds that BYPASS covers.
+fn put_bypassed_facts(
     bypass: &Bypass,
     facts: &[Fact<'_>],
     text: &mut Vec<u8>,
@@ -250,13 +251,13 @@ fn put_all_bypassed(
         ≡ text.old.items ++ flat_map (bypassed_told bypass.now) (map fact_view facts.now)) }
 {
     for fact in facts {
-        put_bypassed(bypass, fact, text)?;
+        put_bypassed_fact(bypass, fact, text)?;
     }
     Ok(())
 }
 
-/// Appends which other candidates serve what a candidate asks for, and what BYPASS covers.
-pub(crate) fn put_besides(
+/// Appends which other candidates would supply the requisites of a candidate, and what BYPASS covers.
+pub(crate) fn put_suppliers_and_bypassed(
     grounds: &Grounds<'_, '_>,
     status: &Status,
     text: &mut Vec<u8>,
@@ -267,6 +268,6 @@ pub(crate) fn put_besides(
     if !is_candidate(status) {
         return Ok(());
     }
-    put_all_supplies(grounds.facts, grounds.lines, text)?;
-    put_all_bypassed(grounds.bypass, grounds.facts, text)
+    put_all_suppliers(grounds.facts, grounds.lines, text)?;
+    put_bypassed_facts(grounds.bypass, grounds.facts, text)
 }

@@ -5,17 +5,18 @@ ghost use Rattle.report_verdict.specs.Verdict.{element_reason, apart_text, confl
 ghost use Rattle.report_verdict.specs.declared.conflict.Conflict.TheVariants.{Deletes, Forbids, ForbiddenBy, Shares};
 
 use crate::conflict::{Apart, Conflict};
-use crate::statuses::{by_clash, by_delete};
+use crate::statuses::{is_clash_test, is_delete_test};
 use fields::spelling::{test_text, type_text};
 use fields::{Id, Name};
 use report::{LineWord, append_words};
 use std::alloc::AllocError;
 use terms::{ElemType, Test};
 
+// Appends that the candidate `by` has an id of the chain in DELETE, if that decides the test.
 fn put_deletes<'a>(test: Test, by: &'a Id, id: &'a Id, text: &mut Vec<u8>) -> Result<(), AllocError>
     ensures { OnOk result (text.new.items ≡ text.old.items ++ conflict_reason test (Deletes by.now id.now)) }
 {
-    if !by_delete(test) {
+    if !is_delete_test(test) {
         return Ok(());
     }
     let code = LineWord::Of(test_text(test));
@@ -28,10 +29,11 @@ fn put_deletes<'a>(test: Test, by: &'a Id, id: &'a Id, text: &mut Vec<u8>) -> Re
     append_words(b"   ", &words, text)
 }
 
+// Appends that NPRE names another candidate, if that decides the test.
 fn put_forbids(test: Test, id: &Id, text: &mut Vec<u8>) -> Result<(), AllocError>
     ensures { OnOk result (text.new.items ≡ text.old.items ++ conflict_reason test (Forbids id.now)) }
 {
-    if !by_clash(test) {
+    if !is_clash_test(test) {
         return Ok(());
     }
     let code = LineWord::Of(test_text(test));
@@ -42,10 +44,11 @@ fn put_forbids(test: Test, id: &Id, text: &mut Vec<u8>) -> Result<(), AllocError
     append_words(b"   ", &words, text)
 }
 
+// Appends that another candidate names the id in NPRE, if that decides the test.
 fn put_forbidden_by(test: Test, id: &Id, text: &mut Vec<u8>) -> Result<(), AllocError>
     ensures { OnOk result (text.new.items ≡ text.old.items ++ conflict_reason test (ForbiddenBy id.now)) }
 {
-    if !by_clash(test) {
+    if !is_clash_test(test) {
         return Ok(());
     }
     let code = LineWord::Of(test_text(test));
@@ -64,6 +67,7 @@ fn apart_text(apart: Apart) -> &'static [u8]
     }
 }
 
+// Appends that another candidate changes the element too, if that decides the test.
 fn put_shares<'a>(
     test: Test,
     with: &'a Id,
@@ -75,7 +79,7 @@ fn put_shares<'a>(
     ensures { OnOk result (text.new.items
         ≡ text.old.items ++ conflict_reason test (Shares with.now elem_type name.now apart)) }
 {
-    if !by_clash(test) {
+    if !is_clash_test(test) {
         return Ok(());
     }
     let code = LineWord::Of(test_text(test));
@@ -87,6 +91,7 @@ fn put_shares<'a>(
     append_words(b"   ", &words, text)
 }
 
+// Appends the line of a failed test that rests on this conflict, if it does.
 fn put_conflict(test: Test, conflict: &Conflict, text: &mut Vec<u8>) -> Result<(), AllocError>
     ensures { OnOk result (text.new.items ≡ text.old.items ++ conflict_reason test conflict.now) }
 {

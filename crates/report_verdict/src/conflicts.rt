@@ -1,11 +1,8 @@
 //! The conflicts of a candidate with the others of a report.
-ghost use Rattle.std.specs.Prelude.{◌≡◌, ◌==◌, ◌↔◌, ◌⊎◌, ◌&&◌, ◌++◌, [], ◌∷◌, map, find, option_copied, IsTrue, IfOk, OnOk};
-ghost use Rattle.std.specs.Prelude.{if◌then◌else◌};
+ghost use Rattle.std.specs.Prelude.{◌≡◌, ◌↔◌, ◌⊎◌, ◌++◌, [], ◌∷◌, map, IsTrue, IfOk, OnOk, if◌then◌else◌};
 ghost use Rattle.std.specs.List.{flat_map};
-ghost use Rattle.std.specs.Str.{bytes_eq};
-ghost use Rattle.terms.specs.Types.{type_number};
 ghost use Rattle.terms.specs.Beside.{Beside};
-ghost use Rattle.terms.specs.Lookups.{is_in, changes_of, has_change};
+ghost use Rattle.terms.specs.Lookups.{is_in, changes_of};
 ghost use Rattle.terms.specs.Choice.{npre_of};
 ghost use Rattle.terms.specs.Over.{IsOver, owner, chain};
 ghost use Rattle.sysmods.specs.Choices.{choice};
@@ -16,57 +13,30 @@ ghost use Rattle.report_verdict.specs.Conflicts.{shares, clashes_with, AreConfli
 ghost use Rattle.report_verdict.specs.declared.conflict.Conflict.TheVariants.{Forbids, ForbiddenBy};
 
 use crate::conflict::{Apart, Conflict, Partner};
-use crate::statuses::{clashing, deleters};
-use fields::{Id, Name};
+use crate::statuses::{clashing_ids, deleters};
+use fields::Id;
 use report::ReportLine;
 use std::alloc::{AllocError, Global};
 use sysmods::{GlobalZone, VerChoice};
 use sysmods_values::ElemChange;
-use terms::ElemType;
 use zones::Scope;
 
-// Whether its chain contains this id.
+// Whether the chain of FMIDs from the SYSMOD `id` contains `other`.
 fn is_in_chain(vers: &VerChoice<'_>, id: Id, other: Id) -> bool
     ensures { result ≡ is_in (chain vers.now.global.now (choice vers.now) id) other }
 {
     vers.meets(id, &[other])
 }
 
-// Whether NPRE of the first names the second.
+// Whether the first SYSMOD names the second in NPRE.
 fn forbids(vers: &VerChoice<'_>, first: Id, second: Id) -> bool
     ensures { result ≡ is_in (npre_of (choice vers.now) first) second }
 {
     vers.npre(first).contains(&second)
 }
 
-fn is_about(change: &ElemChange, elem_type: ElemType, name: Name) -> bool
-    ensures { result ≡ ((type_number change.now.elem_type == type_number elem_type) && bytes_eq change.now.name name) }
-{
-    change.elem_type == elem_type && change.name == name
-}
-
-// The first statement about the element.
-fn change_at(changes: &[ElemChange], elem_type: ElemType, name: Name) -> Option<&ElemChange>
-    ensures { option_copied result
-        ≡ find (λ h. (type_number h.elem_type == type_number elem_type) && bytes_eq h.name name) changes.now }
-{
-    changes
-        .iter()
-        .find(|change| is_about(change, elem_type, name))
-}
-
-// Whether it changes the element.
-fn has_change(global: &GlobalZone, id: Id, elem_type: ElemType, name: Name) -> bool
-    ensures { result ≡ has_change global.now id elem_type name }
-{
-    match change_at(global.changes_of(id), elem_type, name) {
-        Some(_) => true,
-        None => false,
-    }
-}
-
-// Adds the conflict if it is so.
-fn push_where(is_so: bool, conflict: Conflict, found: &mut Vec<Conflict>) -> Result<(), AllocError>
+// Adds the conflict if the condition holds.
+fn push_if(is_so: bool, conflict: Conflict, found: &mut Vec<Conflict>) -> Result<(), AllocError>
     ensures { OnOk result (found.new.items ≡ found.old.items ++ (if is_so then conflict ∷ [] else [])) }
 {
     if is_so {
@@ -75,7 +45,7 @@ fn push_where(is_so: bool, conflict: Conflict, found: &mut Vec<Conflict>) -> Res
     Ok(())
 }
 
-// Adds the deletion of an id that another candidate names, if it is in the chain.
+// Adds that the candidate `by` has `del` in DELETE, if the chain of the id contains that.
 fn push_deletion(
     scope: &Scope<'_, '_>,
     id: Id,
@@ -85,14 +55,14 @@ fn push_deletion(
 ) -> Result<(), AllocError>
     ensures { OnOk result (found.new.items ≡ found.old.items ++ deletion_of (setting_of scope.now) id by del) }
 {
-    push_where(
+    push_if(
         is_in_chain(scope.vers, id, del),
         Conflict::Deletes { by, id: del },
         found,
     )
 }
 
-// Adds what another candidate deletes of the chain.
+// Adds each id of the chain that the candidate `by` has in DELETE.
 fn push_deletions(
     scope: &Scope<'_, '_>,
     id: Id,
@@ -108,7 +78,7 @@ fn push_deletions(
     Ok(())
 }
 
-// Whether both have one owner.
+// Whether one function owns the elements of both.
 fn have_one_owner(vers: &VerChoice<'_>, x: Id, y: Id) -> bool
     ensures { IsTrue result ↔ (owner vers.now.global.now (choice vers.now) x
         ≡ owner vers.now.global.now (choice vers.now) y) }
@@ -128,7 +98,12 @@ fn are_ordered(alloc: Global, vers: &VerChoice<'_>, x: Id, y: Id) -> Result<bool
 }
 
 // Why the two may not change one element, if they may not.
-fn apart(alloc: Global, scope: &Scope<'_, '_>, x: Id, y: Id) -> Result<Option<Apart>, AllocError>
+fn why_apart(
+    alloc: Global,
+    scope: &Scope<'_, '_>,
+    x: Id,
+    y: Id,
+) -> Result<Option<Apart>, AllocError>
     ensures { IfOk result (λ apart. IsApart (setting_of scope.now) x y apart) }
 {
     if !have_one_owner(scope.vers, x, y) {
@@ -140,7 +115,7 @@ fn apart(alloc: Global, scope: &Scope<'_, '_>, x: Id, y: Id) -> Result<Option<Ap
     Ok(Some(Apart::Unordered))
 }
 
-// The candidates with which it clashes.
+// The candidates with which the id clashes.
 fn partners(
     alloc: Global,
     scope: &Scope<'_, '_>,
@@ -150,10 +125,10 @@ fn partners(
     ensures { IfOk result (λ partners. Beside (λ n y p. IsPartner (setting_of scope.now) id y p)
         (clashing (map line_view lines.now) id) partners.items) }
 {
-    let others = clashing(alloc, lines, id)?;
+    let others = clashing_ids(alloc, lines, id)?;
     let mut partners = Vec::new(alloc);
     for other in others.as_slice() {
-        let apart = apart(alloc, scope, id, *other)?;
+        let apart = why_apart(alloc, scope, id, *other)?;
         partners.push(Partner { id: *other, apart })?;
     }
     Ok(partners)
@@ -177,7 +152,7 @@ fn push_share(
         name,
         apart,
     };
-    push_where(has_change(global, with, elem_type, name), share, found)
+    push_if(global.has_change(with, elem_type, name), share, found)
 }
 
 // Adds the elements that both change.
@@ -199,8 +174,8 @@ fn push_shares(
     Ok(())
 }
 
-// Adds the elements that both change, if they may not.
-fn push_apart(
+// Adds the elements that the id and its partner both change, if they may not.
+fn push_partner_shares(
     scope: &Scope<'_, '_>,
     id: Id,
     partner: &Partner,
@@ -215,7 +190,7 @@ fn push_apart(
     }
 }
 
-// Adds the clashes with a partner.
+// Adds the conflicts with a partner: by NPRE of either one, and by elements that both change.
 fn push_clashes(
     scope: &Scope<'_, '_>,
     id: Id,
@@ -225,17 +200,17 @@ fn push_clashes(
     ensures { OnOk result (found.new.items ≡ found.old.items ++ clashes_with (setting_of scope.now) id partner.now) }
 {
     let with = partner.id;
-    push_where(
+    push_if(
         forbids(scope.vers, id, with),
         Conflict::Forbids(with),
         found,
     )?;
-    push_where(
+    push_if(
         forbids(scope.vers, with, id),
         Conflict::ForbiddenBy(with),
         found,
     )?;
-    push_apart(scope, id, partner, found)
+    push_partner_shares(scope, id, partner, found)
 }
 
 /// The conflicts of the id with the other candidates of a report with these lines: those on which its failure of J8 or

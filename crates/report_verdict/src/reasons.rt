@@ -11,7 +11,7 @@ ghost use Rattle.report_verdict.specs.Grounds.{basis_of};
 
 use crate::conflict_reasons::put_conflicts;
 use crate::grounds::Grounds;
-use crate::statuses::by_delete;
+use crate::statuses::is_delete_test;
 use fields::spelling::{hold_text, test_text, type_text};
 use fields::{Bypass, Id, Name};
 use report::{Fact, Found, LineWord, Maker, Rank, append_words, id_text};
@@ -20,7 +20,8 @@ use sysmods_values::Hold;
 use terms::{ElemType, HoldKind, Test};
 use zones::is_bypassed_hold;
 
-fn by_hold(test: Test, kind: HoldKind) -> bool
+// Whether holds of this kind decide the test.
+fn is_hold_test(test: Test, kind: HoldKind) -> bool
     ensures { result ≡ by_hold test kind }
 {
     match test {
@@ -30,37 +31,43 @@ fn by_hold(test: Test, kind: HoldKind) -> bool
     }
 }
 
-fn by_npre(test: Test) -> bool
+// Whether NPRE decides the test.
+fn is_npre_test(test: Test) -> bool
     ensures { result ≡ by_npre test }
 {
     matches!(test, Test::ForbiddenByNpre)
 }
 
-fn by_owner(test: Test) -> bool
+// Whether the owner of an element decides the test.
+fn is_owner_test(test: Test) -> bool
     ensures { result ≡ by_owner test }
 {
     matches!(test, Test::OwnedByAnother)
 }
 
-fn by_makers(test: Test) -> bool
+// Whether the SYSMODs that made an element decide the test.
+fn is_regression_test(test: Test) -> bool
     ensures { result ≡ by_makers test }
 {
     matches!(test, Test::Regression)
 }
 
-fn by_update(test: Test) -> bool
+// Whether it decides the test that there is no element to update.
+fn is_update_test(test: Test) -> bool
     ensures { result ≡ by_update test }
 {
     matches!(test, Test::NothingToUpdate)
 }
 
-fn by_target(test: Test) -> bool
+// Whether the related target zone decides the test.
+fn is_target_test(test: Test) -> bool
     ensures { result ≡ by_target test }
 {
     matches!(test, Test::NotInTarget)
 }
 
-fn by_vers(test: Test) -> bool
+// Whether it decides the test that several `++VER`s fit.
+fn is_several_fit_test(test: Test) -> bool
     ensures { result ≡ by_vers test }
 {
     matches!(test, Test::SeveralFit)
@@ -72,11 +79,11 @@ fn is_over(rank: Rank) -> bool
     matches!(rank, Rank::Over)
 }
 
-// The line of a hold that BYPASS does not cover.
+// Appends the line of a hold that decides the test and that BYPASS does not cover.
 fn put_hold(bypass: &Bypass, test: Test, hold: &Hold, text: &mut Vec<u8>) -> Result<(), AllocError>
     ensures { OnOk result (text.new.items ≡ text.old.items ++ hold_reason bypass.now test hold.now) }
 {
-    let stands = by_hold(test, hold.kind) && !is_bypassed_hold(bypass, hold);
+    let stands = is_hold_test(test, hold.kind) && !is_bypassed_hold(bypass, hold);
     if !stands {
         return Ok(());
     }
@@ -88,7 +95,7 @@ fn put_hold(bypass: &Bypass, test: Test, hold: &Hold, text: &mut Vec<u8>) -> Res
     append_words(b"   ", &words, text)
 }
 
-// The line of a SYSMOD that made the element, unless the id is over it.
+// Appends the line of a SYSMOD that made the element, unless the id is over it. The word is `RMID` or `UMID`.
 fn put_maker<'a>(
     test: Test,
     elem_type: ElemType,
@@ -113,6 +120,7 @@ fn put_maker<'a>(
     append_words(b"   ", &words, text)
 }
 
+// Appends the lines of the SYSMODs that made the element and that the id is not over.
 fn put_makers<'a>(
     test: Test,
     elem_type: ElemType,
@@ -130,6 +138,7 @@ fn put_makers<'a>(
     Ok(())
 }
 
+// Appends the owner of the element, if that is not the function of the id.
 fn put_owner<'a>(
     test: Test,
     elem_type: ElemType,
@@ -152,8 +161,8 @@ fn put_owner<'a>(
     append_words(b"   ", &words, text)
 }
 
-// The lines of an element that exists.
-fn put_there<'a>(
+// Appends the lines of an element that the zone has, if they decide the test.
+fn put_existing_element<'a>(
     test: Test,
     elem_type: ElemType,
     name: &'a Name,
@@ -163,17 +172,17 @@ fn put_there<'a>(
     ensures { OnOk result (text.new.items
         ≡ text.old.items ++ there_reason test elem_type name.now (found_view found.now)) }
 {
-    if by_owner(test) {
+    if is_owner_test(test) {
         return put_owner(test, elem_type, name, found, text);
     }
-    if by_makers(test) {
+    if is_regression_test(test) {
         return put_makers(test, elem_type, name, found, text);
     }
     Ok(())
 }
 
-// The line of an element that does not exist.
-fn put_missing(
+// Appends the line of an element that the zone does not have, if that decides the test.
+fn put_missing_element(
     test: Test,
     elem_type: ElemType,
     name: &Name,
@@ -183,7 +192,7 @@ fn put_missing(
     ensures { OnOk result (text.new.items
         ≡ text.old.items ++ missing_reason test elem_type name.now replaces) }
 {
-    let fails = by_update(test) && !replaces;
+    let fails = is_update_test(test) && !replaces;
     if !fails {
         return Ok(());
     }
@@ -195,6 +204,7 @@ fn put_missing(
     append_words(b"   ", &words, text)
 }
 
+// Appends the lines of an element that the id changes, if they decide the test.
 fn put_element<'a>(
     test: Test,
     elem_type: ElemType,
@@ -207,11 +217,12 @@ fn put_element<'a>(
         ++ reason no_bypass test (ElementFact elem_type name.now replaces (option_map found_view found.now))) }
 {
     match found {
-        Some(found) => put_there(test, elem_type, name, found, text),
-        None => put_missing(test, elem_type, name, replaces, text),
+        Some(found) => put_existing_element(test, elem_type, name, found, text),
+        None => put_missing_element(test, elem_type, name, replaces, text),
     }
 }
 
+// Appends the line of a `++VER` that fits, if that decides the test.
 fn put_ver(
     test: Test,
     number: usize,
@@ -223,7 +234,7 @@ fn put_ver(
     ensures { OnOk result (text.new.items
         ≡ text.old.items ++ reason no_bypass test (VerFact number fmid.now fits counts)) }
 {
-    let fails = by_vers(test) && fits;
+    let fails = is_several_fit_test(test) && fits;
     if !fails {
         return Ok(());
     }
@@ -237,10 +248,11 @@ fn put_ver(
     append_words(b"   ", &words, text)
 }
 
+// Appends the line of an id in DELETE that is in the id's own chain, if that decides the test.
 fn put_delete(test: Test, id: &Id, own: bool, text: &mut Vec<u8>) -> Result<(), AllocError>
     ensures { OnOk result (text.new.items ≡ text.old.items ++ reason no_bypass test (DeleteFact id.now own)) }
 {
-    let fails = by_delete(test) && own;
+    let fails = is_delete_test(test) && own;
     if !fails {
         return Ok(());
     }
@@ -252,10 +264,11 @@ fn put_delete(test: Test, id: &Id, own: bool, text: &mut Vec<u8>) -> Result<(), 
     append_words(b"   ", &words, text)
 }
 
+// Appends the line of an applied SYSMOD that NPRE names, if that decides the test.
 fn put_npre(test: Test, id: &Id, applied: bool, text: &mut Vec<u8>) -> Result<(), AllocError>
     ensures { OnOk result (text.new.items ≡ text.old.items ++ reason no_bypass test (NpreFact id.now applied)) }
 {
-    let fails = by_npre(test) && applied;
+    let fails = is_npre_test(test) && applied;
     if !fails {
         return Ok(());
     }
@@ -267,10 +280,11 @@ fn put_npre(test: Test, id: &Id, applied: bool, text: &mut Vec<u8>) -> Result<()
     append_words(b"   ", &words, text)
 }
 
+// Appends the line of an applied function whose NPRE names the id, if that decides the test.
 fn put_forbidden(test: Test, id: &Id, text: &mut Vec<u8>) -> Result<(), AllocError>
     ensures { OnOk result (text.new.items ≡ text.old.items ++ reason no_bypass test (ForbiddenFact id.now)) }
 {
-    if !by_npre(test) {
+    if !is_npre_test(test) {
         return Ok(());
     }
     let code = LineWord::Of(test_text(test));
@@ -280,6 +294,7 @@ fn put_forbidden(test: Test, id: &Id, text: &mut Vec<u8>) -> Result<(), AllocErr
     append_words(b"   ", &words, text)
 }
 
+// Appends the lines of the failed test that rest on this fact.
 fn put_reason(
     bypass: &Bypass,
     test: Test,
@@ -313,7 +328,7 @@ fn put_reason(
     }
 }
 
-// Appends the lines that rest on these facts.
+// Appends the lines of the failed test that rest on these facts.
 fn put_reasons(
     bypass: &Bypass,
     facts: &[Fact<'_>],
@@ -329,15 +344,15 @@ fn put_reasons(
     Ok(())
 }
 
-/// Appends the lines of a test that an id has failed.
-pub(crate) fn put_test(
+/// Appends the lines of a test that an id has failed: the facts and conflicts that decide it.
+pub(crate) fn put_failed_test(
     grounds: &Grounds<'_, '_>,
     test: Test,
     text: &mut Vec<u8>,
 ) -> Result<(), AllocError>
     ensures { OnOk result (text.new.items ≡ text.old.items ++ test_told (basis_of grounds.now) test) }
 {
-    if by_target(test) {
+    if is_target_test(test) {
         let code = LineWord::Of(test_text(test));
         let none = LineWord::Of(b"no related target zone has applied it");
         let words = [code, none];

@@ -13,60 +13,69 @@ use report::{ReportLine, Status};
 use std::alloc::{AllocError, Global};
 use terms::Test;
 
-pub(crate) fn by_delete(test: Test) -> bool
+/// Whether a DELETE of an id of the chain decides the test.
+pub(crate) fn is_delete_test(test: Test) -> bool
     ensures { result ≡ by_delete test }
 {
     matches!(test, Test::ChainDeleted)
 }
 
-pub(crate) fn by_clash(test: Test) -> bool
+/// Whether clashes with other candidates decide the test.
+pub(crate) fn is_clash_test(test: Test) -> bool
     ensures { result ≡ by_clash test }
 {
     matches!(test, Test::InClash)
 }
 
-fn by_others(test: Test) -> bool
+// Whether other candidates may decide the test.
+fn is_test_of_others(test: Test) -> bool
     ensures { result ≡ by_others test }
 {
-    by_delete(test) || by_clash(test)
+    is_delete_test(test) || is_clash_test(test)
 }
 
-fn any_by_delete(tests: TestSet) -> bool
+// Whether a DELETE of an id of the chain decides one of the tests.
+fn has_delete_test(tests: TestSet) -> bool
     ensures { result ≡ list_any by_delete (tests_of tests) }
 {
     tests.chain_deleted
 }
 
-fn any_by_clash(tests: TestSet) -> bool
+// Whether clashes with other candidates decide one of the tests.
+fn has_clash_test(tests: TestSet) -> bool
     ensures { result ≡ list_any by_clash (tests_of tests) }
 {
     tests.in_clash
 }
 
-fn all_by_others(tests: TestSet) -> bool
+// Whether other candidates may decide each of these tests.
+fn are_tests_of_others(tests: TestSet) -> bool
     ensures { result ≡ list_all by_others (tests_of tests) }
 {
-    tests.iter().all(|test| by_others(test))
+    tests.iter().all(|test| is_test_of_others(test))
 }
 
+// Whether the candidate fails because a DELETE names an id of its chain.
 fn is_chain_deleted(status: &Status) -> bool
     ensures { result ≡ is_chain_deleted (status_view status.now) }
 {
     match status {
-        Status::Failed(failure) => any_by_delete(failure.tests),
+        Status::Failed(failure) => has_delete_test(failure.tests),
         _ => false,
     }
 }
 
+// Whether the candidate fails because it clashes with others.
 fn is_in_clash(status: &Status) -> bool
     ensures { result ≡ is_in_clash (status_view status.now) }
 {
     match status {
-        Status::Failed(failure) => any_by_clash(failure.tests),
+        Status::Failed(failure) => has_clash_test(failure.tests),
         _ => false,
     }
 }
 
+// Whether the candidate passes all tests that do not depend on others.
 fn passes_alone(status: &Status) -> bool
     ensures { result ≡ passes_alone (status_view status.now) }
 {
@@ -74,7 +83,7 @@ fn passes_alone(status: &Status) -> bool
         Status::Applied => true,
         Status::Accepted => true,
         Status::Superseded => true,
-        Status::Failed(failure) => all_by_others(failure.tests),
+        Status::Failed(failure) => are_tests_of_others(failure.tests),
         _ => false,
     }
 }
@@ -87,7 +96,8 @@ pub(crate) enum Saying {
     PassesAlone,
 }
 
-fn says(saying: Saying, status: &Status) -> bool
+// Whether the status of a candidate says so.
+fn line_says(saying: Saying, status: &Status) -> bool
     ensures { result ≡ says saying (status_view status.now) }
 {
     match saying {
@@ -97,13 +107,13 @@ fn says(saying: Saying, status: &Status) -> bool
     }
 }
 
-// Adds the id of the line, if it says so.
-fn push_where(saying: Saying, line: &ReportLine, found: &mut Vec<Id>) -> Result<(), AllocError>
+// Adds the id of the line, if its status says so.
+fn push_id_if(saying: Saying, line: &ReportLine, found: &mut Vec<Id>) -> Result<(), AllocError>
     ensures { OnOk result (found.new.items ≡ found.old.items ++ id_where (says saying) (line_view line.now)) }
 {
     match line {
         ReportLine::Status { id, status, .. } => {
-            if says(saying, status) {
+            if line_says(saying, status) {
                 found.push(*id)?;
             }
             Ok(())
@@ -113,19 +123,19 @@ fn push_where(saying: Saying, line: &ReportLine, found: &mut Vec<Id>) -> Result<
     }
 }
 
-// The ids of the lines that say so.
-fn ids_where(alloc: Global, saying: Saying, lines: &[ReportLine]) -> Result<Vec<Id>, AllocError>
+// The ids of the lines whose statuses say so.
+fn ids_saying(alloc: Global, saying: Saying, lines: &[ReportLine]) -> Result<Vec<Id>, AllocError>
     ensures { IfOk result (λ ids. ids.items ≡ ids_where (says saying) (map line_view lines.now)) }
 {
     let mut found = Vec::new(alloc);
     for line in lines {
-        push_where(saying, line, &mut found)?;
+        push_id_if(saying, line, &mut found)?;
     }
     Ok(found)
 }
 
-// These ids except the one.
-fn others(alloc: Global, id: Id, ids: &[Id]) -> Result<Vec<Id>, AllocError>
+// These ids except `id`.
+fn without_id(alloc: Global, id: Id, ids: &[Id]) -> Result<Vec<Id>, AllocError>
     ensures { IfOk result (λ found. found.items ≡ others id ids.now) }
 {
     ids.iter()
@@ -144,21 +154,25 @@ fn is_among(ids: &[Id], id: Id) -> bool
 pub(crate) fn deleters(alloc: Global, lines: &[ReportLine], id: Id) -> Result<Vec<Id>, AllocError>
     ensures { IfOk result (λ ids. ids.items ≡ deleters (map line_view lines.now) id) }
 {
-    let deleted = ids_where(alloc, Saying::ChainDeleted, lines)?;
+    let deleted = ids_saying(alloc, Saying::ChainDeleted, lines)?;
     if is_among(deleted.as_slice(), id) {
-        let passing = ids_where(alloc, Saying::PassesAlone, lines)?;
-        return others(alloc, id, passing.as_slice());
+        let passing = ids_saying(alloc, Saying::PassesAlone, lines)?;
+        return without_id(alloc, id, passing.as_slice());
     }
     Ok(Vec::new(alloc))
 }
 
 /// If the id fails J9, the other candidates that fail it.
-pub(crate) fn clashing(alloc: Global, lines: &[ReportLine], id: Id) -> Result<Vec<Id>, AllocError>
+pub(crate) fn clashing_ids(
+    alloc: Global,
+    lines: &[ReportLine],
+    id: Id,
+) -> Result<Vec<Id>, AllocError>
     ensures { IfOk result (λ ids. ids.items ≡ clashing (map line_view lines.now) id) }
 {
-    let clashing = ids_where(alloc, Saying::InClash, lines)?;
+    let clashing = ids_saying(alloc, Saying::InClash, lines)?;
     if is_among(clashing.as_slice(), id) {
-        return others(alloc, id, clashing.as_slice());
+        return without_id(alloc, id, clashing.as_slice());
     }
     Ok(Vec::new(alloc))
 }

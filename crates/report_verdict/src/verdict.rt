@@ -13,9 +13,9 @@ ghost use Rattle.report_verdict.specs.Verdict.{test_told, failure_told, verdict_
 ghost use Rattle.report_verdict.specs.Verdict.{verdict_told, verdict_text};
 ghost use Rattle.report_verdict.specs.Grounds.{basis_of};
 
-use crate::besides::put_besides;
+use crate::besides::put_suppliers_and_bypassed;
 use crate::grounds::Grounds;
-use crate::reasons::put_test;
+use crate::reasons::put_failed_test;
 use fields::Id;
 use fields::spelling::need_text;
 use judge_system::{Failure, OpenNeed, TestSet};
@@ -23,27 +23,27 @@ use report::{Fact, LineWord, ReportLine, Resolution, Status, append_words};
 use std::alloc::AllocError;
 use terms::NeedKind;
 
-// Whether the kind and the id are those of the need.
-fn is_of(need: &OpenNeed, kind: NeedKind, id: &[u8]) -> bool
+// Whether the need is of this kind and for this id.
+fn matches_need(need: &OpenNeed, kind: NeedKind, id: &[u8]) -> bool
     ensures { result ≡ (bytes_eq (need_text need.now.kind) (need_text kind) && bytes_eq need.now.id id.now) }
 {
     need_text(need.kind) == need_text(kind) && need.id.as_bytes() == id
 }
 
-// The answer of the fact to what is needed.
-fn answered<'f>(need: &OpenNeed, fact: &'f Fact<'_>) -> Option<&'f Resolution>
+// How the need is resolved, if this fact is about it.
+fn matching_resolution<'f>(need: &OpenNeed, fact: &'f Fact<'_>) -> Option<&'f Resolution>
     ensures { option_map (λ a. answer_view a.now) result ≡ answered need.now.kind need.now.id (fact_view fact.now) }
 {
     match fact {
         Fact::Requisite { requisite, answer } => {
-            if is_of(need, requisite.kind, requisite.id.as_bytes()) {
+            if matches_need(need, requisite.kind, requisite.id.as_bytes()) {
                 Some(answer)
             } else {
                 None
             }
         }
         Fact::Hold { hold, resolution } => {
-            if is_of(need, NeedKind::HoldError, hold.reason.as_bytes()) {
+            if matches_need(need, NeedKind::HoldError, hold.reason.as_bytes()) {
                 resolution.as_ref()
             } else {
                 None
@@ -53,20 +53,25 @@ fn answered<'f>(need: &OpenNeed, fact: &'f Fact<'_>) -> Option<&'f Resolution>
     }
 }
 
-// The answer of the first fact that has one to what is needed.
-fn first_answer<'f>(need: &OpenNeed, facts: &'f [Fact<'_>]) -> Option<&'f Resolution>
-    ensures { option_map (λ a. answer_view a.now) result ≡ first_answer need.now.kind need.now.id (map fact_view facts.now) }
+// How the need is resolved, by the first fact that is about it.
+fn first_resolution<'f>(need: &OpenNeed, facts: &'f [Fact<'_>]) -> Option<&'f Resolution>
+    ensures { option_map (λ a. answer_view a.now) result
+        ≡ first_answer need.now.kind need.now.id (map fact_view facts.now) }
 {
     for fact in facts {
-        if let Some(answer) = answered(need, fact) {
+        if let Some(answer) = matching_resolution(need, fact) {
             return Some(answer);
         }
     }
     None
 }
 
-// Appends the line of a need whose fact leaves it open.
-fn put_open<'a>(need: &'a OpenNeed, ids: &'a [Id], text: &mut Vec<u8>) -> Result<(), AllocError>
+// Appends the line of a need with the received SYSMODs that would supply it.
+fn put_open_need<'a>(
+    need: &'a OpenNeed,
+    ids: &'a [Id],
+    text: &mut Vec<u8>,
+) -> Result<(), AllocError>
     ensures { OnOk result (text.new.items
         ≡ text.old.items ++ need_line (need_view need.now) (supply_words (Some (Open ids.now)))) }
 {
@@ -82,6 +87,7 @@ fn put_open<'a>(need: &'a OpenNeed, ids: &'a [Id], text: &mut Vec<u8>) -> Result
     append_words(b"   ", &words, text)
 }
 
+// Appends the line of a need, with the reason why it is open.
 fn put_need_line<'a>(
     need: &'a OpenNeed,
     why: &'a [u8],
@@ -97,7 +103,8 @@ fn put_need_line<'a>(
     append_words(b"   ", &words, text)
 }
 
-fn put_answer<'a>(
+// Appends the line of an open need, by how its fact says that it is resolved.
+fn put_need_resolution<'a>(
     need: &'a OpenNeed,
     answer: Option<&'a Resolution>,
     text: &mut Vec<u8>,
@@ -112,22 +119,23 @@ fn put_answer<'a>(
         Resolution::Supplied(_) => put_need_line(need, b"nothing supplies it", text),
         Resolution::Waived => put_need_line(need, b"nothing supplies it", text),
         Resolution::ByItself => put_need_line(need, b"it supplies this itself", text),
-        Resolution::Open(ids) => put_open(need, ids.as_slice(), text),
+        Resolution::Open(ids) => put_open_need(need, ids.as_slice(), text),
     }
 }
 
-// Appends the line of an open need of the id with these facts.
+// Appends the line of an open need of an id that has these facts.
 fn put_need<'a>(
     facts: &'a [Fact<'_>],
     need: &'a OpenNeed,
     text: &mut Vec<u8>,
 ) -> Result<(), AllocError>
-    ensures { OnOk result (text.new.items ≡ text.old.items ++ need_told (map fact_view facts.now) (need_view need.now)) }
+    ensures { OnOk result (text.new.items
+        ≡ text.old.items ++ need_told (map fact_view facts.now) (need_view need.now)) }
 {
-    put_answer(need, first_answer(need, facts), text)
+    put_need_resolution(need, first_resolution(need, facts), text)
 }
 
-// Appends the line of a causer other than the id itself.
+// Appends the line of a causer, unless it is the id itself.
 fn put_causer(id: Id, causer: &Id, text: &mut Vec<u8>) -> Result<(), AllocError>
     ensures { OnOk result (text.new.items ≡ text.old.items ++ causer_told id causer.now) }
 {
@@ -139,6 +147,7 @@ fn put_causer(id: Id, causer: &Id, text: &mut Vec<u8>) -> Result<(), AllocError>
     append_words(b"   ", &[word, causer], text)
 }
 
+// Appends the lines of the failed tests.
 fn put_tests(
     grounds: &Grounds<'_, '_>,
     tests: TestSet,
@@ -148,11 +157,12 @@ fn put_tests(
         ≡ text.old.items ++ flat_map (test_told (basis_of grounds.now)) (tests_of tests)) }
 {
     for failed in tests.iter() {
-        put_test(grounds, failed, text)?;
+        put_failed_test(grounds, failed, text)?;
     }
     Ok(())
 }
 
+// Appends the lines of the open needs of an id that has these facts.
 fn put_needs<'a>(
     facts: &'a [Fact<'_>],
     needs: &'a [OpenNeed],
@@ -167,6 +177,7 @@ fn put_needs<'a>(
     Ok(())
 }
 
+// Appends the lines of the causers other than the id itself.
 fn put_causers(id: Id, causers: &[Id], text: &mut Vec<u8>) -> Result<(), AllocError>
     ensures { OnOk result (text.new.items ≡ text.old.items ++ flat_map (causer_told id) causers.now) }
 {
@@ -176,6 +187,7 @@ fn put_causers(id: Id, causers: &[Id], text: &mut Vec<u8>) -> Result<(), AllocEr
     Ok(())
 }
 
+// Appends why the id would fail: its failed tests, its open needs and its causers.
 fn put_failure(
     id: Id,
     grounds: &Grounds<'_, '_>,
@@ -190,7 +202,7 @@ fn put_failure(
     put_causers(id, failure.causers.as_slice(), text)
 }
 
-/// What would become of a candidate; for another id the word of its line.
+/// What would become of a candidate. For an id that is no candidate, the word of its line.
 pub(crate) fn verdict_word(status: &Status) -> &'static [u8]
     ensures { result.now ≡ verdict_word (status_view status.now) }
 {
@@ -216,8 +228,8 @@ pub(crate) fn verdict_word(status: &Status) -> &'static [u8]
     }
 }
 
-// Appends why it would fail, if it would.
-fn put_why(
+// Appends why the id would fail, if its status says that it would.
+fn put_failure_if_any(
     id: Id,
     grounds: &Grounds<'_, '_>,
     status: &Status,
@@ -232,6 +244,7 @@ fn put_why(
     }
 }
 
+// Appends what would become of the id, why it would fail, and what other candidates and BYPASS do for it.
 fn put_status(
     id: Id,
     grounds: &Grounds<'_, '_>,
@@ -242,11 +255,12 @@ fn put_status(
         ≡ text.old.items ++ status_told id (basis_of grounds.now) (status_view status.now)) }
 {
     append_words(b" ", &[LineWord::Of(verdict_word(status))], text)?;
-    put_why(id, grounds, status, text)?;
-    put_besides(grounds, status, text)
+    put_failure_if_any(id, grounds, status, text)?;
+    put_suppliers_and_bypassed(grounds, status, text)
 }
 
-fn put_line(
+// Appends what the line says about the id, if it is the id's line.
+fn put_line_verdict(
     id: Id,
     grounds: &Grounds<'_, '_>,
     line: &ReportLine,
@@ -269,7 +283,7 @@ fn put_line(
 }
 
 // Appends what these lines say about the id.
-fn put_lines(
+fn put_lines_verdict(
     id: Id,
     grounds: &Grounds<'_, '_>,
     lines: &[ReportLine],
@@ -279,7 +293,7 @@ fn put_lines(
         ≡ text.old.items ++ flat_map (verdict_told id (basis_of grounds.now)) (map line_view lines.now)) }
 {
     for line in lines {
-        put_line(id, grounds, line, text)?;
+        put_line_verdict(id, grounds, line, text)?;
     }
     Ok(())
 }
@@ -289,5 +303,5 @@ fn put_lines(
 pub fn put_verdict(id: Id, grounds: &Grounds<'_, '_>, text: &mut Vec<u8>) -> Result<(), AllocError>
     ensures { OnOk result (text.new.items ≡ text.old.items ++ verdict_text id (basis_of grounds.now)) }
 {
-    put_lines(id, grounds, grounds.lines, text)
+    put_lines_verdict(id, grounds, grounds.lines, text)
 }

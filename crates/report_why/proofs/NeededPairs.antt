@@ -5,7 +5,8 @@ use Rattle.std.specs.Prelude.{◌↔◌, ◌&&◌, if◌then◌else◌}
 use Rattle.std.specs.List.{flat_map, list_all}
 use Rattle.std.specs.Str.{bytes_eq}
 use Rattle.terms.proofs.Applied.{applied_are}
-use Rattle.terms.proofs.ListMembers.{here, there, here_or, none_in, in_map, map_in, in_flat, flat_in, in_filter, filter_in}
+use Rattle.terms.proofs.ListMembers.{here, there, here_or, none_in, in_map, map_in, in_flat, flat_in, in_filter}
+use Rattle.terms.proofs.ListMembers.{filter_in}
 use Rattle.terms.proofs.Searches.{all_pass, passes_all}
 use Rattle.terms.proofs.TextOrder.{same_from, same_itself}
 use Rattle.terms.specs.Types.{Id}
@@ -120,7 +121,8 @@ module _ (r : Restoring) (is_zone : IsZone r.zone) where
       let v = map_in (λ u. (u, m.0)) (soles r m.0) p.0 m.2 in
       let first : v.0 ≡ x = ap (λ (q : Id × Id). q.0) v.2 ∙ is.0 in
       let second : m.0 ≡ y = ap (λ (q : Id × Id). q.1) v.2 ∙ is.1 in
-      let from = sole_from x y (subst (λ w. Contains (soles r w) x) second (subst (Contains (soles r m.0)) first v.1)) in (
+      let from = sole_from x y
+      (subst (λ w. Contains (soles r w) x) second (subst (Contains (soles r m.0)) first v.1)) in (
         from.0,
         record {
           other = is.2;

@@ -5,7 +5,8 @@ use Rattle.terms.specs.declared.kinds.Kind.{Kind}
 use Rattle.terms.specs.Types.{Text, Id, Hold}
 use Rattle.terms.specs.Spelling.{kind_text, hold_text, type_text, need_text}
 use Rattle.report.specs.Facts.{Standing, StandsApplied, StandsSuperseded, StandsDeleted, StandsReceived, StandsMissing}
-use Rattle.report.specs.Facts.{Requisite, Resolution, Supplied, Waived, ByItself, Open, Rank, Itself, Over, NotOver, Maker, Found, Fact}
+use Rattle.report.specs.Facts.{Requisite, Resolution, Supplied, Waived, ByItself, Open, Rank, Itself, Over, NotOver}
+use Rattle.report.specs.Facts.{Maker, Found, Fact}
 use Rattle.report.specs.Facts.{StandingFact, EntryFact, VerFact, RequisiteFact, HoldFact, ElementFact, DeleteFact}
 use Rattle.report.specs.Facts.{TakesFact, NpreFact, ForbiddenFact, NeededFact}
 use Rattle.report.specs.Views.{applied_word}

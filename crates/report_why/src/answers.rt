@@ -1,4 +1,4 @@
-//! The answer to something that an id asks for.
+//! How a requisite of a SYSMOD is resolved.
 ghost use Rattle.std.specs.Prelude.{◌≡◌, ◌↔◌, ◌||◌, [], ◌∷◌, false, Contains, IfOk};
 ghost use Rattle.std.specs.Prelude.{if◌then◌else◌};
 ghost use Rattle.terms.specs.Types.{Id as AnId};
@@ -10,25 +10,25 @@ ghost use Rattle.report_why.specs.Asking.{setting_in, left_in};
 ghost use Rattle.report.specs.FactViews.{answer_view};
 
 use crate::asking::Asking;
-use crate::standing::is_deleted;
-use fields::{Attest, Id, IdList};
+use fields::{Id, IdList};
 use report::{Requisite, Resolution, serving_ids};
 use std::alloc::{AllocError, Global};
 use terms::NeedKind;
 use zones::Zone;
 
-// The id itself, if it is applied in what is left of the zone.
-fn itself(alloc: Global, asking: &Asking<'_, '_>, id: Id) -> Result<Vec<Id>, AllocError>
+// The id alone, if it stays applied when the DELETE of the SYSMOD in question has taken out what it names.
+fn id_if_applied(alloc: Global, asking: &Asking<'_, '_>, id: Id) -> Result<Vec<Id>, AllocError>
     ensures { IfOk result (λ ids. ids.items ≡ (if is_applied (left_in asking.now) id then id ∷ [] else [])) }
 {
     let mut found = Vec::new(alloc);
-    if asking.leaves(id) {
+    if asking.remains_applied(id) {
         found.push(id)?;
     }
     Ok(found)
 }
 
-// The SYSMODs that supply it in what the id in question leaves of the zone.
+// The SYSMODs that supply the id and that the DELETE of the SYSMOD in question does not take out: the id itself, and
+// except for an FMID those that supersede it.
 fn suppliers(
     alloc: Global,
     asking: &Asking<'_, '_>,
@@ -38,9 +38,9 @@ fn suppliers(
     ensures { IfOk result (λ ids. ids.items ≡ suppliers (left_in asking.now) kind id) }
 {
     match kind {
-        NeedKind::Fmid => itself(alloc, asking, id),
+        NeedKind::Fmid => id_if_applied(alloc, asking, id),
         _ => {
-            let mut found = itself(alloc, asking, id)?;
+            let mut found = id_if_applied(alloc, asking, id)?;
             let above = asking.superseders(alloc, id)?;
             found.extend_from_slice(above.as_slice())?;
             Ok(found)
@@ -48,7 +48,7 @@ fn suppliers(
     }
 }
 
-// Whether the entry of a SYSMOD waives the id.
+// Whether the entry of the SYSMOD `by` waives the requisite `id`.
 fn waives(zone: &Zone, by: Id, id: Id) -> bool
     ensures { result ≡ is_in (waived_of zone.now by) id }
 {
@@ -58,6 +58,7 @@ fn waives(zone: &Zone, by: Id, id: Id) -> bool
     }
 }
 
+// Only PRE, REQ and IFREQ can be waived.
 fn is_waivable(kind: NeedKind) -> bool
     ensures { result ≡ is_waivable kind }
 {
@@ -80,11 +81,12 @@ fn is_waived(zone: &Zone, id: Id, requisite: Requisite) -> bool
     }
 }
 
+// Whether the id is received with a `++VER` for the zone, and the zone neither supplies it nor has deleted it.
 fn is_installable(asking: &Asking<'_, '_>, id: Id) -> bool
     ensures { result ≡ is_installable (global_of asking.now.scope) asking.now.scope.zone.now id }
 {
     let scope = &asking.scope;
-    scope.vers.has_ver(id) && !scope.zone.supplies(id) && !is_deleted(scope.zone, id)
+    scope.vers.has_ver(id) && !scope.zone.supplies(id) && !scope.zone.is_deleted(id)
 }
 
 // The received SYSMODs that may be installed and that serve the need.
@@ -100,13 +102,12 @@ fn candidates(
     let srel = asking.scope.zone.srel();
     let mut found = serving_ids(alloc, asking.scope.vers, srel, kind, id)?;
     found.retain(|by| is_installable(asking, *by));
-    let ids = IdList::from_vec(found);
-    ids.attest();
-    Ok(ids)
+    Ok(IdList::from_vec(found))
 }
 
-/// The answer to what the id asks for.
-pub(crate) fn answer(
+/// How the requisite of the id is resolved: SYSMODs supply it, it is waived, the id would serve it itself, or it is
+/// open, with the received SYSMODs that would serve it.
+pub(crate) fn resolve_requisite(
     alloc: Global,
     asking: &Asking<'_, '_>,
     requisite: Requisite,

@@ -5,14 +5,14 @@ ghost use Rattle.report.specs.Facts.{RequisiteFact, HoldFact};
 ghost use Rattle.report_why.specs.FactText.{id_lines, answer_lines, comment_line, fact_text};
 ghost use Rattle.report.specs.FactViews.{answer_view};
 
-use crate::fact_words::answer_word;
+use crate::fact_words::resolution_word;
 use fields::Id;
 use fields::spelling::{hold_text, need_text};
 use report::{LineWord, Requisite, Resolution, append_words, class_text, date_text};
 use std::alloc::AllocError;
 use sysmods_values::Hold;
 
-// An id on each line, or one line with `-`.
+// Appends a line with the word and an id for each of the ids, or one line with `-` if there is none.
 fn put_id_lines(word: &[u8], ids: &[Id], text: &mut Vec<u8>) -> Result<(), AllocError>
     ensures { OnOk result (text.new.items ≡ text.old.items ++ id_lines word.now ids.now) }
 {
@@ -29,8 +29,8 @@ fn put_id_lines(word: &[u8], ids: &[Id], text: &mut Vec<u8>) -> Result<(), Alloc
     Ok(())
 }
 
-// The SYSMODs that supply it, or that would serve it.
-fn put_answer(answer: &Resolution, text: &mut Vec<u8>) -> Result<(), AllocError>
+// Appends a line for each SYSMOD that supplies the requisite, or that would serve it.
+fn put_resolution(answer: &Resolution, text: &mut Vec<u8>) -> Result<(), AllocError>
     ensures { OnOk result (text.new.items ≡ text.old.items ++ answer_lines (answer_view answer.now)) }
 {
     match answer {
@@ -41,7 +41,7 @@ fn put_answer(answer: &Resolution, text: &mut Vec<u8>) -> Result<(), AllocError>
     }
 }
 
-/// Appends something that is asked for, and its answer.
+/// Appends the lines of a requisite: its kind and id, how it is resolved, and by which SYSMODs.
 pub(crate) fn put_requisite(
     requisite: &Requisite,
     answer: &Resolution,
@@ -53,7 +53,7 @@ pub(crate) fn put_requisite(
     let kind = LineWord::Of(need_text(requisite.kind));
     let id = LineWord::Of(requisite.id.as_bytes());
     let by = LineWord::Of(requisite.by.as_bytes());
-    let answered = LineWord::Of(answer_word(answer));
+    let answered = LineWord::Of(resolution_word(answer));
     match &requisite.function {
         Some(function) => {
             let function = LineWord::Of(function.as_bytes());
@@ -63,15 +63,16 @@ pub(crate) fn put_requisite(
                 &[kind, id, fmid, function, stated, by, answered],
                 text,
             )?;
-            put_answer(answer, text)
+            put_resolution(answer, text)
         }
         None => {
             append_words(b" ", &[kind, id, answered], text)?;
-            put_answer(answer, text)
+            put_resolution(answer, text)
         }
     }
 }
 
+// Appends the line of a hold's comment, if it has one.
 fn put_comment(comment: &Option<String>, text: &mut Vec<u8>) -> Result<(), AllocError>
     ensures { OnOk result (text.new.items
         ≡ text.old.items ++ comment_line (option_map string_bytes comment.now)) }
@@ -86,7 +87,7 @@ fn put_comment(comment: &Option<String>, text: &mut Vec<u8>) -> Result<(), Alloc
     }
 }
 
-/// Appends a hold, and for an ERROR hold the answer to its reason.
+/// Appends the lines of a hold, and for an ERROR hold how its reason ID is resolved.
 pub(crate) fn put_hold(
     hold: &Hold,
     resolution: &Option<Resolution>,
@@ -103,11 +104,11 @@ pub(crate) fn put_hold(
     let date = LineWord::Of(date_text(&hold.date));
     match resolution {
         Some(answer) => {
-            let answered = LineWord::Of(answer_word(answer));
+            let answered = LineWord::Of(resolution_word(answer));
             let words = [kind, reason, mark, of_class, class, of_date, date, answered];
             append_words(b"  HOLD", &words, text)?;
             put_comment(&hold.comment, text)?;
-            put_answer(answer, text)
+            put_resolution(answer, text)
         }
         None => {
             let words = [kind, reason, mark, of_class, class, of_date, date];

@@ -15,15 +15,15 @@ use std::alloc::{AllocError, Global};
 use sysmods::VerChoice;
 use zones::{TakesOut, ZoneLess};
 
-// Whether its chain contains this id.
+// Whether the chain of FMIDs from the SYSMOD `id` contains `other`.
 fn is_in_chain(vers: &VerChoice<'_>, id: Id, other: Id) -> bool
     ensures { result ≡ is_in (chain vers.now.global.now (choice vers.now) id) other }
 {
     vers.meets(id, &[other])
 }
 
-// Those of these SYSMODs that the deletions take out.
-fn taken_out(alloc: Global, less: &ZoneLess<'_, '_>, ids: &[Id]) -> Result<Vec<Id>, AllocError>
+// The SYSMODs among these that the deletions take out of the zone.
+fn deleted_among(alloc: Global, less: &ZoneLess<'_, '_>, ids: &[Id]) -> Result<Vec<Id>, AllocError>
     ensures { IfOk result (λ taken. taken.items ≡ filter (is_gone less.now) ids.now) }
 {
     if less.dels.is_empty() {
@@ -35,7 +35,7 @@ fn taken_out(alloc: Global, less: &ZoneLess<'_, '_>, ids: &[Id]) -> Result<Vec<I
         .collect(alloc)
 }
 
-/// What its DELETE names, and what that takes out.
+/// The ids that its DELETE names, and the applied SYSMODs that this takes out.
 pub(crate) fn delete_facts(
     alloc: Global,
     asking: &Asking<'_, '_>,
@@ -49,7 +49,7 @@ pub(crate) fn delete_facts(
         dels,
         zone: scope.zone,
     };
-    let taken = taken_out(alloc, &less, asking.applied)?;
+    let taken = deleted_among(alloc, &less, asking.applied)?;
     let mut facts = Vec::new(alloc);
     for del in dels {
         facts.push(Fact::Delete {

@@ -1,7 +1,6 @@
 //! The elements that an id changes, as the zone has them.
-ghost use Rattle.std.specs.Prelude.{◌≡◌, option_map, IfOk};
+ghost use Rattle.std.specs.Prelude.{option_map, IfOk};
 ghost use Rattle.terms.specs.Beside.{Beside};
-ghost use Rattle.terms.specs.Changes.{is_replacement};
 ghost use Rattle.terms.specs.Lookups.{changes_of, element_of};
 ghost use Rattle.sysmods.specs.Choices.{choice};
 ghost use Rattle.zones.specs.Scopes.{global_of};
@@ -15,10 +14,10 @@ use fields::Id;
 use report::{Fact, Found, Maker, Rank};
 use std::alloc::{AllocError, Global};
 use sysmods::VerChoice;
-use sysmods_values::{Action, ElemChange};
+use sysmods_values::ElemChange;
 use zones::Element;
 
-// A SYSMOD that made an element, and how the id is related to it.
+// How the SYSMOD `id` is related to `other`, which made an element.
 fn maker(alloc: Global, vers: &VerChoice<'_>, id: Id, other: Id) -> Result<Maker, AllocError>
     ensures { IfOk result (λ m. IsMaker (choice vers.now) id other m) }
 {
@@ -40,8 +39,12 @@ fn maker(alloc: Global, vers: &VerChoice<'_>, id: Id, other: Id) -> Result<Maker
     })
 }
 
-// What the zone has of an element.
-fn found(alloc: Global, asking: &Asking<'_, '_>, element: &Element) -> Result<Found, AllocError>
+// What the zone has of an element: its owner, its RMID and its UMIDs, and how the id is related to these.
+fn element_in_zone(
+    alloc: Global,
+    asking: &Asking<'_, '_>,
+    element: &Element,
+) -> Result<Found, AllocError>
     ensures { IfOk result (λ f. IsFound (setting_in asking.now) asking.now.id element.now (found_view f)) }
 {
     let vers = asking.scope.vers;
@@ -59,7 +62,8 @@ fn found(alloc: Global, asking: &Asking<'_, '_>, element: &Element) -> Result<Fo
     })
 }
 
-fn found_at(
+// The same of the element that this statement changes, if the zone has it.
+fn element_of_change(
     alloc: Global,
     asking: &Asking<'_, '_>,
     change: &ElemChange,
@@ -68,21 +72,12 @@ fn found_at(
         (element_of (view_in asking.now) change.now.elem_type change.now.name) (option_map found_view f)) }
 {
     match asking.element(change.elem_type, change.name) {
-        Some(element) => Ok(Some(found(alloc, asking, element)?)),
+        Some(element) => Ok(Some(element_in_zone(alloc, asking, element)?)),
         None => Ok(None),
     }
 }
 
-fn is_replacement(change: &ElemChange) -> bool
-    ensures { result ≡ is_replacement change.now.action }
-{
-    match change.action {
-        Action::Replaces { .. } => true,
-        Action::Updates { .. } => false,
-    }
-}
-
-/// The elements that it changes.
+/// The elements that the id changes, as its view of the zone has them.
 pub(crate) fn element_facts(
     alloc: Global,
     asking: &Asking<'_, '_>,
@@ -92,11 +87,11 @@ pub(crate) fn element_facts(
 {
     let mut facts = Vec::new(alloc);
     for change in asking.scope.global().changes_of(asking.id) {
-        let found = found_at(alloc, asking, change)?;
+        let found = element_of_change(alloc, asking, change)?;
         facts.push(Fact::Element {
             elem_type: change.elem_type,
             name: change.name,
-            replaces: is_replacement(change),
+            replaces: change.is_replacement(),
             found,
         })?;
     }

@@ -11,6 +11,7 @@ use report::{Found, LineWord, Maker, append_words};
 use std::alloc::AllocError;
 use terms::ElemType;
 
+// Appends the line of a SYSMOD that made the element; the word is `RMID` or `UMID`.
 fn put_maker(word: &[u8], maker: Maker, text: &mut Vec<u8>) -> Result<(), AllocError>
     ensures { OnOk result (text.new.items ≡ text.old.items ++ maker_line word.now (maker_view maker)) }
 {

@@ -7,7 +7,8 @@ use fields::spelling::kind_text;
 use report::{Rank, Resolution, Standing, applied_word};
 use terms::Kind;
 
-pub(crate) fn type_word(kind: Option<Kind>) -> &'static [u8]
+/// The type of a SYSMOD, or `-` for an id that is not received.
+pub(crate) fn kind_or_dash(kind: Option<Kind>) -> &'static [u8]
     ensures { result.now ≡ type_word kind }
 {
     match kind {
@@ -16,6 +17,7 @@ pub(crate) fn type_word(kind: Option<Kind>) -> &'static [u8]
     }
 }
 
+/// The word for the state of an id.
 pub(crate) fn standing_text(standing: Standing) -> &'static [u8]
     ensures { result.now ≡ standing_text (standing_view standing) }
 {
@@ -28,7 +30,8 @@ pub(crate) fn standing_text(standing: Standing) -> &'static [u8]
     }
 }
 
-pub(crate) fn answer_word(answer: &Resolution) -> &'static [u8]
+/// The word for how a requisite is resolved.
+pub(crate) fn resolution_word(answer: &Resolution) -> &'static [u8]
     ensures { result.now ≡ answer_word (answer_view answer.now) }
 {
     match answer {
@@ -39,6 +42,7 @@ pub(crate) fn answer_word(answer: &Resolution) -> &'static [u8]
     }
 }
 
+/// The word for how the id is related to a SYSMOD that made an element.
 pub(crate) fn rank_text(rank: Rank) -> &'static [u8]
     ensures { result.now ≡ rank_text (rank_view rank) }
 {

@@ -15,7 +15,7 @@ use crate::deletes::delete_facts;
 use crate::element_facts::element_facts;
 use crate::forbids::npre_facts;
 use crate::hold_facts::hold_facts;
-use crate::joining::joined;
+use crate::joining::join_facts;
 use crate::needed::{needed_facts, needed_pairs};
 use crate::requisites::requisite_facts;
 use crate::standing::standing_facts;
@@ -27,8 +27,8 @@ use sysmods::GlobalZone;
 use undo::applied_ids;
 use zones::{Scope, Zone, ZoneLess, choose, deletions};
 
-/// The global zone and a zone, and what is found once for all ids: those that are applied, the functions among them, and
-/// who needs what an applied one alone supplies.
+/// The global zone and a zone, and what is looked up once for all ids: those that are applied, the functions among
+/// them, and which SYSMOD needs what an applied one alone supplies.
 #[derive(Drop)]
 pub struct Lookups<'a> {
     pub global: &'a GlobalZone,
@@ -43,7 +43,7 @@ pub struct Lookups<'a> {
 }
 
 impl<'a> Lookups<'a> {
-    /// Finds it.
+    /// Looks this up in the zone, once for all ids.
     pub fn find(alloc: Global, global: &'a GlobalZone, zone: &'a Zone) -> Result<Self, AllocError>
         ensures global { IfOk result (λ found. found.global.now ≡ global.now) }
         ensures zone { IfOk result (λ found. found.zone.now ≡ zone.now) }
@@ -62,6 +62,7 @@ impl<'a> Lookups<'a> {
     }
 }
 
+// The functions among these ids.
 fn functions_among(alloc: Global, global: &GlobalZone, ids: &[Id]) -> Result<Vec<Id>, AllocError>
     ensures { IfOk result (λ found. found.items ≡ filter (is_function global.now) ids.now) }
 {
@@ -71,8 +72,8 @@ fn functions_among(alloc: Global, global: &GlobalZone, ids: &[Id]) -> Result<Vec
         .collect(alloc)
 }
 
-// Its state, its entry and its `++VER`s.
-fn own_facts<'a>(
+// The state of the id, its entry, and its `++VER`s.
+fn standing_and_ver_facts<'a>(
     alloc: Global,
     lookups: &Lookups<'a>,
     scope: &Scope<'_, 'a>,
@@ -85,31 +86,34 @@ fn own_facts<'a>(
 {
     let facts = standing_facts(alloc, lookups.global, lookups.zone, id)?;
     let vers = ver_facts(alloc, scope, id)?;
-    joined(facts, vers)
+    join_facts(facts, vers)
 }
 
-// What it asks for, and its holds.
-fn asked_facts<'a>(alloc: Global, asking: &Asking<'_, 'a>) -> Result<Vec<Fact<'a>>, AllocError>
+// What the id asks for, and the holds on it.
+fn requisite_and_hold_facts<'a>(
+    alloc: Global,
+    asking: &Asking<'_, 'a>,
+) -> Result<Vec<Fact<'a>>, AllocError>
     ensures { IfOk result (λ facts. AreAsked (setting_in asking.now) asking.now.id (facts_view facts.items)) }
 {
     let facts = requisite_facts(alloc, asking)?;
     let holds = hold_facts(alloc, asking)?;
-    joined(facts, holds)
+    join_facts(facts, holds)
 }
 
-// Its elements, and what it deletes and forbids.
+// The elements that the id changes, and what it deletes and forbids.
 fn change_facts(alloc: Global, asking: &Asking<'_, '_>) -> Result<Vec<Fact<'static>>, AllocError>
     ensures { IfOk result (λ facts. AreOfChanges (setting_in asking.now) asking.now.id (facts_view facts.items)) }
 {
     let elements = element_facts(alloc, asking)?;
     let deletes = delete_facts(alloc, asking)?;
-    let facts = joined(elements, deletes)?;
+    let facts = join_facts(elements, deletes)?;
     let forbids = npre_facts(alloc, asking)?;
-    joined(facts, forbids)
+    join_facts(facts, forbids)
 }
 
-// All of them, by what an install with these candidates looks at.
-fn facts_by<'a>(
+// All facts of the id, in the order of the report.
+fn all_facts<'a>(
     alloc: Global,
     lookups: &Lookups<'a>,
     asking: &Asking<'_, 'a>,
@@ -120,17 +124,17 @@ fn facts_by<'a>(
         ≡ place (global_of asking.now.scope) asking.now.scope.zone.now asking.now.scope.ids.now asking.now.id + 1 }
     ensures { IfOk result (λ facts. AreFacts (setting_in asking.now) asking.now.id (facts_view facts.items)) }
 {
-    let own = own_facts(alloc, lookups, &asking.scope, asking.id)?;
-    let asked = asked_facts(alloc, asking)?;
-    let facts = joined(own, asked)?;
+    let own = standing_and_ver_facts(alloc, lookups, &asking.scope, asking.id)?;
+    let asked = requisite_and_hold_facts(alloc, asking)?;
+    let facts = join_facts(own, asked)?;
     let changes = change_facts(alloc, asking)?;
-    let changed = joined(facts, changes)?;
+    let changed = join_facts(facts, changes)?;
     let needed = needed_facts(alloc, lookups.needed.as_slice(), asking.id)?;
-    joined(changed, needed)
+    join_facts(changed, needed)
 }
 
-/// The facts of the id, for an install with the candidates of this scope.
-pub fn facts_of<'a>(
+/// All facts of the id, for an install with the candidates of this scope.
+pub fn id_facts<'a>(
     alloc: Global,
     lookups: &Lookups<'a>,
     scope: &Scope<'_, 'a>,
@@ -161,5 +165,5 @@ pub fn facts_of<'a>(
         applied: lookups.applied.as_slice(),
         functions: lookups.functions.as_slice(),
     };
-    facts_by(alloc, lookups, &asking)
+    all_facts(alloc, lookups, &asking)
 }

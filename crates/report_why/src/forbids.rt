@@ -10,23 +10,23 @@ use fields::Id;
 use report::Fact;
 use std::alloc::{AllocError, Global};
 
-// Whether it is a function whose NPRE has the id.
-fn forbids(asking: &Asking<'_, '_>, by: Id) -> bool
+// Whether `by` is a function whose NPRE names the id.
+fn is_forbidden_by(asking: &Asking<'_, '_>, by: Id) -> bool
     ensures { result ≡ forbids (setting_in asking.now) asking.now.id by }
 {
     asking.scope.global().is_function(by) && asking.scope.vers.npre(by).contains(&asking.id)
 }
 
-// The SYSMODs that its view has applied and that forbid the id.
-fn forbidding(alloc: Global, asking: &Asking<'_, '_>) -> Result<Vec<Id>, AllocError>
+// The functions that are applied in its view and that forbid the id.
+fn forbidding_functions(alloc: Global, asking: &Asking<'_, '_>) -> Result<Vec<Id>, AllocError>
     ensures { IfOk result (λ ids. ids.items ≡ filter (forbids (setting_in asking.now) asking.now.id)
         (filter (is_applied (view_in asking.now)) asking.now.functions.now)) }
 {
     asking
         .functions
         .iter()
-        .filter(|by| asking.sees(**by))
-        .filter(|by| forbids(asking, **by))
+        .filter(|by| asking.view_has(**by))
+        .filter(|by| is_forbidden_by(asking, **by))
         .copied()
         .collect(alloc)
 }
@@ -39,12 +39,12 @@ pub(crate) fn npre_facts(
     ensures { IfOk result (λ facts. map fact_view facts.items ≡ npre_facts (setting_in asking.now) asking.now.id) }
 {
     let named = asking.scope.vers.npre(asking.id);
-    let forbidding = forbidding(alloc, asking)?;
+    let forbidding = forbidding_functions(alloc, asking)?;
     let mut facts = Vec::new(alloc);
     for id in named {
         facts.push(Fact::Npre {
             id: *id,
-            applied: asking.sees(*id),
+            applied: asking.view_has(*id),
         })?;
     }
     for by in forbidding.as_slice() {

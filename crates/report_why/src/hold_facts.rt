@@ -8,17 +8,17 @@ ghost use Rattle.report.specs.Facts.{holds_on, HasResolution, IsHoldFact};
 ghost use Rattle.report_why.specs.Asking.{setting_in};
 ghost use Rattle.report.specs.FactViews.{answer_view, fact_view};
 
-use crate::answers::answer;
+use crate::answers::resolve_requisite;
 use crate::asking::Asking;
-use crate::joining::joined;
+use crate::joining::join_facts;
 use fields::Id;
 use report::{Fact, Requisite, Resolution};
 use std::alloc::{AllocError, Global};
 use sysmods_values::Hold;
 use terms::{HoldKind, NeedKind};
 
-// The answer to the reason of an ERROR hold, which is an id.
-fn error_resolution(
+// How the reason ID of an ERROR hold is resolved. If it is no SYSMOD id, nothing can resolve it.
+fn error_hold_resolution(
     alloc: Global,
     asking: &Asking<'_, '_>,
     hold: &Hold,
@@ -35,14 +35,14 @@ fn error_resolution(
                 function: None,
                 id: reason,
             };
-            Ok(Some(answer(alloc, asking, requisite)?))
+            Ok(Some(resolve_requisite(alloc, asking, requisite)?))
         }
         None => Ok(None),
     }
 }
 
-// The answer to the reason, if it is an ERROR hold.
-fn resolution(
+// How the reason ID of the hold is resolved, if it is an ERROR hold.
+fn hold_resolution(
     alloc: Global,
     asking: &Asking<'_, '_>,
     hold: &Hold,
@@ -51,13 +51,13 @@ fn resolution(
         (option_map answer_view a)) }
 {
     match hold.kind {
-        HoldKind::Error => error_resolution(alloc, asking, hold),
+        HoldKind::Error => error_hold_resolution(alloc, asking, hold),
         _ => Ok(None),
     }
 }
 
-// Those of one kind.
-fn facts_of_kind<'a>(
+// The holds of one kind on the id.
+fn hold_facts_of_kind<'a>(
     alloc: Global,
     asking: &Asking<'_, 'a>,
     kind: HoldKind,
@@ -67,7 +67,7 @@ fn facts_of_kind<'a>(
 {
     let mut facts = Vec::new(alloc);
     for hold in asking.scope.global().holds_of(kind, asking.id) {
-        let resolution = resolution(alloc, asking, hold)?;
+        let resolution = hold_resolution(alloc, asking, hold)?;
         facts.push(Fact::Hold { hold, resolution })?;
     }
     Ok(facts)
@@ -81,9 +81,9 @@ pub(crate) fn hold_facts<'a>(
     ensures { IfOk result (λ facts. Beside (λ n h fact. IsHoldFact (setting_in asking.now) asking.now.id h
         (fact_view fact)) (holds_on (global_of asking.now.scope) asking.now.id) facts.items) }
 {
-    let errors = facts_of_kind(alloc, asking, HoldKind::Error)?;
-    let systems = facts_of_kind(alloc, asking, HoldKind::System)?;
-    let facts = joined(errors, systems)?;
-    let users = facts_of_kind(alloc, asking, HoldKind::User)?;
-    joined(facts, users)
+    let errors = hold_facts_of_kind(alloc, asking, HoldKind::Error)?;
+    let systems = hold_facts_of_kind(alloc, asking, HoldKind::System)?;
+    let facts = join_facts(errors, systems)?;
+    let users = hold_facts_of_kind(alloc, asking, HoldKind::User)?;
+    join_facts(facts, users)
 }

@@ -5,7 +5,7 @@ use report::Fact;
 use std::alloc::AllocError;
 
 /// The facts of both lists. It takes them by value, so that its callers own only one list at a time.
-pub(crate) fn joined<'a>(
+pub(crate) fn join_facts<'a>(
     first: Vec<Fact<'a>>,
     second: Vec<Fact<'a>>,
 ) -> Result<Vec<Fact<'a>>, AllocError>

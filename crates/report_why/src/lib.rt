@@ -1,8 +1,8 @@
-//! The facts about an id in a zone, on which an APPLY, ACCEPT or RESTORE of it would rest. `facts_of` returns the facts
+//! The facts about an id in a zone, on which an APPLY, ACCEPT or RESTORE of it would rest. `id_facts` returns the facts
 //! of the definition, by the tests and needs of an install with given candidates. `put_facts` spells them, and
-//! `facts_code` is the status of the answer. No contract says how much work that is: for each id one pass over the
-//! entries, and for each open requisite one over the received SYSMODs. Every call that allocates returns `AllocError` if
-//! memory runs out.
+//! `facts_code` is the return code of the answer. No contract says how much work that is: for each id one pass over
+//! the entries, and for each open requisite one over the received SYSMODs. Every call that allocates returns
+//! `AllocError` if memory runs out.
 #![tactic(auto)]
 
 mod answers;
@@ -23,5 +23,5 @@ mod standing;
 mod text;
 mod vers;
 
-pub use facts::{Lookups, facts_of};
+pub use facts::{Lookups, id_facts};
 pub use text::{facts_code, put_facts};

@@ -1,4 +1,4 @@
-//! Look-ups in what an id sees by itself, and in what it leaves.
+//! Look-ups in an id's view of the zone, and in the zone less what its DELETE takes out.
 ghost use Rattle.std.specs.Prelude.{◌≡◌, not, filter, option_copied, IfOk};
 ghost use Rattle.terms.specs.Lookups.{is_applied, element_of, supby_of};
 ghost use Rattle.terms.specs.Needs.{is_met};
@@ -12,8 +12,8 @@ use terms::{ElemType, NeedKind};
 use zones::{Element, TakesOut};
 
 impl<'a, 'b> Asking<'a, 'b> {
-    /// Whether its view has the id applied.
-    pub(crate) fn sees(&self, id: Id) -> bool
+    /// Whether the id is applied in the view.
+    pub(crate) fn view_has(&self, id: Id) -> bool
         ensures { result ≡ is_applied (view_in self.now) id }
     {
         self.seen.has(id)
@@ -23,32 +23,32 @@ impl<'a, 'b> Asking<'a, 'b> {
     pub(crate) fn has_function(&self, id: Id) -> bool
         ensures { result ≡ is_there self.now id }
     {
-        self.sees(id) || self.scope.ids.contains(id)
+        self.view_has(id) || self.scope.ids.contains(id)
     }
 
-    /// The element of its view.
+    /// The element, if the view has it.
     pub(crate) fn element(&self, elem_type: ElemType, name: Name) -> Option<&'a Element>
         ensures { option_copied result ≡ element_of (view_in self.now) elem_type name }
     {
         self.seen.element(elem_type, name)
     }
 
-    /// Whether what it leaves of the zone has the id applied.
-    pub(crate) fn leaves(&self, id: Id) -> bool
+    /// Whether the id is applied and the DELETE does not take it out.
+    pub(crate) fn remains_applied(&self, id: Id) -> bool
         ensures { result ≡ is_applied (left_in self.now) id }
     {
         self.left.has(id)
     }
 
-    /// Whether what it leaves of the zone meets the need.
+    /// Whether the zone less what the DELETE takes out meets the need.
     pub(crate) fn meets(&self, kind: NeedKind, id: Id) -> bool
         ensures { result ≡ is_met (left_in self.now) kind id }
     {
         self.left.meets(kind, id)
     }
 
-    // Those of these ids that its DELETE does not take out.
-    fn kept(&self, alloc: Global, ids: &[Id]) -> Result<Vec<Id>, AllocError>
+    // The ids among these that the DELETE does not take out.
+    fn not_deleted(&self, alloc: Global, ids: &[Id]) -> Result<Vec<Id>, AllocError>
         ensures { IfOk result (λ kept. kept.items ≡ filter (λ y. not (is_gone self.now.left y)) ids.now) }
     {
         ids.iter()
@@ -57,12 +57,12 @@ impl<'a, 'b> Asking<'a, 'b> {
             .collect(alloc)
     }
 
-    /// The SYSMODs that supersede the id in what it leaves of the zone.
+    /// The SYSMODs that supersede the id and that the DELETE does not take out.
     pub(crate) fn superseders(&self, alloc: Global, id: Id) -> Result<Vec<Id>, AllocError>
         ensures { IfOk result (λ ids. ids.items ≡ supby_of (left_in self.now) id) }
     {
         match self.left.zone.entry(id) {
-            Some(found) => self.kept(alloc, found.supby.as_slice()),
+            Some(found) => self.not_deleted(alloc, found.supby.as_slice()),
             None => Ok(Vec::new(alloc)),
         }
     }

@@ -17,27 +17,17 @@ use report::Fact;
 use std::alloc::{AllocError, Global};
 use sysmods::VerChoice;
 use undo::suppliers;
-use zones::{Zone, requisites_held};
+use zones::{Zone, binding_requisites};
 
-// Those of these ids that are applied.
-fn applied_among(alloc: Global, zone: &Zone, ids: &[Id]) -> Result<Vec<Id>, AllocError>
-    ensures { IfOk result (λ found. found.items ≡ filter (is_applied zone.now) ids.now) }
-{
-    ids.iter()
-        .filter(|id| zone.is_applied(**id))
-        .copied()
-        .collect(alloc)
-}
-
-// Whether all are this one.
-fn is_sole(first: Id, rest: &[Id]) -> bool
+// Whether all the others are the first one again.
+fn is_only_member(first: Id, rest: &[Id]) -> bool
     ensures { result ≡ list_all (bytes_eq first) rest.now }
 {
     rest.iter().all(|id| first == *id)
 }
 
-// Adds the id if it is so.
-fn push_where(is_so: bool, id: Id, found: &mut Vec<Id>) -> Result<(), AllocError>
+// Adds the id if the condition holds.
+fn push_if(is_so: bool, id: Id, found: &mut Vec<Id>) -> Result<(), AllocError>
     ensures { OnOk result (found.new.items ≡ found.old.items ++ (if is_so then id ∷ [] else [])) }
 {
     if is_so {
@@ -46,19 +36,19 @@ fn push_where(is_so: bool, id: Id, found: &mut Vec<Id>) -> Result<(), AllocError
     Ok(())
 }
 
-// Adds the one member of the group, if all its members are one.
-fn push_sole(group: &[Id], found: &mut Vec<Id>) -> Result<(), AllocError>
+// Adds the only member of the group, if it has only one.
+fn push_only_member(group: &[Id], found: &mut Vec<Id>) -> Result<(), AllocError>
     ensures { OnOk result (found.new.items ≡ found.old.items ++ sole group.now) }
 {
     let Some((first, rest)) = group.split_first() else {
         return Ok(());
     };
-    push_where(is_sole(*first, rest), *first, found)?;
+    push_if(is_only_member(*first, rest), *first, found)?;
     Ok(())
 }
 
-// Adds what alone supplies the requisite.
-fn push_supplier(
+// Adds the SYSMOD that supplies the requisite, if only one does.
+fn push_only_supplier(
     alloc: Global,
     zone: &Zone,
     requisite: Id,
@@ -67,10 +57,11 @@ fn push_supplier(
     ensures { OnOk result (found.new.items ≡ found.old.items ++ sole (suppliers zone.now requisite)) }
 {
     let group = suppliers(alloc, zone, requisite)?;
-    push_sole(group.as_slice(), found)
+    push_only_member(group.as_slice(), found)
 }
 
-fn push_suppliers(
+// The same for each of these requisites.
+fn push_only_suppliers(
     alloc: Global,
     zone: &Zone,
     requisites: &[Id],
@@ -80,13 +71,13 @@ fn push_suppliers(
         ≡ found.old.items ++ flat_map (λ z. sole (suppliers zone.now z)) requisites.now) }
 {
     for requisite in requisites {
-        push_supplier(alloc, zone, *requisite, found)?;
+        push_only_supplier(alloc, zone, *requisite, found)?;
     }
     Ok(())
 }
 
 // Adds the function, if it is applied.
-fn push_function(
+fn push_applied_function(
     alloc: Global,
     zone: &Zone,
     function: Option<Id>,
@@ -97,21 +88,26 @@ fn push_function(
 {
     match function {
         Some(function) => {
-            let group = applied_among(alloc, zone, &[function])?;
-            push_sole(group.as_slice(), found)
+            let group = zone.applied_among(alloc, &[function])?;
+            push_only_member(group.as_slice(), found)
         }
         None => Ok(()),
     }
 }
 
 // The SYSMODs each of which alone supplies something that an applied one needs.
-fn soles(alloc: Global, vers: &VerChoice<'_>, zone: &Zone, by: Id) -> Result<Vec<Id>, AllocError>
+fn only_suppliers(
+    alloc: Global,
+    vers: &VerChoice<'_>,
+    zone: &Zone,
+    by: Id,
+) -> Result<Vec<Id>, AllocError>
     ensures { IfOk result (λ found. found.items ≡ soles (restoring vers.now zone.now zone.now) by) }
 {
-    let requisites = requisites_held(alloc, vers, zone, by)?;
+    let requisites = binding_requisites(alloc, vers, zone, by)?;
     let mut found = Vec::new(alloc);
-    push_suppliers(alloc, zone, requisites.as_slice(), &mut found)?;
-    push_function(alloc, zone, vers.fmid(by), &mut found)?;
+    push_only_suppliers(alloc, zone, requisites.as_slice(), &mut found)?;
+    push_applied_function(alloc, zone, vers.fmid(by), &mut found)?;
     Ok(found)
 }
 
@@ -128,7 +124,7 @@ pub(crate) fn needed_pairs(
 {
     let mut pairs = Vec::new(alloc);
     for by in applied {
-        let ids = soles(alloc, vers, zone, *by)?;
+        let ids = only_suppliers(alloc, vers, zone, *by)?;
         for id in ids.as_slice() {
             pairs.push((*id, *by))?;
         }
@@ -136,7 +132,7 @@ pub(crate) fn needed_pairs(
     Ok(pairs)
 }
 
-// Adds the second of the pair, if the first is the id and the second is another one.
+// Adds the second of the pair, which needs the first, if the first is the id and the second is not.
 fn push_needing(pair: &(Id, Id), id: Id, found: &mut Vec<Id>) -> Result<(), AllocError>
     ensures { OnOk result (found.new.items ≡ found.old.items ++ needing id pair.now) }
 {

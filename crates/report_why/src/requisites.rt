@@ -11,7 +11,7 @@ ghost use Rattle.report.specs.Facts.{AreOrphans};
 ghost use Rattle.report_why.specs.Asking.{setting_in, view_in, is_there};
 ghost use Rattle.report.specs.FactViews.{fact_view};
 
-use crate::answers::answer;
+use crate::answers::resolve_requisite;
 use crate::asking::Asking;
 use fields::{Id, IdList};
 use report::{Fact, Requisite};
@@ -20,8 +20,8 @@ use sysmods_values::IfReq;
 use terms::NeedKind;
 use zones::orphans;
 
-// Adds what it asks for of one kind.
-fn push_all(
+// Adds a requisite of this kind for each of the ids.
+fn push_requisites_of_kind(
     kind: NeedKind,
     by: Id,
     ids: &[Id],
@@ -40,8 +40,8 @@ fn push_all(
     Ok(())
 }
 
-// Adds what the `++IF` of a SYSMOD states.
-fn push_stated(by: Id, condition: &IfReq, found: &mut Vec<Requisite>) -> Result<(), AllocError>
+// Adds what an `++IF` of the SYSMOD `by` requires, with its function.
+fn push_ifreqs(by: Id, condition: &IfReq, found: &mut Vec<Requisite>) -> Result<(), AllocError>
     ensures { OnOk result (found.new.items ≡ found.old.items ++ stated_by by condition.now) }
 {
     for id in condition.req.as_slice() {
@@ -55,8 +55,8 @@ fn push_stated(by: Id, condition: &IfReq, found: &mut Vec<Requisite>) -> Result<
     Ok(())
 }
 
-// Adds what its own `++IF`s state whose function is applied or the id itself.
-fn push_own(
+// Adds what the id's own `++IF`s require whose function is applied, or is the id itself.
+fn push_own_ifreqs(
     asking: &Asking<'_, '_>,
     conditions: &[IfReq],
     found: &mut Vec<Requisite>,
@@ -66,14 +66,14 @@ fn push_own(
 {
     for condition in conditions {
         if asking.has_function(condition.function) {
-            push_stated(asking.id, condition, found)?;
+            push_ifreqs(asking.id, condition, found)?;
         }
     }
     Ok(())
 }
 
-// Adds what these `++IF`s of a SYSMOD state for the function.
-fn push_for(
+// Adds what these `++IF`s of the SYSMOD `by` require for the function.
+fn push_ifreqs_for(
     function: Id,
     by: Id,
     conditions: &[IfReq],
@@ -84,7 +84,7 @@ fn push_for(
 {
     for condition in conditions {
         if function == condition.function {
-            push_stated(by, condition, found)?;
+            push_ifreqs(by, condition, found)?;
         }
     }
     Ok(())
@@ -94,11 +94,11 @@ fn push_for(
 fn is_other_applied(asking: &Asking<'_, '_>, by: Id) -> bool
     ensures { result ≡ (is_applied (view_in asking.now) by && not (bytes_eq asking.now.id by)) }
 {
-    asking.sees(by) && asking.id != by
+    asking.view_has(by) && asking.id != by
 }
 
-// Adds what others of these SYSMODs, which are applied in the view, state for the id as a function.
-fn push_of_others(
+// Adds what the `++IF`s of other SYSMODs among these, which are applied in the view, require for the id as a function.
+fn push_ifreqs_of_others(
     asking: &Asking<'_, '_>,
     ids: &[Id],
     found: &mut Vec<Requisite>,
@@ -109,21 +109,21 @@ fn push_of_others(
 {
     for by in ids {
         if is_other_applied(asking, *by) {
-            push_for(asking.id, *by, asking.scope.ifs(*by), found)?;
+            push_ifreqs_for(asking.id, *by, asking.scope.ifs(*by), found)?;
         }
     }
     Ok(())
 }
 
 // Adds the requisites by `++IF`: its own, and if it is a function those that other applied SYSMODs state for it.
-fn push_conditions(asking: &Asking<'_, '_>, found: &mut Vec<Requisite>) -> Result<(), AllocError>
+fn push_all_ifreqs(asking: &Asking<'_, '_>, found: &mut Vec<Requisite>) -> Result<(), AllocError>
     ensures { OnOk result (found.new.items ≡ found.old.items ++ conditions (setting_in asking.now) asking.now.id) }
 {
-    push_own(asking, asking.scope.ifs(asking.id), found)?;
+    push_own_ifreqs(asking, asking.scope.ifs(asking.id), found)?;
     if !asking.scope.global().is_function(asking.id) {
         return Ok(());
     }
-    push_of_others(asking, asking.applied, found)
+    push_ifreqs_of_others(asking, asking.applied, found)
 }
 
 // All that the id asks for, except the reasons of ERROR holds.
@@ -135,17 +135,17 @@ fn requisites(alloc: Global, asking: &Asking<'_, '_>) -> Result<Vec<Requisite>, 
     let id = asking.id;
     let fmid = scope.fmid(id);
     let mut found = Vec::new(alloc);
-    push_all(NeedKind::Fmid, id, fmid.as_slice(), &mut found)?;
-    push_all(NeedKind::Pre, id, scope.pre(id), &mut found)?;
-    push_all(NeedKind::Req, id, scope.req(id), &mut found)?;
-    push_conditions(asking, &mut found)?;
+    push_requisites_of_kind(NeedKind::Fmid, id, fmid.as_slice(), &mut found)?;
+    push_requisites_of_kind(NeedKind::Pre, id, scope.pre(id), &mut found)?;
+    push_requisites_of_kind(NeedKind::Req, id, scope.req(id), &mut found)?;
+    push_all_ifreqs(asking, &mut found)?;
     let losses = orphans(alloc, scope.vers, scope.zone, id)?;
     let lost = IdList::from_vec(losses);
-    push_all(NeedKind::Orphan, id, lost.as_slice(), &mut found)?;
+    push_requisites_of_kind(NeedKind::Orphan, id, lost.as_slice(), &mut found)?;
     Ok(found)
 }
 
-/// What it asks for, and the answer to that.
+/// The requisites of the id, and how each is resolved.
 pub(crate) fn requisite_facts(
     alloc: Global,
     asking: &Asking<'_, '_>,
@@ -157,7 +157,7 @@ pub(crate) fn requisite_facts(
     let found = requisites(alloc, asking)?;
     let mut facts = Vec::new(alloc);
     for requisite in found.as_slice() {
-        let answer = answer(alloc, asking, *requisite)?;
+        let answer = resolve_requisite(alloc, asking, *requisite)?;
         facts.push(Fact::Requisite {
             requisite: *requisite,
             answer,

@@ -1,6 +1,6 @@
 //! The state of an id, and its entry.
-ghost use Rattle.std.specs.Prelude.{◌≡◌, not, is_some, option_map, IfOk, map};
-ghost use Rattle.terms.specs.Lookups.{is_nil, sysmod_of, supby_of, delby_of};
+ghost use Rattle.std.specs.Prelude.{◌≡◌, not, option_map, IfOk, map};
+ghost use Rattle.terms.specs.Lookups.{is_nil, sysmod_of, supby_of};
 ghost use Rattle.report.specs.Facts.{standing, standing_facts};
 ghost use Rattle.report.specs.FactViews.{standing_view, fact_view};
 
@@ -11,6 +11,7 @@ use sysmods::GlobalZone;
 use terms::Kind;
 use zones::Zone;
 
+// Whether its entry names SYSMODs that supersede it.
 fn is_superseded(zone: &Zone, id: Id) -> bool
     ensures { result ≡ not (is_nil (supby_of zone.now id)) }
 {
@@ -20,16 +21,7 @@ fn is_superseded(zone: &Zone, id: Id) -> bool
     }
 }
 
-/// Whether a function deleted it.
-pub(crate) fn is_deleted(zone: &Zone, id: Id) -> bool
-    ensures { result ≡ is_some (delby_of zone.now id) }
-{
-    match zone.entry(id) {
-        Some(entry) => entry.delby.is_some(),
-        None => false,
-    }
-}
-
+// The state of the id in the zone, or otherwise whether it is received.
 fn standing(global: &GlobalZone, zone: &Zone, id: Id) -> Standing
     ensures { standing_view result ≡ standing global.now zone.now id }
 {
@@ -39,7 +31,7 @@ fn standing(global: &GlobalZone, zone: &Zone, id: Id) -> Standing
     if is_superseded(zone, id) {
         return Standing::Superseded;
     }
-    if is_deleted(zone, id) {
+    if zone.is_deleted(id) {
         return Standing::Deleted;
     }
     if global.is_received(id) {
@@ -48,6 +40,7 @@ fn standing(global: &GlobalZone, zone: &Zone, id: Id) -> Standing
     Standing::Missing
 }
 
+// The type of the SYSMOD, if it is received.
 fn kind_of(global: &GlobalZone, id: Id) -> Option<Kind>
     ensures { result ≡ option_map (λ s. s.kind) (sysmod_of global.now id) }
 {

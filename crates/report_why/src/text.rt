@@ -6,11 +6,12 @@ ghost use Rattle.report.specs.FactViews.{fact_view};
 
 use crate::asked_lines::{put_hold, put_requisite};
 use crate::element_lines::put_element;
-use crate::fact_words::{standing_text, type_word};
+use crate::fact_words::{kind_or_dash, standing_text};
 use fields::Id;
 use report::{Fact, LineWord, Standing, append_words, entry_words, id_text};
 use std::alloc::AllocError;
 
+// Appends the line of a `++VER`.
 fn put_ver(
     number: usize,
     fmid: &Option<Id>,
@@ -30,12 +31,13 @@ fn put_ver(
     append_words(b"  VER", &words, text)
 }
 
+// Appends the lines of one fact.
 fn put_fact(fact: &Fact<'_>, text: &mut Vec<u8>) -> Result<(), AllocError>
     ensures { OnOk result (text.new.items ≡ text.old.items ++ fact_text (fact_view fact.now)) }
 {
     match fact {
         Fact::Standing { id, kind, standing } => {
-            let kind = LineWord::Left(8, type_word(*kind));
+            let kind = LineWord::Left(8, kind_or_dash(*kind));
             let standing = LineWord::Of(standing_text(*standing));
             append_words(id.as_bytes(), &[kind, standing], text)
         }
@@ -78,6 +80,7 @@ pub fn put_facts(facts: &[Fact<'_>], text: &mut Vec<u8>) -> Result<(), AllocErro
     Ok(())
 }
 
+// 4 for an unknown id, otherwise 0.
 fn fact_code(fact: &Fact<'_>) -> u8
     ensures { result ≡ fact_code (fact_view fact.now) }
 {
@@ -90,7 +93,7 @@ fn fact_code(fact: &Fact<'_>) -> u8
     }
 }
 
-/// The status of an answer: 4 for an unknown id.
+/// The return code of `smpe why` for these facts: 4 if an id is unknown.
 pub fn facts_code(facts: &[Fact<'_>]) -> u8
     ensures { result ≡ code_of (map fact_view facts.now) }
 {

@@ -16,7 +16,7 @@ use std::alloc::{AllocError, Global};
 use sysmods_values::Ver;
 use zones::{Scope, fits};
 
-// The `++VER` of this number.
+// The fact of the `++VER` of this number: whether it fits the zone, and whether it is the one that counts.
 fn ver_fact(scope: &Scope<'_, '_>, id: Id, ver: &Ver, number: usize) -> Fact<'static>
     ensures { fact_view result ≡ VerFact number ver.now.fmid
         (fits scope.now.zone.now (is_in scope.now.ids.now) ver.now) (number == number_in scope.now.vers.now id) }

@@ -98,7 +98,8 @@ module _ (scope : Selecting) where
       as_stated = reqs_flat (bytes_eq x) (ifs_of (kept_ver scope)) (namers_in scope x)
 
       by : (b : Bool)
-          → Contains (if b then reqs_where (bytes_eq x) (flat_map (ifs_of (kept_ver scope)) (namers_in scope x)) else [])
+          → Contains
+          (if b then reqs_where (bytes_eq x) (flat_map (ifs_of (kept_ver scope)) (namers_in scope x)) else [])
           z
           ↔ Contains (if b then stated_for counted_ver (applied_ids zone) x else []) z
       by false = (λ none. none, λ none. none)
@@ -179,7 +180,8 @@ module _ (scope : Selecting) (seen : List Id) where
       required is_free h =
           let from = required_from scope.zone cands (own_vers x) z h in
           let fit = fitting_from scope cands (x ∷ []) from.0 from.1 in
-          Required is_free from.0 (subst (λ y. Contains (vers_in scope y) from.0) (itself fit.0 fit.1) fit.2) fit.3 from.2
+          Required is_free from.0 (subst (λ y. Contains (vers_in scope y) from.0) (itself fit.0 fit.1) fit.2)
+          fit.3 from.2
 
       called : IsTrue (free z) → Contains (all_requisites x) z → Asks scope cands x z
       called is_free is =

@@ -15,14 +15,19 @@ use fields::Id;
 use std::alloc::{AllocError, Global};
 use sysmods_values::Ver;
 
+// Whether the `++VER` names the id as its FMID.
 fn has_fmid(ver: &Ver, id: Id) -> bool
     ensures { result ≡ is_in (at_most_one ver.now.fmid) id }
 {
     ver.fmid == Some(id)
 }
 
-// Those whose FMID it is.
-fn with_fmid<'a>(alloc: Global, function: Id, vers: &[&'a Ver]) -> Result<Vec<&'a Ver>, AllocError>
+// The `++VER`s whose FMID is the function.
+fn vers_with_fmid<'a>(
+    alloc: Global,
+    function: Id,
+    vers: &[&'a Ver],
+) -> Result<Vec<&'a Ver>, AllocError>
     ensures { IfOk result (λ found. found.items
         ≡ filter (λ v. is_in (at_most_one v.now.fmid) function) vers.now) }
 {
@@ -32,8 +37,8 @@ fn with_fmid<'a>(alloc: Global, function: Id, vers: &[&'a Ver]) -> Result<Vec<&'
         .collect(alloc)
 }
 
-// What they require by `++IF`s for the function.
-fn required_for(alloc: Global, function: Id, vers: &[&Ver]) -> Result<Vec<Id>, AllocError>
+// What the `++VER`s require by `++IF`s for the function.
+fn required_by_ifs_for(alloc: Global, function: Id, vers: &[&Ver]) -> Result<Vec<Id>, AllocError>
     ensures { IfOk result (λ ids. ids.items ≡ reqs_where (bytes_eq function) (flat_map (λ v. v.now.ifs) vers.now)) }
 {
     vers.iter()
@@ -46,8 +51,8 @@ fn required_for(alloc: Global, function: Id, vers: &[&Ver]) -> Result<Vec<Id>, A
 }
 
 impl<'a> Selecting<'a> {
-    // Those of the namers that supersede the id directly.
-    fn over(&self, alloc: Global, id: Id, namers: &[Id]) -> Result<Vec<Id>, AllocError>
+    // Those of the namers that name the id in SUP.
+    fn superseders_among(&self, alloc: Global, id: Id, namers: &[Id]) -> Result<Vec<Id>, AllocError>
         ensures { IfOk result (λ found. found.items ≡ filter (λ y. is_in (sups_in self.now y) id) namers.now) }
     {
         namers
@@ -57,7 +62,7 @@ impl<'a> Selecting<'a> {
             .collect(alloc)
     }
 
-    // Those that supersede it directly, under GROUPEXTEND.
+    // The SYSMODs that supersede the id directly, if GROUPEXTEND asks for them.
     fn superseders(&self, alloc: Global, id: Id) -> Result<Vec<Id>, AllocError>
         ensures { IfOk result (λ found. found.items ≡ superseders self.now id) }
     {
@@ -68,55 +73,59 @@ impl<'a> Selecting<'a> {
         }
         self.global
             .append_namers(self.zone.srel(), id, &mut namers)?;
-        self.over(alloc, id, namers.as_slice())
+        self.superseders_among(alloc, id, namers.as_slice())
     }
 }
 
 impl<'a> Asked<'a> {
-    // Those that grow.
-    fn grown(&self, alloc: Global, ids: &[Id]) -> Result<Vec<Id>, AllocError>
+    // The ids among these that ask for others.
+    fn growing_among(&self, alloc: Global, ids: &[Id]) -> Result<Vec<Id>, AllocError>
         ensures { IfOk result (λ found. found.items
             ≡ filter (has_grown self.now.scope.now self.now.seen.now.keys) ids.now) }
     {
         ids.iter()
-            .filter(|id| self.has_grown(**id))
+            .filter(|id| self.is_growing(**id))
             .copied()
             .collect(alloc)
     }
 
     // The `++VER`s that fit of those that grow and name the function.
-    fn fitting_namers(&self, alloc: Global, function: Id) -> Result<Vec<&'a Ver>, AllocError>
+    fn fitting_vers_of_namers(
+        &self,
+        alloc: Global,
+        function: Id,
+    ) -> Result<Vec<&'a Ver>, AllocError>
         ensures { IfOk result (λ vers. map (λ v. v.now) vers.items
             ≡ fitting_namers self.now.scope.now self.now.seen.now.keys function) }
     {
         let namers = self.scope.function_namers(alloc, function)?;
-        let grown = self.grown(alloc, namers.as_slice())?;
-        self.fitting(alloc, grown.as_slice())
+        let grown = self.growing_among(alloc, namers.as_slice())?;
+        self.fitting_vers(alloc, grown.as_slice())
     }
 
-    // What those ask for because of the function: all that a `++VER` with this FMID requires, and what `++IF`s for it
-    // require.
+    // What the namers of a function ask for because of it: all that a `++VER` with this FMID requires, and what `++IF`s
+    // for it require.
     fn asked_by_namers(&self, alloc: Global, function: Id) -> Result<Vec<Id>, AllocError>
         ensures { IfOk result (λ found. found.items
             ≡ asked_by_namers self.now.scope.now self.now.seen.now.keys function) }
     {
-        let vers = self.fitting_namers(alloc, function)?;
-        let its_own = with_fmid(alloc, function, vers.as_slice())?;
+        let vers = self.fitting_vers_of_namers(alloc, function)?;
+        let its_own = vers_with_fmid(alloc, function, vers.as_slice())?;
         let mut ids = self.required_of(alloc, its_own.as_slice())?;
-        let by_ifs = required_for(alloc, function, vers.as_slice())?;
+        let by_ifs = required_by_ifs_for(alloc, function, vers.as_slice())?;
         ids.extend_from_slice(by_ifs.as_slice())?;
         self.scope.unsupplied(alloc, ids.as_slice())
     }
 
-    // What is asked for once the open id is. One that grew from the start has been asked already, and one that was a
-    // candidate from the start was known when others were asked.
+    // What the search asks for after an open id. One that grew from the start has been asked already, and one that was
+    // a candidate from the start was known when others were asked.
     fn brought_by(&self, alloc: Global, id: Id) -> Result<Vec<Id>, AllocError>
         ensures { IfOk result (λ found. found.items ≡ brought_by self.now.scope.now self.now.seen.now.keys id) }
     {
         if self.scope.is_growing_start(id) {
             return Ok(Vec::new(alloc));
         }
-        let mut found = self.own_asked(alloc, id)?;
+        let mut found = self.asked_by_itself(alloc, id)?;
         if self.scope.is_start(id) {
             return Ok(found);
         }
@@ -125,8 +134,8 @@ impl<'a> Asked<'a> {
         Ok(found)
     }
 
-    /// What is asked for once the id is.
-    pub(crate) fn next(&self, alloc: Global, id: Id) -> Result<Vec<Id>, AllocError>
+    /// What the search asks for after the id: if it is open, what it brings in, and in any case its superseders.
+    pub(crate) fn asked_after(&self, alloc: Global, id: Id) -> Result<Vec<Id>, AllocError>
         ensures { IfOk result (λ found. found.items ≡ next_asked self.now.scope.now self.now.seen.now.keys id) }
     {
         if !self.scope.is_open(id) {

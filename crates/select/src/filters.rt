@@ -12,6 +12,7 @@ use sysmods_values::{Sysmod, Ver};
 use terms::Kind;
 use zones::Zone;
 
+// Whether the operands choose SYSMODs of the kind. PTFs are chosen unless only other kinds are named.
 fn takes_kind(selection: &Selection, kind: Kind) -> bool
     ensures { result ≡ takes_kind selection.now kind }
 {
@@ -24,18 +25,21 @@ fn takes_kind(selection: &Selection, kind: Kind) -> bool
     }
 }
 
-fn meets_sources(sources: &SourceList, wanted: &SourceList) -> bool
+// Whether one of the sources is wanted.
+fn has_source_among(sources: &SourceList, wanted: &SourceList) -> bool
     ensures { result ≡ meets sources.now wanted.now }
 {
     sources.iter().any(|source| wanted.contains(*source))
 }
 
+// Whether SOURCEID is not given, or one of the sources is in it.
 fn passes_sources(wanted: &SourceList, sources: &SourceList) -> bool
     ensures { result ≡ (is_nil wanted.now || meets sources.now wanted.now) }
 {
-    wanted.is_empty() || meets_sources(sources, wanted)
+    wanted.is_empty() || has_source_among(sources, wanted)
 }
 
+// Whether the `++VER` has an FMID that is wanted.
 fn has_fmid_among(ver: &Ver, wanted: &IdList) -> bool
     ensures { result ≡ list_any (is_in wanted.now) (at_most_one ver.now.fmid) }
 {
@@ -45,40 +49,47 @@ fn has_fmid_among(ver: &Ver, wanted: &IdList) -> bool
     }
 }
 
-fn is_for_and_among(ver: &Ver, srel: Srel, wanted: &IdList) -> bool
+// Whether the `++VER` is for the SREL and has an FMID that is wanted.
+fn is_for_srel_with_fmid_among(ver: &Ver, srel: Srel, wanted: &IdList) -> bool
     ensures { result ≡ (bytes_eq ver.now.srel srel && list_any (is_in wanted.now) (at_most_one ver.now.fmid)) }
 {
     ver.srel == srel && has_fmid_among(ver, wanted)
 }
 
-fn some_ver_among(vers: &[Ver], srel: Srel, wanted: &IdList) -> bool
+// Whether one of the `++VER`s is for the SREL and has an FMID that is wanted.
+fn has_ver_with_fmid_among(vers: &[Ver], srel: Srel, wanted: &IdList) -> bool
     ensures { result ≡ list_any (λ v. bytes_eq v.srel srel && list_any (is_in wanted.now) (at_most_one v.fmid))
         vers.now }
 {
-    vers.iter().any(|ver| is_for_and_among(ver, srel, wanted))
+    vers.iter()
+        .any(|ver| is_for_srel_with_fmid_among(ver, srel, wanted))
 }
 
+// Whether a `++VER` of the SYSMOD is for the SREL and has an FMID that is wanted.
 fn meets_fmids(global: &GlobalZone, srel: Srel, id: Id, wanted: &IdList) -> bool
     ensures { result ≡ meets (flat_map (λ v. at_most_one v.fmid) (vers_of global.now srel id)) wanted.now }
 {
     match global.get(id) {
-        Some(sysmod) => some_ver_among(sysmod.vers.as_slice(), srel, wanted),
+        Some(sysmod) => has_ver_with_fmid_among(sysmod.vers.as_slice(), srel, wanted),
         None => false,
     }
 }
 
+// Whether the SYSMOD is a function that is wanted.
 fn meets_function(global: &GlobalZone, id: Id, wanted: &IdList) -> bool
     ensures { result ≡ meets (if is_function global.now id then id ∷ [] else []) wanted.now }
 {
     global.is_function(id) && wanted.contains(id)
 }
 
+// Whether the SYSMOD is one of the wanted functions or belongs to one.
 fn meets_forfmid(global: &GlobalZone, zone: &Zone, id: Id, wanted: &IdList) -> bool
     ensures { result ≡ meets (forfmid_ids global.now zone.now id) wanted.now }
 {
     meets_fmids(global, zone.srel(), id, wanted) || meets_function(global, id, wanted)
 }
 
+// Whether FORFMID is not given, or names the SYSMOD or its function.
 fn passes_forfmid(global: &GlobalZone, zone: &Zone, id: Id, wanted: &IdList) -> bool
     ensures { result ≡ (is_nil wanted.now || meets (forfmid_ids global.now zone.now id) wanted.now) }
 {
@@ -99,7 +110,8 @@ pub(crate) fn passes_filters(
         && passes_forfmid(global, zone, sysmod.id, &selection.forfmid)
 }
 
-fn names_none(selection: &Selection) -> bool
+// Whether the command names ids neither in SELECT nor in GROUP.
+fn names_no_id(selection: &Selection) -> bool
     ensures { result ≡ (is_nil selection.now.select && is_nil selection.now.group) }
 {
     selection.select.is_empty() && selection.group.is_empty()
@@ -115,5 +127,5 @@ pub(crate) fn has_mass_choice(selection: &Selection) -> bool
         || selection.usermods
         || !selection.sourceid.is_empty()
         || !selection.forfmid.is_empty()
-        || names_none(selection)
+        || names_no_id(selection)
 }

@@ -16,7 +16,8 @@ use fields::{Attest, Id};
 use indexmap::IndexSet;
 use std::alloc::{AllocError, Global};
 
-fn see_all(ids: &[Id], seen: &mut IndexSet<Id>) -> Result<(), AllocError>
+// Inserts the ids that have not been seen, in their order.
+fn insert_all(ids: &[Id], seen: &mut IndexSet<Id>) -> Result<(), AllocError>
     ensures { OnOk result (AddsAll seen.old.keys ids.now seen.new.keys) }
 {
     for id in ids {
@@ -25,8 +26,8 @@ fn see_all(ids: &[Id], seen: &mut IndexSet<Id>) -> Result<(), AllocError>
     Ok(())
 }
 
-// What is asked for once the id is, is added.
-fn see_next(
+// Inserts what the search asks for after the id.
+fn insert_next_asked(
     alloc: Global,
     scope: &Selecting,
     id: Id,
@@ -34,23 +35,24 @@ fn see_next(
 ) -> Result<(), AllocError>
     ensures { OnOk result (AddsAll seen.old.keys (next_asked scope.now seen.old.keys id) seen.new.keys) }
 {
-    let found = Asked { scope, seen }.next(alloc, id)?;
-    see_all(found.as_slice(), seen)?;
+    let found = Asked { scope, seen }.asked_after(alloc, id)?;
+    insert_all(found.as_slice(), seen)?;
     Ok(())
 }
 
-// What one of the start asks for, if it brings others in.
-fn asked_first(alloc: Global, scope: &Selecting, id: Id) -> Result<Vec<Id>, AllocError>
+// What an id of the start asks for, or nothing if it brings no others in.
+fn asked_by_start_id(alloc: Global, scope: &Selecting, id: Id) -> Result<Vec<Id>, AllocError>
     ensures { IfOk result (λ found. found.items ≡ asked_first scope.now id) }
 {
     if !brings_others(scope.selection, id) {
         return Ok(Vec::new(alloc));
     }
     let seen = &IndexSet::new(alloc);
-    Asked { scope, seen }.own_asked(alloc, id)
+    Asked { scope, seen }.asked_by_itself(alloc, id)
 }
 
-fn see_first(
+// Inserts what an id of the start asks for.
+fn insert_first_asked(
     alloc: Global,
     scope: &Selecting,
     id: Id,
@@ -58,12 +60,12 @@ fn see_first(
 ) -> Result<(), AllocError>
     ensures { OnOk result (AddsAll seen.old.keys (asked_first scope.now id) seen.new.keys) }
 {
-    let found = asked_first(alloc, scope, id)?;
-    see_all(found.as_slice(), seen)?;
+    let found = asked_by_start_id(alloc, scope, id)?;
+    insert_all(found.as_slice(), seen)?;
     Ok(())
 }
 
-// What those of the start ask for that bring others in.
+// The ids that those of the start ask for that bring others in.
 fn asked_by_start(
     alloc: Global,
     scope: &Selecting,
@@ -73,13 +75,13 @@ fn asked_by_start(
 {
     let mut seen = IndexSet::new(alloc);
     for id in start {
-        see_first(alloc, scope, *id, &mut seen)?;
+        insert_first_asked(alloc, scope, *id, &mut seen)?;
     }
     Ok(seen)
 }
 
-/// The ids that are asked for, open or not.
-pub(crate) fn asked(
+/// The ids that the start asks for, directly or through others, open or not.
+pub(crate) fn asked_ids(
     alloc: Global,
     scope: &Selecting,
     start: &[Id],
@@ -92,7 +94,7 @@ pub(crate) fn asked(
     let mut i = 0;
     while i < seen.len() {
         let id = seen.as_slice()[i];
-        see_next(alloc, scope, id, &mut seen)?;
+        insert_next_asked(alloc, scope, id, &mut seen)?;
         i += 1;
     }
     Ok(seen)

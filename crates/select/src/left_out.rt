@@ -14,7 +14,7 @@ use fields::{Id, IdList};
 use std::alloc::{AllocError, Global};
 use terms::NotChosen;
 
-// Whether it is not named, or excluded, or open.
+// Whether the id gets no reason: SELECT and GROUP do not name it, EXCLUDE does, or it is open.
 fn needs_no_reason(scope: &Selecting, id: Id) -> bool
     ensures { result ≡ (not (is_in (named_ids scope.now.selection) id) || is_in scope.now.selection.exclude id
         || is_open_in scope.now id) }
@@ -23,15 +23,16 @@ fn needs_no_reason(scope: &Selecting, id: Id) -> bool
     !is_named(selection, id) || selection.exclude.contains(id) || scope.is_open(id)
 }
 
+// The first reason why a named id is not a candidate.
 #[tactic(auto, unfolding(terms::specs::Candidates::not_chosen))]
-fn why_not(scope: &Selecting, id: Id) -> Option<NotChosen>
+fn reason_not_chosen(scope: &Selecting, id: Id) -> Option<NotChosen>
     ensures { result ≡ reason_in scope.now id }
 {
     if needs_no_reason(scope, id) {
         None
     } else if scope.zone.supplies(id) {
         Some(NotChosen::Already)
-    } else if scope.is_deleted(id) {
+    } else if scope.zone.is_deleted(id) {
         Some(NotChosen::Deleted)
     } else if !scope.global.is_received(id) {
         Some(NotChosen::Missing)
@@ -40,6 +41,7 @@ fn why_not(scope: &Selecting, id: Id) -> Option<NotChosen>
     }
 }
 
+// Pushes the id together with its reason, if it has one.
 fn push_with_reason(
     scope: &Selecting,
     id: Id,
@@ -47,7 +49,7 @@ fn push_with_reason(
 ) -> Result<(), AllocError>
     ensures { OnOk result (found.new.items ≡ found.old.items ++ option_to_list (with_reason scope.now id)) }
 {
-    if let Some(why) = why_not(scope, id) {
+    if let Some(why) = reason_not_chosen(scope, id) {
         found.push((id, why))?;
     }
     Ok(())
@@ -69,7 +71,7 @@ fn with_reasons(
 }
 
 /// The ids of SELECT and GROUP that are neither excluded nor open, rising, each with the reason.
-pub(crate) fn not_chosen(
+pub(crate) fn ids_not_chosen(
     alloc: Global,
     scope: &Selecting,
 ) -> Result<Vec<(Id, NotChosen)>, AllocError>

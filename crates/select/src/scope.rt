@@ -1,8 +1,8 @@
 //! What is open for an APPLY.
-ghost use Rattle.std.specs.Prelude.{◌≡◌, ◌&&◌, not, filter, is_some, option_copied, IfOk};
+ghost use Rattle.std.specs.Prelude.{◌≡◌, ◌&&◌, not, filter, option_copied, IfOk};
 ghost use Rattle.std.specs.List.{list_any};
 ghost use Rattle.std.specs.Str.{bytes_eq};
-ghost use Rattle.terms.specs.Lookups.{is_in, is_applied, is_supplied, delby_of};
+ghost use Rattle.terms.specs.Lookups.{is_in, is_applied, is_supplied};
 ghost use Rattle.sysmods.specs.Choices.{has_ver};
 ghost use Rattle.select.specs.Scopes.{is_installable_in, is_open_in, received_vers, sups_in};
 ghost use Rattle.select.specs.Growing.{kept_ver, namers_in};
@@ -31,7 +31,7 @@ impl<'a> Model for Selecting<'a> {
 }
 
 impl<'a> Selecting<'a> {
-    /// Its `++VER`s, if it is received.
+    /// The SYSMOD's `++VER`s, or none if it is not received.
     pub(crate) fn vers(&self, id: Id) -> &'a [Ver]
         ensures { result.now ≡ received_vers self.now id }
     {
@@ -45,20 +45,21 @@ impl<'a> Selecting<'a> {
         ver.srel == self.zone.srel()
     }
 
-    /// Whether the zone has it applied.
+    /// Whether the zone has applied the SYSMOD.
     pub(crate) fn is_applied(&self, id: Id) -> bool
         ensures { result ≡ is_applied self.now.zone id }
     {
         self.zone.is_applied(id)
     }
 
+    // Whether the SYSMOD is received and has a `++VER` for the zone's SREL.
     fn has_ver(&self, id: Id) -> bool
         ensures { result ≡ has_ver self.now.global self.now.zone.srel id }
     {
         has_ver(self.global, self.zone.srel(), id)
     }
 
-    /// The `++VER` by which it was installed, if it is applied.
+    /// The `++VER` by which the SYSMOD was installed, if it is applied.
     pub(crate) fn kept_ver(&self, id: Id) -> Option<&'a Ver>
         ensures { option_copied result ≡ kept_ver self.now id }
     {
@@ -66,14 +67,14 @@ impl<'a> Selecting<'a> {
         numbered_ver(self.global, self.zone.srel(), id, applied.number)
     }
 
-    /// Whether a `++VER` of the one for the zone's SREL names the other in SUP.
+    /// Whether a `++VER` of `id` for the zone's SREL names `other` in SUP.
     pub(crate) fn supersedes(&self, id: Id, other: Id) -> bool
         ensures { result ≡ is_in (sups_in self.now id) other }
     {
         any_supersedes(self.vers(id), self.zone.srel(), other)
     }
 
-    /// The received SYSMODs that name it as a function.
+    /// The received SYSMODs that name the id as a function, in DELETE, FMID or an `++IF`.
     pub(crate) fn function_namers(&self, alloc: Global, id: Id) -> Result<Vec<Id>, AllocError>
         ensures { IfOk result (λ namers. namers.items ≡ namers_in self.now id) }
     {
@@ -92,24 +93,14 @@ impl<'a> Selecting<'a> {
             .collect(alloc)
     }
 
-    /// Whether the zone has a DELBY for it.
-    pub(crate) fn is_deleted(&self, id: Id) -> bool
-        ensures { result ≡ is_some (delby_of self.now.zone id) }
-    {
-        match self.zone.entry(id) {
-            Some(entry) => entry.delby.is_some(),
-            None => false,
-        }
-    }
-
-    // Whether it has a `++VER` for the zone's SREL, and is neither supplied nor deleted.
+    // Whether the SYSMOD has a `++VER` for the zone's SREL, and is neither supplied nor deleted.
     fn is_installable(&self, id: Id) -> bool
         ensures { result ≡ is_installable_in self.now id }
     {
-        self.has_ver(id) && !self.zone.supplies(id) && !self.is_deleted(id)
+        self.has_ver(id) && !self.zone.supplies(id) && !self.zone.is_deleted(id)
     }
 
-    /// Whether it may be installed and is not excluded.
+    /// Whether the SYSMOD may be installed and is not excluded.
     pub(crate) fn is_open(&self, id: Id) -> bool
         ensures { result ≡ is_open_in self.now id }
     {
@@ -118,13 +109,14 @@ impl<'a> Selecting<'a> {
     }
 }
 
-// Whether one for the SREL names the id in SUP.
+// Whether one of the `++VER`s is for the SREL and names the id in SUP.
 fn any_supersedes(vers: &[Ver], srel: Srel, id: Id) -> bool
     ensures { result ≡ list_any (λ v. bytes_eq v.srel srel && is_in v.sup id) vers.now }
 {
     vers.iter().any(|ver| is_for_and_supersedes(ver, srel, id))
 }
 
+// Whether the `++VER` is for the SREL and names the id in SUP.
 fn is_for_and_supersedes(ver: &Ver, srel: Srel, id: Id) -> bool
     ensures { result ≡ (bytes_eq ver.now.srel srel && is_in ver.now.sup id) }
 {

@@ -6,15 +6,16 @@ ghost use Rattle.terms.specs.Lookups.{IsRising};
 ghost use Rattle.terms.specs.Candidates.{AreCandidates, is_installable, not_chosen};
 ghost use Rattle.select.specs.Scopes.{is_installable_in, is_open_in};
 
-use crate::growing::asked;
-use crate::left_out::not_chosen;
+use crate::growing::asked_ids;
+use crate::left_out::ids_not_chosen;
 use crate::scope::Selecting;
-use crate::start::start;
-use fields::{Attest, Id, IdList, Selection};
+use crate::start::start_ids;
+use fields::{Id, IdList, Selection};
 use std::alloc::{AllocError, Global};
 use sysmods::GlobalZone;
 use zones::{Candidates, Zone};
 
+// The ids among these that may be installed and are not excluded.
 fn open_among(alloc: Global, scope: &Selecting, ids: &[Id]) -> Result<Vec<Id>, AllocError>
     ensures { IfOk result (λ found. found.items ≡ filter (is_open_in scope.now) ids.now) }
 {
@@ -24,19 +25,17 @@ fn open_among(alloc: Global, scope: &Selecting, ids: &[Id]) -> Result<Vec<Id>, A
         .collect(alloc)
 }
 
-// The start and what it brings in.
+// The start, and the open ids that it asks for.
 fn start_and_growing(alloc: Global, scope: &Selecting) -> Result<IdList, AllocError>
     ensures members { IfOk result
         (λ ids. AreCandidates scope.now.global scope.now.zone scope.now.selection ids) }
     ensures installable { IfOk result (λ ids. All (λ x. IsTrue (is_installable_in scope.now x)) ids) }
 {
-    let mut ids = start(alloc, scope)?;
-    let asked = asked(alloc, scope, ids.as_slice())?;
+    let mut ids = start_ids(alloc, scope)?;
+    let asked = asked_ids(alloc, scope, ids.as_slice())?;
     let brought_in = open_among(alloc, scope, asked.as_slice())?;
     ids.extend_from_slice(brought_in.as_slice())?;
-    let candidates = IdList::from_vec(ids);
-    candidates.attest();
-    Ok(candidates)
+    Ok(IdList::from_vec(ids))
 }
 
 /// The candidates, and the ids of SELECT and GROUP that are neither excluded nor open, each with the reason.
@@ -60,6 +59,6 @@ pub fn candidates(
     };
     Ok(Candidates {
         ids: start_and_growing(alloc, &scope)?,
-        left_out: not_chosen(alloc, &scope)?,
+        left_out: ids_not_chosen(alloc, &scope)?,
     })
 }

@@ -13,7 +13,7 @@ use fields::{Id, Selection};
 use std::alloc::{AllocError, Global};
 use sysmods::GlobalZone;
 
-/// Whether SELECT or GROUP names it.
+/// Whether SELECT or GROUP names the id.
 pub(crate) fn is_named(selection: &Selection, id: Id) -> bool
     ensures { result ≡ (is_in selection.now.select id || is_in selection.now.group id) }
 {
@@ -28,6 +28,7 @@ pub(crate) fn brings_others(selection: &Selection, id: Id) -> bool
 }
 
 impl<'a> Selecting<'a> {
+    // Whether the id is received and its SYSMOD passes all filters.
     fn passes_filters(&self, id: Id) -> bool
         ensures { result ≡ option_map_or (passes_filters self.now.global self.now.zone self.now.selection)
             (sysmod_of self.now.global id) false }
@@ -38,20 +39,21 @@ impl<'a> Selecting<'a> {
         }
     }
 
+    // Whether the command chooses by mass and the SYSMOD passes its filters.
     fn is_mass_chosen(&self, id: Id) -> bool
         ensures { result ≡ is_mass_chosen_in self.now id }
     {
         has_mass_choice(self.selection) && self.passes_filters(id)
     }
 
-    /// Whether it is open, and the mass choice, SELECT or GROUP names it.
+    /// Whether the id is open, and the mass choice, SELECT or GROUP names it.
     pub(crate) fn is_start(&self, id: Id) -> bool
         ensures { result ≡ is_start_in self.now id }
     {
         self.is_open(id) && (is_named(self.selection, id) || self.is_mass_chosen(id))
     }
 
-    /// Whether it is of the start and brings others in.
+    /// Whether the id is of the start and brings others in.
     pub(crate) fn is_growing_start(&self, id: Id) -> bool
         ensures { result ≡ is_growing_start_in self.now id }
     {
@@ -68,6 +70,7 @@ pub(crate) fn named_ids(alloc: Global, selection: &Selection) -> Result<Vec<Id>,
     Ok(ids)
 }
 
+// The ids of all received SYSMODs.
 fn received_ids(alloc: Global, global: &GlobalZone) -> Result<Vec<Id>, AllocError>
     ensures { IfOk result (λ ids. ids.items ≡ map (λ s. s.id) global.now.sysmods) }
 {
@@ -89,7 +92,8 @@ fn ids_in_question(alloc: Global, scope: &Selecting) -> Result<Vec<Id>, AllocErr
     }
 }
 
-fn among(alloc: Global, scope: &Selecting, ids: &[Id]) -> Result<Vec<Id>, AllocError>
+// The ids among these that are open and chosen.
+fn start_among(alloc: Global, scope: &Selecting, ids: &[Id]) -> Result<Vec<Id>, AllocError>
     ensures { IfOk result (λ start. start.items ≡ filter (is_start_in scope.now) ids.now) }
 {
     ids.iter()
@@ -99,9 +103,9 @@ fn among(alloc: Global, scope: &Selecting, ids: &[Id]) -> Result<Vec<Id>, AllocE
 }
 
 /// The open ids that the mass choice, SELECT or GROUP names. Some may occur twice.
-pub(crate) fn start(alloc: Global, scope: &Selecting) -> Result<Vec<Id>, AllocError>
+pub(crate) fn start_ids(alloc: Global, scope: &Selecting) -> Result<Vec<Id>, AllocError>
     ensures { IfOk result (λ start. (x : AnId) → Contains start.items x ↔ IsTrue (is_start_in scope.now x)) }
 {
     let ids = ids_in_question(alloc, scope)?;
-    among(alloc, scope, ids.as_slice())
+    start_among(alloc, scope, ids.as_slice())
 }

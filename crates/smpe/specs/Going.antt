@@ -44,7 +44,8 @@ module _ {S : Type 0} (g : Ghosts S) where
   ActRan old Begin new outcomes = OnlyLoads g old new × (outcomes ≡ [])
       × (HasCleanDisk (state g new) → (global : terms.Global) × ShowsGlobal g old global)
   ActRan old (Faulty fault) new outcomes = (new ≡ old) × (outcomes ≡ Control fault ∷ [])
-  ActRan old (Perform date files c) new outcomes = (outcome : Outcome) × (outcomes ≡ outcome ∷ []) × IsOutcomeOf c outcome
+  ActRan old (Perform date files c) new outcomes = (outcome : Outcome) × (outcomes ≡ outcome ∷ [])
+      × IsOutcomeOf c outcome
       × GoesOver g old new (λ change. IsOwn (Perform date files c) change × IsRan change outcome) {E = JobError}
       (Ok outcome)
   ActRan old (Define d) new outcomes =

@@ -1,4 +1,4 @@
-//! A command is performed.
+//! How a command is performed.
 ghost use Rattle.std.specs.Prelude.{◌≡◌, IfOk, IsErrOf};
 ghost use Rattle.cntl.specs.Views.{command_of};
 ghost use Rattle.smpe_zones.specs.Own.{IsOwnOf};
@@ -17,15 +17,17 @@ use std::alloc::Global;
 use store::{Store, StoreError};
 use terms::ZoneKind;
 
-fn told(ended: Result<Outcome<'static>, StoreError>) -> Result<Performed, StoreError>
-    ensures { result ≡ told ended.entry }
+// The answer of a command that has nothing to say but its outcome, or the error of the command.
+fn wrap_outcome(outcome: Result<Outcome<'static>, StoreError>) -> Result<Performed, StoreError>
+    ensures { result ≡ told outcome.entry }
 {
-    Ok(Performed::Told(ended?))
+    Ok(Performed::Told(outcome?))
 }
 
-/// Performs a command and commits it before it returns. Returns `Memory` if memory runs out, `Fault` if the database
-/// fails, and `NoState` if it loads a zone whose rows stand for none. After an error no command of the job may follow:
-/// the session's global zone may be ahead of the tables.
+/// Performs a command, commits it, and returns what to report: its outcome, which may be a refusal, or for a LIST that
+/// the zone is to be listed. Returns `Memory` if memory runs out, `Fault` if the database fails, and `NoState` if it
+/// loads a zone whose rows stand for none. After an error no command of the job may follow: the session's global zone
+/// may be ahead of the tables.
 pub fn perform<S: Alter>(
     alloc: Global,
     session: &mut Session,
@@ -43,14 +45,14 @@ pub fn perform<S: Alter>(
         × ¬ IsErrOf result StoreError.Fault }
 {
     match command {
-        Command::Set(name) => told(session.set(alloc, store, *name)),
-        Command::Receive(what) => told(session.receive(alloc, store, files, what)),
-        Command::Reject(ids) => told(session.reject(alloc, store, ids)),
+        Command::Set(name) => wrap_outcome(session.set(alloc, store, *name)),
+        Command::Receive(operands) => wrap_outcome(session.receive(alloc, store, files, operands)),
+        Command::Reject(ids) => wrap_outcome(session.reject(alloc, store, ids)),
         Command::Apply(operands) => {
-            told(install(alloc, session, store, date, ZoneKind::Target, operands))
+            wrap_outcome(install(alloc, session, store, date, ZoneKind::Target, operands))
         }
         Command::Accept(operands) => {
-            told(install(
+            wrap_outcome(install(
                 alloc,
                 session,
                 store,
@@ -59,7 +61,9 @@ pub fn perform<S: Alter>(
                 operands,
             ))
         }
-        Command::Restore { list, check } => told(restore(alloc, session, store, list, *check)),
+        Command::Restore { list, check } => wrap_outcome(restore(
+            alloc, session, store, list, *check,
+        )),
         Command::List { text } => Ok(Performed::Lists { text: *text }),
         Command::Report => Ok(Performed::Told(session.report(alloc)?)),
     }

@@ -14,14 +14,14 @@ use cntl::Install;
 use fields::{YyDdd, ZoneName};
 use report::{Header, Outcome};
 use smpe_service::{InstallChange, apply};
-use smpe_session::{Session, or_nothing};
+use smpe_session::{Session, lines_or_nothing};
 use sqlite::Alter;
 use std::alloc::Global;
 use store::{Store, StoreError};
 use terms::{CommandWord, ZoneKind};
 
 // The header of the command that installs into a zone of this kind.
-fn header(kind: ZoneKind, boundary: Option<ZoneName>, check: bool) -> Header
+fn install_header(kind: ZoneKind, boundary: Option<ZoneName>, check: bool) -> Header
     ensures view { (i : AnInstall) → i.check ≡ check
         → header_view result ≡ header_of (install_command kind i) boundary }
     ensures check { result.check ≡ check }
@@ -38,7 +38,8 @@ fn header(kind: ZoneKind, boundary: Option<ZoneName>, check: bool) -> Header
     }
 }
 
-/// APPLY into a target zone, ACCEPT into a distribution zone.
+/// Performs an APPLY into a target zone or an ACCEPT into a distribution zone, and commits its change unless it only
+/// checks. A refusal is an outcome too. The errors are those of `perform`.
 pub(crate) fn install<S: Alter>(
     alloc: Global,
     session: &mut Session,
@@ -55,7 +56,7 @@ pub(crate) fn install<S: Alter>(
     ensures header { IfOk result (TellsOutcomeOf (install_command kind install.now)) }
 {
     let related = session.seek_related(store, kind)?;
-    let header = header(kind, session.boundary, install.check);
+    let header = install_header(kind, session.boundary, install.check);
     let place = match session.place(kind) {
         Ok(place) => place,
         Err(refusal) => return Ok(Outcome::Refused { header, refusal }),
@@ -70,6 +71,6 @@ pub(crate) fn install<S: Alter>(
         &install.bypass,
         date,
     )?;
-    let lines = or_nothing(lines)?;
+    let lines = lines_or_nothing(lines)?;
     session.carry_out(alloc, store, header, name, delta, lines)
 }

@@ -22,7 +22,8 @@ use sqlite::Alter;
 use std::alloc::Global;
 use store::Store;
 
-// Performs a command, and reports it once it is committed.
+// Performs a command, writes its report once it is committed, and returns its return code. The errors are those of
+// `run_job`.
 fn run_command<S: Alter, W: Sink>(
     alloc: Global,
     session: &mut Session,
@@ -49,7 +50,7 @@ fn run_command<S: Alter, W: Sink>(
     }
 }
 
-// Performs commands one after the other, and returns the highest return code.
+// Performs commands one after the other, and returns the highest return code. The first error ends it.
 fn run_commands<S: Alter, W: Sink>(
     alloc: Global,
     session: &mut Session,
@@ -102,6 +103,7 @@ pub fn run_job<S: Alter, W: Sink>(
     ensures closed { KeepsClosed S.Store store.old store.new }
     ensures fault { TellsOfSink (W.has_failed w.old) (W.has_failed w.new) result }
 {
+    // (for the clause `closed`: the date has its form)
     date.attest();
     let commands = match read_cntl(alloc, cntl) {
         Ok(commands) => commands,

@@ -20,8 +20,9 @@ use std::alloc::Global;
 use store::Store;
 use terms::ZoneKind;
 
-// Defines a zone, and returns how that ended.
-fn define<S: Alter>(
+// Defines a zone, and returns how that ended: a refusal is an answer, and any other fault an error, `Memory` or
+// `Store`.
+fn answer_definition<S: Alter>(
     store: &mut Store<S>,
     name: ZoneName,
     kind: ZoneKind,
@@ -40,14 +41,14 @@ fn define<S: Alter>(
 {
     match define_zone(store, name, kind, srel, related) {
         Ok(()) => Ok(Answer::Defined),
-        Err(ZoneError::Refused(why)) => Ok(Answer::Refused(why)),
+        Err(ZoneError::Refused(fault)) => Ok(Answer::Refused(fault)),
         Err(ZoneError::Store(error)) => Err(JobError::from(error)),
         Err(ZoneError::Memory) => Err(JobError::Memory),
     }
 }
 
-// Runs one job.
-fn run_one<S: Alter, W: Sink>(
+// Runs one job of the list, and returns its answer. The errors are those of `run_jobs`.
+fn answer_job<S: Alter, W: Sink>(
     alloc: Global,
     store: &mut Store<S>,
     job: &Job<'_>,
@@ -76,13 +77,13 @@ fn run_one<S: Alter, W: Sink>(
             kind,
             srel,
             related,
-        } => define(store, name, kind, srel, related),
+        } => answer_definition(store, name, kind, srel, related),
     }
 }
 
-/// Runs the jobs one after the other. A refused definition does not end the list, but an error does: `Memory` if memory
-/// runs out, `Write` if the report cannot be written, and `Store` with `Fault` if the database fails, or with `NoState`
-/// if the rows stand for no state.
+/// Runs the jobs one after the other, and returns the answer of each. A refused definition does not end the list. An
+/// error ends it: `Memory` if memory runs out, `Write` if the report cannot be written, and `Store` with `Fault` if the
+/// database fails, or with `NoState` if the rows stand for no state.
 pub fn run_jobs<S: Alter, W: Sink>(
     alloc: Global,
     store: &mut Store<S>,
@@ -101,7 +102,8 @@ pub fn run_jobs<S: Alter, W: Sink>(
 {
     let mut answers = Vec::with_capacity(alloc, jobs.len())?;
     for job in jobs {
-        let answer = run_one(alloc, store, job, w)?;
+        let answer = answer_job(alloc, store, job, w)?;
+        // (the list was made with room for all answers)
         answers.push(answer).unwrap();
     }
     Ok(answers)

@@ -1,9 +1,10 @@
-//! Jobs are run over a store. The headline is `run_jobs`: the bytes handed to the sink, the answers, and what the tables
-//! stand for are the machine's, or after an error those of some first commands. Whatever a crash leaves includes each
-//! command that was reported. Zones that were closed stay so, also after an error and a crash (`closed`). A fault of the
-//! database has a cause in the call that returns it. No contract says when memory runs out. Whatever the tables hold
-//! (`goes`), each command has loaded, or made one change of its own besides. If the answer is that they stand for no
-//! state, nothing has changed since the last command that was reported. `smpe_jobs` says what jobs are and how they end.
+//! Jobs are run over a store. The headline is `run_jobs`: the bytes handed to the sink, the answers, and what the
+//! tables stand for are the machine's, or after an error those of some first commands. Whatever a crash leaves includes
+//! each command that was reported. Zones that were closed stay so, also after an error and a crash (`closed`). A fault
+//! of the database has a cause in the call that returns it. No contract says when memory runs out. Whatever the tables
+//! hold (`goes`), each command has loaded, or made one change of its own besides. If the answer is that they stand for
+//! no state, nothing has changed since the last command that was reported. `smpe_jobs` says what jobs are and how they
+//! end.
 #![tactic(auto)]
 
 mod command;
@@ -17,7 +18,8 @@ pub use job::run_job;
 pub use jobs::run_jobs;
 pub use smpe_invocation::{ArgFault, CommandJob, DatabaseFile, Invocation, invocation};
 pub use smpe_jobs::{
-    Answer, FAULT_STATUS, Fault, Job, JobError, define_zone, ends_closed, fault_line,
-    list_commands, migrated_line, next_open_finds, reopened, status_of, two_commands, zone_line,
+    Answer, FAULT_STATUS, Fault, Job, JobError, define_zone, ends_closed, list_commands,
+    next_open_finds, reopened, status_of, two_commands, write_fault_line, write_migrated_line,
+    write_zone_line,
 };
 pub use smpe_zones::{ZoneError, ZoneFault};

@@ -17,7 +17,8 @@ use std::alloc::Global;
 use store::{Store, StoreError};
 use terms::{CommandWord, ZoneKind};
 
-/// RESTORE of a list from the target zone of the boundary.
+/// Performs a RESTORE of a list from the target zone of the boundary, and commits its change unless it only checks. A
+/// refusal is an outcome too. The errors are those of `perform`.
 pub(crate) fn restore<S: Alter>(
     alloc: Global,
     session: &mut Session,
@@ -32,7 +33,7 @@ pub(crate) fn restore<S: Alter>(
         ended) result }
     ensures header { IfOk result (TellsOutcomeOf (Restore (restore_list_of list.now) check)) }
 {
-    let accepted = session.seek_accepted(store)?;
+    let distribution_name = session.seek_accepted(store)?;
     let header = Header {
         word: CommandWord::Restore,
         boundary: session.boundary,
@@ -42,8 +43,8 @@ pub(crate) fn restore<S: Alter>(
         Ok(place) => place,
         Err(refusal) => return Ok(Outcome::Refused { header, refusal }),
     };
-    let Some(accepted) = session.zone_at(accepted) else {
-        // Each target zone has a distribution zone.
+    let Some(distribution) = session.zone_at(distribution_name) else {
+        // (this does not happen: each target zone has a distribution zone)
         let refusal = Refusal::WrongKind;
         return Ok(Outcome::Refused { header, refusal });
     };
@@ -52,7 +53,7 @@ pub(crate) fn restore<S: Alter>(
         alloc,
         &session.global,
         place.zone,
-        accepted,
+        distribution,
         list,
     )?;
     session.carry_out(alloc, store, header, name, delta, lines)

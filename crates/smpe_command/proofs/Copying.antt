@@ -17,7 +17,8 @@ use Rattle.smpe_command.specs.Database.{IsStoreOver}
 use Rattle.smpe_command.proofs.OneJob.{Alike, ends_as, goes_as, write_as}
 
 module _ {S O : Type 0} (g : Ghosts S) (sink : SinkGhosts O) (zone : Text) where
-  pub asks_none : (ids : List Text) (store : Held S) (out : O) → ids ≡ [] → AsksIfAny g sink zone ids store out (Ok 0) out
+  pub asks_none : (ids : List Text) (store : Held S) (out : O) → ids ≡ []
+      → AsksIfAny g sink zone ids store out (Ok 0) out
   asks_none [] store out none = (refl, refl)
   asks_none (id ∷ more) store out none = absurd cc
 
@@ -27,8 +28,9 @@ module _ {S O : Type 0} (g : Ghosts S) (sink : SinkGhosts O) (zone : Text) where
   asks_any (id ∷ more) store out out' r some asks = asks
 
   -- The jobs ended in this way over a store that a connection became, and then this was asked.
-  pub tried : (ids : List Text) {V : Type 0} (f : V → List machine.Answer) (jobs : List machine.Job) (conn begun store : Held S)
-      (out mid out' : O) (r : Result V JobError) (q : Result (List machine.Answer) JobError) (status : Result ℕ JobError)
+  pub tried : (ids : List Text) {V : Type 0} (f : V → List machine.Answer) (jobs : List machine.Job)
+      (conn begun store : Held S) (out mid out' : O) (r : Result V JobError) (q : Result (List machine.Answer) JobError)
+      (status : Result ℕ JobError)
       → Alike f (λ all. all) r q → IsStoreOver g conn begun
       → (HasCleanDisk (state g store) → (s : State) → Keeps g begun s
       → EndsJobs g begun store s jobs (sink.taken out) (sink.taken mid) f r)
@@ -41,8 +43,8 @@ module _ {S O : Type 0} (g : Ghosts S) (sink : SinkGhosts O) (zone : Text) where
     mid = mid;
     answers = q;
     ends = λ clean s found. ends_as f (λ all. all) g sink jobs out mid conn store s r q same
-        (jobs_since g conn begun store (over.crash.counts, over.crash.limit) s jobs (sink.taken out) (sink.taken mid) f r
-        (ended clean s (over.stands (kept s) found)));
+        (jobs_since g conn begun store (over.crash.counts, over.crash.limit) s jobs (sink.taken out) (sink.taken mid)
+        f r (ended clean s (over.stands (kept s) found)));
     goes = goes_as f (λ all. all) g sink jobs out mid begun store r q same went;
     fault = λ none. sound none ∙ write_as f (λ all. all) g sink jobs out mid r q same;
     asks = asks;

@@ -71,8 +71,8 @@ module _ {S O : Type 0} (g : Ghosts S) (sink : SinkGhosts O) (zone : Text) where
       × (r ≡ at_least (greatest answers) told)
   AsksAfter (Err error) ids store out r out' = (r ≡ Err error) × (out' ≡ out)
 
-  -- The jobs ran over a store that began in this way, and then the ids were asked about. If the connection found a state, the
-  -- jobs ran over that. The cause of a fault is since the connection was handed over.
+  -- The jobs ran over a store that began in this way, and then the ids were asked about. If the connection found a
+  -- state, the jobs ran over that. The cause of a fault is since the connection was handed over.
   pub record TriedOver (ids : List Text) (jobs : List machine.Job) (conn begun : Held S) (out : O)
       (r : Result ℕ JobError) (out' : O) : Type 0 where
     pub store : Held S
@@ -100,7 +100,8 @@ abbrev pub TriesBytes : {M O : Type 0} → disk.Ghosts M → SinkGhosts O → Te
     → List machine.Job → O → Result ℕ JobError → O → Type 0
 TriesBytes {M} memory sink zone ids db log jobs out r out' =
     ((error : Error) × IsTrue (is_open_error error) × (r ≡ Err (job_error (told error))) × (out' ≡ out))
-    ⊎ ((conn : Held (FileStore M memory)) × IsCopy db log conn × TriesOver over_files sink zone ids jobs conn out r out')
+    ⊎ ((conn : Held (FileStore M memory)) × IsCopy db log conn
+    × TriesOver over_files sink zone ids jobs conn out r out')
 
 module _ {H D M O : Type 0} (host : HostGhosts H D) (memory : disk.Ghosts M) (sink : SinkGhosts O) (h : H)
     (copy : SystemCopy) (out : O) where

@@ -34,8 +34,8 @@ use Rattle.smpe_jobs.specs.Ending.{EndsJobs, StaysClosed, answer_of, is_write}
 use Rattle.smpe.specs.Going.{GoesJobs}
 use Rattle.smpe_command.specs.declared.host.Host.{Ghosts as HostGhosts}
 
--- The connection became this store. The store's tables, created if there were none, stand for what was found. A database
--- that was not blank is as it was, whatever its tables hold.
+-- The connection became this store. The store's tables, created if there were none, stand for what was found. A
+-- database that was not blank is as it was, whatever its tables hold.
 pub record IsStoreOver {S : Type 0} (g : Ghosts S) (conn store : Held S) : Type 0 where
   pub stands : (i : Inventory) → IsFound g conn i → Stands (Tables g store) (Leaves g store) i
   pub ours : HasCleanDisk (state g store) → HasOwnTables (state g store).now

@@ -102,7 +102,8 @@ module _ {O : Type 0} (sink : SinkGhosts O) (out : O) (srel : Text) where
   abbrev pub TriesSet : Option CommandJob → List ℕ → Files → {V : Type 0} → (V → List machine.Answer)
       → Result V JobError → O → Type 0
   TriesSet commands cntl files answers r out' = ((r ≡ Err Memory) × (out' ≡ out))
-      ⊎ ((date : Text) × IsTriedOn commands date × TriesWith date (tried_with apply_records commands cntl) files answers r out')
+      ⊎ ((date : Text) × IsTriedOn commands date
+      × TriesWith date (tried_with apply_records commands cntl) files answers r out')
 
   -- It is tried, and the status is the greatest one.
   abbrev pub ChecksSet : Option CommandJob → List ℕ → Files → Result ℕ JobError → O → Type 0

@@ -8,23 +8,25 @@ ghost use Rattle.smpe_command.specs.Asking.{IsAsked, IsUnasked, shown};
 use smpe::{ArgFault, Invocation, invocation};
 use std::alloc::{AllocError, Global};
 
-/// What the words ask for. A word that is not UTF-8 is a bad operand if `clap` takes the words.
-pub(crate) fn asked(alloc: Global, words: &[Vec<u8>]) -> Result<Invocation, ArgFault>
+/// Reads what the words ask for. Returns `Clap` if `clap` does not take the words, `BadOperand` if one of those that it
+/// takes has not its form or is not UTF-8, and `Memory` if memory runs out.
+pub(crate) fn read_words(alloc: Global, words: &[Vec<u8>]) -> Result<Invocation, ArgFault>
     ensures ok { IfOk result (IsAsked (map (λ word. word.items) words.now)) }
     ensures err { IfErr result (IsUnasked (map (λ word. word.items) words.now)) }
 {
-    let texts = texts(alloc, words)?;
-    let views = views(alloc, texts.as_slice())?;
-    let asked = invocation(alloc, views.as_slice())?;
+    let texts = lossy_texts(alloc, words)?;
+    let views = borrow_texts(alloc, texts.as_slice())?;
+    let request = invocation(alloc, views.as_slice())?;
     if are_text(words) {
-        Ok(asked)
+        Ok(request)
     } else {
-        drop(asked);
+        drop(request);
         Err(ArgFault::BadOperand)
     }
 }
 
-fn texts(alloc: Global, words: &[Vec<u8>]) -> Result<Vec<String>, AllocError>
+// The words as texts, with U+FFFD in place of what is not UTF-8, so that `clap` can read all of them.
+fn lossy_texts(alloc: Global, words: &[Vec<u8>]) -> Result<Vec<String>, AllocError>
     ensures { IfOk result (λ texts. map string_bytes texts.items ≡ shown (map (λ word. word.items) words.now)) }
 {
     let mut texts = Vec::new(alloc);
@@ -34,7 +36,8 @@ fn texts(alloc: Global, words: &[Vec<u8>]) -> Result<Vec<String>, AllocError>
     Ok(texts)
 }
 
-fn views<'a>(alloc: Global, texts: &'a [String]) -> Result<Vec<&'a str>, AllocError>
+// The texts as `clap` takes them.
+fn borrow_texts<'a>(alloc: Global, texts: &'a [String]) -> Result<Vec<&'a str>, AllocError>
     ensures { IfOk result (λ views. map (λ view. view.now) views.items ≡ map string_bytes texts.entry.now) }
 {
     let mut views: Vec<&'a str> = Vec::new(alloc);
@@ -44,6 +47,7 @@ fn views<'a>(alloc: Global, texts: &'a [String]) -> Result<Vec<&'a str>, AllocEr
     Ok(views)
 }
 
+// Whether all words are UTF-8.
 fn are_text(words: &[Vec<u8>]) -> bool
     ensures { IsTrue result ↔ All (λ word. IsUtf8 word.items) words.now }
 {
@@ -55,6 +59,7 @@ fn are_text(words: &[Vec<u8>]) -> bool
     true
 }
 
+// Whether the word is UTF-8.
 fn is_text(word: &[u8]) -> bool
     ensures { IsTrue result ↔ IsUtf8 word.now }
 {

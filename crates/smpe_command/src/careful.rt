@@ -4,15 +4,16 @@ ghost use Rattle.std.specs.String.{string_bytes};
 ghost use Rattle.cntl.specs.Views.{command_of};
 ghost use Rattle.smpe_command.specs.Careful.{IsDefined, IsFirstUndefined, LooksAhead, LooksIf, zone_set, zones_set};
 
-use crate::database::names_over;
+use crate::database::load_zone_names;
 use crate::host::Host;
 use cntl::{CntlError, Command, read_cntl};
 use fields::ZoneName;
 use smpe::{DatabaseFile, Fault, JobError};
 use std::alloc::Global;
 
-/// Looks ahead if the job is to be careful. The error says why nothing runs.
-pub(crate) fn looked<'a, H: Host>(
+/// Looks ahead in the commands, if the job is to be careful. The error says why nothing runs: `NoCommand`, `NoZone` for
+/// the first zone that is not defined, or `Job` if memory runs out or the database cannot be used.
+pub(crate) fn look_if_careful<'a, H: Host>(
     alloc: Global,
     host: &mut H,
     is_careful: bool,
@@ -22,14 +23,15 @@ pub(crate) fn looked<'a, H: Host>(
     ensures { LooksIf H.Host H.Disk.Store host.old (string_bytes db.now.name) cntl.now is_careful result host.new }
 {
     if is_careful {
-        looked_ahead(alloc, host, db, cntl)
+        look_ahead(alloc, host, db, cntl)
     } else {
         Ok(())
     }
 }
 
-// Reads the commands, and finds out whether each zone that they name is defined.
-fn looked_ahead<'a, H: Host>(
+// Reads the commands, and finds out whether there are any and whether each zone that they name is defined. The errors
+// are those of `look_if_careful`. A file that has a fault is let through.
+fn look_ahead<'a, H: Host>(
     alloc: Global,
     host: &mut H,
     db: &DatabaseFile,
@@ -40,41 +42,42 @@ fn looked_ahead<'a, H: Host>(
     let commands = match read_cntl(alloc, cntl) {
         Ok(commands) => commands,
         Err(CntlError::Memory) => return Err(Fault::Job(JobError::Memory)),
+        // (the job itself reports the fault of the file)
         Err(CntlError::Fault { .. }) => return Ok(()),
     };
     if commands.is_empty() {
         return Err(Fault::NoCommand);
     }
-    let names = match names_over(alloc, host, db) {
+    let names = match load_zone_names(alloc, host, db) {
         Ok(names) => names,
         Err(error) => return Err(Fault::Job(JobError::from(error))),
     };
-    match undefined(commands.as_slice(), names.as_slice()) {
+    match first_undefined_zone(commands.as_slice(), names.as_slice()) {
         Some(zone) => Err(Fault::NoZone(zone)),
         None => Ok(()),
     }
 }
 
-// The first zone that a SET names and that is not defined.
-fn undefined(commands: &[Command], names: &[ZoneName]) -> Option<ZoneName>
+// The first zone that a SET names and that is not defined; `None` if there is none.
+fn first_undefined_zone(commands: &[Command], names: &[ZoneName]) -> Option<ZoneName>
     ensures some { IfSome result (IsFirstUndefined names.now (zones_set (map command_of commands.now))) }
     ensures none { result ≡ None → All (IsDefined names.now) (zones_set (map command_of commands.now)) }
 {
     for command in commands {
-        if let Some(zone) = undefined_by(command, names) {
+        if let Some(zone) = undefined_zone_of(command, names) {
             return Some(zone);
         }
     }
     None
 }
 
-// The zone that the command names, if it is a SET and the zone is not defined.
-fn undefined_by(command: &Command, names: &[ZoneName]) -> Option<ZoneName>
+// The zone that the command names, if it is a SET and the zone is not defined; otherwise `None`.
+fn undefined_zone_of(command: &Command, names: &[ZoneName]) -> Option<ZoneName>
     ensures some { IfSome result (IsFirstUndefined names.now (zone_set (command_of command.now))) }
     ensures none { result ≡ None → All (IsDefined names.now) (zone_set (command_of command.now)) }
 {
     match command {
-        Command::Set(zone) => undefined_zone(*zone, names),
+        Command::Set(zone) => zone_if_undefined(*zone, names),
         Command::Receive(_) => None,
         Command::Reject(_) => None,
         Command::Apply(_) => None,
@@ -85,7 +88,8 @@ fn undefined_by(command: &Command, names: &[ZoneName]) -> Option<ZoneName>
     }
 }
 
-fn undefined_zone(zone: ZoneName, names: &[ZoneName]) -> Option<ZoneName>
+// The zone, or `None` if it is defined.
+fn zone_if_undefined(zone: ZoneName, names: &[ZoneName]) -> Option<ZoneName>
     ensures some { IfSome result (IsFirstUndefined names.now (zone ∷ [])) }
     ensures none { result ≡ None → All (IsDefined names.now) (zone ∷ []) }
 {
@@ -96,6 +100,7 @@ fn undefined_zone(zone: ZoneName, names: &[ZoneName]) -> Option<ZoneName>
     }
 }
 
+// Whether the name is of the global zone or of one of these zones.
 fn is_defined(zone: ZoneName, names: &[ZoneName]) -> bool
     ensures { IsTrue result ↔ IsDefined names.now zone }
 {

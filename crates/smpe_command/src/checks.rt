@@ -1,19 +1,20 @@
 //! A service set is checked, in an empty system or in a copy of a database.
 ghost use Rattle.smpe_command.specs.Serving.{ChecksIn, ServesCheck};
 
-use crate::copied::tried_in_copy;
+use crate::copied::rehearse_in_copy;
 use crate::host::Host;
 use crate::job_files::{JobFiles, read_files};
-use crate::jobs::job_told;
-use crate::service_set::{greatest_status, tried};
+use crate::jobs::job_status;
+use crate::service_set::{greatest_status, rehearse_in_empty_system};
 use report::Sink;
 use smpe::{CommandJob, Fault, JobError};
 use smpe_invocation::{CheckedSystem, ServiceSet};
 use sqlite_disk::{Disk, Memory};
 use std::alloc::Global;
 
-/// Checks the set. Its files are read before anything is made or copied.
-pub(crate) fn check<'a, H: Host, O: Sink>(
+/// Checks the set, and returns the status. Its files are read before anything is made or copied. Returns `CannotRead`
+/// if one of them cannot be read, and `Job` for a fault of the jobs or of the database.
+pub(crate) fn serve_check<'a, H: Host, O: Sink>(
     alloc: Global,
     host: &mut H,
     system: &CheckedSystem,
@@ -26,10 +27,11 @@ pub(crate) fn check<'a, H: Host, O: Sink>(
     let cntl = set.commands.as_ref().map(|commands| commands.cntl.as_str());
     let ptfin = Some(set.ptfin.as_str());
     let files = read_files(alloc, host, cntl, ptfin, set.hold.as_deref())?;
-    job_told(checked(alloc, host, system, &set.commands, &files, out))
+    job_status(check_in_system(alloc, host, system, &set.commands, &files, out))
 }
 
-fn checked<H: Host, O: Sink>(
+// Rehearses the set in an empty system of its own, or in the copy of a database, and returns the status.
+fn check_in_system<H: Host, O: Sink>(
     alloc: Global,
     host: &mut H,
     system: &CheckedSystem,
@@ -42,9 +44,9 @@ fn checked<H: Host, O: Sink>(
 {
     match system {
         CheckedSystem::Empty(srel) => {
-            let answers = tried(alloc, *srel, commands, files, out)?;
+            let answers = rehearse_in_empty_system(alloc, *srel, commands, files, out)?;
             Ok(greatest_status(answers.as_slice()))
         }
-        CheckedSystem::Copied(copy) => tried_in_copy(alloc, host, copy, commands, files, out),
+        CheckedSystem::Copied(copy) => rehearse_in_copy(alloc, host, copy, commands, files, out),
     }
 }

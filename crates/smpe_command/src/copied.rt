@@ -12,22 +12,22 @@ ghost use Rattle.sqlite.specs.declared.error.Error.{Error};
 
 use crate::host::{DatabaseBytes, Host};
 use crate::job_files::JobFiles;
-use crate::memory_files::connected;
-use crate::questions::told;
+use crate::memory_files::connect;
+use crate::questions::answer_and_write;
 use crate::service_set::greatest_status;
 use fields::{Bypass, Id, YyDdd, ZoneName};
 use report::Sink;
 use smpe::{CommandJob, DatabaseFile, Job, JobError, run_jobs, two_commands};
 use smpe_invocation::SystemCopy;
-use smpe_why::{Question, find};
+use smpe_why::{Question, load_zones};
 use sqlite::{Alter, Connection};
 use sqlite_disk::{Disk, Memory};
 use std::alloc::{AllocError, Global};
 use store::{Store, StoreError};
 
-/// Tries the set in the copy with its commands, or with those that apply all of it to the zone, and then asks about the
-/// ids.
-pub(crate) fn tried_in_copy<H: Host, O: Sink>(
+/// Rehearses the set in the copy with its commands, or with those that apply all of it to the zone, and then asks about
+/// the ids. Returns the greatest status of the jobs and the answers.
+pub(crate) fn rehearse_in_copy<H: Host, O: Sink>(
     alloc: Global,
     host: &mut H,
     copy: &SystemCopy,
@@ -35,23 +35,21 @@ pub(crate) fn tried_in_copy<H: Host, O: Sink>(
     files: &JobFiles,
     out: &mut O,
 ) -> Result<u8, JobError>
-    ensures { TriesCopy H.Host ⟦<Memory as Disk>⟧ O.Sink host.old copy.now out.old commands.now files.now.cntl.items (record {
-      ptfin = files.now.ptfin.items;
-      holds = files.now.hold.items;
-    }) result host.new out.new }
+    ensures { TriesCopy H.Host ⟦<Memory as Disk>⟧ O.Sink host.old copy.now out.old commands.now files.now.cntl.items
+        (record { ptfin = files.now.ptfin.items; holds = files.now.hold.items }) result host.new out.new }
 {
     let receive = two_commands(alloc, b"SET BDY(GLOBAL).", b"RECEIVE.")?;
     let receive = receive.as_slice();
     match commands {
         Some(commands) => {
             let cntl = files.cntl.as_slice();
-            tried_with(alloc, host, copy, commands.date, receive, cntl, files, out)
+            rehearse_commands(alloc, host, copy, commands.date, receive, cntl, files, out)
         }
         None => {
             let cntl = apply_commands(alloc, copy.zone)?;
             // Nothing that an APPLY with CHECK prints has the job's date.
             let date = YyDdd::new(2000, 1);
-            tried_with(
+            rehearse_commands(
                 alloc,
                 host,
                 copy,
@@ -65,7 +63,7 @@ pub(crate) fn tried_in_copy<H: Host, O: Sink>(
     }
 }
 
-// An APPLY with CHECK of all that fits the zone.
+// The command file of an APPLY with CHECK that selects all that fits the zone. Returns an error if memory runs out.
 fn apply_commands(alloc: Global, zone: ZoneName) -> Result<Vec<u8>, AllocError>
     ensures { IfOk result (λ file. file.items ≡ apply_to zone) }
 {
@@ -80,8 +78,9 @@ fn apply_commands(alloc: Global, zone: ZoneName) -> Result<Vec<u8>, AllocError>
     )
 }
 
-// Copies the database, receives the set there and runs the commands.
-fn tried_with<'a, H: Host, O: Sink>(
+// Makes the two jobs, RECEIVE and the commands, runs them in the copy of the database, and asks about the ids. Returns
+// the greatest status, as do the three steps after the reading of the copy.
+fn rehearse_commands<'a, H: Host, O: Sink>(
     alloc: Global,
     host: &mut H,
     copy: &SystemCopy,
@@ -111,11 +110,15 @@ fn tried_with<'a, H: Host, O: Sink>(
             hold,
         },
     ];
-    let bytes = database_bytes(host, &copy.db)?;
-    tried_over_bytes(alloc, &bytes, &jobs, copy.zone, copy.ids.as_slice(), out)
+    let bytes = read_database_bytes(host, &copy.db)?;
+    rehearse_over_bytes(alloc, &bytes, &jobs, copy.zone, copy.ids.as_slice(), out)
 }
 
-fn database_bytes<H: Host>(host: &mut H, db: &DatabaseFile) -> Result<DatabaseBytes, StoreError>
+// Reads the bytes of the database's file and of its log. The error is what the store makes of the database's error.
+fn read_database_bytes<H: Host>(
+    host: &mut H,
+    db: &DatabaseFile,
+) -> Result<DatabaseBytes, StoreError>
     ensures ok { IfOk result (λ bytes. H.holds host.old (string_bytes db.now.name) bytes.db.items bytes.log.items
         host.new) }
     ensures err { IfErr result (λ why. (error : Error) × H.refuses host.old (string_bytes db.now.name) error host.new
@@ -124,8 +127,8 @@ fn database_bytes<H: Host>(host: &mut H, db: &DatabaseFile) -> Result<DatabaseBy
     Ok(host.read_database(db)?)
 }
 
-// Tries the jobs over files in memory that have these bytes.
-fn tried_over_bytes<O: Sink>(
+// Runs the jobs over files in memory that have these bytes, and asks about the ids.
+fn rehearse_over_bytes<O: Sink>(
     alloc: Global,
     bytes: &DatabaseBytes,
     jobs: &[Job<'_>],
@@ -136,12 +139,12 @@ fn tried_over_bytes<O: Sink>(
     ensures { TriesBytes ⟦<Memory as Disk>⟧ O.Sink zone ids.now bytes.now.db.items bytes.now.log.items
         (map job_of jobs.now) out.old result out.new }
 {
-    let conn = connected(alloc, bytes.db.as_slice(), bytes.log.as_slice())?;
-    tried_over(alloc, conn, jobs, zone, ids, out)
+    let conn = connect(alloc, bytes.db.as_slice(), bytes.log.as_slice())?;
+    rehearse_over_connection(alloc, conn, jobs, zone, ids, out)
 }
 
-// Runs the jobs over a connection that is dropped afterwards, and asks about the ids.
-fn tried_over<S: Alter + Drop, O: Sink>(
+// Opens the store of the connection, runs the jobs over it, asks about the ids, and drops the connection.
+fn rehearse_over_connection<S: Alter + Drop, O: Sink>(
     alloc: Global,
     conn: Connection<S>,
     jobs: &[Job<'_>],
@@ -154,7 +157,7 @@ fn tried_over<S: Alter + Drop, O: Sink>(
 {
     match Store::open(alloc, conn) {
         Ok(mut store) => {
-            let status = ran_and_asked(alloc, &mut store, jobs, zone, ids, out);
+            let status = run_and_ask(alloc, &mut store, jobs, zone, ids, out);
             drop(store.close());
             status
         }
@@ -165,7 +168,8 @@ fn tried_over<S: Alter + Drop, O: Sink>(
     }
 }
 
-fn ran_and_asked<S: Alter, O: Sink>(
+// Runs the jobs over the store, asks about the ids, and returns the greatest status.
+fn run_and_ask<S: Alter, O: Sink>(
     alloc: Global,
     store: &mut Store<S>,
     jobs: &[Job<'_>],
@@ -178,11 +182,12 @@ fn ran_and_asked<S: Alter, O: Sink>(
 {
     let answers = run_jobs(alloc, store, jobs, out)?;
     let status = greatest_status(answers.as_slice());
-    let told = asked_if_any(alloc, store, zone, ids, out)?;
-    Ok(status.max(told))
+    let answer_status = ask_if_any(alloc, store, zone, ids, out)?;
+    Ok(status.max(answer_status))
 }
 
-fn asked_if_any<S: Alter, O: Sink>(
+// Asks about the ids, if there are any, and returns the status of the answer. Without an id that is 0.
+fn ask_if_any<S: Alter, O: Sink>(
     alloc: Global,
     store: &mut Store<S>,
     zone: ZoneName,
@@ -194,12 +199,12 @@ fn asked_if_any<S: Alter, O: Sink>(
     if ids.is_empty() {
         Ok(0)
     } else {
-        asked_of_store(alloc, store, zone, ids, out)
+        ask_about_each(alloc, store, zone, ids, out)
     }
 }
 
-// Asks about each id by itself, without BYPASS.
-fn asked_of_store<S: Alter, O: Sink>(
+// Asks about each id by itself, without BYPASS, writes one answer for all, and returns its status.
+fn ask_about_each<S: Alter, O: Sink>(
     alloc: Global,
     store: &mut Store<S>,
     zone: ZoneName,
@@ -208,7 +213,7 @@ fn asked_of_store<S: Alter, O: Sink>(
 ) -> Result<u8, JobError>
     ensures { AsksStore S.Store O.Sink zone ids.now store.old out.old result out.new }
 {
-    let found = find(store, zone)?;
+    let zones = load_zones(store, zone)?;
     let bypass = Bypass::none(alloc);
     let question = Question {
         ids,
@@ -216,5 +221,5 @@ fn asked_of_store<S: Alter, O: Sink>(
         groupextend: false,
         bypass: &bypass,
     };
-    told(alloc, &found, &question, out)
+    answer_and_write(alloc, &zones, &question, out)
 }

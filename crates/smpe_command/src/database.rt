@@ -11,14 +11,15 @@ use fields::ZoneName;
 use report::Sink;
 use smpe::{Answer, DatabaseFile, Job, JobError, run_jobs};
 use smpe_verify::{Verification, verify};
-use smpe_why::{LoadedZones, find};
+use smpe_why::{LoadedZones, load_zones};
 use std::alloc::Global;
 use std::slice;
 use store::{Store, StoreError};
 use store_migration::migrate;
 
-/// Runs the job, and returns how it ended.
-pub(crate) fn job_over<H: Host, O: Sink>(
+/// Runs the job over the database, and returns how it ended. The errors are those of `run_jobs`, or why the database
+/// was not opened.
+pub(crate) fn run_job_in_database<H: Host, O: Sink>(
     alloc: Global,
     host: &mut H,
     db: &DatabaseFile,
@@ -28,14 +29,16 @@ pub(crate) fn job_over<H: Host, O: Sink>(
     ensures { JobOver H.Host H.Disk.Store O.Sink host.old (string_bytes db.now.name) (job_of job.now) out.old result
         host.new out.new }
 {
-    let mut store = opened(alloc, host, db)?;
+    let mut store = open_store(alloc, host, db)?;
     let answers = run_jobs(alloc, &mut store, slice::from_ref(job), out);
     host.close(&mut Some(store.close()));
     Ok(answers?[0])
 }
 
-/// Loads the global zone and the zone of this name, and changes nothing.
-pub(crate) fn found_over<H: Host>(
+/// Loads the global zone, the zone of this name, and the one at which an ACCEPT there also looks. It changes nothing,
+/// except that a database that is missing or blank gets its tables. Returns an error if the database cannot be opened
+/// or read. All of this is true of the two calls below as well.
+pub(crate) fn load_zones_of_database<H: Host>(
     alloc: Global,
     host: &mut H,
     db: &DatabaseFile,
@@ -43,42 +46,42 @@ pub(crate) fn found_over<H: Host>(
 ) -> Result<LoadedZones, StoreError>
     ensures { FoundOver H.Host H.Disk.Store host.old (string_bytes db.now.name) name result host.new }
 {
-    let mut store = opened(alloc, host, db)?;
-    let found = find(&mut store, name);
+    let mut store = open_store(alloc, host, db)?;
+    let zones = load_zones(&mut store, name);
     host.close(&mut Some(store.close()));
-    found
+    zones
 }
 
-/// Loads the names of all zones, and changes nothing.
-pub(crate) fn names_over<H: Host>(
+/// Loads the names of all zones.
+pub(crate) fn load_zone_names<H: Host>(
     alloc: Global,
     host: &mut H,
     db: &DatabaseFile,
 ) -> Result<Vec<ZoneName>, StoreError>
     ensures { NamesOver H.Host H.Disk.Store host.old (string_bytes db.now.name) result host.new }
 {
-    let mut store = opened(alloc, host, db)?;
+    let mut store = open_store(alloc, host, db)?;
     let names = store.zone_names();
     host.close(&mut Some(store.close()));
     names
 }
 
-/// Loads every zone, and finds out whether all of them are closed. Nothing changes.
-pub(crate) fn verified_over<H: Host>(
+/// Loads one zone after the other until one is not closed.
+pub(crate) fn verify_database<H: Host>(
     alloc: Global,
     host: &mut H,
     db: &DatabaseFile,
 ) -> Result<Verification, StoreError>
     ensures { VerifiedOver H.Host H.Disk.Store host.old (string_bytes db.now.name) result host.new }
 {
-    let mut store = opened(alloc, host, db)?;
-    let found = verify(alloc, &mut store);
+    let mut store = open_store(alloc, host, db)?;
+    let verification = verify(alloc, &mut store);
     host.close(&mut Some(store.close()));
-    found
+    verification
 }
 
-/// Migrates the tables of a database to the store's schema.
-pub(crate) fn migrate_over<H: Host>(
+/// Migrates the tables of a database to the store's schema, and closes it, also after an error.
+pub(crate) fn migrate_database<H: Host>(
     alloc: Global,
     host: &mut H,
     db: &DatabaseFile,
@@ -98,8 +101,8 @@ pub(crate) fn migrate_over<H: Host>(
     }
 }
 
-// Opens the database, or creates it. One that is refused is closed.
-fn opened<H: Host>(
+// Opens the database, or creates it, and the store over it. A database that the store refuses is closed.
+fn open_store<H: Host>(
     alloc: Global,
     host: &mut H,
     db: &DatabaseFile,

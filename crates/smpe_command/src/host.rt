@@ -59,14 +59,14 @@ pub trait Host {
         ensures err { IfErr result (λ error. refuses self.old (string_bytes db.now.name) error self.new) }
         ensures mode { IfOk result (λ conn. conn.in_transaction ≡ false) };
 
-    /// Reads the files of a database, and changes nothing. If another program is changing them, it may wait until that is
-    /// done, as long as the words say. The error says why they cannot be read.
+    /// Reads the files of a database, and changes nothing. If another program is changing them, it may wait until that
+    /// is done, as long as the words say. The error says why they cannot be read.
     fn read_database(&mut self, db: &DatabaseFile) -> Result<DatabaseBytes, sqlite::Error>
         ensures ok { IfOk result (λ files. holds self.old (string_bytes db.now.name) files.db.items files.log.items
             self.new) }
         ensures err { IfErr result (λ error. refuses self.old (string_bytes db.now.name) error self.new) };
 
-    /// Closes the connection and takes it out of the option.
+    /// Closes the connection, if there is one, and takes it out of the option.
     fn close(&mut self, conn: &mut Option<Connection<Self::Disk>>)
         ensures closed { IfSome conn.old (λ conn. closes self.old conn self.new) }
         ensures taken { conn.new ≡ None };

@@ -15,8 +15,8 @@ pub(crate) struct JobFiles {
     pub(crate) hold: Vec<u8>,
 }
 
-/// Reads the files of a job in this order, and reports the first that cannot be read. An option that is left out has no
-/// bytes.
+/// Reads the files of a job in this order. A file that the words do not name has no bytes. Returns `CannotRead` with
+/// the name of the first that cannot be read, or `Job` with `Memory` if memory runs out.
 pub(crate) fn read_files<'a, H: Host>(
     alloc: Global,
     host: &mut H,
@@ -35,6 +35,7 @@ pub(crate) fn read_files<'a, H: Host>(
     Ok(JobFiles { cntl, ptfin, hold })
 }
 
+// The bytes of the file, or none if the words name no file. The errors are those of `read_files`.
 fn read_file<'a, H: Host>(
     alloc: Global,
     host: &mut H,

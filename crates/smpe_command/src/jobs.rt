@@ -9,40 +9,40 @@ ghost use Rattle.smpe_command.specs.Database.{JobOver};
 ghost use Rattle.smpe_command.specs.Serving.{Serves, ServesList, ServesMigrate, ServesRun, ServesVerify, ServesZone};
 ghost use Rattle.smpe_command.specs.Serving.{job_told, status_told};
 
-use crate::careful::looked;
-use crate::checks::check;
-use crate::database::{job_over, migrate_over, verified_over};
+use crate::careful::look_if_careful;
+use crate::checks::serve_check;
+use crate::database::{migrate_database, run_job_in_database, verify_database};
 use crate::host::Host;
 use crate::job_files::{JobFiles, read_files};
-use crate::questions::{put_told, why};
+use crate::questions::serve_why;
 use fields::{Srel, YyDdd, ZoneName};
-use report::Sink;
+use report::{Sink, write_all};
 use smpe::{
-    DatabaseFile, Fault, Invocation, Job, JobError, list_commands, migrated_line, status_of,
-    zone_line,
+    DatabaseFile, Fault, Invocation, Job, JobError, list_commands, status_of, write_migrated_line,
+    write_zone_line,
 };
 use sqlite_disk::{Disk, Memory};
 use std::alloc::Global;
 use terms::ZoneKind;
 
-/// Does what the words ask for, and returns the status.
-pub(crate) fn served<'a, H: Host, O: Sink>(
+/// Does what the words ask for, and returns the status. The fault is the first that keeps it from its end.
+pub(crate) fn serve<'a, H: Host, O: Sink>(
     alloc: Global,
     host: &mut H,
-    asked: &'a Invocation,
+    request: &'a Invocation,
     out: &mut O,
 ) -> Result<u8, Fault<'a>>
-    ensures { Serves H.Host H.Disk.Store ⟦<Memory as Disk>⟧ O.Sink host.old asked.entry.now out.old result host.new
+    ensures { Serves H.Host H.Disk.Store ⟦<Memory as Disk>⟧ O.Sink host.old request.entry.now out.old result host.new
         out.new }
 {
-    match asked {
+    match request {
         Invocation::Zone {
             db,
             name,
             kind,
             srel,
             related,
-        } => job_told(zone(alloc, host, db, *name, *kind, *srel, *related, out)),
+        } => job_status(serve_zone(alloc, host, db, *name, *kind, *srel, *related, out)),
         Invocation::Run {
             db,
             date,
@@ -50,7 +50,7 @@ pub(crate) fn served<'a, H: Host, O: Sink>(
             ptfin,
             hold,
             careful,
-        } => run(
+        } => serve_run(
             alloc,
             host,
             db,
@@ -61,27 +61,28 @@ pub(crate) fn served<'a, H: Host, O: Sink>(
             hold,
             out,
         ),
-        Invocation::List { db, zone } => job_told(list(alloc, host, db, *zone, out)),
+        Invocation::List { db, zone } => job_status(serve_list(alloc, host, db, *zone, out)),
         Invocation::Why {
             db,
             zone,
             ids,
             options,
-        } => why(alloc, host, db, *zone, ids.as_slice(), options, out),
-        Invocation::Check { system, set } => check(alloc, host, system, set, out),
-        Invocation::Migrate { db } => job_told(migrate(alloc, host, db, out)),
-        Invocation::Verify { db } => job_told(verify(alloc, host, db, out)),
+        } => serve_why(alloc, host, db, *zone, ids.as_slice(), options, out),
+        Invocation::Check { system, set } => serve_check(alloc, host, system, set, out),
+        Invocation::Migrate { db } => job_status(serve_migrate(alloc, host, db, out)),
+        Invocation::Verify { db } => job_status(serve_verify(alloc, host, db, out)),
     }
 }
 
-/// The error of a job is a fault of the program.
-pub(crate) fn job_told<'a>(code: Result<u8, JobError>) -> Result<u8, Fault<'a>>
+/// The status of a job. Its error becomes a fault of the program.
+pub(crate) fn job_status<'a>(code: Result<u8, JobError>) -> Result<u8, Fault<'a>>
     ensures { result ≡ job_told code }
 {
     Ok(code?)
 }
 
-fn zone<H: Host, O: Sink>(
+// Defines a zone, writes how that ended, and returns the status.
+fn serve_zone<H: Host, O: Sink>(
     alloc: Global,
     host: &mut H,
     db: &DatabaseFile,
@@ -101,12 +102,13 @@ fn zone<H: Host, O: Sink>(
         srel,
         related,
     };
-    let answer = job_over(alloc, host, db, &job, out)?;
-    Ok(zone_line(name, &answer, out)?)
+    let answer = run_job_in_database(alloc, host, db, &job, out)?;
+    Ok(write_zone_line(name, &answer, out)?)
 }
 
-// The files are read before the database is opened, also if the job is careful.
-fn run<'a, H: Host, O: Sink>(
+// Runs the commands of a file, and returns the status. The files are read before the database is opened, also if the
+// job is careful.
+fn serve_run<'a, H: Host, O: Sink>(
     alloc: Global,
     host: &mut H,
     db: &DatabaseFile,
@@ -123,11 +125,12 @@ fn run<'a, H: Host, O: Sink>(
         out.new }
 {
     let files = read_files(alloc, host, Some(cntl), ptfin.as_deref(), hold.as_deref())?;
-    looked(alloc, host, is_careful, db, files.cntl.as_slice())?;
-    job_told(run_files(alloc, host, db, date, &files, out))
+    look_if_careful(alloc, host, is_careful, db, files.cntl.as_slice())?;
+    job_status(run_files(alloc, host, db, date, &files, out))
 }
 
-fn list<H: Host, O: Sink>(
+// Lists a zone, by a job of the commands `SET` and `LIST`, and returns the status.
+fn serve_list<H: Host, O: Sink>(
     alloc: Global,
     host: &mut H,
     db: &DatabaseFile,
@@ -146,6 +149,7 @@ fn list<H: Host, O: Sink>(
     run_files(alloc, host, db, YyDdd::new(2000, 1), &files, out)
 }
 
+// Runs a job over files that have been read, and returns its status.
 fn run_files<H: Host, O: Sink>(
     alloc: Global,
     host: &mut H,
@@ -165,11 +169,12 @@ fn run_files<H: Host, O: Sink>(
         ptfin: files.ptfin.as_slice(),
         hold: files.hold.as_slice(),
     };
-    let answer = job_over(alloc, host, db, &job, out)?;
+    let answer = run_job_in_database(alloc, host, db, &job, out)?;
     Ok(status_of(&answer))
 }
 
-fn migrate<H: Host, O: Sink>(
+// Migrates the tables, writes the line of that, and returns the status.
+fn serve_migrate<H: Host, O: Sink>(
     alloc: Global,
     host: &mut H,
     db: &DatabaseFile,
@@ -178,12 +183,13 @@ fn migrate<H: Host, O: Sink>(
     ensures { ServesMigrate H.Host H.Disk.Store O.Sink host.old (string_bytes db.now.name)
         out.old result host.new out.new }
 {
-    migrate_over(alloc, host, db)?;
-    Ok(migrated_line(out)?)
+    migrate_database(alloc, host, db)?;
+    Ok(write_migrated_line(out)?)
 }
 
-// All of it is made before any of it is written.
-fn verify<H: Host, O: Sink>(
+// Verifies that all zones are closed, writes the answer, and returns its status. All of it is made before any of it is
+// written.
+fn serve_verify<H: Host, O: Sink>(
     alloc: Global,
     host: &mut H,
     db: &DatabaseFile,
@@ -192,7 +198,8 @@ fn verify<H: Host, O: Sink>(
     ensures { ServesVerify H.Host H.Disk.Store O.Sink host.old (string_bytes db.now.name) out.old result host.new
         out.new }
 {
-    let found = verified_over(alloc, host, db)?;
-    let told = smpe_verify::tell(alloc, found)?;
-    put_told(told.text.as_slice(), told.status, out)
+    let verification = verify_database(alloc, host, db)?;
+    let answer = smpe_verify::describe_verification(alloc, verification)?;
+    write_all(answer.text.as_slice(), out)?;
+    Ok(answer.status)
 }

@@ -11,8 +11,9 @@ use sqlite_disk::{Disk, Memory};
 use std::alloc::Global;
 use store::StoreError;
 
-/// A connection to the database that files with these bytes hold. The files lie in memory, and so does what is written.
-pub(crate) fn connected(
+/// Connects to the database that files with these bytes hold. The files are in memory, and what is written stays there.
+/// The error is what the store makes of the database's error.
+pub(crate) fn connect(
     alloc: Global,
     db: &[u8],
     log: &[u8],
@@ -21,11 +22,15 @@ pub(crate) fn connected(
     ensures mode { IfOk result (λ conn. conn.in_transaction ≡ false) }
     ensures err { IfErr result (λ why. (error : Error) × IsTrue (is_open_error error) × (why ≡ told error)) }
 {
-    Ok(opened(alloc, filled(alloc, db)?, filled(alloc, log)?)?)
+    Ok(open_files(alloc, memory_file(alloc, db)?, memory_file(alloc, log)?)?)
 }
 
-// Opens these two files.
-fn opened(alloc: Global, db: Memory, log: Memory) -> Result<Connection<FileStore<Memory>>, Error>
+// Opens a connection over these two files. The error is why they are no database.
+fn open_files(
+    alloc: Global,
+    db: Memory,
+    log: Memory,
+) -> Result<Connection<FileStore<Memory>>, Error>
     requires db { IsTrue (memory_is_usable db) }
     requires log { IsTrue (memory_is_usable log) }
     ensures ok { IfOk result (IsCopy (memory_bytes db) (memory_bytes log)) }
@@ -37,8 +42,8 @@ fn opened(alloc: Global, db: Memory, log: Memory) -> Result<Connection<FileStore
     }
 }
 
-// A file in memory that has these bytes.
-fn filled(alloc: Global, bytes: &[u8]) -> Result<Memory, Error>
+// A file in memory that has these bytes. Returns `OutOfMemory` if memory runs out.
+fn memory_file(alloc: Global, bytes: &[u8]) -> Result<Memory, Error>
     ensures bytes { IfOk result (λ file. memory_bytes file ≡ bytes.now) }
     ensures usable { IfOk result (λ file. IsTrue (memory_is_usable file)) }
     ensures err { IfErr result (λ why. IsTrue (is_open_error why)) }

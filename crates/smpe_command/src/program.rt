@@ -4,12 +4,12 @@ ghost use Rattle.smpe_invocation.specs.declared.fault.ArgFault.TheVariants.{Memo
 ghost use Rattle.smpe_jobs.specs.declared.messages.Fault.TheVariants.{Arg};
 ghost use Rattle.smpe_command.specs.Answering.{Answers, Tells, TellsWords};
 
-use crate::asked_words::asked;
+use crate::asked_words::read_words;
 use crate::host::Host;
-use crate::jobs::served;
+use crate::jobs::serve;
 use clap::error::ErrorKind;
 use report::Sink;
-use smpe::{ArgFault, FAULT_STATUS, Fault, fault_line};
+use smpe::{ArgFault, FAULT_STATUS, Fault, write_fault_line};
 use sqlite_disk::{Disk, Memory};
 use std::alloc::{AllocError, Global};
 
@@ -29,19 +29,20 @@ pub fn command<H: Host, O: Sink, E: Sink>(
 {
     let words = match words {
         Ok(words) => words.as_slice(),
-        Err(_) => return told(host, &Fault::Arg(ArgFault::Memory), err),
+        Err(_) => return report_fault(host, &Fault::Arg(ArgFault::Memory), err),
     };
-    match asked(alloc, words) {
-        Ok(asked) => match served(alloc, host, &asked, out) {
+    match read_words(alloc, words) {
+        Ok(request) => match serve(alloc, host, &request, out) {
             Ok(status) => status,
-            Err(fault) => told(host, &fault, err),
+            Err(fault) => report_fault(host, &fault, err),
         },
-        Err(fault) => unasked(host, fault, err),
+        Err(fault) => answer_refused_words(host, fault, err),
     }
 }
 
-// Prints the text for which the words ask instead of an answer, or reports their fault.
-fn unasked<H: Host, E: Sink>(host: &mut H, fault: ArgFault, err: &mut E) -> u8
+// Answers words that were not read as an invocation: prints the text for which they ask instead of an answer, or
+// reports their fault.
+fn answer_refused_words<H: Host, E: Sink>(host: &mut H, fault: ArgFault, err: &mut E) -> u8
     ensures { TellsWords H.Host E.Sink host.old err.old fault result host.new err.new }
 {
     if let ArgFault::Clap(error) = &fault {
@@ -53,11 +54,11 @@ fn unasked<H: Host, E: Sink>(host: &mut H, fault: ArgFault, err: &mut E) -> u8
             return 0;
         }
     }
-    told(host, &Fault::Arg(fault), err)
+    report_fault(host, &Fault::Arg(fault), err)
 }
 
 // Reports a fault on standard error, and returns its status, even if nothing can be written there.
-fn told<H: Host, E: Sink>(host: &mut H, fault: &Fault<'_>, err: &mut E) -> u8
+fn report_fault<H: Host, E: Sink>(host: &mut H, fault: &Fault<'_>, err: &mut E) -> u8
     ensures { Tells H.Host E.Sink host.old err.old fault.now result host.new err.new }
 {
     match fault {
@@ -69,5 +70,5 @@ fn told<H: Host, E: Sink>(host: &mut H, fault: &Fault<'_>, err: &mut E) -> u8
         Fault::NoCommand => {}
         Fault::NoZone(_) => {}
     }
-    fault_line(fault, err).unwrap_or(FAULT_STATUS)
+    write_fault_line(fault, err).unwrap_or(FAULT_STATUS)
 }

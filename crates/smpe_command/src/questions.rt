@@ -1,22 +1,23 @@
-//! What is asked about ids in a zone is told.
+//! Questions about ids in a zone, and their answers.
 ghost use Rattle.std.specs.Prelude.{◌≡◌, Ok, IfOk, IfErr};
 ghost use Rattle.std.specs.String.{string_bytes};
 ghost use Rattle.smpe_jobs.specs.declared.error.JobError.TheVariants.{Memory};
 ghost use Rattle.smpe_command.specs.Serving.{AsksZone, IsGiven, ServesWhy};
-ghost use Rattle.smpe_command.specs.Told.{TellsFound, TellsText};
+ghost use Rattle.smpe_command.specs.Told.{TellsFound};
 
-use crate::database::found_over;
+use crate::database::load_zones_of_database;
 use crate::host::Host;
-use crate::jobs::job_told;
+use crate::jobs::job_status;
 use fields::{Bypass, Id, ZoneName};
 use report::{Sink, write_all};
 use smpe::{ArgFault, DatabaseFile, Fault, JobError};
 use smpe_invocation::WhyOptions;
-use smpe_why::{LoadedZones, Question, bypass_of, tell};
+use smpe_why::{LoadedZones, Question, answer_question, read_bypass};
 use std::alloc::Global;
 
-/// Asks about the ids in a zone of the database, as the words say.
-pub(crate) fn why<'a, H: Host, O: Sink>(
+/// Asks about the ids in a zone of the database, as the words say, writes the answer, and returns its status. Returns
+/// `Arg` if ACCEPT takes no such list of BYPASS, and `Job` for a fault of the database, memory or the output.
+pub(crate) fn serve_why<'a, H: Host, O: Sink>(
     alloc: Global,
     host: &mut H,
     db: &DatabaseFile,
@@ -28,7 +29,7 @@ pub(crate) fn why<'a, H: Host, O: Sink>(
     ensures { ServesWhy H.Host H.Disk.Store O.Sink host.old (string_bytes db.now.name) out.old zone ids.now options.now
         result host.new out.new }
 {
-    let Some(bypass) = given(alloc, options)? else {
+    let Some(bypass) = stated_bypass(alloc, options)? else {
         return Err(Fault::Arg(ArgFault::BadOperand));
     };
     let question = Question {
@@ -37,21 +38,23 @@ pub(crate) fn why<'a, H: Host, O: Sink>(
         groupextend: options.group,
         bypass: &bypass,
     };
-    job_told(asked_of_zone(alloc, host, db, zone, &question, out))
+    job_status(ask_zone(alloc, host, db, zone, &question, out))
 }
 
-// The BYPASS of the words, or `None` if ACCEPT does not take its list.
-fn given(alloc: Global, options: &WhyOptions) -> Result<Option<Bypass>, JobError>
+// The BYPASS of the words, one of nothing if they have none, or `None` if ACCEPT does not take its list. Returns
+// `Memory` if memory runs out.
+fn stated_bypass(alloc: Global, options: &WhyOptions) -> Result<Option<Bypass>, JobError>
     ensures ok { IfOk result (IsGiven options.now) }
     ensures err { IfErr result (λ error. error ≡ Memory) }
 {
     match &options.bypass {
-        Some(list) => Ok(bypass_of(alloc, list.as_bytes())?),
+        Some(list) => Ok(read_bypass(alloc, list.as_bytes())?),
         None => Ok(Some(Bypass::none(alloc))),
     }
 }
 
-fn asked_of_zone<H: Host, O: Sink>(
+// Loads the zones of the question from the database, writes the answer, and returns its status.
+fn ask_zone<H: Host, O: Sink>(
     alloc: Global,
     host: &mut H,
     db: &DatabaseFile,
@@ -62,27 +65,21 @@ fn asked_of_zone<H: Host, O: Sink>(
     ensures { AsksZone H.Host H.Disk.Store O.Sink host.old (string_bytes db.now.name) out.old zone question.now result
         host.new out.new }
 {
-    let found = found_over(alloc, host, db, zone)?;
-    told(alloc, &found, question, out)
+    let zones = load_zones_of_database(alloc, host, db, zone)?;
+    answer_and_write(alloc, &zones, question, out)
 }
 
-/// Tells what is asked of the zone that was found. All of it is made before any of it is written.
-pub(crate) fn told<O: Sink>(
+/// Answers the question by the zones that were loaded, writes the answer, and returns its status. All of it is made
+/// before any of it is written. Returns `Memory` if memory runs out, and `Write` if it cannot be written.
+pub(crate) fn answer_and_write<O: Sink>(
     alloc: Global,
-    found: &LoadedZones,
+    zones: &LoadedZones,
     question: &Question<'_>,
     out: &mut O,
 ) -> Result<u8, JobError>
-    ensures { TellsFound O.Sink out.old out.new question.now (Ok found.now) result }
+    ensures { TellsFound O.Sink out.old out.new question.now (Ok zones.now) result }
 {
-    let told = tell(alloc, found, question)?;
-    put_told(told.text.as_slice(), told.status, out)
-}
-
-/// Writes the text, and returns the status.
-pub(crate) fn put_told<O: Sink>(text: &[u8], status: u8, out: &mut O) -> Result<u8, JobError>
-    ensures { TellsText O.Sink out.old out.new text.now status result }
-{
-    write_all(text, out)?;
-    Ok(status)
+    let answer = answer_question(alloc, zones, question)?;
+    write_all(answer.text.as_slice(), out)?;
+    Ok(answer.status)
 }

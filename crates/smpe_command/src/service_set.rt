@@ -13,8 +13,9 @@ use std::alloc::Global;
 use store::Store;
 use terms::ZoneKind;
 
-/// Tries the set with its commands, or with those that apply all of it, and returns how each of the jobs ended.
-pub(crate) fn tried<O: Sink>(
+/// Rehearses the set in an empty system with its commands, or with those that apply all of it, and returns how each of
+/// the jobs ended.
+pub(crate) fn rehearse_in_empty_system<O: Sink>(
     alloc: Global,
     srel: Srel,
     commands: &Option<CommandJob>,
@@ -31,20 +32,20 @@ pub(crate) fn tried<O: Sink>(
     match commands {
         Some(commands) => {
             let cntl = files.cntl.as_slice();
-            tried_in_memory(alloc, srel, commands.date, receive, cntl, files, out)
+            rehearse_commands_in_memory(alloc, srel, commands.date, receive, cntl, files, out)
         }
         None => {
             let apply = b"APPLY FUNCTIONS PTFS GROUPEXTEND CHECK.";
             let cntl = two_commands(alloc, b"SET BDY(TGT).", apply)?;
             // Nothing that an APPLY with CHECK prints has the job's date.
             let date = YyDdd::new(2000, 1);
-            tried_in_memory(alloc, srel, date, receive, cntl.as_slice(), files, out)
+            rehearse_commands_in_memory(alloc, srel, date, receive, cntl.as_slice(), files, out)
         }
     }
 }
 
 // Defines the zones, receives the set and runs the commands in an empty system.
-fn tried_in_memory<'a, O: Sink>(
+fn rehearse_commands_in_memory<'a, O: Sink>(
     alloc: Global,
     srel: Srel,
     date: YyDdd,
@@ -89,11 +90,11 @@ fn tried_in_memory<'a, O: Sink>(
         },
     ];
     let conn = Connection::open_in_memory(alloc)?;
-    jobs_over_new(alloc, conn, &jobs, out)
+    run_jobs_over_new(alloc, conn, &jobs, out)
 }
 
-// Over a connection that is dropped after the jobs.
-fn jobs_over_new<S: Alter + Drop, O: Sink>(
+// Opens a store over the connection to a new database, runs the jobs over it, and drops the connection.
+fn run_jobs_over_new<S: Alter + Drop, O: Sink>(
     alloc: Global,
     conn: Connection<S>,
     jobs: &[Job<'_>],
@@ -116,7 +117,7 @@ fn jobs_over_new<S: Alter + Drop, O: Sink>(
     }
 }
 
-/// The greatest status of these answers.
+/// The greatest status of these answers; 0 if there are none.
 pub(crate) fn greatest_status(answers: &[Answer]) -> u8
     ensures { result ≡ greatest (map answer_of answers.now) }
 {

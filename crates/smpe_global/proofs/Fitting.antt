@@ -12,7 +12,8 @@ use Rattle.terms.specs.Rising.{with_item}
 use Rattle.terms.specs.Lookups.{is_received}
 use Rattle.sysmods.specs.declared.edit.GlobalEdit.{GlobalEdit}
 use Rattle.sysmods.specs.declared.edit.GlobalEdit.TheVariants.{PutHold, InsertSysmod}
-use Rattle.sysmods.specs.Edits.{AreSources, with_hold, stated_with, Fits, after_edit, EachFits, after_edits, StatesThose}
+use Rattle.sysmods.specs.Edits.{AreSources, with_hold, stated_with, Fits, after_edit, EachFits, after_edits}
+use Rattle.sysmods.specs.Edits.{StatesThose}
 use Rattle.smpe_global.proofs.Stating.{received_there}
 
 -- the mark of an internal hold stays as it is

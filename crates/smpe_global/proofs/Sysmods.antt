@@ -5,7 +5,8 @@ use Rattle.std.proofs.lemmas.Bool.{false_from_ne_true}
 use Rattle.std.proofs.lemmas.Option.{same_Some}
 use Rattle.std.proofs.lemmas.List.Elements.{All-nil, All-cons, All-map}
 use Rattle.terms.specs.Types.{Text, Global, Sysmod, ASysmod}
-use Rattle.terms.specs.Global.{IsSysmod, ReceiveFault, AlreadyReceived, MakesLoop, WrongRole, NoRoom, Receives, RefusedBy}
+use Rattle.terms.specs.Global.{IsSysmod, ReceiveFault, AlreadyReceived, MakesLoop, WrongRole, NoRoom, Receives}
+use Rattle.terms.specs.Global.{RefusedBy}
 use Rattle.terms.specs.Lookups.{is_received}
 use Rattle.machine.specs.Outcome.{OfKind, Status, Received, StatusLine}
 use Rattle.machine.specs.Receiving.{TakesItem, sourced, receive_status}

@@ -17,7 +17,7 @@ use sysmods::{GlobalEdit, GlobalZone};
 use sysmods_values::Sysmod;
 
 // The SYSMOD with its sources, but without its statements, which have rows of their own that stay.
-fn head_of(alloc: Global, sysmod: &Sysmod) -> Result<Sysmod, AllocError>
+fn sysmod_head(alloc: Global, sysmod: &Sysmod) -> Result<Sysmod, AllocError>
     ensures { IfOk result (λ head. head ≡ head_of sysmod.now) }
 {
     Ok(Sysmod {
@@ -31,7 +31,7 @@ fn head_of(alloc: Global, sysmod: &Sysmod) -> Result<Sysmod, AllocError>
 }
 
 // Appends the edit that writes the sources of a received SYSMOD. It appends nothing for an id that is not received.
-fn write_sources(
+fn push_source_edit(
     alloc: Global,
     edits: &mut Vec<GlobalEdit>,
     global: &GlobalZone,
@@ -40,12 +40,13 @@ fn write_sources(
     ensures { OnOk result (edits.new.items ≡ edits.old.items ++ source_edits (sysmod_of global.now id)) }
 {
     if let Some(sysmod) = global.get(id) {
-        edits.push(GlobalEdit::ReplaceSources(head_of(alloc, sysmod)?))?;
+        edits.push(GlobalEdit::ReplaceSources(sysmod_head(alloc, sysmod)?))?;
     }
     Ok(())
 }
 
-fn status_of(source: Source, received: bool) -> Status
+// The status of an id in an `++ASSIGN`: given the source, or unknown if it is not received.
+fn assign_status(source: Source, received: bool) -> Status
     ensures { status_view result ≡ (if received then Assigned source else Unknown) }
 {
     if received {
@@ -55,6 +56,7 @@ fn status_of(source: Source, received: bool) -> Status
     }
 }
 
+// Gives the source to a received SYSMOD, and adds the line of the id and the edit.
 fn assign_id(
     alloc: Global,
     global: &mut GlobalZone,
@@ -67,17 +69,17 @@ fn assign_id(
     global.attest();
     let place = place_of(global, id);
     let received = global.assign(source, id)?;
-    write_sources(alloc, &mut taken.edits, global, id)?;
+    push_source_edit(alloc, &mut taken.edits, global, id)?;
     taken.lines.push(ReportLine::Status {
         id,
         place,
-        status: status_of(source, received),
+        status: assign_status(source, received),
     })?;
     Ok(())
 }
 
 // Gives the source to one id after another.
-fn assign_each(
+fn assign_ids(
     alloc: Global,
     global: &mut GlobalZone,
     source: Source,
@@ -104,5 +106,5 @@ pub(crate) fn take_assign(
         taken.new) }
 {
     let Assign { source, to } = assign;
-    assign_each(alloc, global, source, to.as_slice(), taken)
+    assign_ids(alloc, global, source, to.as_slice(), taken)
 }

@@ -1,4 +1,4 @@
-//! The edits by which the tables follow.
+//! The edits that write a received SYSMOD into the tables.
 ghost use Rattle.std.specs.Prelude.{IfOk};
 ghost use Rattle.smpe_global.specs.Edits.{AreEditsOf};
 
@@ -8,7 +8,7 @@ use sysmods::GlobalEdit;
 use sysmods_values::Sysmod;
 
 /// The edits that write a received SYSMOD and its holds.
-pub(crate) fn edits_of(alloc: Global, sysmod: &Sysmod) -> Result<Vec<GlobalEdit>, AllocError>
+pub(crate) fn sysmod_edits(alloc: Global, sysmod: &Sysmod) -> Result<Vec<GlobalEdit>, AllocError>
     ensures { IfOk result (λ edits. AreEditsOf sysmod.now edits.items) }
 {
     let mut edits = Vec::new(alloc);

@@ -43,6 +43,7 @@ fn marked_copy(global: &GlobalZone, hold: &Hold) -> Result<Hold, AllocError>
     })
 }
 
+// The status of a hold: held, or replaced if there was one of its key.
 fn hold_status(placed: Placed, reason: Reason) -> Status
     ensures { (replaces : Bool) → placed ≡ (if replaces then Placed.Replaced else Placed.New)
         → status_view result ≡ (if replaces then Replaced reason else Held reason) }
@@ -53,6 +54,7 @@ fn hold_status(placed: Placed, reason: Reason) -> Status
     }
 }
 
+// Puts a hold into the global zone, in place of one of its key, and adds its line and its edit.
 fn take_hold(global: &mut GlobalZone, hold: Hold, taken: &mut Taken) -> Result<(), AllocError>
     requires { hold.internal ≡ false }
     ensures { OnOk result (IsTaken (TakesHoldItem global.old (terms.AHold hold)) global.old global.new taken.old
@@ -72,6 +74,7 @@ fn take_hold(global: &mut GlobalZone, hold: Hold, taken: &mut Taken) -> Result<(
     Ok(())
 }
 
+// The status of a release: released, or refused because there is no such hold or it is internal.
 fn release_status(answer: Result<(), ReleaseError>, reason: Reason) -> Status
     ensures { (new : AGlobal) (r : ARelease) → r.reason ≡ reason
         → status_view result ≡ release_status r (release_answer new answer) }
@@ -84,7 +87,7 @@ fn release_status(answer: Result<(), ReleaseError>, reason: Reason) -> Status
 }
 
 // Appends the edit that removes a hold that is released.
-fn write_release(
+fn push_release_edit(
     edits: &mut Vec<GlobalEdit>,
     answer: Result<(), ReleaseError>,
     id: Id,
@@ -99,6 +102,7 @@ fn write_release(
     Ok(())
 }
 
+// Releases a hold, unless it is internal, and adds the line and the edit.
 fn take_release(
     global: &mut GlobalZone,
     release: Release,
@@ -111,7 +115,7 @@ fn take_release(
     let kind = release.kind;
     let reason = release.reason;
     let answer = global.release(id, kind, reason);
-    write_release(&mut taken.edits, answer, id, kind, reason)?;
+    push_release_edit(&mut taken.edits, answer, id, kind, reason)?;
     taken.lines.push(ReportLine::Status {
         id,
         place: Place::Hold(kind),
@@ -120,6 +124,7 @@ fn take_release(
     Ok(())
 }
 
+// Takes one item of a hold file.
 fn take_hold_item(
     global: &mut GlobalZone,
     item: HoldItem,
@@ -135,6 +140,7 @@ fn take_hold_item(
     }
 }
 
+// Takes the items of a hold file, in their order.
 fn take_hold_items(
     global: &mut GlobalZone,
     found: Vec<HoldItem>,

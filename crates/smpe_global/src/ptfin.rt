@@ -11,7 +11,7 @@ ghost use Rattle.smpe_global.specs.Edits.{IsOfReceive, answer_of};
 ghost use Rattle.smpe_global.specs.Taken.{IsTaken};
 
 use crate::assign::take_assign;
-use crate::edits::edits_of;
+use crate::edits::sysmod_edits;
 use crate::taken::Taken;
 use fields::Source;
 use mcs::Item;
@@ -21,6 +21,7 @@ use sysmods::{GlobalZone, Refused};
 use sysmods_values::Sysmod;
 use terms::IdRefusal;
 
+// The SYSMOD with one more source, if the command adds one.
 fn with_source(mut sysmod: Sysmod, source: &Option<Source>) -> Result<Sysmod, AllocError>
     ensures { IfOk result (λ found. found ≡ sourced source.now sysmod) }
 {
@@ -31,7 +32,7 @@ fn with_source(mut sysmod: Sysmod, source: &Option<Source>) -> Result<Sysmod, Al
 }
 
 // The status of a SYSMOD that RECEIVE has taken in or refused.
-fn status_of(answer: Result<(), Refused>) -> Result<Status, AllocError>
+fn receive_status(answer: Result<(), Refused>) -> Result<Status, AllocError>
     ensures { IfOk result (λ status. (new : AGlobal)
         → option_map receive_status (answer_of new answer) ≡ Some (status_view status)) }
 {
@@ -45,7 +46,7 @@ fn status_of(answer: Result<(), Refused>) -> Result<Status, AllocError>
     }
 }
 
-// Receives a SYSMOD, with the source that the command adds.
+// Receives a SYSMOD, with the source that the command adds, and adds its line. If it is not refused, adds its edits.
 fn take_sysmod(
     alloc: Global,
     global: &mut GlobalZone,
@@ -59,12 +60,12 @@ fn take_sysmod(
     let sysmod = with_source(sysmod, source)?;
     let id = sysmod.id;
     let kind = sysmod.kind;
-    let mut edits = edits_of(alloc, &sysmod)?;
+    let mut edits = sysmod_edits(alloc, &sysmod)?;
     let answer = global.receive(alloc, sysmod);
     taken.lines.push(ReportLine::Status {
         id,
         place: Place::Kind(kind),
-        status: status_of(answer)?,
+        status: receive_status(answer)?,
     })?;
     match answer {
         Ok(()) => taken.edits.append(&mut edits),
@@ -72,6 +73,7 @@ fn take_sysmod(
     }
 }
 
+// Takes one item of a PTFIN.
 fn take_item(
     alloc: Global,
     global: &mut GlobalZone,
@@ -88,6 +90,7 @@ fn take_item(
     }
 }
 
+// Takes the items of a PTFIN, in their order.
 fn take_items(
     alloc: Global,
     global: &mut GlobalZone,

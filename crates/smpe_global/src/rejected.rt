@@ -12,7 +12,7 @@ ghost use Rattle.sysmods.specs.Edits.{EachFits, after_edits};
 ghost use Rattle.smpe_global.specs.Edits.{IsOfReject};
 ghost use Rattle.smpe_global.specs.Rejections.{AppliesAlike, IsAnswered, IsRejected};
 
-use crate::removals::write_rejected;
+use crate::removals::push_removals;
 use fields::{Attest, Id, IdList, ZoneName};
 use indexmap::IndexMap;
 use report::{ReportLine, Status, place_of};
@@ -28,15 +28,15 @@ pub struct Rejected {
     pub lines: Vec<ReportLine>,
 }
 
-// Whether some zone has it applied.
+// Whether some zone has the SYSMOD applied.
 fn is_applied(zones: &IndexMap<ZoneName, Zone>, id: Id) -> bool
     ensures { result ≡ list_any (λ zone. is_applied zone id) (values zones.now) }
 {
     zones.values().any(|zone| zone.is_applied(id))
 }
 
-// Takes a SYSMOD out of the global zone, or refuses it.
-fn take_out(
+// Takes a SYSMOD out of the global zone and adds its edits, or refuses that if it is not received or is applied.
+fn remove_sysmod(
     global: &mut GlobalZone,
     zones: &IndexMap<ZoneName, Zone>,
     id: Id,
@@ -51,12 +51,13 @@ fn take_out(
     if is_applied(zones, id) {
         return Ok(Status::Refused(IdRefusal::AppliedSomewhere));
     }
-    write_rejected(edits, global, id)?;
+    push_removals(edits, global, id)?;
     let _ = global.reject(id);
     Ok(Status::Rejected)
 }
 
-fn reject_one(
+// Rejects one id, and adds its line.
+fn reject_id(
     global: &mut GlobalZone,
     zones: &IndexMap<ZoneName, Zone>,
     id: Id,
@@ -66,7 +67,7 @@ fn reject_one(
         rejected.new.edits.items rejected.old.lines.items rejected.new.lines.items) }
 {
     let place = place_of(global, id);
-    let status = take_out(global, zones, id, &mut rejected.edits)?;
+    let status = remove_sysmod(global, zones, id, &mut rejected.edits)?;
     rejected
         .lines
         .push(ReportLine::Status { id, place, status })?;
@@ -94,7 +95,7 @@ pub fn reject(
     };
     let all = ids.as_slice();
     for id in all {
-        reject_one(global, zones, *id, &mut rejected)?;
+        reject_id(global, zones, *id, &mut rejected)?;
     }
     Ok(rejected)
 }

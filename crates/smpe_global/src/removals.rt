@@ -1,4 +1,4 @@
-//! The edits by which the tables follow.
+//! The edits that remove a rejected SYSMOD from the tables.
 ghost use Rattle.std.specs.Prelude.{◌≡◌, ◌++◌, map, filter, OnOk};
 ghost use Rattle.terms.specs.declared.kinds.HoldKind.TheVariants.{System};
 ghost use Rattle.terms.specs.Lookups.{holds_of};
@@ -9,7 +9,8 @@ use std::alloc::AllocError;
 use sysmods::{GlobalEdit, GlobalZone};
 use terms::HoldKind;
 
-fn append_hold_removals(
+// Appends the edits that remove the internal holds on a SYSMOD.
+fn push_hold_removals(
     edits: &mut Vec<GlobalEdit>,
     global: &GlobalZone,
     id: Id,
@@ -26,7 +27,7 @@ fn append_hold_removals(
 }
 
 /// Appends the edits that remove a SYSMOD and the internal holds on it from the tables.
-pub(crate) fn write_rejected(
+pub(crate) fn push_removals(
     edits: &mut Vec<GlobalEdit>,
     global: &GlobalZone,
     id: Id,
@@ -34,5 +35,5 @@ pub(crate) fn write_rejected(
     ensures { OnOk result (edits.new.items ≡ edits.old.items ++ edits_of global.now id) }
 {
     edits.push(GlobalEdit::RemoveSysmod(id))?;
-    append_hold_removals(edits, global, id)
+    push_hold_removals(edits, global, id)
 }

@@ -2,31 +2,38 @@
 use fields::{Id, Srel, ZoneName};
 use std::alloc::{AllocError, Global};
 
+/// The bytes of a record.
 const RECORD: usize = 80;
 
 /// The columns of a card that have words.
 const COLUMNS: usize = 72;
 
-/// It looks for words in so many cards.
+/// The number of cards in which `CardWords` looks for the words of one command or statement.
 const CARDS: usize = 200;
 
-/// A word of a command or of a statement: an operand, or one in the parentheses of an operand.
+/// A word of a command or of a statement: an operand, or a value in the parentheses of an operand.
 #[derive(Drop)]
 struct CardWord {
     operand: String,
     value: Option<String>,
 }
 
-/// Takes the bytes of cards, and finds the words up to the period.
+/// Takes the bytes of cards, and finds the words up to the period that ends the command or statement.
 #[derive(Drop)]
 struct CardWords {
     alloc: Global,
+    /// The words that have ended.
     words: Vec<CardWord>,
+    /// The last operand.
     operand: String,
+    /// The word that has not ended, or no text between words.
     word: String,
+    /// How many parentheses are open.
     depth: usize,
+    /// The last byte.
     last: u8,
     is_comment: bool,
+    /// Whether the period has come.
     is_done: bool,
 }
 
@@ -44,35 +51,42 @@ impl CardWords {
         }
     }
 
-    // The words that begin in this record.
+    // Reads the words of the command or statement that begins in this record, counted from 1. Here and below, an error
+    // means that memory runs out.
     fn read(alloc: Global, file: &[u8], record: usize) -> Result<CardWords, AllocError> {
-        let mut found = CardWords::new(alloc);
-        let start = start_of(record);
+        let mut card_words = CardWords::new(alloc);
+        let start = record_start(record);
         let cards = file.iter().skip(start).take(CARDS * RECORD).enumerate();
         for (at, &byte) in cards {
-            // (no word goes on in the next card)
+            // (between two cards there is a blank)
             if at % RECORD == 0 {
-                found.end_word()?;
+                card_words.take_byte(b' ')?;
             }
-            if at % RECORD < COLUMNS && !found.is_done {
-                found.take(byte)?;
+            if at % RECORD < COLUMNS && !card_words.is_done {
+                card_words.take_byte(byte)?;
             }
         }
-        found.end_word()?;
-        Ok(found)
+        card_words.end_word()?;
+        Ok(card_words)
     }
 
-    fn take(&mut self, byte: u8) -> Result<(), AllocError> {
+    // Takes the next byte of a column that has words: it is of a comment, ends a word, or is of a word. An asterisk that
+    // opens a comment does not close it, and parentheses have no comments.
+    fn take_byte(&mut self, byte: u8) -> Result<(), AllocError> {
         let last = self.last;
         self.last = byte;
         if self.is_comment {
-            self.is_comment = last != b'*' || byte != b'/';
+            if last == b'*' && byte == b'/' {
+                self.is_comment = false;
+                self.last = b' ';
+            }
             return Ok(());
         }
-        if last == b'/' && byte == b'*' {
+        if self.depth == 0 && last == b'/' && byte == b'*' {
             self.is_comment = true;
+            self.last = b' ';
             self.word.pop();
-            return Ok(());
+            return self.end_word();
         }
         match byte {
             b'(' => {
@@ -88,11 +102,12 @@ impl CardWords {
                 self.is_done = true;
             }
             b' ' | b',' => self.end_word()?,
-            _ => self.word.push(shown(byte))?,
+            _ => self.word.push(shown_char(byte))?,
         }
         Ok(())
     }
 
+    // Keeps the word that has ended, if any: outside parentheses as an operand, within them as a value of the last one.
     fn end_word(&mut self) -> Result<(), AllocError> {
         if self.word.is_empty() {
             return Ok(());
@@ -116,17 +131,22 @@ impl CardWords {
     }
 }
 
-// The place of a record, counted from 1, in its file.
-fn start_of(record: usize) -> usize {
+// The place in its file at which a record, counted from 1, begins.
+fn record_start(record: usize) -> usize {
     record.saturating_sub(1).saturating_mul(RECORD)
 }
 
-fn shown(byte: u8) -> char {
-    if is_odd(byte) { '?' } else { char::from(byte) }
+// The character of the byte, or a question mark for one that is not printable.
+fn shown_char(byte: u8) -> char {
+    if is_unprintable(byte) {
+        '?'
+    } else {
+        char::from(byte)
+    }
 }
 
 /// Whether a file has only whole records.
-pub(crate) fn is_whole(file: &[u8]) -> bool {
+pub fn has_whole_records(file: &[u8]) -> bool {
     file.len() % RECORD == 0
 }
 
@@ -146,11 +166,12 @@ pub(crate) enum RecordForm {
 }
 
 impl RecordForm {
-    /// The form of a record, counted from 1.
-    pub(crate) fn of(file: &[u8], record: usize) -> RecordForm {
+    /// The form of the record with this number, counted from 1: `Cut(0)` if the file ends before it. The first byte
+    /// that is foreign or ends a line decides.
+    pub(crate) fn of_record(file: &[u8], record: usize) -> RecordForm {
         let mut length = 0usize;
         let mut odd = None;
-        for &byte in file.iter().skip(start_of(record)).take(RECORD) {
+        for &byte in file.iter().skip(record_start(record)).take(RECORD) {
             length = length.saturating_add(1);
             if !byte.is_ascii() {
                 return RecordForm::Foreign;
@@ -158,7 +179,7 @@ impl RecordForm {
             if byte == b'\n' {
                 return RecordForm::Text;
             }
-            if odd.is_none() && is_odd(byte) {
+            if odd.is_none() && is_unprintable(byte) {
                 odd = Some(length);
             }
         }
@@ -170,30 +191,36 @@ impl RecordForm {
     }
 }
 
-fn is_odd(byte: u8) -> bool {
+// Whether the byte is neither a blank nor a character of ASCII that can be seen.
+fn is_unprintable(byte: u8) -> bool {
     byte != b' ' && !byte.is_ascii_graphic()
 }
 
 /// The text of a record, counted from 1. A question mark stands for each character that is not printable.
 pub(crate) fn card_text(alloc: Global, file: &[u8], record: usize) -> Result<String, AllocError> {
     let mut text = String::new(alloc);
-    for &byte in file.iter().skip(start_of(record)).take(RECORD) {
-        text.push(shown(byte))?;
+    for &byte in file.iter().skip(record_start(record)).take(RECORD) {
+        text.push(shown_char(byte))?;
     }
     String::from_str(alloc, text.as_str().trim_end())
 }
 
-/// The record, counted from 1, of the first SET that names the zone.
-pub(crate) fn set_of(alloc: Global, file: &[u8], zone: &str) -> Result<Option<usize>, AllocError> {
+/// The record, counted from 1, in which the first SET that names the zone begins; `None` if no SET names it.
+pub(crate) fn find_set(
+    alloc: Global,
+    file: &[u8],
+    zone: &str,
+) -> Result<Option<usize>, AllocError> {
     for record in 1..=file.len() / RECORD {
-        if sets(CardWords::read(alloc, file, record)?.words.as_slice(), zone) {
+        if is_set_of(CardWords::read(alloc, file, record)?.words.as_slice(), zone) {
             return Ok(Some(record));
         }
     }
     Ok(None)
 }
 
-fn sets(words: &[CardWord], zone: &str) -> bool {
+// Whether the words are a SET with this zone in its BDY.
+fn is_set_of(words: &[CardWord], zone: &str) -> bool {
     let Some(first) = words.first() else {
         return false;
     };
@@ -210,32 +237,34 @@ fn sets(words: &[CardWord], zone: &str) -> bool {
     false
 }
 
-/// What is wrong with the command or statement that begins in the record.
+/// What is wrong with the command or statement that begins in the record: the word at fault, if that shows, otherwise
+/// what the code says of the first word.
 pub(crate) fn card_fault(
     alloc: Global,
     file: &[u8],
     record: usize,
     code: &str,
 ) -> Result<String, AllocError> {
-    let found = CardWords::read(alloc, file, record)?;
-    let words = found.words.as_slice();
-    let told = match code {
-        "Cn2" | "Mc3" => odd_word(alloc, words)?,
-        "Cn3" => doubled_word(alloc, words)?,
+    let card_words = CardWords::read(alloc, file, record)?;
+    let words = card_words.words.as_slice();
+    let word_hint = match code {
+        "Cn2" | "Mc3" => odd_word_hint(alloc, words)?,
+        "Cn3" => doubled_operand_hint(alloc, words)?,
         _ => None,
     };
-    if let Some(told) = told {
-        return Ok(told);
+    if let Some(hint) = word_hint {
+        return Ok(hint);
     }
     let first = match words.first() {
         Some(word) => word.operand.as_str(),
         None => "the card",
     };
-    let cause = cause(code);
-    format!(in alloc; "{first} {cause}")
+    let fault = fault_of_code(code);
+    format!(in alloc; "{first} {fault}")
 }
 
-fn cause(code: &str) -> &'static str {
+// What a code says of a command or a statement, after its first word.
+fn fault_of_code(code: &str) -> &'static str {
     match code {
         "Cn1" => "is no command; SET, RECEIVE, REJECT, APPLY, ACCEPT, RESTORE, LIST and REPORT are",
         "Cn2" => "has no operand, or one that has not its form",
@@ -253,24 +282,26 @@ fn cause(code: &str) -> &'static str {
     }
 }
 
-// An operand that no command and no statement has, or a value that is not an id or a zone name although one is wanted.
-fn odd_word(alloc: Global, words: &[CardWord]) -> Result<Option<String>, AllocError> {
+// The hint that names the first operand that no command and no statement has, or value that lacks the form that its
+// operand demands; `None` if there is neither.
+fn odd_word_hint(alloc: Global, words: &[CardWord]) -> Result<Option<String>, AllocError> {
     for word in words.iter().skip(1) {
         let operand = word.operand.as_str();
-        let told = match &word.value {
+        let hint = match &word.value {
             None if is_operand(operand) => None,
             None => Some(format!(in alloc; "{operand} is no operand here")?),
-            Some(value) => odd_value(alloc, operand, value.as_str())?,
+            Some(value) => odd_value_hint(alloc, operand, value.as_str())?,
         };
-        if told.is_some() {
-            return Ok(told);
+        if hint.is_some() {
+            return Ok(hint);
         }
     }
     Ok(None)
 }
 
-fn odd_value(alloc: Global, operand: &str, value: &str) -> Result<Option<String>, AllocError> {
-    let told = match operand {
+// The hint that says what the value should look like; `None` if its operand demands no form, or it has that form.
+fn odd_value_hint(alloc: Global, operand: &str, value: &str) -> Result<Option<String>, AllocError> {
+    let form = match operand {
         "BDY" if ZoneName::read(value.as_bytes()).is_none() => {
             "a zone name has 1 to 7 characters and begins with a letter"
         }
@@ -280,13 +311,14 @@ fn odd_value(alloc: Global, operand: &str, value: &str) -> Result<Option<String>
         _ if takes_ids(operand) && Id::read(value.as_bytes()).is_none() => {
             "the id of a SYSMOD has seven of A to Z, 0 to 9, $, # and @"
         }
-        "BYPASS" if !is_bypass(value) => "BYPASS has no such member",
+        "BYPASS" if !is_bypass_member(value) => "BYPASS has no such member",
         _ => return Ok(None),
     };
-    Ok(Some(format!(in alloc; "{operand} has {value}: {told}")?))
+    Ok(Some(format!(in alloc; "{operand} has {value}: {form}")?))
 }
 
-fn doubled_word(alloc: Global, words: &[CardWord]) -> Result<Option<String>, AllocError> {
+// The hint that names the first operand that stands in the statement twice; `None` if none does.
+fn doubled_operand_hint(alloc: Global, words: &[CardWord]) -> Result<Option<String>, AllocError> {
     for (place, word) in words.iter().enumerate().skip(1) {
         let before = words.iter().take(place);
         for earlier in before {
@@ -299,16 +331,17 @@ fn doubled_word(alloc: Global, words: &[CardWord]) -> Result<Option<String>, All
     Ok(None)
 }
 
-// The operands of commands and statements that take only ids.
+// Whether the operand of commands or statements takes only ids.
 fn takes_ids(operand: &str) -> bool {
     match operand {
-        "SELECT" | "EXCLUDE" | "GROUP" | "FORFMID" | "FMID" | "PRE" | "REQ" | "NPRE" | "SUP" =>
-            true,
-        "DELETE" | "TO" | "++FUNCTION" | "++PTF" | "++APAR" | "++USERMOD" | "++HOLD" => true,
+        "SELECT" | "EXCLUDE" | "GROUP" | "FORFMID" => true,
+        "FMID" | "PRE" | "REQ" | "NPRE" | "SUP" | "DELETE" | "TO" => true,
+        "++FUNCTION" | "++PTF" | "++APAR" | "++USERMOD" | "++HOLD" => true,
         _ => false,
     }
 }
 
+// Whether some command or statement has this operand.
 fn is_operand(word: &str) -> bool {
     match word {
         "BDY" | "SYSMODS" | "HOLDDATA" | "FUNCTIONS" | "PTFS" | "APARS" | "USERMODS" => true,
@@ -319,7 +352,8 @@ fn is_operand(word: &str) -> bool {
     }
 }
 
-fn is_bypass(word: &str) -> bool {
+// Whether the word names a member of BYPASS.
+fn is_bypass_member(word: &str) -> bool {
     match word {
         "ID" | "PRE" | "REQ" | "IFREQ" | "APPLYCHECK" => true,
         "HOLDSYSTEM" | "HOLDUSER" | "HOLDERROR" | "HOLDCLASS" => true,

@@ -14,8 +14,8 @@ enum Form {
 }
 
 impl Form {
-    // The form that the option demands, if it has a value.
-    fn of(option: &str) -> Option<Form> {
+    // The form that the option demands of its value; `None` if it demands none.
+    fn of_option(option: &str) -> Option<Form> {
         match option {
             "--name" | "--related" | "--zone" => Some(Form::ZoneName),
             "--srel" => Some(Form::Srel),
@@ -26,6 +26,7 @@ impl Form {
         }
     }
 
+    // Whether the value has the form.
     fn fits(self, value: &str) -> bool {
         match self {
             Form::ZoneName => ZoneName::read(value.as_bytes()).is_some(),
@@ -36,7 +37,8 @@ impl Form {
         }
     }
 
-    fn told(self) -> &'static str {
+    // The form in words, with an example.
+    fn description(self) -> &'static str {
         match self {
             Form::ZoneName => {
                 "a zone name has 1 to 7 of A to Z, 0 to 9, $, # and @, and begins with a letter, as TGT1"
@@ -56,19 +58,22 @@ struct CommandLine<'a> {
 }
 
 impl<'a> CommandLine<'a> {
-    fn at(self, place: usize) -> Option<&'a str> {
+    // The word at a place; `None` if there is none or it is not UTF-8.
+    fn word(self, place: usize) -> Option<&'a str> {
         str::from_utf8(self.words.get(place)?.as_slice()).ok()
     }
 
-    // The option that begins at a place, with its value.
+    // The option that begins at a place, with its value: what follows its first `=`, or else the next word. `None` if
+    // it has no value.
     fn option(self, place: usize) -> Option<(&'a str, &'a str)> {
-        let word = self.at(place)?;
+        let word = self.word(place)?;
         match word.split_once('=') {
             Some(parts) => Some(parts),
-            None => Some((word, self.at(place.checked_add(1)?)?)),
+            None => Some((word, self.word(place.checked_add(1)?)?)),
         }
     }
 
+    // The value of the option where it stands first; `None` if the words do not have it.
     fn value(self, option: &str) -> Option<&'a str> {
         for place in 0..self.words.len() {
             if let Some((name, value)) = self.option(place) {
@@ -80,77 +85,82 @@ impl<'a> CommandLine<'a> {
         None
     }
 
-    fn has(self, option: &str) -> bool {
+    // Whether the words have the option with a value.
+    fn has_option(self, option: &str) -> bool {
         self.value(option).is_some()
     }
 }
 
-/// The value of an option, if the words have it.
+/// The value of an option where it stands first; `None` if the words do not have it.
 pub(crate) fn value_of<'a>(words: &'a [Vec<u8>], option: &str) -> Option<&'a str> {
     CommandLine { words }.value(option)
 }
 
-/// What is wrong with the words, the first of which is the program's name, after `smpe: bad operand`.
+/// What is wrong with the words, the first of which is the program's name, after `smpe: bad operand`; `None` if that
+/// does not show here.
 pub fn operand_hint(alloc: Global, words: &[Vec<u8>]) -> Result<Option<String>, AllocError> {
-    let words = CommandLine { words };
-    for place in 0..words.words.len() {
-        let Some(word) = words.at(place) else {
+    let line = CommandLine { words };
+    for place in 0..words.len() {
+        let Some(word) = line.word(place) else {
             return Ok(Some(format!(in alloc; "word {place} is not UTF-8")?));
         };
         if !word.starts_with("--") {
             continue;
         }
-        if let Some(told) = value_hint(alloc, words, place)? {
-            return Ok(Some(told));
+        if let Some(hint) = option_hint(alloc, line, place)? {
+            return Ok(Some(hint));
         }
     }
-    match words.at(1) {
-        Some("check") => Ok(match check_fault(words) {
-            Some(told) => Some(String::from_str(alloc, told)?),
+    match line.word(1) {
+        Some("check") => Ok(match check_fault(line) {
+            Some(fault) => Some(String::from_str(alloc, fault)?),
             None => None,
         }),
-        Some("why") => bypass_hint(alloc, words),
+        Some("why") => bypass_hint(alloc, line),
         _ => Ok(None),
     }
 }
 
-fn value_hint(
+// The hint about the value of the option at a place, if it has another form than the option demands; otherwise `None`.
+fn option_hint(
     alloc: Global,
-    words: CommandLine<'_>,
+    line: CommandLine<'_>,
     place: usize,
 ) -> Result<Option<String>, AllocError> {
-    let Some((option, value)) = words.option(place) else {
+    let Some((option, value)) = line.option(place) else {
         return Ok(None);
     };
-    match Form::of(option) {
+    match Form::of_option(option) {
         Some(form) if !form.fits(value) => {
-            let told = form.told();
-            Ok(Some(format!(in alloc; "{option} has \"{value}\": {told}")?))
+            let description = form.description();
+            Ok(Some(format!(in alloc; "{option} has \"{value}\": {description}")?))
         }
         _ => Ok(None),
     }
 }
 
-// What `check` lacks, or has that does not go together.
-fn check_fault(words: CommandLine<'_>) -> Option<&'static str> {
-    Some(match (words.has("--db"), words.has("--srel")) {
+// What `check` lacks, or has that does not go together; `None` if there is nothing of the kind.
+fn check_fault(line: CommandLine<'_>) -> Option<&'static str> {
+    Some(match (line.has_option("--db"), line.has_option("--srel")) {
         (true, true) =>
             "--srel and --db: check takes the SREL of an empty system or a database, not both",
         (false, false) =>
             "--srel is missing, or --db: check needs the SREL of an empty system, or a database",
-        (true, false) if !words.has("--zone") =>
+        (true, false) if !line.has_option("--zone") =>
             "--zone is missing: with --db, check needs a zone of the database, as TGT1",
-        (false, true) if words.has("--zone") || words.has("--why") || words.has("--wait") =>
+        (false, true)
+            if line.has_option("--zone") || line.has_option("--why") || line.has_option("--wait") =>
             "--zone, --why and --wait go with --db, and an empty system has none",
-        _ if words.has("--cntl") && !words.has("--date") =>
+        _ if line.has_option("--cntl") && !line.has_option("--date") =>
             "--date is missing: with --cntl, check needs the date of the job, as 2024-05-17",
         _ => return None,
     })
 }
 
-// Nothing else can be wrong with the words of `why`.
-fn bypass_hint(alloc: Global, words: CommandLine<'_>) -> Result<Option<String>, AllocError> {
-    match words.value("--bypass") {
+// What is wrong with the words of `why`, if all other values have their forms: that leaves the list of `--bypass`.
+// `None` if the words do not have that option.
+fn bypass_hint(alloc: Global, line: CommandLine<'_>) -> Result<Option<String>, AllocError> {
+    match line.value("--bypass") {
         Some(value) => Ok(Some(format!(in alloc;
             "--bypass has \"{value}\": it is the list of a BYPASS, as HOLDSYSTEM(ACTION),PRE"
         )?)),
@@ -158,11 +168,11 @@ fn bypass_hint(alloc: Global, words: CommandLine<'_>) -> Result<Option<String>, 
     }
 }
 
-/// What to say about a job that has printed nothing.
-pub fn empty_hint(alloc: Global, words: &[Vec<u8>]) -> Result<Option<String>, AllocError> {
-    let words = CommandLine { words };
-    match words.value("--cntl") {
-        Some(name) if words.at(1) == Some("run") => {
+/// What to say about a run that has printed nothing: its file of commands has none. `None` if the words ask for no run.
+pub fn no_command_hint(alloc: Global, words: &[Vec<u8>]) -> Result<Option<String>, AllocError> {
+    let line = CommandLine { words };
+    match line.value("--cntl") {
+        Some(name) if line.word(1) == Some("run") => {
             Ok(Some(format!(in alloc; "{name} has no command")?))
         }
         _ => Ok(None),

@@ -16,16 +16,16 @@ pub enum RelatedZone {
     Taken(String),
 }
 
-/// The name of the related zone, if these words ask for a zone that has one.
+/// The name of the related zone; `None` if these words name none.
 pub fn related_name(words: &[Vec<u8>]) -> Option<&str> {
     value_of(words, "--related")
 }
 
-/// Which of the reasons for a refusal it is.
-pub(crate) fn related_told(
+/// Why the related zone of a zone was refused, by the words of the command line and what the database knows of it.
+pub(crate) fn related_hint(
     alloc: Global,
     words: &[Vec<u8>],
-    found: &RelatedZone,
+    related: &RelatedZone,
 ) -> Result<String, AllocError> {
     let Some(name) = related_name(words) else {
         return String::from_str(
@@ -44,22 +44,26 @@ pub(crate) fn related_told(
             "--related GLOBAL is the global zone; a target zone needs a distribution zone",
         );
     }
-    unsuited_told(alloc, name, found)
+    unsuited_zone_hint(alloc, name, related)
 }
 
-// Why a zone of this name can't be the related zone of a target zone.
-fn unsuited_told(alloc: Global, name: &str, found: &RelatedZone) -> Result<String, AllocError> {
-    match found {
+// Why a zone of this name cannot be the related zone of a target zone.
+fn unsuited_zone_hint(
+    alloc: Global,
+    name: &str,
+    related: &RelatedZone,
+) -> Result<String, AllocError> {
+    match related {
         RelatedZone::Missing => format!(in alloc;
             "--related {name} is not defined in this database; define the distribution zone first"
         ),
         RelatedZone::Target => format!(in alloc;
             "--related {name} is a target zone; a target zone needs a distribution zone"
         ),
-        RelatedZone::Taken(by) => {
-            let by = by.as_str();
+        RelatedZone::Taken(target) => {
+            let target = target.as_str();
             format!(in alloc;
-                "--related {name} belongs to the target zone {by}; each target zone needs one of its own"
+                "--related {name} belongs to the target zone {target}; each target zone needs one of its own"
             )
         }
         RelatedZone::Free | RelatedZone::Unknown => format!(in alloc;

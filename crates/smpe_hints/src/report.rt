@@ -1,10 +1,10 @@
 //! What in a report needs more words.
-use crate::card::{RecordForm, card_fault, card_text, is_whole, set_of};
+use crate::card::{RecordForm, card_fault, card_text, find_set, has_whole_records};
 use crate::operand::value_of;
-use crate::related::{RelatedZone, related_told};
+use crate::related::{RelatedZone, related_hint};
 use std::alloc::{AllocError, Global};
 
-/// It looks at so many bytes of a line.
+/// The number of bytes of a line at which the watch looks.
 const LONGEST: usize = 100;
 
 /// A file that was read.
@@ -27,7 +27,7 @@ enum Notice {
     Elsewhere {
         command: String,
         zone: String,
-        meant: String,
+        set_zone: String,
     },
     /// No zone of this name is defined.
     NoZone(String),
@@ -41,14 +41,18 @@ enum Notice {
 #[derive(Drop)]
 pub struct ReportWatch {
     alloc: Global,
+    /// The first bytes of the line that has not ended.
     line: Vec<u8>,
-    lines: usize,
-    first: String,
-    /// The header of the last command, and how many have ended.
+    /// How many lines have ended.
+    line_count: usize,
+    /// The first line, or no text until it has ended.
+    first_line: String,
+    /// The header of the last command.
     header: String,
-    ended: usize,
+    /// How many commands have ended.
+    command_count: usize,
     /// The zone that the last SET named, until it was accepted.
-    meant: Option<String>,
+    set_zone: Option<String>,
     /// Whether that SET was refused.
     is_refused: bool,
     notices: Vec<Notice>,
@@ -59,24 +63,24 @@ impl ReportWatch {
         ReportWatch {
             alloc,
             line: Vec::new(alloc),
-            lines: 0,
-            first: String::new(alloc),
+            line_count: 0,
+            first_line: String::new(alloc),
             header: String::new(alloc),
-            ended: 0,
-            meant: None,
+            command_count: 0,
+            set_zone: None,
             is_refused: false,
             notices: Vec::new(alloc),
         }
     }
 
-    /// The first line, if it has ended.
+    /// The first line, or no text until it has ended.
     pub fn first_line(&self) -> &str {
-        self.first.as_str()
+        self.first_line.as_str()
     }
 
     /// How many commands have ended.
-    pub fn ended(&self) -> usize {
-        self.ended
+    pub fn ended_commands(&self) -> usize {
+        self.command_count
     }
 
     /// The header of the last command.
@@ -84,7 +88,7 @@ impl ReportWatch {
         self.header.as_str()
     }
 
-    /// The next bytes of the report.
+    /// Takes the next bytes of the report, and follows each line that they end. Returns an error if memory runs out.
     pub fn take(&mut self, piece: &[u8]) -> Result<(), AllocError> {
         for &byte in piece {
             if byte == b'\n' {
@@ -96,50 +100,54 @@ impl ReportWatch {
         Ok(())
     }
 
+    // Follows the line that has ended, and counts it and the command that it ends.
     fn end_line(&mut self) -> Result<(), AllocError> {
         let line = String::from_utf8_lossy(self.alloc, self.line.as_slice())?;
         self.line.clear();
-        self.follow(line.as_str())?;
-        if self.lines == 0 {
-            self.first = String::from_str(self.alloc, line.as_str())?;
+        self.follow_line(line.as_str())?;
+        if self.line_count == 0 {
+            self.first_line = String::from_str(self.alloc, line.as_str())?;
         }
         if line.as_str().starts_with("RC ") {
-            self.ended = self.ended.saturating_add(1);
+            self.command_count = self.command_count.saturating_add(1);
         }
-        self.lines = self.lines.saturating_add(1);
+        self.line_count = self.line_count.saturating_add(1);
         Ok(())
     }
 
-    fn follow(&mut self, line: &str) -> Result<(), AllocError> {
+    // Notices what the line says of a card, a SET, a command or a refusal. `Cm4` and `Cm5` are faults of the PTFIN and
+    // of the hold file, `Cm2` is a zone that is not defined, and `Zn2` a related zone that does not fit.
+    fn follow_line(&mut self, line: &str) -> Result<(), AllocError> {
         let mut words = line.split(' ');
         let first = words.next().unwrap_or("");
         let second = words.next().unwrap_or("");
         match (first, second) {
-            ("CONTROL", "RECORD") if self.lines == 0 => {
-                self.follow_card("--cntl", words.next(), words.next())
+            ("CONTROL", "RECORD") if self.line_count == 0 => {
+                self.notice_card_fault("--cntl", words.next(), words.next())
             }
-            ("REFUSED", "Cm4") => self.follow_card("--ptfin", words.nth(1), words.next()),
-            ("REFUSED", "Cm5") => self.follow_card("--hold", words.nth(1), words.next()),
-            ("REFUSED", "Cm2") => self.follow_refused(),
+            ("REFUSED", "Cm4") => self.notice_card_fault("--ptfin", words.nth(1), words.next()),
+            ("REFUSED", "Cm5") => self.notice_card_fault("--hold", words.nth(1), words.next()),
+            ("REFUSED", "Cm2") => self.notice_refused_zone(),
             ("ZONE", "REFUSED") if words.next() == Some("Zn2") => {
                 self.notices.push(Notice::Related)?;
                 Ok(())
             }
             ("SET", zone) => {
                 self.header = String::from_str(self.alloc, line)?;
-                self.meant = Some(String::from_str(self.alloc, zone)?);
+                self.set_zone = Some(String::from_str(self.alloc, zone)?);
                 self.is_refused = false;
                 Ok(())
             }
             ("RECEIVE" | "REJECT" | "APPLY" | "ACCEPT" | "RESTORE" | "LIST" | "REPORT", zone) => {
                 self.header = String::from_str(self.alloc, line)?;
-                self.follow_command(first, zone)
+                self.notice_command_elsewhere(first, zone)
             }
             _ => Ok(()),
         }
     }
 
-    fn follow_card(
+    // Notices a fault of a card, by the record and the code that the line has.
+    fn notice_card_fault(
         &mut self,
         option: &'static str,
         record: Option<&str>,
@@ -159,9 +167,9 @@ impl ReportWatch {
         Ok(())
     }
 
-    // A SET that is refused, or a question about a zone.
-    fn follow_refused(&mut self) -> Result<(), AllocError> {
-        let notice = match &self.meant {
+    // Notices that a SET, or a question about a zone, was refused.
+    fn notice_refused_zone(&mut self) -> Result<(), AllocError> {
+        let notice = match &self.set_zone {
             Some(zone) => {
                 self.is_refused = true;
                 Notice::NoZone(String::from_str(self.alloc, zone.as_str())?)
@@ -172,18 +180,19 @@ impl ReportWatch {
         Ok(())
     }
 
-    fn follow_command(&mut self, command: &str, zone: &str) -> Result<(), AllocError> {
+    // Notices a command that ran in a zone after the SET that meant another was refused.
+    fn notice_command_elsewhere(&mut self, command: &str, zone: &str) -> Result<(), AllocError> {
         if !self.is_refused || zone == "-" {
             return Ok(());
         }
         self.is_refused = false;
-        if let Some(meant) = self.meant.take() {
+        if let Some(set_zone) = self.set_zone.take() {
             let command = String::from_str(self.alloc, command)?;
             let zone = String::from_str(self.alloc, zone)?;
             self.notices.push(Notice::Elsewhere {
                 command,
                 zone,
-                meant,
+                set_zone,
             })?;
         }
         Ok(())
@@ -199,7 +208,7 @@ impl ReportWatch {
     ) -> Result<Vec<String>, AllocError> {
         let mut lines = Vec::new(self.alloc);
         for notice in &self.notices {
-            if let Some(line) = told(self.alloc, notice, words, files, related)? {
+            if let Some(line) = notice_hint(self.alloc, notice, words, files, related)? {
                 lines.push(line)?;
             }
         }
@@ -207,7 +216,8 @@ impl ReportWatch {
     }
 }
 
-fn told(
+// The line about a notice. `None` about a card of a file that was not read, or where there is no more to say.
+fn notice_hint(
     alloc: Global,
     notice: &Notice,
     words: &[Vec<u8>],
@@ -219,7 +229,7 @@ fn told(
             option,
             record,
             code,
-        } => card_told(
+        } => card_hint(
             alloc,
             value_of(words, option),
             *record,
@@ -229,19 +239,18 @@ fn told(
         Notice::Elsewhere {
             command,
             zone,
-            meant,
+            set_zone,
         } => Ok(Some(format!(in alloc;
-            "SET BDY({meant}) was refused, and {command} ran in the zone before it, {zone}"
+            "SET BDY({set_zone}) was refused, and {command} ran in the zone before it, {zone}"
         )?)),
-        Notice::NoZone(zone) => Ok(Some(format!(in alloc;
-            "zone {zone} is not defined in this database; smpe zone defines one"
-        )?)),
-        Notice::NoZoneAsked => zone_told(alloc, value_of(words, "--zone")),
-        Notice::Related => Ok(Some(related_told(alloc, words, related)?)),
+        Notice::NoZone(zone) => Ok(Some(undefined_zone_hint(alloc, zone.as_str())?)),
+        Notice::NoZoneAsked => asked_zone_hint(alloc, value_of(words, "--zone")),
+        Notice::Related => Ok(Some(related_hint(alloc, words, related)?)),
     }
 }
 
-fn card_told(
+// What is wrong with a record of the file of this name; `None` if there is no name or the file was not read.
+fn card_hint(
     alloc: Global,
     name: Option<&str>,
     record: usize,
@@ -251,15 +260,25 @@ fn card_told(
     let Some(name) = name else {
         return Ok(None);
     };
-    for file in files {
-        if file.name.as_str() == name {
-            return record_told(alloc, file, record, code);
-        }
+    match find_file(files, name) {
+        Some(file) => record_hint(alloc, file, record, code),
+        None => Ok(None),
     }
-    Ok(None)
 }
 
-fn record_told(
+// The file of this name; `None` if it was not read.
+fn find_file<'a>(files: &'a [ReadFile], name: &str) -> Option<&'a ReadFile> {
+    for file in files {
+        if file.name.as_str() == name {
+            return Some(file);
+        }
+    }
+    None
+}
+
+// What is wrong with a record: its bytes, if they are no card, otherwise what the code says of the card. `None` if that
+// was said when the file was read.
+fn record_hint(
     alloc: Global,
     file: &ReadFile,
     record: usize,
@@ -267,12 +286,12 @@ fn record_told(
 ) -> Result<Option<String>, AllocError> {
     let name = file.name.as_str();
     let bytes = file.bytes.as_slice();
-    match RecordForm::of(bytes, record) {
+    match RecordForm::of_record(bytes, record) {
         RecordForm::Foreign => Ok(Some(format!(in alloc;
             "{name} record {record} is not ASCII; smpe-intake and iconv convert EBCDIC"
         )?)),
         // (of a file with another length, this is said when it is read)
-        RecordForm::Text if !is_whole(bytes) => Ok(None),
+        RecordForm::Text if !has_whole_records(bytes) => Ok(None),
         RecordForm::Text => Ok(Some(format!(in alloc;
             "{name} record {record} has the end of a line in it; smpe-cards makes records of text"
         )?)),
@@ -290,7 +309,8 @@ fn record_told(
     }
 }
 
-/// What to say about a zone that a SET names and that is not defined, after `smpe: no zone`.
+/// What to say about a zone that a SET names and that is not defined, after `smpe: no zone`. `None` if no SET of a file
+/// that was read names it.
 pub fn zone_hint(
     alloc: Global,
     words: &[Vec<u8>],
@@ -300,29 +320,31 @@ pub fn zone_hint(
     let Some(name) = value_of(words, "--cntl") else {
         return Ok(None);
     };
-    for file in files {
-        if file.name.as_str() == name {
-            let Some(record) = set_of(alloc, file.bytes.as_slice(), zone)? else {
-                return Ok(None);
-            };
-            let card = card_text(alloc, file.bytes.as_slice(), record)?;
-            return Ok(Some(format!(in alloc;
-                "{name} record {record} is \"{card}\": no such zone in this database; smpe zone defines one"
-            )?));
-        }
-    }
-    Ok(None)
+    let Some(file) = find_file(files, name) else {
+        return Ok(None);
+    };
+    let Some(record) = find_set(alloc, file.bytes.as_slice(), zone)? else {
+        return Ok(None);
+    };
+    let card = card_text(alloc, file.bytes.as_slice(), record)?;
+    Ok(Some(format!(in alloc;
+        "{name} record {record} is \"{card}\": no such zone in this database; smpe zone defines one"
+    )?))
 }
 
-fn zone_told(alloc: Global, zone: Option<&str>) -> Result<Option<String>, AllocError> {
+// What to say about a zone that is not defined.
+fn undefined_zone_hint(alloc: Global, zone: &str) -> Result<String, AllocError> {
+    format!(in alloc; "zone {zone} is not defined in this database; smpe zone defines one")
+}
+
+// Why `why` has no answer about the zone that it was asked about; `None` if the words name none.
+fn asked_zone_hint(alloc: Global, zone: Option<&str>) -> Result<Option<String>, AllocError> {
     match zone {
         Some("GLOBAL") => Ok(Some(String::from_str(
             alloc,
             "GLOBAL has what was received; why tells of a target or distribution zone",
         )?)),
-        Some(zone) => Ok(Some(format!(in alloc;
-            "zone {zone} is not defined in this database; smpe zone defines one"
-        )?)),
+        Some(zone) => Ok(Some(undefined_zone_hint(alloc, zone)?)),
         None => Ok(None),
     }
 }

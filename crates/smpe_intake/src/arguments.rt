@@ -6,11 +6,11 @@ use std::rt::Env;
 // A word's buffer at first, in bytes; it doubles until it holds the word.
 const FIRST_SIZE: usize = 256;
 
-/// The words, of which the first is the program's name.
-pub(crate) fn words(rt: &HostRuntime) -> Result<Vec<Vec<u8>>, AllocError> {
+/// The words of the command line, of which the first is the program's name.
+pub(crate) fn read_words(rt: &HostRuntime) -> Result<Vec<Vec<u8>>, AllocError> {
     let mut words = Vec::new(rt.alloc());
     for place in 0..usize::MAX {
-        match word(rt, place)? {
+        match read_word(rt, place)? {
             Some(word) => words.push(word)?,
             None => break,
         }
@@ -18,11 +18,12 @@ pub(crate) fn words(rt: &HostRuntime) -> Result<Vec<Vec<u8>>, AllocError> {
     Ok(words)
 }
 
-// The word at a place, if there are so many.
-fn word(rt: &HostRuntime, place: usize) -> Result<Option<Vec<u8>>, AllocError> {
+// The word at a place, or `None` if there are fewer words. Its buffer doubles until it holds the word. After as many
+// doublings as a size has bits no larger buffer is possible, so then the word does not fit into memory.
+fn read_word(rt: &HostRuntime, place: usize) -> Result<Option<Vec<u8>>, AllocError> {
     let mut size = FIRST_SIZE;
     for _ in 0..usize::BITS {
-        match word_within(rt, place, size)? {
+        match read_word_into(rt, place, size)? {
             FoundWord::There(word) => return Ok(Some(word)),
             FoundWord::NoMore => return Ok(None),
             FoundWord::TooLong => size = size.saturating_add(size),
@@ -31,6 +32,7 @@ fn word(rt: &HostRuntime, place: usize) -> Result<Option<Vec<u8>>, AllocError> {
     Err(AllocError)
 }
 
+/// The word at a place, as far as a buffer holds it.
 #[derive(Drop)]
 enum FoundWord {
     There(Vec<u8>),
@@ -38,7 +40,8 @@ enum FoundWord {
     TooLong,
 }
 
-fn word_within(rt: &HostRuntime, place: usize, size: usize) -> Result<FoundWord, AllocError> {
+// Reads the word at a place into a buffer of this size.
+fn read_word_into(rt: &HostRuntime, place: usize, size: usize) -> Result<FoundWord, AllocError> {
     let mut word = Vec::new(rt.alloc());
     word.resize(size, 0)?;
     match rt.arg(place, word.as_mut_slice()) {

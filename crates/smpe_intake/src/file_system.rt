@@ -1,19 +1,22 @@
 //! The files, input and output of the system that the program runs on.
 
-use intake_command::{IntakeHost, Named};
+use intake_command::{IntakeHost, NamedFile};
 use std::fs::OpenOptions;
 use std::io::{ErrorKind, Write};
 use std::{fs, io};
 
-/// The most files that are drafted at one time.
+/// The most files that have drafts at one time.
 const MOST_DRAFTS: usize = 6;
+
+/// What the name of a file ends in until all files are written: that of its draft, and of the file itself.
+const DRAFT_ENDING: &str = ".new";
 
 /// The system, by what the program was started with.
 #[derive(Drop)]
 pub(crate) struct FileSystem<'a> {
     rt: &'a HostRuntime,
-    /// The names of the files that are drafted.
-    drafted: [Option<&'static str>; MOST_DRAFTS],
+    /// The names of the files that have drafts of this run.
+    drafts: [Option<&'static str>; MOST_DRAFTS],
 }
 
 // Nothing is said of the system: each act may lead from anything to anything.
@@ -24,40 +27,45 @@ impl IntakeHost for FileSystem<'_> {
         fs::read(self.rt, name)
     }
 
-    fn draft(&mut self, folder: &str, name: &'static str, bytes: &[u8]) -> io::Result<()> {
-        let drafted = self.add_to_draft(folder, name, bytes);
-        if drafted.is_err() {
-            self.drafted = [None; MOST_DRAFTS];
-            self.remove(folder, name, ".new");
+    fn append_to_draft(
+        &mut self,
+        folder: &str,
+        name: &'static str,
+        bytes: &[u8],
+    ) -> io::Result<()> {
+        let outcome = self.begin_or_append_draft(folder, name, bytes);
+        if outcome.is_err() {
+            self.drafts = [None; MOST_DRAFTS];
+            self.remove_if_possible(folder, name, DRAFT_ENDING);
         }
-        drafted
+        outcome
     }
 
-    fn keep(&mut self, folder: &str, files: &[Named]) -> io::Result<()> {
+    fn keep(&mut self, folder: &str, files: &[NamedFile]) -> io::Result<()> {
         if files.iter().any(|file| file.bytes.is_some()) {
             fs::create_dir_all(self.rt, folder)?;
         }
-        let kept = self.keep_in(folder, files);
-        if kept.is_err() {
-            self.take_away(folder, files, ".new");
+        let outcome = self.write_and_name_all(folder, files);
+        if outcome.is_err() {
+            self.remove_all_if_possible(folder, files, DRAFT_ENDING);
         }
-        self.drafted = [None; MOST_DRAFTS];
-        kept
+        self.drafts = [None; MOST_DRAFTS];
+        outcome
     }
 
     // Names that lead nowhere, or where nobody may go, are of no file that can be read or written.
-    fn is_same(&mut self, one: &str, other: &str) -> io::Result<bool> {
-        let one = match fs::canonicalize(self.rt, one) {
+    fn is_same(&mut self, first: &str, second: &str) -> io::Result<bool> {
+        let first_path = match fs::canonicalize(self.rt, first) {
             Ok(path) => path,
             Err(error) if leads_nowhere(error.kind()) => return Ok(false),
             Err(error) => return Err(error),
         };
-        let other = match fs::canonicalize(self.rt, other) {
+        let second_path = match fs::canonicalize(self.rt, second) {
             Ok(path) => path,
             Err(error) if leads_nowhere(error.kind()) => return Ok(false),
             Err(error) => return Err(error),
         };
-        Ok(one == other)
+        Ok(first_path == second_path)
     }
 
     fn print(&mut self, text: &[u8]) -> io::Result<()> {
@@ -73,6 +81,7 @@ impl IntakeHost for FileSystem<'_> {
     }
 }
 
+// Whether an error of this kind says that there is no such file, or that nobody may go there.
 fn leads_nowhere(kind: ErrorKind) -> bool {
     matches!(
         kind,
@@ -81,40 +90,48 @@ fn leads_nowhere(kind: ErrorKind) -> bool {
 }
 
 impl<'a> FileSystem<'a> {
+    /// The files and streams of the system. No file has a draft.
     pub(crate) fn new(rt: &'a HostRuntime) -> FileSystem<'a> {
         FileSystem {
             rt,
-            drafted: [None; MOST_DRAFTS],
+            drafts: [None; MOST_DRAFTS],
         }
     }
 
-    fn is_drafted(&self, name: &str) -> bool {
-        self.drafted.iter().any(|drafted| match drafted {
-            Some(drafted) => *drafted == name,
+    // Whether the file of this name has a draft of this run.
+    fn has_draft(&self, name: &str) -> bool {
+        self.drafts.iter().any(|draft| match draft {
+            Some(draft) => *draft == name,
             None => false,
         })
     }
 
-    // Takes note that the file is drafted. What an earlier run left of a draft goes.
-    fn add_to_draft(&mut self, folder: &str, name: &'static str, bytes: &[u8]) -> io::Result<()> {
-        if self.is_drafted(name) {
-            return self.write(folder, name, bytes);
+    // Appends to the draft of the file, or begins it in place of the draft of an earlier run. Returns an error if there
+    // are too many drafts.
+    fn begin_or_append_draft(
+        &mut self,
+        folder: &str,
+        name: &'static str,
+        bytes: &[u8],
+    ) -> io::Result<()> {
+        if self.has_draft(name) {
+            return self.write_after_draft(folder, name, bytes);
         }
         fs::create_dir_all(self.rt, folder)?;
-        self.write(folder, name, bytes)?;
-        for place in self.drafted.iter_mut() {
-            if place.is_none() {
-                *place = Some(name);
+        self.write_after_draft(folder, name, bytes)?;
+        for slot in self.drafts.iter_mut() {
+            if slot.is_none() {
+                *slot = Some(name);
                 return Ok(());
             }
         }
         Err(io::Error::from(ErrorKind::Other))
     }
 
-    // Writes the bytes under the file's other name: after its draft, if it is drafted.
-    fn write(&self, folder: &str, name: &str, bytes: &[u8]) -> io::Result<()> {
-        let path = self.within(folder, name, ".new")?;
-        if !self.is_drafted(name) {
+    // Writes the bytes under the name of the file's draft: after the draft, if there is one of this run.
+    fn write_after_draft(&self, folder: &str, name: &str, bytes: &[u8]) -> io::Result<()> {
+        let path = self.path_in(folder, name, DRAFT_ENDING)?;
+        if !self.has_draft(name) {
             return fs::write(self.rt, path.as_str(), bytes);
         }
         let mut draft = OpenOptions::new()
@@ -123,61 +140,64 @@ impl<'a> FileSystem<'a> {
         draft.write_all(bytes)
     }
 
-    // All files are written under other names first. Then those of earlier runs go, and these come in their places; the
-    // remarks are last, so that where they are, all are.
-    fn keep_in(&self, folder: &str, files: &[Named]) -> io::Result<()> {
+    // Writes all files under the names of their drafts, removes those of earlier runs, and then gives the new ones
+    // their names. The remarks are last: if they exist, all files do.
+    fn write_and_name_all(&self, folder: &str, files: &[NamedFile]) -> io::Result<()> {
         for file in files {
             if let Some(bytes) = &file.bytes {
-                self.write(folder, file.name, bytes.as_slice())?;
+                self.write_after_draft(folder, file.name, bytes.as_slice())?;
             }
         }
         for file in files.iter().rev() {
-            self.remove_earlier(folder, file.name, "")?;
+            self.remove_if_there(folder, file.name, "")?;
             if file.bytes.is_none() {
-                self.remove_earlier(folder, file.name, ".new")?;
+                self.remove_if_there(folder, file.name, DRAFT_ENDING)?;
             }
         }
-        let named = self.name_all(folder, files);
-        if named.is_err() {
-            self.take_away(folder, files, "");
+        let outcome = self.name_all(folder, files);
+        if outcome.is_err() {
+            self.remove_all_if_possible(folder, files, "");
         }
-        named
+        outcome
     }
 
-    fn name_all(&self, folder: &str, files: &[Named]) -> io::Result<()> {
+    // Gives the files that were written their names.
+    fn name_all(&self, folder: &str, files: &[NamedFile]) -> io::Result<()> {
         for file in files {
             if file.bytes.is_some() {
-                let from = self.within(folder, file.name, ".new")?;
-                let to = self.within(folder, file.name, "")?;
+                let from = self.path_in(folder, file.name, DRAFT_ENDING)?;
+                let to = self.path_in(folder, file.name, "")?;
                 fs::rename(self.rt, from.as_str(), to.as_str())?;
             }
         }
         Ok(())
     }
 
-    fn remove_earlier(&self, folder: &str, name: &str, ending: &str) -> io::Result<()> {
-        let path = self.within(folder, name, ending)?;
+    // Removes the file, if it exists.
+    fn remove_if_there(&self, folder: &str, name: &str, ending: &str) -> io::Result<()> {
+        let path = self.path_in(folder, name, ending)?;
         if fs::exists(self.rt, path.as_str())? {
             fs::remove_file(self.rt, path.as_str())?;
         }
         Ok(())
     }
 
-    fn take_away(&self, folder: &str, files: &[Named], ending: &str) {
+    // Removes the files as far as that can be done.
+    fn remove_all_if_possible(&self, folder: &str, files: &[NamedFile], ending: &str) {
         for file in files {
-            self.remove(folder, file.name, ending);
+            self.remove_if_possible(folder, file.name, ending);
         }
     }
 
     // Removes the file, if that can be done.
-    fn remove(&self, folder: &str, name: &str, ending: &str) {
-        if let Ok(path) = self.within(folder, name, ending) {
+    fn remove_if_possible(&self, folder: &str, name: &str, ending: &str) {
+        if let Ok(path) = self.path_in(folder, name, ending) {
             let _ = fs::remove_file(self.rt, path.as_str());
         }
     }
 
-    // The name of a file of the folder.
-    fn within(&self, folder: &str, name: &str, ending: &str) -> io::Result<String> {
+    // The path of a file in the folder, with an ending after its name.
+    fn path_in(&self, folder: &str, name: &str, ending: &str) -> io::Result<String> {
         let alloc = self.rt.alloc();
         Ok(format!(in alloc; "{folder}/{name}{ending}")?)
     }

@@ -1,6 +1,7 @@
 -- What a bad operand excludes.
-use Rattle.std.proofs.Common.{◌≡◌, ◌||◌, List, ◌∙◌, ap, sym, refl, true, codes, slice_index, nat_lt, arith}
-use Rattle.std.specs.Prelude.{Option, Some, None}
+use Rattle.std.proofs.Common.{◌≡◌, ◌||◌, List, ◌∙◌, ap, sym, refl, subst, true, codes, slice_index, nat_lt, arith}
+use Rattle.std.specs.Prelude.{Option, Some, None, Result, Err, IfErr, IsErrAnd}
+use Rattle.std.proofs.lemmas.Result.{err_from_is_err_and}
 use Rattle.std.specs.String.{string_bytes}
 use Rattle.std.proofs.lemmas.Bool.Decides.{nat_tests}
 use Rattle.terms.specs.Types.{Text}
@@ -21,6 +22,13 @@ pub excludes_more : (e : ArgFault) (P Q : Type 0) → (Q → P) → Excludes e P
 excludes_more Memory P Q more h = tt
 excludes_more (Clap error) P Q more h = absurd h
 excludes_more BadOperand P Q more h = λ q. h (more q)
+
+-- The fault of an operand is handed on, and excludes what has the operand.
+pub handed_on : {X : Type 0} (r : Result X ArgFault) (e : ArgFault) (P Q : Type 0) → IsErrAnd r (λ y. y ≡ e)
+    → (Q → P) → Excludes e P → IfErr r (λ y. Excludes y Q)
+handed_on r e P Q told more h =
+    let is = err_from_is_err_and r told in
+    subst (λ q. IfErr q (λ y. Excludes y Q)) (sym (is.1 ∙ ap (λ y. Err y) is.2)) (excludes_more e P Q more h)
 
 -- words that begin with two bytes are two
 pub two_words : {A : Type 0} (one two : Text)

@@ -1,5 +1,6 @@
 -- The subcommand that a parse met, and what is made of a refusal.
-use Rattle.std.proofs.Common.{◌≡◌, List, [], ap, ap₂, refl, inl, inr, sym, subst, option_map, Option, Some, None, unwrap_or}
+use Rattle.std.proofs.Common.{◌≡◌, List, [], ap, ap₂, refl, inl, inr, sym, subst, option_map, Option, Some, None}
+use Rattle.std.proofs.Common.{unwrap_or}
 use Rattle.std.specs.Prelude.{Result, IfOk, IfErr}
 use Rattle.terms.specs.Types.{Text}
 use Rattle.std.specs.Borrow.{Bor}

@@ -1,6 +1,7 @@
 -- What jiff reads of a text with the form of a date.
-use Rattle.std.proofs.Common.{◌≡◌, ℕ, pos, ◌+◌, ◌-◌, ◌*◌, ◌<◌, ◌==◌, ◌&&◌, ◌||◌, nat_lt, Bool, true, false, List, [], ◌∷◌}
-use Rattle.std.proofs.Common.{Some, Ok, Err, Result, IsOk, IsTrue, IsSome, IfSome, ◌↔◌, refl, sym, ap, subst, arith, ◌∙◌}
+use Rattle.std.proofs.Common.{◌≡◌, ℕ, pos, ◌+◌, ◌-◌, ◌*◌, ◌<◌, ◌==◌, ◌&&◌, ◌||◌, nat_lt, Bool, true, false, List, []}
+use Rattle.std.proofs.Common.{◌∷◌, Some, Ok, Err, Result, IsOk, IsTrue, IsSome, IfSome, ◌↔◌, refl, sym, ap, subst}
+use Rattle.std.proofs.Common.{arith, ◌∙◌}
 use Rattle.std.proofs.lemmas.Bool.Decides.{nat_tests}
 use Rattle.std.proofs.lemmas.List.Elements.{All-head, All-tail}
 use Rattle.std.specs.Char.{is_ascii_digit}
@@ -34,13 +35,15 @@ two_read a b rest da db =
 
 -- a number of two digits in a range, or an error
 pub field_read : (missing : Syntax) (low high : ℕ) (bound : Bound) (a b : ℕ) (rest : List ℕ) → IsTrue (is_digit a)
-    → IsTrue (is_digit b) → (nat_lt (digits_value 10 (a ∷ b ∷ [])) low || nat_lt high (digits_value 10 (a ∷ b ∷ []))) ≡ false
+    → IsTrue (is_digit b)
+    → (nat_lt (digits_value 10 (a ∷ b ∷ [])) low || nat_lt high (digits_value 10 (a ∷ b ∷ []))) ≡ false
     → field missing low high bound (a ∷ b ∷ rest) ≡ Ok (digits_value 10 (a ∷ b ∷ []), rest)
 unfolding field
 field_read missing low high bound a b rest da db within = rw (two_read a b rest da db, within)
 
 pub field_refused : (missing : Syntax) (low high : ℕ) (bound : Bound) (a b : ℕ) (rest : List ℕ) → IsTrue (is_digit a)
-    → IsTrue (is_digit b) → (nat_lt (digits_value 10 (a ∷ b ∷ [])) low || nat_lt high (digits_value 10 (a ∷ b ∷ []))) ≡ true
+    → IsTrue (is_digit b)
+    → (nat_lt (digits_value 10 (a ∷ b ∷ [])) low || nat_lt high (digits_value 10 (a ∷ b ∷ []))) ≡ true
     → field missing low high bound (a ∷ b ∷ rest) ≡ Err (Range bound)
 unfolding field
 field_refused missing low high bound a b rest da db beyond = rw (two_read a b rest da db, beyond)
@@ -113,7 +116,8 @@ module _ (y1 y2 y3 y4 m1 m2 d1 d2 : ℕ) (iy1 : IsTrue (is_digit y1)) (iy2 : IsT
 
   past_month : (nat_lt m 1 || nat_lt 12 m) ≡ false → (nat_lt d 1 || nat_lt 31 d) ≡ false
       → nat_lt (days_in_month (pos y) m) d ≡ true → date_spec text ≡ Err InvalidDay
-  past_month a b past = date_spec-invalid text after_year (m1 ∷ m2 ∷ 45 ∷ d1 ∷ d2 ∷ []) (45 ∷ d1 ∷ d2 ∷ []) (d1 ∷ d2 ∷ []) []
+  past_month a b past = date_spec-invalid text after_year (m1 ∷ m2 ∷ 45 ∷ d1 ∷ d2 ∷ [])
+      (45 ∷ d1 ∷ d2 ∷ []) (d1 ∷ d2 ∷ []) []
       (pos y) m d year_is refl (month_is a) refl (day_is b) past
 
   -- of a day that the calendar has jiff reads its parts
@@ -123,7 +127,8 @@ module _ (y1 y2 y3 y4 m1 m2 d1 d2 : ℕ) (iy1 : IsTrue (is_digit y1)) (iy2 : IsT
       let most = (days_in_month_bounds (pos y) m).0 in
       let b : (nat_lt d 1 || nat_lt 31 d) ≡ false = grind (arith, nat_tests, signed_arith, is.2.0, is.2.1, most) in
       let fits : nat_lt (days_in_month (pos y) m) d ≡ false = grind (arith, nat_tests, signed_arith, is.2.1) in
-      parse_date-alone text parts (date_spec-ok text after_year (m1 ∷ m2 ∷ 45 ∷ d1 ∷ d2 ∷ []) (45 ∷ d1 ∷ d2 ∷ []) (d1 ∷ d2 ∷ []) []
+      parse_date-alone text parts (date_spec-ok text after_year (m1 ∷ m2 ∷ 45 ∷ d1 ∷ d2 ∷ [])
+      (45 ∷ d1 ∷ d2 ∷ []) (d1 ∷ d2 ∷ []) []
       (pos y) m d year_is refl (month_is a) refl (day_is b) fits)
 
   -- and what jiff reads is a day that the calendar has

@@ -10,12 +10,17 @@ ghost use Rattle.smpe_invocation.specs.declared.asked.ServiceSet.{ServiceSet};
 use crate::asked::{CheckedSystem, CommandJob, ServiceSet, SystemCopy};
 use crate::fault::ArgFault;
 use crate::option_values::{
-    database, date, lacks, optional_ids, optional_text, srel, text, zone_name,
+    copy_optional_text, copy_text, lacks, read_database, read_job_date, read_optional_ids,
+    read_srel, read_zone_name,
 };
 use clap::ArgMatches;
 use std::alloc::Global;
 
-pub(crate) fn system(alloc: Global, found: &ArgMatches<'_>) -> Result<CheckedSystem, ArgFault>
+/// The system to check in: a copy of a database if `--db` is given, otherwise an empty one.
+pub(crate) fn checked_system(
+    alloc: Global,
+    found: &ArgMatches<'_>,
+) -> Result<CheckedSystem, ArgFault>
     ensures ok { IfOk result (HasSystem (rows_of (found_of found.now))) }
     ensures err { IfErr result (λ e. Excludes e ((system : CheckedSystem)
         × HasSystem (rows_of (found_of found.now)) system)) }
@@ -27,6 +32,7 @@ pub(crate) fn system(alloc: Global, found: &ArgMatches<'_>) -> Result<CheckedSys
     }
 }
 
+// An empty system has an SREL, and none of the options of a copy.
 fn empty_system(found: &ArgMatches<'_>) -> Result<CheckedSystem, ArgFault>
     requires { Lacks (codes "db") (rows_of (found_of found.now)) }
     ensures ok { IfOk result (HasSystem (rows_of (found_of found.now))) }
@@ -34,13 +40,14 @@ fn empty_system(found: &ArgMatches<'_>) -> Result<CheckedSystem, ArgFault>
         × HasSystem (rows_of (found_of found.now)) system)) }
 {
     if lacks(found, "wait") && lacks(found, "zone") && lacks(found, "why") {
-        let srel = srel(found)?;
+        let srel = read_srel(found)?;
         Ok(CheckedSystem::Empty(srel))
     } else {
         Err(ArgFault::BadOperand)
     }
 }
 
+// A copy of a database has a zone and the ids to ask about, and no SREL.
 fn copied_system(alloc: Global, found: &ArgMatches<'_>) -> Result<CheckedSystem, ArgFault>
     requires { ¬ (Lacks (codes "db") (rows_of (found_of found.now))) }
     ensures ok { IfOk result (HasSystem (rows_of (found_of found.now))) }
@@ -50,14 +57,14 @@ fn copied_system(alloc: Global, found: &ArgMatches<'_>) -> Result<CheckedSystem,
     if !lacks(found, "srel") {
         return Err(ArgFault::BadOperand);
     }
-    let zone = zone_name(found, "zone")?;
-    let ids = optional_ids(alloc, found, "why")?;
-    let db = database(alloc, found)?;
+    let zone = read_zone_name(found, "zone")?;
+    let ids = read_optional_ids(alloc, found, "why")?;
+    let db = read_database(alloc, found)?;
     Ok(CheckedSystem::Copied(SystemCopy { db, zone, ids }))
 }
 
-// The commands, if the words have a file of them; only these need a date.
-fn commands(alloc: Global, found: &ArgMatches<'_>) -> Result<Option<CommandJob>, ArgFault>
+// The file of commands and the date of their job, if `--cntl` is given. Without it, `--date` is not read.
+fn command_job(alloc: Global, found: &ArgMatches<'_>) -> Result<Option<CommandJob>, ArgFault>
     ensures ok { IfOk result (HasCommands (rows_of (found_of found.now))) }
     ensures err { IfErr result (λ e. Excludes e ((commands : Option CommandJob)
         × HasCommands (rows_of (found_of found.now)) commands)) }
@@ -65,19 +72,20 @@ fn commands(alloc: Global, found: &ArgMatches<'_>) -> Result<Option<CommandJob>,
     if lacks(found, "cntl") {
         return Ok(None);
     }
-    let date = date(found)?;
-    let cntl = text(alloc, found, "cntl")?;
+    let date = read_job_date(found)?;
+    let cntl = copy_text(alloc, found, "cntl")?;
     Ok(Some(CommandJob { cntl, date }))
 }
 
-pub(crate) fn set(alloc: Global, found: &ArgMatches<'_>) -> Result<ServiceSet, ArgFault>
+/// The names of the files of the service set that is checked.
+pub(crate) fn service_set(alloc: Global, found: &ArgMatches<'_>) -> Result<ServiceSet, ArgFault>
     ensures ok { IfOk result (HasServiceSet (rows_of (found_of found.now))) }
     ensures err { IfErr result (λ e. Excludes e ((set : ServiceSet)
         × HasServiceSet (rows_of (found_of found.now)) set)) }
 {
-    let commands = commands(alloc, found)?;
-    let ptfin = text(alloc, found, "ptfin")?;
-    let hold = optional_text(alloc, found, "hold")?;
+    let commands = command_job(alloc, found)?;
+    let ptfin = copy_text(alloc, found, "ptfin")?;
+    let hold = copy_optional_text(alloc, found, "hold")?;
     Ok(ServiceSet {
         ptfin,
         hold,

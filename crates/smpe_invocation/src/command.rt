@@ -13,13 +13,14 @@ use std::alloc::{AllocError, Global};
 /// What `--version` prints after the name.
 const VERSION: &str = "1.0.0";
 
+// The kinds of zones that `--kind` takes.
 static KINDS: [&str; 2] = ["target", "distribution"];
 
 /// `smpe`, with its subcommands.
 pub(crate) fn command_line<'a>(alloc: Global) -> Result<Command<'a>, AllocError>
     ensures { IfOk result (λ c. IsCommandLine (app_of c)) }
 {
-    command(
+    new_command(
         alloc,
         "smpe",
         "Installs service into target and distribution zones",
@@ -38,7 +39,7 @@ pub(crate) fn command_line<'a>(alloc: Global) -> Result<Command<'a>, AllocError>
 }
 
 // A command without options, with a line about what it does and an example.
-fn command<'a>(alloc: Global, name: &'a str, about: &'a str, example: &'a str) -> Command<'a>
+fn new_command<'a>(alloc: Global, name: &'a str, about: &'a str, example: &'a str) -> Command<'a>
     ensures { IsSubcommand (with_options name.entry.now []) result }
 {
     Command::new(alloc, name).about(about).after_help(example)
@@ -53,9 +54,9 @@ fn database_command<'a>(
 ) -> Result<Command<'a>, AllocError>
     ensures { IfOk result (IsSubcommand (with_options name.entry.now (database_options []))) }
 {
-    command(alloc, name, about, example)
-        .arg(required(alloc, "db", "The database"))?
-        .arg(wait(alloc))
+    new_command(alloc, name, about, example)
+        .arg(required_arg(alloc, "db", "The database"))?
+        .arg(wait_arg(alloc))
 }
 
 fn zone_command<'a>(alloc: Global) -> Result<Command<'a>, AllocError>
@@ -67,10 +68,10 @@ fn zone_command<'a>(alloc: Global) -> Result<Command<'a>, AllocError>
         "Defines a target or distribution zone, in a new database if there is none",
         "Example: smpe zone --db smpe.db --name DLB1 --kind distribution --srel Z038",
     )?
-    .arg(required(alloc, "name", "The zone's name"))?
-    .arg(kind(alloc))?
-    .arg(required(alloc, "srel", "The zone's SREL"))?
-    .arg(optional(alloc, "related", "The distribution zone of a target zone"))
+    .arg(required_arg(alloc, "name", "The zone's name"))?
+    .arg(kind_arg(alloc))?
+    .arg(required_arg(alloc, "srel", "The zone's SREL"))?
+    .arg(optional_arg(alloc, "related", "The distribution zone of a target zone"))
 }
 
 fn run_command<'a>(alloc: Global) -> Result<Command<'a>, AllocError>
@@ -82,11 +83,11 @@ fn run_command<'a>(alloc: Global) -> Result<Command<'a>, AllocError>
         "Performs the commands of a file, and prints their report",
         "Example: smpe run --db smpe.db --date 2024-05-17 --cntl receive.rec --ptfin ptf.rec",
     )?
-    .arg(required(alloc, "date", "The job's date, as YYYY-MM-DD"))?
-    .arg(required(alloc, "cntl", "The file of commands"))?
-    .arg(optional(alloc, "ptfin", "The file of SYSMODs that RECEIVE takes in"))?
-    .arg(optional(alloc, "hold", "The file of holds that RECEIVE takes in"))?
-    .arg(flag(
+    .arg(required_arg(alloc, "date", "The job's date, as YYYY-MM-DD"))?
+    .arg(required_arg(alloc, "cntl", "The file of commands"))?
+    .arg(optional_arg(alloc, "ptfin", "The file of SYSMODs that RECEIVE takes in"))?
+    .arg(optional_arg(alloc, "hold", "The file of holds that RECEIVE takes in"))?
+    .arg(flag_arg(
         alloc,
         "careful",
         "Runs nothing if a SET names a zone that is not defined, or there is no command",
@@ -102,7 +103,7 @@ fn list_command<'a>(alloc: Global) -> Result<Command<'a>, AllocError>
         "Lists what a zone holds",
         "Example: smpe list --db smpe.db --zone TGT1",
     )?
-    .arg(required(alloc, "zone", "The zone, or GLOBAL"))
+    .arg(required_arg(alloc, "zone", "The zone, or GLOBAL"))
 }
 
 fn why_command<'a>(alloc: Global) -> Result<Command<'a>, AllocError>
@@ -114,19 +115,19 @@ fn why_command<'a>(alloc: Global) -> Result<Command<'a>, AllocError>
         "Tells what is so of ids in a zone, and changes nothing",
         "Example: smpe why --db smpe.db --zone TGT1 --id UA00001 --id UA00002 --together",
     )?
-    .arg(required(alloc, "zone", "The target or distribution zone"))?
-    .arg(repeated(alloc, "id", "The id of a SYSMOD, once or more often"))?
-    .arg(flag(
+    .arg(required_arg(alloc, "zone", "The target or distribution zone"))?
+    .arg(required_repeated_arg(alloc, "id", "The id of a SYSMOD, once or more often"))?
+    .arg(flag_arg(
         alloc,
         "together",
         "Judges the ids as the candidates of one command, and not each by itself",
     ))?
-    .arg(flag(
+    .arg(flag_arg(
         alloc,
         "group",
         "Judges them with the requisites that GROUPEXTEND brings in",
     ))?
-    .arg(optional(
+    .arg(optional_arg(
         alloc,
         "bypass",
         "The members of BYPASS, as HOLDSYSTEM(ACTION),PRE",
@@ -137,37 +138,37 @@ fn why_command<'a>(alloc: Global) -> Result<Command<'a>, AllocError>
 fn check_command<'a>(alloc: Global) -> Result<Command<'a>, AllocError>
     ensures { IfOk result (IsSubcommand check_shape) }
 {
-    command(
+    new_command(
         alloc,
         "check",
         "Tells what a service set would do in an empty system, or in a copy of a database",
         "Example: smpe check --db smpe.db --zone TGT1 --ptfin ptf.rec --hold hold.rec --why UA00001",
     )
-    .arg(optional(
+    .arg(optional_arg(
         alloc,
         "srel",
         "The SREL of the zones DLIB and TGT of an empty system",
     ))?
-    .arg(optional(alloc, "db", "The database, which is only read"))?
-    .arg(wait(alloc))?
-    .arg(optional(
+    .arg(optional_arg(alloc, "db", "The database, which is only read"))?
+    .arg(wait_arg(alloc))?
+    .arg(optional_arg(
         alloc,
         "zone",
         "The target or distribution zone of the database",
     ))?
-    .arg(several(
+    .arg(optional_repeated_arg(
         alloc,
         "why",
         "An id to ask about afterwards, as why does, once or more often",
     ))?
-    .arg(required(alloc, "ptfin", "The file of SYSMODs that are received"))?
-    .arg(optional(alloc, "hold", "The file of holds that are received"))?
-    .arg(optional(
+    .arg(required_arg(alloc, "ptfin", "The file of SYSMODs that are received"))?
+    .arg(optional_arg(alloc, "hold", "The file of holds that are received"))?
+    .arg(optional_arg(
         alloc,
         "cntl",
         "The file of commands, in place of an APPLY CHECK of all",
     ))?
-    .arg(optional(alloc, "date", "The job's date, as YYYY-MM-DD, for --cntl"))
+    .arg(optional_arg(alloc, "date", "The job's date, as YYYY-MM-DD, for --cntl"))
 }
 
 fn migrate_command<'a>(alloc: Global) -> Result<Command<'a>, AllocError>
@@ -192,53 +193,60 @@ fn verify_command<'a>(alloc: Global) -> Result<Command<'a>, AllocError>
     )
 }
 
-fn kind<'a>(alloc: Global) -> Arg<'a>
+// `--kind`, which takes one of `KINDS`.
+fn kind_arg<'a>(alloc: Global) -> Arg<'a>
     ensures rule { (kinds : ValueParser) × IsKindParser kinds × (rule_of result ≡ kind_option kinds) }
     ensures global { result.global ≡ false }
 {
-    required(alloc, "kind", "The zone's kind").value_parser(KINDS.as_slice())
+    required_arg(alloc, "kind", "The zone's kind").value_parser(KINDS.as_slice())
 }
 
-fn wait<'a>(alloc: Global) -> Arg<'a>
+// `--wait`, which each command over a database has.
+fn wait_arg<'a>(alloc: Global) -> Arg<'a>
     ensures rule { rule_of result ≡ option (codes "wait") }
     ensures global { result.global ≡ false }
 {
-    optional(
+    optional_arg(
         alloc,
         "wait",
         "How many seconds to wait if another program has the database",
     )
 }
 
-fn required<'a>(alloc: Global, id: &'a str, help: &'a str) -> Arg<'a>
+// An option with a value, without which `clap` refuses the words.
+fn required_arg<'a>(alloc: Global, id: &'a str, help: &'a str) -> Arg<'a>
     ensures rule { rule_of result ≡ needed id.entry.now }
     ensures global { result.global ≡ false }
 {
-    optional(alloc, id, help).required(true)
+    optional_arg(alloc, id, help).required(true)
 }
 
-fn repeated<'a>(alloc: Global, id: &'a str, help: &'a str) -> Arg<'a>
+// A required option that may be stated more than once.
+fn required_repeated_arg<'a>(alloc: Global, id: &'a str, help: &'a str) -> Arg<'a>
     ensures rule { rule_of result ≡ repeated id.entry.now }
     ensures global { result.global ≡ false }
 {
-    required(alloc, id, help).action(ArgAction::Append)
+    required_arg(alloc, id, help).action(ArgAction::Append)
 }
 
-fn several<'a>(alloc: Global, id: &'a str, help: &'a str) -> Arg<'a>
+// An option that may be stated more than once, or not at all.
+fn optional_repeated_arg<'a>(alloc: Global, id: &'a str, help: &'a str) -> Arg<'a>
     ensures rule { rule_of result ≡ several id.entry.now }
     ensures global { result.global ≡ false }
 {
-    optional(alloc, id, help).action(ArgAction::Append)
+    optional_arg(alloc, id, help).action(ArgAction::Append)
 }
 
-fn flag<'a>(alloc: Global, id: &'a str, help: &'a str) -> Arg<'a>
+// An option without a value.
+fn flag_arg<'a>(alloc: Global, id: &'a str, help: &'a str) -> Arg<'a>
     ensures rule { rule_of result ≡ flag id.entry.now }
     ensures global { result.global ≡ false }
 {
-    optional(alloc, id, help).action(ArgAction::SetTrue)
+    optional_arg(alloc, id, help).action(ArgAction::SetTrue)
 }
 
-fn optional<'a>(alloc: Global, id: &'a str, help: &'a str) -> Arg<'a>
+// An option with a value, which may be left out.
+fn optional_arg<'a>(alloc: Global, id: &'a str, help: &'a str) -> Arg<'a>
     ensures rule { rule_of result ≡ option id.entry.now }
     ensures global { result.global ≡ false }
 {

@@ -7,8 +7,8 @@ ghost use Rattle.smpe_invocation.specs.Dates.{month_of, year_of};
 use fields::YyDdd;
 use jiff::civil::Date;
 
-/// A date of four digits for the year, two for the month and two for the day, with hyphens between them, that the
-/// calendar has.
+/// Reads a date of four digits for the year, two for the month and two for the day, with hyphens between them. Any
+/// other text, and a day that the calendar lacks, give none.
 pub fn read_date(text: &str) -> Option<YyDdd>
     ensures form { IsSome result ↔ (HasDateForm text.now × IsCalendarDay text.now) }
     ensures value { IfSome result (λ date. date ≡ dotted text.now) }
@@ -20,6 +20,7 @@ pub fn read_date(text: &str) -> Option<YyDdd>
     Some(YyDdd::new(year(date), day_of_year(date)))
 }
 
+// The year of a date that was read without a sign.
 fn year(date: Date) -> u16
     requires { (y : ℕ) × (date.year ≡ pos y) }
     ensures { pos result ≡ date.year }
@@ -27,6 +28,7 @@ fn year(date: Date) -> u16
     date.year() as u16
 }
 
+// The day's number in its year, from 1 to 366.
 fn day_of_year(date: Date) -> u16
     ensures value { result ≡ ordinal date }
     ensures first { 1 ≤ result }
@@ -35,7 +37,7 @@ fn day_of_year(date: Date) -> u16
     date.day_of_year() as u16
 }
 
-// The day that the calendar has.
+// The day that a text of this form names, if the calendar has it.
 fn calendar_day(text: &str) -> Option<Date>
     requires { HasDateForm text.now }
     ensures form { IsSome result ↔ IsCalendarDay text.now }
@@ -44,12 +46,14 @@ fn calendar_day(text: &str) -> Option<Date>
     text.parse().ok()
 }
 
+// Tells whether the text is YYYY-MM-DD, of digits.
 fn has_date_form(text: &[u8]) -> bool
     ensures { IsTrue result ↔ HasDateForm text.now }
 {
     text.len() == 10 && text[4] == b'-' && text[7] == b'-' && has_date_digits(text)
 }
 
+// Tells whether the places of the year, the month and the day have only digits.
 fn has_date_digits(text: &[u8]) -> bool
     requires { length text.now ≡ 10 }
     ensures { IsTrue result ↔ HasDateDigits text.now }

@@ -6,64 +6,70 @@ ghost use Rattle.smpe_invocation.specs.Values.{HasValues, HasWhyOptions};
 ghost use Rattle.smpe_invocation.specs.declared.asked.Invocation.{Invocation};
 
 use crate::asked::{Invocation, WhyOptions};
-use crate::checked::{set, system};
+use crate::checked::{checked_system, service_set};
 use crate::command::command_line;
 use crate::fault::ArgFault;
 use crate::option_values::{
-    database, date, flag, ids, kind, optional_text, related, srel, text, zone_name,
+    copy_optional_text, copy_text, has_flag, read_database, read_job_date, read_kind, read_related,
+    read_required_ids, read_srel, read_zone_name,
 };
 use clap::ArgMatches;
 use std::alloc::{AllocError, Global};
 
 /// Reads the words, the first of which is the program's name. Returns `Memory` if memory runs out, `Clap` if `clap`
-/// refuses the words or has a text to show instead of them, as for `--help`, and `BadOperand` if a name, an id, an SREL,
-/// a date or a number of seconds has a bad form, or if `check` is asked about no system or about two.
+/// refuses the words or has a text to show instead of them, as for `--help`, and `BadOperand` if a name, an id, an
+/// SREL, a date or a number of seconds has a bad form, or if `check` is asked about no system or about two.
 pub fn invocation<'a>(alloc: Global, words: &'a [&'a str]) -> Result<Invocation, ArgFault>
     ensures ok { IfOk result (IsRead (map (λ word. word.now) words.entry.now)) }
     ensures err { IfErr result (IsRefused (map (λ word. word.now) words.entry.now)) }
 {
     let matches = command_line(alloc)?.try_get_matches_from(words)?;
-    met(alloc, matches.subcommand())
+    subcommand_invocation(alloc, matches.subcommand())
 }
 
-// The subcommand that was found, with its matches.
-fn met(alloc: Global, met: Option<(&str, &ArgMatches<'_>)>) -> Result<Invocation, ArgFault>
-    ensures ok { IfOk result (IsMet (option_map (λ p. (p.0.now, rows_of (found_of p.1.now))) met.entry)) }
+// What the subcommand that `clap` found asks for, of its name and its matches.
+fn subcommand_invocation(
+    alloc: Global,
+    subcommand: Option<(&str, &ArgMatches<'_>)>,
+) -> Result<Invocation, ArgFault>
+    ensures ok { IfOk result (IsMet (option_map (λ p. (p.0.now, rows_of (found_of p.1.now))) subcommand.entry)) }
     ensures err { IfErr result (λ e. Excludes e ((invocation : Invocation)
-        × IsMet (option_map (λ p. (p.0.now, rows_of (found_of p.1.now))) met.entry) invocation)) }
+        × IsMet (option_map (λ p. (p.0.now, rows_of (found_of p.1.now))) subcommand.entry) invocation)) }
 {
-    let Some((name, found)) = met else {
+    let Some((name, found)) = subcommand else {
         return Err(ArgFault::BadOperand);
     };
     if name == "zone" {
-        zone(alloc, found)
+        zone_invocation(alloc, found)
     } else if name == "run" {
-        run(alloc, found)
+        run_invocation(alloc, found)
     } else if name == "list" {
-        list(alloc, found)
+        list_invocation(alloc, found)
     } else if name == "why" {
-        why(alloc, found)
+        why_invocation(alloc, found)
     } else if name == "check" {
-        check(alloc, found)
+        check_invocation(alloc, found)
     } else if name == "migrate" {
-        migrate(alloc, found)
+        migrate_invocation(alloc, found)
     } else if name == "verify" {
-        verify(alloc, found)
+        verify_invocation(alloc, found)
     } else {
         Err(ArgFault::BadOperand)
     }
 }
 
-fn zone(alloc: Global, found: &ArgMatches<'_>) -> Result<Invocation, ArgFault>
+// Each of the following reads the options of one subcommand, and returns `BadOperand` at the first that is required and
+// absent, or has a bad form.
+fn zone_invocation(alloc: Global, found: &ArgMatches<'_>) -> Result<Invocation, ArgFault>
     ensures ok { IfOk result (HasValues (codes "zone", rows_of (found_of found.now))) }
     ensures err { IfErr result (λ e. Excludes e ((invocation : Invocation)
         × HasValues (codes "zone", rows_of (found_of found.now)) invocation)) }
 {
-    let name = zone_name(found, "name")?;
-    let kind = kind(found)?;
-    let srel = srel(found)?;
-    let related = related(found)?;
-    let db = database(alloc, found)?;
+    let name = read_zone_name(found, "name")?;
+    let kind = read_kind(found)?;
+    let srel = read_srel(found)?;
+    let related = read_related(found)?;
+    let db = read_database(alloc, found)?;
     Ok(Invocation::Zone {
         db,
         name,
@@ -73,45 +79,45 @@ fn zone(alloc: Global, found: &ArgMatches<'_>) -> Result<Invocation, ArgFault>
     })
 }
 
-fn run(alloc: Global, found: &ArgMatches<'_>) -> Result<Invocation, ArgFault>
+fn run_invocation(alloc: Global, found: &ArgMatches<'_>) -> Result<Invocation, ArgFault>
     ensures ok { IfOk result (HasValues (codes "run", rows_of (found_of found.now))) }
     ensures err { IfErr result (λ e. Excludes e ((invocation : Invocation)
         × HasValues (codes "run", rows_of (found_of found.now)) invocation)) }
 {
-    let date = date(found)?;
-    let db = database(alloc, found)?;
-    let cntl = text(alloc, found, "cntl")?;
-    let ptfin = optional_text(alloc, found, "ptfin")?;
-    let hold = optional_text(alloc, found, "hold")?;
+    let date = read_job_date(found)?;
+    let db = read_database(alloc, found)?;
+    let cntl = copy_text(alloc, found, "cntl")?;
+    let ptfin = copy_optional_text(alloc, found, "ptfin")?;
+    let hold = copy_optional_text(alloc, found, "hold")?;
     Ok(Invocation::Run {
         db,
         date,
         cntl,
         ptfin,
         hold,
-        careful: flag(found, "careful"),
+        careful: has_flag(found, "careful"),
     })
 }
 
-fn list(alloc: Global, found: &ArgMatches<'_>) -> Result<Invocation, ArgFault>
+fn list_invocation(alloc: Global, found: &ArgMatches<'_>) -> Result<Invocation, ArgFault>
     ensures ok { IfOk result (HasValues (codes "list", rows_of (found_of found.now))) }
     ensures err { IfErr result (λ e. Excludes e ((invocation : Invocation)
         × HasValues (codes "list", rows_of (found_of found.now)) invocation)) }
 {
-    let zone = zone_name(found, "zone")?;
-    let db = database(alloc, found)?;
+    let zone = read_zone_name(found, "zone")?;
+    let db = read_database(alloc, found)?;
     Ok(Invocation::List { db, zone })
 }
 
-fn why(alloc: Global, found: &ArgMatches<'_>) -> Result<Invocation, ArgFault>
+fn why_invocation(alloc: Global, found: &ArgMatches<'_>) -> Result<Invocation, ArgFault>
     ensures ok { IfOk result (HasValues (codes "why", rows_of (found_of found.now))) }
     ensures err { IfErr result (λ e. Excludes e ((invocation : Invocation)
         × HasValues (codes "why", rows_of (found_of found.now)) invocation)) }
 {
-    let zone = zone_name(found, "zone")?;
-    let ids = ids(alloc, found)?;
+    let zone = read_zone_name(found, "zone")?;
+    let ids = read_required_ids(alloc, found)?;
     let options = why_options(alloc, found)?;
-    let db = database(alloc, found)?;
+    let db = read_database(alloc, found)?;
     Ok(Invocation::Why {
         db,
         zone,
@@ -120,41 +126,42 @@ fn why(alloc: Global, found: &ArgMatches<'_>) -> Result<Invocation, ArgFault>
     })
 }
 
+// How `why` judges the ids. All of these options may be left out.
 fn why_options(alloc: Global, found: &ArgMatches<'_>) -> Result<WhyOptions, AllocError>
     ensures { IfOk result (HasWhyOptions (rows_of (found_of found.now))) }
 {
-    let bypass = optional_text(alloc, found, "bypass")?;
+    let bypass = copy_optional_text(alloc, found, "bypass")?;
     Ok(WhyOptions {
-        together: flag(found, "together"),
-        group: flag(found, "group"),
+        together: has_flag(found, "together"),
+        group: has_flag(found, "group"),
         bypass,
     })
 }
 
-fn check(alloc: Global, found: &ArgMatches<'_>) -> Result<Invocation, ArgFault>
+fn check_invocation(alloc: Global, found: &ArgMatches<'_>) -> Result<Invocation, ArgFault>
     ensures ok { IfOk result (HasValues (codes "check", rows_of (found_of found.now))) }
     ensures err { IfErr result (λ e. Excludes e ((invocation : Invocation)
         × HasValues (codes "check", rows_of (found_of found.now)) invocation)) }
 {
-    let system = system(alloc, found)?;
-    let set = set(alloc, found)?;
+    let system = checked_system(alloc, found)?;
+    let set = service_set(alloc, found)?;
     Ok(Invocation::Check { system, set })
 }
 
-fn migrate(alloc: Global, found: &ArgMatches<'_>) -> Result<Invocation, ArgFault>
+fn migrate_invocation(alloc: Global, found: &ArgMatches<'_>) -> Result<Invocation, ArgFault>
     ensures ok { IfOk result (HasValues (codes "migrate", rows_of (found_of found.now))) }
     ensures err { IfErr result (λ e. Excludes e ((invocation : Invocation)
         × HasValues (codes "migrate", rows_of (found_of found.now)) invocation)) }
 {
-    let db = database(alloc, found)?;
+    let db = read_database(alloc, found)?;
     Ok(Invocation::Migrate { db })
 }
 
-fn verify(alloc: Global, found: &ArgMatches<'_>) -> Result<Invocation, ArgFault>
+fn verify_invocation(alloc: Global, found: &ArgMatches<'_>) -> Result<Invocation, ArgFault>
     ensures ok { IfOk result (HasValues (codes "verify", rows_of (found_of found.now))) }
     ensures err { IfErr result (λ e. Excludes e ((invocation : Invocation)
         × HasValues (codes "verify", rows_of (found_of found.now)) invocation)) }
 {
-    let db = database(alloc, found)?;
+    let db = read_database(alloc, found)?;
     Ok(Invocation::Verify { db })
 }

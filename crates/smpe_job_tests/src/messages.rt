@@ -3,7 +3,10 @@
 use fields::ZoneName;
 use report::Out;
 use scripts::compare;
-use smpe::{Answer, ArgFault, Fault, JobError, ZoneFault, fault_line, migrated_line, zone_line};
+use smpe::{
+    Answer, ArgFault, Fault, JobError, ZoneFault, write_fault_line, write_migrated_line,
+    write_zone_line,
+};
 use std::alloc::Global;
 use std::test::Fail;
 use store_schema::StoreError;
@@ -30,7 +33,10 @@ fn told(status: u8, wanted: u8) -> Result<(), Fail> {
 fn zone_is_told(alloc: Global, answer: &Answer, status: u8, line: &str) -> Result<(), Fail> {
     let name = ZoneName::read(b"DLB1").ok_or("no name of a zone")?;
     let mut bytes: Vec<u8> = Vec::new(alloc);
-    told(zone_line(name, answer, &mut Out::new(&mut bytes))?, status)?;
+    told(
+        write_zone_line(name, answer, &mut Out::new(&mut bytes))?,
+        status,
+    )?;
     compare("the line of a zone", bytes.as_slice(), line)
 }
 
@@ -45,13 +51,13 @@ fn zones_have_their_lines(rt: HostRuntime) -> Result<(), Fail> {
 #[test]
 fn a_migration_has_its_line(rt: HostRuntime) -> Result<(), Fail> {
     let mut bytes: Vec<u8> = Vec::new(rt.alloc());
-    told(migrated_line(&mut Out::new(&mut bytes))?, 0)?;
+    told(write_migrated_line(&mut Out::new(&mut bytes))?, 0)?;
     compare("the line of a migration", bytes.as_slice(), "SCHEMA 3\n")
 }
 
 fn fault_is_told(alloc: Global, fault: &Fault<'_>, line: &str) -> Result<(), Fail> {
     let mut bytes: Vec<u8> = Vec::new(alloc);
-    told(fault_line(fault, &mut Out::new(&mut bytes))?, 16)?;
+    told(write_fault_line(fault, &mut Out::new(&mut bytes))?, 16)?;
     compare("the line of a fault", bytes.as_slice(), line)
 }
 

@@ -10,8 +10,10 @@ use sqlite_disk::Crash;
 use std::alloc::Global;
 use store::{Store, StoreError};
 
-// Takes apart what is left of the connection, without a call of its disks, brings these back, and opens their files.
-fn connected_again<D: Crash + Drop>(
+// Takes apart what is left of the connection without a call of its disks, brings these back as after a crash, and opens
+// a connection over their files. An error returns the files: with `Memory` if memory runs out, otherwise with the fault
+// of the open.
+fn reconnect<D: Crash + Drop>(
     alloc: Global,
     conn: Connection<FileStore<D>>,
     options: Options,
@@ -24,14 +26,14 @@ fn connected_again<D: Crash + Drop>(
     files.log.crash();
     files.db.crash();
     match Connection::open_files(alloc, files, options) {
-        Ok(again) => Ok(again),
-        Err((error, left)) => Err((left.into_files(), StoreError::from(error))),
+        Ok(new_conn) => Ok(new_conn),
+        Err((error, remains)) => Err((remains.into_files(), StoreError::from(error))),
     }
 }
 
-/// Goes on after jobs, even if a fault shut the connection: takes apart what is left of it, brings its disks back, and
-/// opens the store over their files again. The error returns the files: `Memory` if memory runs out, `Fault` if the
-/// disks fail, and any other one if the tables were not the store's.
+/// The store opened again after jobs, even if a fault shut the connection: takes apart what is left of it, brings its
+/// disks back, and opens the store over their files. The error returns the files: `Memory` if memory runs out, `Fault`
+/// if the disks fail, and any other one if the tables were not the store's.
 pub fn reopened<D: Crash + Drop>(
     alloc: Global,
     conn: Connection<FileStore<D>>,
@@ -39,8 +41,8 @@ pub fn reopened<D: Crash + Drop>(
 ) -> Result<Store<FileStore<D>>, (Files<D>, StoreError)>
     ensures { IfOk result (λ again. HasCleanDisk (file_state again) → MayGoOn over_files conn over_files again) }
 {
-    let again = connected_again(alloc, conn, options)?;
-    match Store::open(alloc, again) {
+    let new_conn = reconnect(alloc, conn, options)?;
+    match Store::open(alloc, new_conn) {
         Ok(store) => Ok(store),
         Err((conn, error)) => Err((conn.into_store().close(), error)),
     }

@@ -7,7 +7,8 @@ ghost use Rattle.smpe_jobs.specs.ListJob.{list_records, two_records};
 use fields::ZoneName;
 use std::alloc::{AllocError, Global};
 
-/// The command file that lists a zone: `SET BDY(zone).` and `LIST.`, a record each.
+/// The command file that lists a zone: `SET BDY(zone).` and `LIST.`, a record each. Returns an error if memory runs
+/// out.
 pub fn list_commands(alloc: Global, zone: ZoneName) -> Result<Vec<u8>, AllocError>
     ensures records { IfOk result (λ file. file.items ≡ list_records zone) }
     ensures commands { IfOk result (λ file. IsCommandFile file.items (Set zone ∷ ListZone false ∷ [])) }
@@ -19,7 +20,7 @@ pub fn list_commands(alloc: Global, zone: ZoneName) -> Result<Vec<u8>, AllocErro
     two_commands(alloc, set.as_slice(), b"LIST.")
 }
 
-/// A command file of two commands, a record each.
+/// A command file of two commands, a record each. Returns an error if memory runs out.
 pub fn two_commands(alloc: Global, first: &[u8], second: &[u8]) -> Result<Vec<u8>, AllocError>
     requires first { length first.now ≤ 80 }
     requires second { length second.now ≤ 80 }

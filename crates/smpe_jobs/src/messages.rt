@@ -4,8 +4,8 @@ ghost use Rattle.report.specs.Sent.{Sent};
 ghost use Rattle.machine.specs.Machine.{Defined, NotDefined};
 ghost use Rattle.smpe_zones.specs.Definitions.{fault_of};
 ghost use Rattle.smpe_jobs.specs.Ending.{answer_of};
-ghost use Rattle.smpe_jobs.specs.Messages.{answer_status, fault_status, fault_text, job_text, migrated_text, program_line};
-ghost use Rattle.smpe_jobs.specs.Messages.{refused_text, store_text, zone_fault_text, zone_text};
+ghost use Rattle.smpe_jobs.specs.Messages.{answer_status, fault_status, fault_text, job_text, migrated_text};
+ghost use Rattle.smpe_jobs.specs.Messages.{program_line, refused_text, store_text, zone_fault_text, zone_text};
 
 use crate::error::JobError;
 use crate::jobs::Answer;
@@ -16,7 +16,12 @@ use smpe_zones::ZoneFault;
 use store::StoreError;
 use thiserror::Error;
 
-fn zone_fault_text(fault: ZoneFault) -> &'static [u8]
+// The status of a program whose zone was refused.
+const REFUSED_STATUS: u8 = 12;
+
+// The code of the fault, as the line of a refused zone has it. `ZoneFault` prints the same codes; here they are bytes,
+// and a clause says which.
+fn zone_fault_code(fault: ZoneFault) -> &'static [u8]
     ensures { result.now ≡ zone_fault_text (fault_of fault) }
 {
     match fault {
@@ -27,7 +32,8 @@ fn zone_fault_text(fault: ZoneFault) -> &'static [u8]
     }
 }
 
-fn write_defined<W: Sink>(name: &ZoneName, w: &mut W) -> Result<u8, WriteFault>
+// Writes the line of a zone that was defined, and returns the status 0, or an error if the line cannot be written.
+fn write_zone_defined<W: Sink>(name: &ZoneName, w: &mut W) -> Result<u8, WriteFault>
     ensures sends { Sent W.Sink w.old w.new (zone_text name.now Defined) }
     ensures fault { W.has_failed w.new ≡ is_err result }
     ensures status { IfOk result (λ status. status ≡ answer_status Defined) }
@@ -38,31 +44,36 @@ fn write_defined<W: Sink>(name: &ZoneName, w: &mut W) -> Result<u8, WriteFault>
     Ok(0)
 }
 
-fn write_refused<W: Sink>(fault: ZoneFault, w: &mut W) -> Result<u8, WriteFault>
+// Writes the line of a zone that was refused, and returns `REFUSED_STATUS`, or an error if the line cannot be written.
+fn write_zone_refused<W: Sink>(fault: ZoneFault, w: &mut W) -> Result<u8, WriteFault>
     ensures sends { Sent W.Sink w.old w.new (refused_text (fault_of fault)) }
     ensures fault { W.has_failed w.new ≡ is_err result }
     ensures status { IfOk result (λ status. status ≡ answer_status (NotDefined (fault_of fault))) }
 {
     put(b"ZONE REFUSED ", w);
-    put(zone_fault_text(fault), w);
+    put(zone_fault_code(fault), w);
     write_all(b"\n", w)?;
-    Ok(12)
+    Ok(REFUSED_STATUS)
 }
 
-/// The program's status for this answer: for a job its return code.
+/// The program's status for this answer: for a job its return code, for a zone 0 or `REFUSED_STATUS`.
 pub fn status_of(answer: &Answer) -> u8
     ensures { result ≡ answer_status (answer_of answer.now) }
 {
     match answer {
         Answer::Code(code) => *code,
         Answer::Defined => 0,
-        Answer::Refused(_) => 12,
+        Answer::Refused(_) => REFUSED_STATUS,
     }
 }
 
-/// Writes the line of a defined or refused zone, and returns the program's status: for a job its return code, which has
-/// no line here. Returns an error if the line cannot be written.
-pub fn zone_line<W: Sink>(name: ZoneName, answer: &Answer, w: &mut W) -> Result<u8, WriteFault>
+/// Writes the line of a defined or refused zone, and returns the program's status. For a job, which has no line here,
+/// it writes nothing and returns the job's return code. Returns an error if the line cannot be written.
+pub fn write_zone_line<W: Sink>(
+    name: ZoneName,
+    answer: &Answer,
+    w: &mut W,
+) -> Result<u8, WriteFault>
     ensures sends { Sent W.Sink w.old w.new (zone_text name (answer_of answer.now)) }
     ensures fault { W.has_failed w.old ≡ false → W.has_failed w.new ≡ is_err result }
     ensures after { 0 < length (zone_text name (answer_of answer.now)) → W.has_failed w.new ≡ is_err result }
@@ -70,14 +81,14 @@ pub fn zone_line<W: Sink>(name: ZoneName, answer: &Answer, w: &mut W) -> Result<
 {
     match answer {
         Answer::Code(code) => Ok(*code),
-        Answer::Defined => write_defined(&name, w),
-        Answer::Refused(why) => write_refused(*why, w),
+        Answer::Defined => write_zone_defined(&name, w),
+        Answer::Refused(fault) => write_zone_refused(*fault, w),
     }
 }
 
-/// Writes the line of a database that has the tables of this program's schema, and returns the program's status.
-/// Returns an error if the line cannot be written.
-pub fn migrated_line<W: Sink>(w: &mut W) -> Result<u8, WriteFault>
+/// Writes the line of a database that has the tables of this program's schema, and returns the status 0. Returns an
+/// error if the line cannot be written.
+pub fn write_migrated_line<W: Sink>(w: &mut W) -> Result<u8, WriteFault>
     ensures sends { Sent W.Sink w.old w.new migrated_text }
     ensures fault { W.has_failed w.new ≡ is_err result }
     ensures status { IfOk result (λ status. status ≡ 0) }
@@ -92,12 +103,13 @@ pub const FAULT_STATUS: u8 = 16;
 /// The faults of the program.
 #[derive(Debug, Drop, Error)]
 pub enum Fault<'a> {
-    /// That of a job, also if its store was not opened.
+    /// The error of a job, also of one whose store was not opened.
     #[error("{0}")]
     Job(JobError),
+    /// The arguments of the program cannot be read.
     #[error("{0}")]
     Arg(ArgFault),
-    /// The name of a file that cannot be read.
+    /// The file of this name cannot be read.
     #[error("cannot read {0}")]
     CannotRead(&'a str),
     /// A careful job has no command.
@@ -119,6 +131,8 @@ impl From<JobError> for Fault<'_> {
     }
 }
 
+// The text of a store's error. No job ends with `Memory` here, because `From<StoreError>` makes it `JobError::Memory`.
+// But `JobError` is public, so a caller can build the pair, and its text is that of `JobError::Memory`.
 fn store_text(error: StoreError) -> &'static [u8]
     ensures { result.now ≡ store_text error }
 {
@@ -130,6 +144,7 @@ fn store_text(error: StoreError) -> &'static [u8]
     }
 }
 
+// The text of a job's error, after `smpe: `.
 fn job_text(error: JobError) -> &'static [u8]
     ensures { result.now ≡ job_text error }
 {
@@ -140,6 +155,7 @@ fn job_text(error: JobError) -> &'static [u8]
     }
 }
 
+// Writes a line of `smpe: ` and the text. Returns an error if it cannot be written; so do the calls below.
 fn write_line<W: Sink>(text: &[u8], w: &mut W) -> Result<(), WriteFault>
     ensures sends { Sent W.Sink w.old w.new (program_line text.now) }
     ensures fault { W.has_failed w.new ≡ is_err result }
@@ -149,7 +165,8 @@ fn write_line<W: Sink>(text: &[u8], w: &mut W) -> Result<(), WriteFault>
     write_all(b"\n", w)
 }
 
-fn write_unread<W: Sink>(name: &str, w: &mut W) -> Result<(), WriteFault>
+// Writes the line of a file that cannot be read. Its text has two pieces, so `write_line` does not serve.
+fn write_unreadable_file<W: Sink>(name: &str, w: &mut W) -> Result<(), WriteFault>
     ensures sends { Sent W.Sink w.old w.new (program_line (codes "cannot read " ++ name.now)) }
     ensures fault { W.has_failed w.new ≡ is_err result }
 {
@@ -158,7 +175,8 @@ fn write_unread<W: Sink>(name: &str, w: &mut W) -> Result<(), WriteFault>
     write_all(b"\n", w)
 }
 
-fn write_undefined<W: Sink>(name: &ZoneName, w: &mut W) -> Result<(), WriteFault>
+// Writes the line of a zone that a SET names and that is not defined: a text of two pieces as well.
+fn write_undefined_zone<W: Sink>(name: &ZoneName, w: &mut W) -> Result<(), WriteFault>
     ensures sends { Sent W.Sink w.old w.new (program_line (codes "no zone " ++ name.now)) }
     ensures fault { W.has_failed w.new ≡ is_err result }
 {
@@ -167,6 +185,8 @@ fn write_undefined<W: Sink>(name: &ZoneName, w: &mut W) -> Result<(), WriteFault
     write_all(b"\n", w)
 }
 
+// Writes the line of a fault, or nothing for an error of `clap`. It stands apart from `write_fault_line` because its
+// arms, like the calls in them, end without a status.
 fn write_fault<W: Sink>(fault: &Fault<'_>, w: &mut W) -> Result<(), WriteFault>
     ensures sends { Sent W.Sink w.old w.new (fault_text fault.now) }
     ensures fault { W.has_failed w.old ≡ false → W.has_failed w.new ≡ is_err result }
@@ -177,15 +197,15 @@ fn write_fault<W: Sink>(fault: &Fault<'_>, w: &mut W) -> Result<(), WriteFault>
         Fault::Arg(ArgFault::Memory) => write_line(b"out of memory", w),
         Fault::Arg(ArgFault::BadOperand) => write_line(b"bad operand", w),
         Fault::Arg(ArgFault::Clap(_)) => Ok(()),
-        Fault::CannotRead(name) => write_unread(name, w),
+        Fault::CannotRead(name) => write_unreadable_file(name, w),
         Fault::NoCommand => write_line(b"no command", w),
-        Fault::NoZone(name) => write_undefined(name, w),
+        Fault::NoZone(name) => write_undefined_zone(name, w),
     }
 }
 
-/// Writes the line of a fault, and returns the program's status. It leaves the text of an error of `clap` to the
-/// caller. Returns an error if the line cannot be written.
-pub fn fault_line<W: Sink>(fault: &Fault<'_>, w: &mut W) -> Result<u8, WriteFault>
+/// Writes the line of a fault, and returns `FAULT_STATUS`. It leaves the text of an error of `clap` to the caller.
+/// Returns an error if the line cannot be written.
+pub fn write_fault_line<W: Sink>(fault: &Fault<'_>, w: &mut W) -> Result<u8, WriteFault>
     ensures sends { Sent W.Sink w.old w.new (fault_text fault.now) }
     ensures fault { W.has_failed w.old ≡ false → W.has_failed w.new ≡ is_err result }
     ensures after { 0 < length (fault_text fault.now) → W.has_failed w.new ≡ is_err result }

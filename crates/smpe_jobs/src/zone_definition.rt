@@ -13,9 +13,9 @@ use sqlite::Alter;
 use store::Store;
 use terms::ZoneKind;
 
-/// Adds a zone without entries. `Refused` is the first that applies of `NameTaken`, `WrongRelated`, `OtherSrel` and
-/// `TooMany`. Returns `Memory` if memory runs out. `Store` is `Fault` if the database fails, or `NoState` if the rows
-/// of zones stand for none.
+/// Adds a zone without entries. Returns `Refused` with the first that applies of `NameTaken`, `WrongRelated`,
+/// `OtherSrel` and `TooMany`, `Memory` if memory runs out, and `Store` with `Fault` if the database fails, or with
+/// `NoState` if the rows of zones stand for none.
 pub fn define_zone<S: Alter>(
     store: &mut Store<S>,
     name: ZoneName,
@@ -29,6 +29,7 @@ pub fn define_zone<S: Alter>(
     ensures goes { GoesDefine S.Store store.old store.new (definition name kind srel related) result }
     ensures closed { KeepsClosed S.Store store.old store.new }
 {
+    // (for the clause `closed`: the name and the SREL have their forms)
     name.attest();
     srel.attest();
     smpe_zones::define_zone(store, name, kind, srel, related)

@@ -6,11 +6,11 @@ use std::rt::Env;
 // The initial size of a word's buffer, in bytes; it doubles until it holds the word.
 const FIRST_SIZE: usize = 256;
 
-/// The words, the first of which is the program's name.
-pub(crate) fn words(rt: &HostRuntime) -> Result<Vec<Vec<u8>>, AllocError> {
+/// Reads the words, the first of which is the program's name. Here and below, an error means that memory runs out.
+pub(crate) fn read_words(rt: &HostRuntime) -> Result<Vec<Vec<u8>>, AllocError> {
     let mut words = Vec::new(rt.alloc());
     for place in 0..usize::MAX {
-        match word(rt, place)? {
+        match read_argument(rt, place)? {
             Some(word) => words.push(word)?,
             None => break,
         }
@@ -18,19 +18,21 @@ pub(crate) fn words(rt: &HostRuntime) -> Result<Vec<Vec<u8>>, AllocError> {
     Ok(words)
 }
 
-// The word at a place, if there are that many.
-fn word(rt: &HostRuntime, place: usize) -> Result<Option<Vec<u8>>, AllocError> {
+// Reads the word at this place of the command line; `None` if there are not that many.
+fn read_argument(rt: &HostRuntime, place: usize) -> Result<Option<Vec<u8>>, AllocError> {
     let mut size = FIRST_SIZE;
     for _ in 0..usize::BITS {
-        match word_within(rt, place, size)? {
+        match read_argument_within(rt, place, size)? {
             Argument::There(word) => return Ok(Some(word)),
             Argument::NoMore => return Ok(None),
             Argument::TooLong => size = size.saturating_add(size),
         }
     }
+    // (a buffer of the size after so many doublings cannot be had)
     Err(AllocError)
 }
 
+// What the system has at a place of the command line: a word that the buffer holds, none, or a longer one.
 #[derive(Drop)]
 enum Argument {
     There(Vec<u8>),
@@ -38,7 +40,12 @@ enum Argument {
     TooLong,
 }
 
-fn word_within(rt: &HostRuntime, place: usize, size: usize) -> Result<Argument, AllocError> {
+// Reads the word at this place of the command line into a buffer of this size.
+fn read_argument_within(
+    rt: &HostRuntime,
+    place: usize,
+    size: usize,
+) -> Result<Argument, AllocError> {
     let mut word = Vec::new(rt.alloc());
     word.resize(size, 0)?;
     match rt.arg(place, word.as_mut_slice()) {

@@ -1,5 +1,5 @@
-//! The files of a database are read for a copy. They are opened for reading alone.
-use crate::place::has_other_form;
+//! The files of a database are read for a copy. They are opened only for reading.
+use crate::place::{LEFT_JOURNAL, NO_PLAIN_FILE, has_bytes, is_surely_no_database};
 use smpe_command::DatabaseBytes;
 use std::alloc::AllocError;
 use std::io::ErrorKind;
@@ -7,10 +7,12 @@ use std::os::unix::fs::MetadataExt;
 use std::time::Duration;
 use std::{fs, io, thread};
 
-/// How often the files are read again if they were changed meanwhile, for each second, and how often at least.
+/// How often the files are read at most for each second of the wait and one more. With the pauses between, that is
+/// nearly a second.
 const READINGS: u32 = 40;
 
-/// In milliseconds. A file that is changed before and after such a pause has two times of change.
+/// The pause between two readings, in milliseconds. A file that is changed before and after such a pause has two times
+/// of change.
 const PAUSE: u64 = 20;
 
 /// Why a database is not copied.
@@ -21,7 +23,7 @@ pub(crate) enum CopyFault {
     /// It is not as a database is, or not for long enough.
     Unfit(&'static str),
     /// It has other bytes than a database begins with.
-    OtherForm,
+    NoDatabase,
     Memory,
 }
 
@@ -41,58 +43,54 @@ impl From<AllocError> for CopyFault {
     }
 }
 
-/// What tells that a file was changed or exchanged.
+/// What differs after a file was changed or exchanged.
 #[derive(Clone, Copy, PartialEq)]
 struct Stamp {
     device: u64,
-    number: u64,
+    inode: u64,
     length: u64,
-    seconds: i64,
-    nanoseconds: i64,
+    /// The time of the last change.
+    change_seconds: i64,
+    change_nanoseconds: i64,
 }
 
-/// The bytes of the database's files. If they are being changed, they are read again, as many more seconds as given.
+/// The bytes of the database's files, which are read again while another program changes them, for about this number of
+/// seconds and one more. If the name is a link, the files are where it leads. Returns `NoDatabase` if it is no
+/// database, `Unfit` if a journal is beside it, it is no plain file, or it is still being changed, and `Unread` or
+/// `Memory` if it cannot be read.
 pub(crate) fn read_copy(
     rt: &HostRuntime,
     name: &str,
     seconds: u32,
 ) -> Result<DatabaseBytes, CopyFault> {
-    if has_other_form(rt, name) {
-        return Err(CopyFault::OtherForm);
+    if is_surely_no_database(rt, name) {
+        return Err(CopyFault::NoDatabase);
     }
-    read_in_time(rt, name, seconds)
-}
-
-// The files lie where a link leads.
-fn read_in_time(rt: &HostRuntime, name: &str, seconds: u32) -> Result<DatabaseBytes, CopyFault> {
     let real = fs::canonicalize(rt, name)?;
     let db = real.as_str();
     let log = format!(in rt.alloc(); "{db}-wal")?;
     let journal = format!(in rt.alloc(); "{db}-journal")?;
     for _ in 0..seconds.saturating_add(1).saturating_mul(READINGS) {
+        let bytes = read_once(rt, db, log.as_str())?;
+        // A journal that is still there may have the pages of a change that was under way.
         if has_bytes(rt, journal.as_str())? {
-            return Err(CopyFault::Unfit(
-                "a killed sqlite3 left a journal beside it; read it once with sqlite3",
-            ));
+            return Err(CopyFault::Unfit(LEFT_JOURNAL));
         }
-        if let Some(bytes) = read_unchanged(rt, db, log.as_str())? {
+        if let Some(bytes) = bytes {
             return Ok(bytes);
         }
     }
     Err(CopyFault::Unfit("the database is being changed; try again"))
 }
 
-// Reads the two files, if nobody changes them before the reading ends.
-fn read_unchanged(
-    rt: &HostRuntime,
-    db: &str,
-    log: &str,
-) -> Result<Option<DatabaseBytes>, CopyFault> {
+// The bytes of the two files, read once after a pause; `None` if another program changes them before the reading ends.
+// Returns `Unfit` if one is no plain file, and `Unread` or `Memory` if one cannot be read.
+fn read_once(rt: &HostRuntime, db: &str, log: &str) -> Result<Option<DatabaseBytes>, CopyFault> {
     let before = (stamp_of(rt, db)?, stamp_of(rt, log)?);
     thread::sleep(rt, Duration::from_millis(PAUSE));
     let bytes = DatabaseBytes {
-        db: read(rt, db)?,
-        log: read(rt, log)?,
+        db: read_if_present(rt, db)?,
+        log: read_if_present(rt, log)?,
     };
     if (stamp_of(rt, db)?, stamp_of(rt, log)?) == before {
         Ok(Some(bytes))
@@ -101,33 +99,27 @@ fn read_unchanged(
     }
 }
 
+// The stamp of a file; `None` if it does not exist. Returns `Unfit` if it is no plain file, and `Unread` or `Memory` if
+// the system does not tell.
 fn stamp_of(rt: &HostRuntime, name: &str) -> Result<Option<Stamp>, CopyFault> {
     match fs::metadata(rt, name) {
-        Ok(found) if found.is_file() => Ok(Some(Stamp {
-            device: found.dev(),
-            number: found.ino(),
-            length: found.len(),
-            seconds: found.ctime(),
-            nanoseconds: found.ctime_nsec(),
+        Ok(metadata) if metadata.is_file() => Ok(Some(Stamp {
+            device: metadata.dev(),
+            inode: metadata.ino(),
+            length: metadata.len(),
+            change_seconds: metadata.ctime(),
+            change_nanoseconds: metadata.ctime_nsec(),
         })),
-        Ok(_) => Err(CopyFault::Unfit("it is no plain file")),
+        Ok(_) => Err(CopyFault::Unfit(NO_PLAIN_FILE)),
         Err(error) if error.kind() == ErrorKind::NotFound => Ok(None),
         Err(error) => Err(CopyFault::from(error)),
     }
 }
 
-// The bytes of a file, none if it does not exist.
-fn read(rt: &HostRuntime, name: &str) -> io::Result<Vec<u8>> {
+// The bytes of a file, or no bytes if it does not exist.
+fn read_if_present(rt: &HostRuntime, name: &str) -> io::Result<Vec<u8>> {
     match fs::read(rt, name) {
         Err(error) if error.kind() == ErrorKind::NotFound => Ok(Vec::new(rt.alloc())),
-        read => read,
-    }
-}
-
-fn has_bytes(rt: &HostRuntime, name: &str) -> io::Result<bool> {
-    match fs::metadata(rt, name) {
-        Ok(found) => Ok(found.len() > 0),
-        Err(error) if error.kind() == ErrorKind::NotFound => Ok(false),
-        Err(error) => Err(error),
+        contents => contents,
     }
 }

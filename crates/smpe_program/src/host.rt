@@ -7,19 +7,23 @@ ghost use Rattle.sqlite.specs.State.{HasCleanDisk};
 ghost use Rattle.smpe_program.specs.Wary.{IsWary};
 
 use crate::copy::{CopyFault, read_copy};
-use crate::place::{has_other_form, is_missing};
+use crate::place::{is_missing, is_surely_no_database};
 use crate::related_zone::related_zone;
 use clap::Error as WordsError;
 use smpe_command::{DatabaseBytes, DatabaseFile, Host};
-use smpe_hints::{ReadFile, RelatedZone};
+use smpe_hints::{ReadFile, RelatedZone, has_whole_records};
 use sqlite::{Connection, Error, ErrorCode, FileFrom, FileStore, Wary};
 use sqlite_disk::Tally;
 use std::io::IsTerminal;
 use std::time::Duration;
 use std::{fs, io, thread};
 
-/// The bytes of a record.
-const RECORD: usize = 80;
+/// The files of a database. Nothing is assumed about the bytes that a torn write leaves in them.
+pub(crate) type DatabaseFiles = FileStore<FileFrom<Wary>>;
+
+// A database that the program makes has no sums on its pages, which a sqlite3 without the extension for them would
+// spoil.
+const NEW_HAS_SUMS: bool = false;
 
 /// What is known of the database when the program ends.
 #[derive(Drop)]
@@ -46,23 +50,24 @@ pub(crate) struct Closing {
     /// Why its log was not moved over.
     pub(crate) log: Option<Error>,
     /// What the failed calls of its files met, since they were opened.
-    pub(crate) met: Tally,
+    pub(crate) tally: Tally,
 }
 
 impl Closing {
-    // What was committed is moved over from the database's log. If that fails, it remains in the log.
-    fn of(mut open: Connection<FileStore<FileFrom<Wary>>>) -> Closing {
+    // Closes the database, and returns what was met. What was committed is moved over from its log. If that fails, it
+    // remains in the log.
+    fn close(mut open: Connection<DatabaseFiles>) -> Closing {
         let meta = open.query_row("SELECT v FROM meta", &[]).err();
         match open.close_files() {
             Ok(files) => Closing {
                 meta,
                 log: None,
-                met: files.tally(),
+                tally: files.tally(),
             },
             Err((error, store)) => Closing {
                 meta,
                 log: Some(error),
-                met: store.close().tally(),
+                tally: store.close().tally(),
             },
         }
     }
@@ -71,10 +76,7 @@ impl Closing {
 impl Database {
     // Whether the program made it.
     fn is_new(&self) -> bool {
-        match self {
-            Database::Opened { is_new, .. } => *is_new,
-            _ => false,
-        }
+        matches!(self, Database::Opened { is_new: true, .. })
     }
 }
 
@@ -83,7 +85,7 @@ impl Database {
 pub(crate) struct ProgramHost<'a> {
     rt: &'a HostRuntime,
     /// Whether to create a database if there is none.
-    makes: bool,
+    makes_database: bool,
     /// The zone of which there may be something to say, and what the database knows of it.
     related_name: Option<&'a str>,
     pub(crate) related: RelatedZone,
@@ -95,14 +97,15 @@ pub(crate) struct ProgramHost<'a> {
 }
 
 impl ProgramHost<'_> {
+    /// A host that has read nothing and opened no database.
     pub(crate) fn new<'a>(
         rt: &'a HostRuntime,
-        makes: bool,
+        makes_database: bool,
         related_name: Option<&'a str>,
     ) -> ProgramHost<'a> {
         ProgramHost {
             rt,
-            makes,
+            makes_database,
             related_name,
             related: RelatedZone::Unknown,
             database: Database::None,
@@ -111,8 +114,9 @@ impl ProgramHost<'_> {
         }
     }
 
-    // A copy of the file, since there may be more to say about its cards. If memory runs out, that remains unsaid.
-    fn keep(&mut self, name: &str, bytes: &[u8]) {
+    // Keeps a copy of the file, because there may be more to say about its cards. If memory runs out, that remains
+    // unsaid.
+    fn keep_file(&mut self, name: &str, bytes: &[u8]) {
         let alloc = self.rt.alloc();
         if let (Ok(name), Ok(bytes)) = (
             String::from_str(alloc, name),
@@ -122,12 +126,14 @@ impl ProgramHost<'_> {
         }
     }
 
-    fn name(&self, name: &str) -> String {
+    // A copy of the name, or no text if memory runs out.
+    fn copy_name(&self, name: &str) -> String {
         String::from_str(self.rt.alloc(), name).unwrap_or(String::new(self.rt.alloc()))
     }
 
-    // What is said of a database that was not read.
-    fn not_read(&mut self, name: &str, fault: CopyFault) -> Error
+    // Notes why a database was not read, for what is said at the end. Returns the library's error: `OutOfMemory` if
+    // memory ran out, otherwise `CannotOpen`.
+    fn note_unread(&mut self, name: &str, fault: CopyFault) -> Error
         ensures { IsTrue (is_open_error result) }
     {
         match fault {
@@ -137,50 +143,51 @@ impl ProgramHost<'_> {
             CopyFault::Unfit(why) => {
                 self.unread = format!(in self.rt.alloc(); "{name}: {why}").ok();
             }
-            CopyFault::OtherForm => {
+            CopyFault::NoDatabase => {
                 let error = Error::SqliteFailure(ErrorCode::NotADatabase);
-                self.database = Database::Refused(self.name(name), error);
+                self.database = Database::Refused(self.copy_name(name), error);
             }
             CopyFault::Memory => return Error::SqliteFailure(ErrorCode::OutOfMemory),
         }
         Error::SqliteFailure(ErrorCode::CannotOpen)
     }
 
-    // As long as another program has the database, it is tried again.
-    fn open_within(
-        &self,
-        name: &str,
-        wait: u32,
-    ) -> Result<Connection<FileStore<FileFrom<Wary>>>, Error>
+    // Opens the database, and tries again for so many seconds as long as another program has it. Returns `DatabaseBusy`
+    // if it still has it then, and the errors of `open_once`.
+    fn open_waiting(&self, name: &str, wait: u32) -> Result<Connection<DatabaseFiles>, Error>
         ensures ok { IfOk result (λ conn. IsNew conn × IsWary conn × (HasCleanDisk (file_state conn) → IsOpened conn)) }
         ensures err { IfErr result (λ why. IsTrue (is_open_error why)) }
     {
         for second in 0..wait {
-            match self.open_at(name) {
-                Err(Error::SqliteFailure(ErrorCode::DatabaseBusy)) => self.pause(name, second == 0),
-                opened => return opened,
+            match self.open_once(name) {
+                Err(Error::SqliteFailure(ErrorCode::DatabaseBusy)) => self.wait_a_second(
+                    name,
+                    second == 0,
+                ),
+                outcome => return outcome,
             }
         }
-        self.open_at(name)
+        self.open_once(name)
     }
 
-    // A terminal is told once.
-    fn pause(&self, name: &str, is_first: bool) {
+    // Waits a second, and says so on a terminal the first time.
+    fn wait_a_second(&self, name: &str, is_first: bool) {
         if is_first && self.rt.stderr().is_terminal() {
             let _ = eprintln!(self.rt; "smpe: another program has {name}; waiting for it");
         }
         thread::sleep(self.rt, Duration::from_secs(1));
     }
 
-    // A file that is not a database is refused before the library creates its log next to it.
-    fn open_at(&self, name: &str) -> Result<Connection<FileStore<FileFrom<Wary>>>, Error>
+    // Opens the database once. A file that is none is refused with `NotADatabase`, before the library creates its log
+    // next to it. Any other error is the library's.
+    fn open_once(&self, name: &str) -> Result<Connection<DatabaseFiles>, Error>
         ensures ok { IfOk result (λ conn. IsNew conn × IsWary conn × (HasCleanDisk (file_state conn) → IsOpened conn)) }
         ensures err { IfErr result (λ why. IsTrue (is_open_error why)) }
     {
-        if has_other_form(self.rt, name) {
+        if is_surely_no_database(self.rt, name) {
             return Err(Error::SqliteFailure(ErrorCode::NotADatabase));
         }
-        match Connection::open_from(self.rt, name, false, Wary) {
+        match Connection::open_from(self.rt, name, NEW_HAS_SUMS, Wary) {
             Ok(conn) => Ok(conn),
             Err((error, _)) => Err(error),
         }
@@ -190,7 +197,7 @@ impl ProgramHost<'_> {
 // About a database, this says what `sqlite` promises when it opens one, and that commits assume nothing about the bytes
 // that a torn write leaves. It says no more about the system: the other relations hold for everything.
 impl Host for ProgramHost<'_> {
-    type Disk = FileStore<FileFrom<Wary>>;
+    type Disk = DatabaseFiles;
 
     ghost gives = { λ _ _ _ _. Unit {0} };
 
@@ -213,12 +220,12 @@ impl Host for ProgramHost<'_> {
     fn read(&mut self, name: &str) -> io::Result<Vec<u8>> {
         match fs::read(self.rt, name) {
             Ok(bytes) => {
-                if bytes.len() % RECORD != 0 {
+                if !has_whole_records(bytes.as_slice()) {
                     let _ = eprintln!(self.rt;
                         "smpe: {name} is no file of 80-byte records; smpe-cards makes one of text"
                     );
                 }
-                self.keep(name, bytes.as_slice());
+                self.keep_file(name, bytes.as_slice());
                 Ok(bytes)
             }
             Err(error) => {
@@ -232,45 +239,45 @@ impl Host for ProgramHost<'_> {
     fn open(&mut self, db: &DatabaseFile) -> Result<Connection<Self::Disk>, sqlite::Error> {
         let name = db.name.as_str();
         let is_missing = is_missing(self.rt, name);
-        if is_missing && !self.makes {
-            self.database = Database::Missing(self.name(name));
+        if is_missing && !self.makes_database {
+            self.database = Database::Missing(self.copy_name(name));
             return Err(Error::SqliteFailure(ErrorCode::CannotOpen));
         }
         let is_new = is_missing || self.database.is_new();
-        match self.open_within(name, db.wait) {
+        match self.open_waiting(name, db.wait) {
             Ok(conn) => {
                 self.database = Database::Opened {
-                    name: self.name(name),
+                    name: self.copy_name(name),
                     is_new,
                     closing: None,
                 };
                 Ok(conn)
             }
             Err(error) => {
-                self.database = Database::Refused(self.name(name), error);
+                self.database = Database::Refused(self.copy_name(name), error);
                 Err(error)
             }
         }
     }
 
-    // The database's file and its log are opened for reading alone, and nobody is kept from them meanwhile. A job that
+    // The database's file and its log are opened only for reading, and nobody is kept from them meanwhile. A job that
     // has them open is no hindrance.
     fn read_database(&mut self, db: &DatabaseFile) -> Result<DatabaseBytes, sqlite::Error> {
         let name = db.name.as_str();
         if is_missing(self.rt, name) {
-            self.database = Database::Missing(self.name(name));
+            self.database = Database::Missing(self.copy_name(name));
             return Err(Error::SqliteFailure(ErrorCode::CannotOpen));
         }
         match read_copy(self.rt, name, db.wait) {
             Ok(bytes) => {
                 self.database = Database::Opened {
-                    name: self.name(name),
+                    name: self.copy_name(name),
                     is_new: false,
                     closing: None,
                 };
                 Ok(bytes)
             }
-            Err(fault) => Err(self.not_read(name, fault)),
+            Err(fault) => Err(self.note_unread(name, fault)),
         }
     }
 
@@ -279,9 +286,9 @@ impl Host for ProgramHost<'_> {
             if let Some(name) = self.related_name {
                 self.related = related_zone(&mut open, name);
             }
-            let met = Closing::of(open);
+            let faults = Closing::close(open);
             if let Database::Opened { closing, .. } = &mut self.database {
-                *closing = Some(met);
+                *closing = Some(faults);
             }
         }
     }

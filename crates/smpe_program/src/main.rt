@@ -11,18 +11,18 @@ mod related_zone;
 mod telling;
 mod watched;
 
-use command_line::words;
+use command_line::read_words;
 use host::ProgramHost;
 use report::Out;
 use smpe_command::command;
 use smpe_hints::{ReportWatch, related_name};
 use std::alloc::AllocError;
 use std::process::ExitCode;
-use telling::tell;
+use telling::write_hints;
 use watched::{Progress, Watched};
 
 fn main(rt: HostRuntime) -> ExitCode {
-    let words = words(&rt);
+    let words = read_words(&rt);
     let related = match &words {
         Ok(words) => related_name(words.as_slice()),
         Err(_) => None,
@@ -36,12 +36,13 @@ fn main(rt: HostRuntime) -> ExitCode {
     let mut err = Watched::new(Out::new(rt.stderr()), ReportWatch::new(rt.alloc()), None);
     let status = command(rt.alloc(), &mut host, &words, &mut out, &mut err);
     if let Ok(words) = &words {
-        tell(&rt, words.as_slice(), &host, &out.watch, &err.watch);
+        write_hints(&rt, words.as_slice(), &host, &out.watch, &err.watch);
     }
     ExitCode::from(status)
 }
 
-// Whether the words ask for something that creates a database if there is none: the definition of a zone, or a job.
+// Whether the words ask for something that creates a database if there is none: the definition of a zone, or a
+// job.
 fn makes_database(words: &Result<Vec<Vec<u8>>, AllocError>) -> bool {
     match words {
         Ok(words) => match words.get(1) {
@@ -52,6 +53,7 @@ fn makes_database(words: &Result<Vec<Vec<u8>>, AllocError>) -> bool {
     }
 }
 
+// Whether the word is this text.
 fn is_word(word: &Vec<u8>, text: &str) -> bool {
     word.as_slice() == text.as_bytes()
 }

@@ -4,10 +4,20 @@ use std::io::{ErrorKind, Read};
 use std::os::unix::fs::MetadataExt;
 use std::{fs, io};
 
+/// What is said of a database that has a rollback journal beside it.
+pub(crate) const LEFT_JOURNAL: &str =
+    "a killed sqlite3 left a journal beside it; read it once with sqlite3";
+
+/// What is said of a name that is of no plain file.
+pub(crate) const NO_PLAIN_FILE: &str = "it is no plain file";
+
 /// The first bytes of a file of SQLite.
 const HEAD: &[u8] = b"SQLite format 3\0";
 
-/// Whether no file has this name.
+/// How many they are.
+const HEAD_BYTES: usize = 16;
+
+/// Whether no file has this name; false if the system does not tell.
 pub(crate) fn is_missing(rt: &HostRuntime, name: &str) -> bool {
     match fs::exists(rt, name) {
         Ok(is_there) => !is_there,
@@ -15,35 +25,43 @@ pub(crate) fn is_missing(rt: &HostRuntime, name: &str) -> bool {
     }
 }
 
-/// Whether a file is not empty and does not begin as those of SQLite do. A log next to it may make it whole.
-pub(crate) fn has_other_form(rt: &HostRuntime, name: &str) -> bool {
-    match (begins_otherwise(rt, name), has_log(rt, name)) {
+/// Whether a file is not empty and does not begin as those of SQLite do; false if it cannot be read, or if a log is
+/// next to it, which may make it whole.
+pub(crate) fn is_surely_no_database(rt: &HostRuntime, name: &str) -> bool {
+    match (begins_as_no_database(rt, name), has_log(rt, name)) {
         (Ok(is_other), Ok(has_log)) => is_other && !has_log,
         _ => false,
     }
 }
 
-fn begins_otherwise(rt: &HostRuntime, name: &str) -> io::Result<bool> {
+// Whether the file has bytes, and they are not those with which a file of SQLite begins; false if it is no plain file.
+fn begins_as_no_database(rt: &HostRuntime, name: &str) -> io::Result<bool> {
     if !fs::metadata(rt, name)?.is_file() {
         return Ok(false);
     }
     let mut file = File::open(rt, name)?;
-    let mut head = [0u8; 16];
+    let mut head = [0u8; HEAD_BYTES];
     let count = file.read(head.as_mut_slice())?;
     Ok(!HEAD.starts_with(head.get(..count).unwrap_or(b"")))
 }
 
+// Whether the database has a log with bytes.
 fn has_log(rt: &HostRuntime, name: &str) -> io::Result<bool> {
     let log = format!(in rt.alloc(); "{name}-wal")?;
-    match fs::metadata(rt, log.as_str()) {
-        Ok(found) => Ok(found.len() > 0),
+    has_bytes(rt, log.as_str())
+}
+
+/// Whether a file of this name exists and has bytes.
+pub(crate) fn has_bytes(rt: &HostRuntime, name: &str) -> io::Result<bool> {
+    match fs::metadata(rt, name) {
+        Ok(metadata) => Ok(metadata.len() > 0),
         Err(error) if error.kind() == ErrorKind::NotFound => Ok(false),
         Err(error) => Err(error),
     }
 }
 
 /// Why the library cannot open a database of this name, as far as its file shows that.
-pub(crate) fn place_told(rt: &HostRuntime, name: &str) -> &'static str {
+pub(crate) fn place_fault(rt: &HostRuntime, name: &str) -> &'static str {
     if name.is_empty() || name == ":memory:" || name.starts_with("file:") {
         return "this is no name of a file";
     }
@@ -52,14 +70,15 @@ pub(crate) fn place_told(rt: &HostRuntime, name: &str) -> &'static str {
             "its folder is not there, or nothing can be made in it"
         }
         Err(_) => "it is in a folder that is closed to you, or behind what is no folder",
-        Ok(found) if found.is_dir() => "it is a folder",
-        Ok(found) if !found.is_file() => "it is no plain file",
-        Ok(found) if found.nlink() > 1 => "it has a second name, by a hard link",
-        Ok(_) => file_told(rt, name),
+        Ok(metadata) if metadata.is_dir() => "it is a folder",
+        Ok(metadata) if !metadata.is_file() => NO_PLAIN_FILE,
+        Ok(metadata) if metadata.nlink() > 1 => "it has a second name, by a hard link",
+        Ok(_) => file_fault(rt, name),
     }
 }
 
-fn file_told(rt: &HostRuntime, name: &str) -> &'static str {
+// Why the library cannot open this plain file.
+fn file_fault(rt: &HostRuntime, name: &str) -> &'static str {
     match OpenOptions::new().read(true).write(true).open(rt, name) {
         Err(error) if error.kind() == ErrorKind::PermissionDenied => {
             "you have no permission to write to it"
@@ -68,16 +87,16 @@ fn file_told(rt: &HostRuntime, name: &str) -> &'static str {
             "it is on a file system that is read-only"
         }
         Err(_) => "it cannot be written",
-        Ok(_) if has_journal(rt, name) => {
-            "a killed sqlite3 left a journal beside it; read it once with sqlite3"
-        }
+        Ok(_) if has_journal(rt, name) => LEFT_JOURNAL,
         Ok(_) => "nothing can be written in its folder, or its -wal belongs to someone else",
     }
 }
 
+// Whether a rollback journal with bytes is beside the database; false if the system does not tell, or if memory runs
+// out.
 fn has_journal(rt: &HostRuntime, name: &str) -> bool {
     match format!(in rt.alloc(); "{name}-journal") {
-        Ok(journal) => !is_missing(rt, journal.as_str()),
+        Ok(journal) => has_bytes(rt, journal.as_str()).unwrap_or(false),
         Err(_) => false,
     }
 }

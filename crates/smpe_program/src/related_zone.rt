@@ -1,17 +1,17 @@
 //! What the database knows of the zone that `--related` names.
+use crate::host::DatabaseFiles;
 use smpe_hints::RelatedZone;
-use sqlite::{Connection, Error, FileFrom, FileStore, Wary, params};
+use sqlite::{Connection, Error, params};
 
-/// If the database can be asked.
-pub(crate) fn related_zone(
-    open: &mut Connection<FileStore<FileFrom<Wary>>>,
-    name: &str,
-) -> RelatedZone {
-    found(open, name).unwrap_or(RelatedZone::Unknown)
+/// What the database knows of the zone, or `Unknown` if it cannot be asked.
+pub(crate) fn related_zone(open: &mut Connection<DatabaseFiles>, name: &str) -> RelatedZone {
+    query_related_zone(open, name).unwrap_or(RelatedZone::Unknown)
 }
 
-fn found(
-    open: &mut Connection<FileStore<FileFrom<Wary>>>,
+// Asks the tables of the database: whether the zone exists, its kind, and the target zone that has it already. The
+// error is the library's.
+fn query_related_zone(
+    open: &mut Connection<DatabaseFiles>,
     name: &str,
 ) -> Result<RelatedZone, Error> {
     let kinds = open.query_all("SELECT kind FROM zone WHERE name = ?1", params![name])?;

@@ -1,7 +1,7 @@
 //! What is said on standard error when the program ends, besides the line of its fault.
 use crate::host::{Closing, Database, ProgramHost};
-use crate::place::{has_other_form, place_told};
-use smpe_hints::{ReportWatch, empty_hint, operand_hint, zone_hint};
+use crate::place::{is_surely_no_database, place_fault};
+use smpe_hints::{ReportWatch, no_command_hint, operand_hint, zone_hint};
 use sqlite::{Error, ErrorCode};
 use std::alloc::AllocError;
 
@@ -11,22 +11,24 @@ const FAILED: &str = "a read or write of the database failed";
 
 const ODD_ROW: &str = "a row of the database is not as smpe wrote it";
 
-/// Says what a report and a fault leave unsaid. It says nothing if memory runs out or nothing can be written.
-pub(crate) fn tell(
+/// Writes lines that explain the report and the fault to standard error. It writes none if memory runs out.
+pub(crate) fn write_hints(
     rt: &HostRuntime,
     words: &[Vec<u8>],
     host: &ProgramHost<'_>,
     report: &ReportWatch,
     faults: &ReportWatch,
 ) {
-    if let Ok(lines) = hints(rt, words, host, report, faults) {
+    if let Ok(lines) = hint_lines(rt, words, host, report, faults) {
         for line in lines {
             let _ = eprintln!(rt; "smpe: {line}");
         }
     }
 }
 
-fn hints(
+// The lines about the report, the fault, a file that was not read, and a database that was made. Here and below, an
+// error means that memory runs out.
+fn hint_lines(
     rt: &HostRuntime,
     words: &[Vec<u8>],
     host: &ProgramHost<'_>,
@@ -35,18 +37,18 @@ fn hints(
 ) -> Result<Vec<String>, AllocError> {
     let mut lines = report.hints(words, host.files.as_slice(), &host.related)?;
     let is_silent = report.first_line().is_empty() && !host.files.is_empty();
-    push(
+    push_if_any(
         fault_hint(rt, words, host, faults.first_line(), is_silent)?,
         &mut lines,
     )?;
     if let Some(unread) = &host.unread {
         lines.push(String::from_str(rt.alloc(), unread.as_str())?)?;
     }
-    push(made_hint(rt, &host.database)?, &mut lines)?;
+    push_if_any(new_database_hint(rt, &host.database)?, &mut lines)?;
     Ok(lines)
 }
 
-// What the line of a fault leaves unsaid, or of a job that printed nothing.
+// The line that explains the line of a fault, or a job that has printed nothing; `None` if there is nothing to add.
 fn fault_hint(
     rt: &HostRuntime,
     words: &[Vec<u8>],
@@ -60,20 +62,22 @@ fn fault_hint(
     match fault {
         "smpe: bad operand" => operand_hint(rt.alloc(), words),
         "smpe: store Sf1" => database_hint(rt, &host.database),
-        "smpe: no command" => empty_hint(rt.alloc(), words),
-        "" if is_silent => empty_hint(rt.alloc(), words),
+        "smpe: no command" => no_command_hint(rt.alloc(), words),
+        "" if is_silent => no_command_hint(rt.alloc(), words),
         _ => Ok(None),
     }
 }
 
-fn push(line: Option<String>, lines: &mut Vec<String>) -> Result<(), AllocError> {
+// Appends the line, if there is one.
+fn push_if_any(line: Option<String>, lines: &mut Vec<String>) -> Result<(), AllocError> {
     if let Some(line) = line {
         lines.push(line)?;
     }
     Ok(())
 }
 
-fn made_hint(rt: &HostRuntime, database: &Database) -> Result<Option<String>, AllocError> {
+// The line that says that the program has made the database, as after a name that was misspelled; `None` if it has not.
+fn new_database_hint(rt: &HostRuntime, database: &Database) -> Result<Option<String>, AllocError> {
     match database {
         Database::Opened {
             name,
@@ -84,7 +88,7 @@ fn made_hint(rt: &HostRuntime, database: &Database) -> Result<Option<String>, Al
     }
 }
 
-// Why the database failed, as far as the library or its file shows that.
+// Why the database failed, as far as the library or its file shows that; `None` if the words ask for none.
 fn database_hint(rt: &HostRuntime, database: &Database) -> Result<Option<String>, AllocError> {
     match database {
         Database::None => Ok(None),
@@ -92,25 +96,29 @@ fn database_hint(rt: &HostRuntime, database: &Database) -> Result<Option<String>
             "there is no database {name}; smpe zone makes one"
         )?)),
         Database::Refused(name, Error::SqliteFailure(ErrorCode::CannotOpen)) => {
-            let told = place_told(rt, name.as_str());
-            Ok(Some(format!(in rt.alloc(); "the database can't be opened: {name}: {told}")?))
+            let fault = place_fault(rt, name.as_str());
+            Ok(Some(format!(in rt.alloc(); "the database can't be opened: {name}: {fault}")?))
         }
         Database::Refused(name, Error::SqliteFailure(ErrorCode::NotADatabase))
-            if has_other_form(rt, name.as_str()) => {
+            if is_surely_no_database(rt, name.as_str()) => {
             Ok(Some(String::from_str(rt.alloc(), "the file is no database")?))
         }
-        Database::Refused(_, error) => Ok(Some(String::from_str(rt.alloc(), refusal(*error))?)),
+        Database::Refused(_, error) => Ok(Some(String::from_str(
+            rt.alloc(),
+            refusal_text(*error),
+        )?)),
         Database::Opened { closing, .. } => {
-            let told = match closing {
-                Some(closing) => failure(closing),
+            let text = match closing {
+                Some(closing) => failure_text(closing),
                 None => ODD_ROW,
             };
-            Ok(Some(String::from_str(rt.alloc(), told)?))
+            Ok(Some(String::from_str(rt.alloc(), text)?))
         }
     }
 }
 
-fn refusal(error: Error) -> &'static str {
+// Why the library refused to open the database.
+fn refusal_text(error: Error) -> &'static str {
     match error {
         Error::SqliteFailure(ErrorCode::DatabaseBusy) => "another program has the database",
         Error::SqliteFailure(ErrorCode::NotADatabase) => {
@@ -122,11 +130,12 @@ fn refusal(error: Error) -> &'static str {
     }
 }
 
-fn failure(closing: &Closing) -> &'static str {
-    if closing.met.refused > 0 {
+// Why a database that was opened failed, by what was met when it was closed.
+fn failure_text(closing: &Closing) -> &'static str {
+    if closing.tally.refused > 0 {
         return FULL;
     }
-    if closing.met.caught > 0 {
+    if closing.tally.caught > 0 {
         return "the database has other bytes than were written to it";
     }
     match (closing.meta, closing.log) {

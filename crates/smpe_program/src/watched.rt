@@ -11,32 +11,35 @@ use std::time::Instant;
 #[derive(Drop)]
 pub(crate) struct Progress<'a> {
     rt: &'a HostRuntime,
-    begun: Instant,
-    ended: usize,
+    /// When the last command ended, or the first one began.
+    start: Instant,
+    /// How many commands have ended.
+    command_count: usize,
 }
 
 impl Progress<'_> {
-    /// If standard error is a terminal and there is a clock.
+    /// Begins to take times; `None` if standard error is no terminal or there is no clock.
     pub(crate) fn new<'a>(rt: &'a HostRuntime) -> Option<Progress<'a>> {
         if !rt.stderr().is_terminal() {
             return None;
         }
-        let begun = Instant::now(rt).ok()?;
+        let start = Instant::now(rt).ok()?;
         Some(Progress {
             rt,
-            begun,
-            ended: 0,
+            start,
+            command_count: 0,
         })
     }
 
-    fn follow(&mut self, watch: &ReportWatch) {
-        if watch.ended() == self.ended {
+    // Prints how long the command took that has ended since the last call, if one has.
+    fn note_ended_command(&mut self, watch: &ReportWatch) {
+        if watch.ended_commands() == self.command_count {
             return;
         }
-        self.ended = watch.ended();
+        self.command_count = watch.ended_commands();
         if let Ok(now) = Instant::now(self.rt) {
-            let seconds = now.duration_since(self.begun).as_secs();
-            self.begun = now;
+            let seconds = now.duration_since(self.start).as_secs();
+            self.start = now;
             if seconds > 0 {
                 let header = watch.header();
                 let _ = eprintln!(self.rt; "smpe: {header}: {seconds} s");
@@ -74,11 +77,11 @@ impl<S: Sink> Sink for Watched<'_, S> {
 
     // If memory runs out, less is said about the report.
     fn write(&mut self, piece: &[u8]) -> Result<usize, WriteFault> {
-        let taken = self.sink.write(piece)?;
-        let _ = self.watch.take(piece.get(..taken).unwrap_or(b""));
+        let count = self.sink.write(piece)?;
+        let _ = self.watch.take(piece.get(..count).unwrap_or(b""));
         if let Some(progress) = &mut self.progress {
-            progress.follow(&self.watch);
+            progress.note_ended_command(&self.watch);
         }
-        Ok(taken)
+        Ok(count)
     }
 }

@@ -16,9 +16,9 @@ use Rattle.terms.specs.Choice.{place, counting}
 use Rattle.terms.specs.Over.{IsOver}
 use Rattle.terms.specs.Global.{IsGlobal}
 use Rattle.terms.specs.Candidates.{AreCandidates, is_installable, not_chosen}
-use Rattle.terms.specs.Tests.{Setting, IsEligible, Fails, ShareElement}
-use Rattle.terms.specs.Needs.{Needs, Serves, bypassed_ids}
-use Rattle.terms.specs.Judged.{setting}
+use Rattle.terms.specs.Tests.{Setting, IsEligible, ShareElement}
+use Rattle.terms.specs.Needs.{bypassed_ids}
+use Rattle.terms.specs.Judged.{setting, install_judging}
 use Rattle.terms.proofs.Apart.{AreApart}
 use Rattle.terms.proofs.ListMembers.{map_in, in_map, filter_in, in_filter}
 use Rattle.terms.proofs.Pairs.{AllPairs_join}
@@ -226,8 +226,8 @@ module _ (g : Global) (zone : Zone) (related : Option Zone) (sel : Selection) (b
             let m = map_in (λ (f : Id × Failure). (f.0, Failed f.1)) failed p f in
             let id : Contains failed_ids m.0.0 = subst (λ xs. Contains xs m.0.0) decided.are_decided.ids
             (in_map (λ (f : Id × Failure). f.0) failed m.0 m.1) in
-            let why = All-contains (λ f. IsFailure cands kept (Fails s) (IsEligible s) (Needs s decided.survivors)
-            (Serves s.choice) f.0 f.1) failed m.0 decided.are_decided.failures m.1 in
+            let why = All-contains (λ f. IsFailure (install_judging s decided.survivors) kept f.0 f.1) failed m.0
+            decided.are_decided.failures m.1 in
             subst (λ q. HasStatus (decision bypassed) sel q.0 q.1) m.2 (IsFailed m.0.1
             (filter_in (λ y. not (is_in kept y)) cands m.0.0 id).0 (not_kept m.0.0 id) why)
 

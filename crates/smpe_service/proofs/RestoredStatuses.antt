@@ -7,7 +7,7 @@ use Rattle.std.specs.Ordering.{nat_cmp}
 use Rattle.std.specs.Cmp.Lexicographic.{slice_cmp}
 use Rattle.std.proofs.lemmas.List.Kept.{AllPairs-filter}
 use Rattle.terms.proofs.Pairs.{pairs_unmap}
-use Rattle.std.specs.Prelude.{find, if◌then◌else◌}
+use Rattle.std.specs.Prelude.{◌↔◌, find, if◌then◌else◌}
 use Rattle.std.specs.Option.{option_map_or}
 use Rattle.std.specs.Str.{bytes_eq}
 use Rattle.std.proofs.lemmas.List.Elements.{All-contains}
@@ -17,8 +17,8 @@ use Rattle.terms.proofs.TextOrder.{same_from, same_itself}
 use Rattle.terms.specs.Types.{Id, Global}
 use Rattle.terms.specs.Lookups.{IsRising, is_applied, is_before, is_in}
 use Rattle.terms.specs.Rising.{Rises}
-use Rattle.terms.specs.Needs.{Serves}
-use Rattle.terms.specs.Restore.{Restoring, NeedsInRestore, FailsRestore, MayBeRestored, restore_candidates}
+use Rattle.terms.specs.Kept.{StaysKept}
+use Rattle.terms.specs.Restore.{Restoring, IsRestored, restore_candidates, restore_judging}
 use Rattle.terms.proofs.Ids.{is_in_from_Contains, Contains_from_is_in}
 use Rattle.machine.specs.Outcome.{Status, Restored, NotApplied, Failed, Line, StatusLine}
 use Rattle.machine.specs.Outcome as machine
@@ -61,6 +61,12 @@ failed_rises r ids cands rising are kept failed d =
 
 module _ (r : Restoring) (ids cands : List Id) (cands_are : cands ≡ restore_candidates r ids) (kept : List Id)
     (failed : List (Id × Failure)) (d : IsRestoreDecided r ids cands kept failed) where
+  -- the kept ones are those that RESTORE takes off
+  pub kept_restored : (x : Id) → Contains kept x ↔ IsRestored r ids x
+  kept_restored x =
+      subst (λ (cs : List Id). Contains kept x ↔ StaysKept (record (restore_judging r ids) { cands = cs }) x) cands_are
+      (d.members x)
+
   not_kept : (x : Id) → is_in kept x ≡ false → ¬ Contains kept x
   not_kept x off there = true≢false (sym (is_in_from_Contains kept x there) ∙ off)
 
@@ -82,17 +88,17 @@ module _ (r : Restoring) (ids cands : List Id) (cands_are : cands ≡ restore_ca
       by_found off (Some f) found =
           let gives = find_gives (λ (f : Id × Failure). bytes_eq f.0 x) failed f found in
           let same : f.0 ≡ x = same_from f.0 x gives.0 in
-          let why = All-contains (λ q. IsFailure cands kept (FailsRestore r) (MayBeRestored r ids)
-          (NeedsInRestore r (is_in ids)) (Serves r.choice) q.0 q.1) (map (λ f. (f.0, failure_view f.1)) failed)
-          (f.0, failure_view f.1)
+          let why = All-contains (λ (q : Id × machine.Failure).
+          IsFailure (record (restore_judging r ids) { cands = cands }) kept q.0 q.1)
+          (map (λ f. (f.0, failure_view f.1)) failed) (f.0, failure_view f.1)
           d.failures (in_map (λ (f : Id × Failure). (f.0, failure_view f.1)) failed f gives.1) in
           StaysOn (failure_view f.1)
           (subst (λ xs. Contains xs x) cands_are (subst (Contains cands) same (failed_id f gives.1)))
           (not_kept x off)
-          (subst (λ cs. IsFailure cs kept (FailsRestore r) (MayBeRestored r ids) (NeedsInRestore r (is_in ids))
-          (Serves r.choice) x (failure_view f.1)) cands_are
-          (subst (λ y. IsFailure cands kept (FailsRestore r) (MayBeRestored r ids) (NeedsInRestore r (is_in ids))
-          (Serves r.choice) y (failure_view f.1)) same why))
+          (subst (λ (cs : List Id). IsFailure (record (restore_judging r ids) { cands = cs }) kept x (failure_view f.1))
+          cands_are
+          (subst (λ (y : Id). IsFailure (record (restore_judging r ids) { cands = cands }) kept y (failure_view f.1))
+          same why))
 
       by_kept : (b : Bool) → is_in kept x ≡ b → HasRestoreStatus r ids kept x (status_in kept failed x)
       by_kept true on =

@@ -1,8 +1,8 @@
 -- What APPLY and ACCEPT decide about the candidates of a setting.
 use Rattle.std.specs.Prelude.{List}
 use Rattle.terms.specs.Types.{Id}
-use Rattle.terms.specs.Tests.{Setting, Fails, IsEligible, AreSurvivors}
-use Rattle.terms.specs.Needs.{Needs, Serves}
+use Rattle.terms.specs.Tests.{Setting, AreSurvivors}
+use Rattle.terms.specs.Judged.{install_judging}
 use Rattle.machine.specs.Outcome.{Failure}
 use Rattle.judge_system.specs.Decided.{AreDecided}
 
@@ -10,4 +10,4 @@ use Rattle.judge_system.specs.Decided.{AreDecided}
 pub record IsDecided (s : Setting) (kept : List Id) (failed : List (Id × Failure)) : Type 0 where
   pub survivors : List Id
   pub are_survivors : AreSurvivors s survivors
-  pub are_decided : AreDecided (Fails s) (IsEligible s) (Needs s survivors) (Serves s.choice) s.cands kept failed
+  pub are_decided : AreDecided (install_judging s survivors) kept failed

@@ -1,9 +1,7 @@
 -- What RESTORE decides about the candidates of its list.
 use Rattle.std.specs.Prelude.{List, map}
 use Rattle.terms.specs.Types.{Id}
-use Rattle.terms.specs.Lookups.{is_in}
-use Rattle.terms.specs.Needs.{Serves}
-use Rattle.terms.specs.Restore.{Restoring, NeedsInRestore, FailsRestore, MayBeRestored}
+use Rattle.terms.specs.Restore.{Restoring, restore_judging}
 use Rattle.judge_system.specs.declared.failure.Failure.{Failure}
 use Rattle.judge_system.specs.Decided.{AreDecided}
 use Rattle.judge_system.specs.Views.{why_failed}
@@ -11,5 +9,4 @@ use Rattle.judge_system.specs.Views.{why_failed}
 -- which of the candidates are kept, and why each other one is not
 abbrev pub IsRestoreDecided : Restoring → List Id → List Id → List Id → List (Id × Failure) → Type 0
 IsRestoreDecided r list cands kept failed =
-    AreDecided (FailsRestore r) (MayBeRestored r list) (NeedsInRestore r (is_in list)) (Serves r.choice) cands kept
-    (map why_failed failed)
+    AreDecided (record (restore_judging r list) { cands = cands }) kept (map why_failed failed)

@@ -6,7 +6,7 @@ ghost use Rattle.report.specs.Views.{line_view, status_view};
 ghost use Rattle.judge_system.specs.Views.{why_failed};
 ghost use Rattle.smpe_service.specs.Statuses.{all_statuses, said, status_line, IsById, AreById};
 
-use crate::statuses::statuses;
+use crate::statuses::install_statuses;
 use fields::{Id, IdList};
 use judge_system::Decided;
 use report::{ReportLine, Status, place_of};
@@ -14,14 +14,16 @@ use std::alloc::{AllocError, Global};
 use sysmods::GlobalZone;
 use terms::{NotChosen, ZoneKind};
 
-fn sorted(mut statuses: Vec<(Id, Status)>) -> Vec<(Id, Status)>
+// The statuses in the order of their ids.
+fn sorted_by_id(mut statuses: Vec<(Id, Status)>) -> Vec<(Id, Status)>
     ensures { IsById (map said statuses.items) (map said result.items) }
 {
     statuses.sort_unstable_by_key(|status| status.0);
     statuses
 }
 
-fn line(global: &GlobalZone, id: Id, status: Status) -> ReportLine
+// The line of an id with this status.
+fn status_line(global: &GlobalZone, id: Id, status: Status) -> ReportLine
     ensures { line_view result ≡ StatusLine id (place_of global.now id) (status_view status) }
 {
     ReportLine::Status {
@@ -31,7 +33,8 @@ fn line(global: &GlobalZone, id: Id, status: Status) -> ReportLine
     }
 }
 
-fn lines_of(
+// The lines of these ids, in their order.
+fn status_lines(
     alloc: Global,
     global: &GlobalZone,
     statuses: Vec<(Id, Status)>,
@@ -41,20 +44,20 @@ fn lines_of(
 {
     let mut lines = Vec::new(alloc);
     for (id, status) in statuses {
-        lines.push(line(global, id, status))?;
+        lines.push(status_line(global, id, status))?;
     }
     Ok(lines)
 }
 
 // The lines of these ids, by id.
-fn lines(
+fn lines_by_id(
     alloc: Global,
     global: &GlobalZone,
     statuses: Vec<(Id, Status)>,
 ) -> Result<Vec<ReportLine>, AllocError>
     ensures { IfOk result (λ lines. AreById global.now (map said statuses.items) (map line_view lines.items)) }
 {
-    lines_of(alloc, global, sorted(statuses))
+    status_lines(alloc, global, sorted_by_id(statuses))
 }
 
 /// The lines of all ids that have a status, by id: for this kind of zone those that are kept, some of which take
@@ -72,6 +75,6 @@ pub(crate) fn install_lines(
         (map line_view lines.items)) }
 {
     let Decided { kept, failed } = decided;
-    let found = statuses(alloc, kind, effective, kept.as_slice(), failed, left_out)?;
-    lines(alloc, global, found)
+    let found = install_statuses(alloc, kind, effective, kept.as_slice(), failed, left_out)?;
+    lines_by_id(alloc, global, found)
 }

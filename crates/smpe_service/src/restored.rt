@@ -13,7 +13,7 @@ ghost use Rattle.undo.specs.Scopes.{restoring_from};
 ghost use Rattle.smpe_service.specs.Lines.{AreListedLines};
 ghost use Rattle.smpe_service.specs.RestoreDecided.{IsRestoreDecided};
 
-use crate::restored_lines::lines_of;
+use crate::restored_lines::restore_lines;
 use crate::solving::decide;
 use fields::{IdList, RestoreList};
 use judge_system::Decided;
@@ -51,7 +51,7 @@ pub fn restore(
     Ok(Restored { delta, lines })
 }
 
-// Which candidates of a list are kept, and why each other one is not.
+// Which candidates of a RESTORE are kept, and why each other one is not.
 fn decide_candidates(
     alloc: Global,
     global: &GlobalZone,
@@ -82,7 +82,7 @@ fn listed_lines(
         (map line_view lines.items)) }
 {
     let ids = listed_ids(alloc, candidates)?;
-    lines_of(
+    restore_lines(
         alloc,
         global,
         ids.as_slice(),

@@ -14,8 +14,8 @@ use report::{ReportLine, Status, place_of};
 use std::alloc::{AllocError, Global};
 use sysmods::GlobalZone;
 
-/// A line for each id of the list, some of which are kept and some failed.
-pub(crate) fn lines_of(
+/// A line for each of these ids, in their order: restored if it is kept, failed with why, or otherwise not applied.
+pub(crate) fn restore_lines(
     alloc: Global,
     global: &GlobalZone,
     ids: &[Id],
@@ -28,12 +28,13 @@ pub(crate) fn lines_of(
 {
     let mut lines = Vec::new(alloc);
     for id in ids {
-        lines.push(line(alloc, global, *id, kept, failed)?)?;
+        lines.push(restore_line(alloc, global, *id, kept, failed)?)?;
     }
     Ok(lines)
 }
 
-fn line(
+// The line of one id.
+fn restore_line(
     alloc: Global,
     global: &GlobalZone,
     id: Id,
@@ -43,7 +44,7 @@ fn line(
     requires { Rises (slice_cmp nat_cmp) (λ f. f.0) failed.now }
     ensures { IfOk result (λ line. line_view line ≡ line_in global.now kept.now failed.now id) }
 {
-    let status = status_of(alloc, id, kept, failed)?;
+    let status = restore_status(alloc, id, kept, failed)?;
     Ok(ReportLine::Status {
         id,
         place: place_of(global, id),
@@ -51,7 +52,8 @@ fn line(
     })
 }
 
-fn status_of(
+// The status of one id: restored, failed, or not applied.
+fn restore_status(
     alloc: Global,
     id: Id,
     kept: &IdList,
@@ -63,13 +65,14 @@ fn status_of(
     if kept.contains(id) {
         return Ok(Status::Restored);
     }
-    match found(failed, id) {
-        Some(failed) => Ok(Status::Failed(copied(alloc, &failed.1)?)),
+    match find_failed(failed, id) {
+        Some(failed) => Ok(Status::Failed(copy_failure(alloc, &failed.1)?)),
         None => Ok(Status::NotApplied),
     }
 }
 
-fn found(failed: &[(Id, Failure)], id: Id) -> Option<&(Id, Failure)>
+// The failure of the id, among those that rise by their ids.
+fn find_failed(failed: &[(Id, Failure)], id: Id) -> Option<&(Id, Failure)>
     requires { Rises (slice_cmp nat_cmp) (λ f. f.0) failed.now }
     ensures { option_copied result ≡ find (λ f. bytes_eq f.0 id) failed.now }
 {
@@ -79,7 +82,8 @@ fn found(failed: &[(Id, Failure)], id: Id) -> Option<&(Id, Failure)>
     }
 }
 
-fn copied(alloc: Global, failure: &Failure) -> Result<Failure, AllocError>
+// A copy of the failure, for the report.
+fn copy_failure(alloc: Global, failure: &Failure) -> Result<Failure, AllocError>
     ensures { IfOk result (λ copy. failure_view copy ≡ failure_view failure.now) }
 {
     Ok(Failure {

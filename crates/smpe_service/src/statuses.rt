@@ -12,6 +12,7 @@ use report::Status;
 use std::alloc::{AllocError, Global};
 use terms::{NotChosen, ZoneKind};
 
+// The status of a SYSMOD that takes effect in a zone of this kind.
 fn installed_status(kind: ZoneKind) -> Status
     ensures { status_view result ≡ installed_status kind }
 {
@@ -21,7 +22,7 @@ fn installed_status(kind: ZoneKind) -> Status
     }
 }
 
-// The status of a kept id; those in the list take effect.
+// The status of a kept id: installed if it takes effect, otherwise superseded.
 fn kept_status(kind: ZoneKind, effective: &IdList, id: Id) -> Status
     ensures { status_view result ≡ kept_status kind effective.now id }
 {
@@ -32,6 +33,7 @@ fn kept_status(kind: ZoneKind, effective: &IdList, id: Id) -> Status
     }
 }
 
+// The status of an id that the command names and that is no candidate.
 fn left_out_status(why: NotChosen) -> Status
     ensures { status_view result ≡ not_chosen_status why }
 {
@@ -44,6 +46,7 @@ fn left_out_status(why: NotChosen) -> Status
     }
 }
 
+// Adds the statuses of the kept ids.
 fn push_kept(
     statuses: &mut Vec<(Id, Status)>,
     kind: ZoneKind,
@@ -59,6 +62,7 @@ fn push_kept(
     Ok(())
 }
 
+// Adds the statuses of the candidates that failed, each with why.
 fn push_failed(
     statuses: &mut Vec<(Id, Status)>,
     failed: Vec<(Id, Failure)>,
@@ -72,6 +76,7 @@ fn push_failed(
     Ok(())
 }
 
+// Adds the statuses of the ids that are no candidates.
 fn push_left_out(
     statuses: &mut Vec<(Id, Status)>,
     left_out: &[(Id, NotChosen)],
@@ -87,7 +92,7 @@ fn push_left_out(
 
 /// The statuses of all ids that have one: for this kind of zone those that are kept, some of which take effect, those
 /// that failed, and those that were left out.
-pub(crate) fn statuses(
+pub(crate) fn install_statuses(
     alloc: Global,
     kind: ZoneKind,
     effective: &IdList,

@@ -157,8 +157,8 @@ pub install_changes : (date : Text) (kind : ZoneKind) (i : Install) (s : State) 
     → (files : Files) (check : Bool) (header : Header) → i.check ≡ check
     → header ≡ header_of (install_command kind i) s.boundary
     → ChangesZone date files (install_command kind i) s at name delta check (Ran header lines)
-install_changes date kind i s at name zone related sel bypass delta printed lines knows here place looks chosen bypasses dated
-    plan all files check header checks headed = record {
+install_changes date kind i s at name zone related sel bypass delta printed lines knows here place looks chosen
+    bypasses dated plan all files check header checks headed = record {
       zone = zone;
       has = place.has;
       is_there = place.is_there;

@@ -75,8 +75,8 @@ pub led : {S : Type 0} (g : Ghosts S) (old at : Held S) (date : Text) (files : F
     → Makes change (kept s) (kept (record s { global = after.global })) → (r : Result Told StoreError)
     → EndsCommit g old at s (record s { global = after.global }) change answer r
     → outcome_view answer ≡ Ran (header_of c boundary) lines → HasPerformed g old at s after date files c r
-led g old at date files c s boundary before after edits lines answer named is zones same leads change own here makes r ended
-    view =
+led g old at date files c s boundary before after edits lines answer named is zones same leads change own here makes
+    r ended view =
     let t = record s { global = after.global } in
     performs_committed g old at s date files c t answer
     (subst (Performs date files s c t) (sym view)

@@ -109,33 +109,34 @@ pub restore_changes : (s : State) (at : Session) (name : Text) (zone accepted : 
     → (date : Text) (files : Files) (check : Bool) (boundary : Option Text) → boundary ≡ s.boundary
     → ChangesZone date files (Restore what check) s at name delta check
     (Ran (header_of (Restore what check) boundary) lines)
-restore_changes s at name zone accepted what delta lines knows is place related plan date files check boundary same = record {
-  zone = zone;
-  has = place.has;
-  is_there = place.is_there;
-  boundary = place.boundary;
-  knows = knows;
-  owns = λ unchecked change is. (is, unchecked);
-  performs = λ new changed. headed date files (Restore what check) s (if check then s else with_zone s name new)
-      boundary (λ h. Ran h lines) same (inr (
-        restore_at s what check ∙ place.fits,
-        record {
-          name = name;
-          at = place.boundary;
-          zone = zone;
-          is_there = place.is_there;
-          accepted = accepted;
-          related = related;
-          new = new;
-          lines = lines;
-          restores = restores new changed;
-          state = refl;
-          prints = refl;
-        },
-      ));
-  inventory = λ new changed inventory. restore_kept (kept s) name zone accepted new what lines inventory
-      place.is_there related (restores new changed);
-}
+restore_changes s at name zone accepted what delta lines knows is place related plan date files check boundary
+    same = record {
+      zone = zone;
+      has = place.has;
+      is_there = place.is_there;
+      boundary = place.boundary;
+      knows = knows;
+      owns = λ unchecked change is. (is, unchecked);
+      performs = λ new changed. headed date files (Restore what check) s (if check then s else with_zone s name new)
+          boundary (λ h. Ran h lines) same (inr (
+            restore_at s what check ∙ place.fits,
+            record {
+              name = name;
+              at = place.boundary;
+              zone = zone;
+              is_there = place.is_there;
+              accepted = accepted;
+              related = related;
+              new = new;
+              lines = lines;
+              restores = restores new changed;
+              state = refl;
+              prints = refl;
+            },
+          ));
+      inventory = λ new changed inventory. restore_kept (kept s) name zone accepted new what lines inventory
+          place.is_there related (restores new changed);
+    }
   where
     restores : (new : Zone) → IsChanged delta zone new → RestoresListed s.global zone accepted what new lines
     restores new changed =

@@ -16,8 +16,9 @@ use report::Refusal;
 use terms::ZoneKind;
 use zones::Zone;
 
-/// Why a command of the global zone cannot run at this boundary.
-pub(crate) fn unless_global(boundary: Option<ZoneName>) -> Option<Refusal>
+/// The refusal of a command of the global zone at this boundary: `NoBoundary` if there is none, `WrongKind` if it is
+/// another zone, and `None` if it is GLOBAL.
+pub(crate) fn refusal_unless_global(boundary: Option<ZoneName>) -> Option<Refusal>
     ensures refused { (s : State) → s.boundary ≡ boundary
         → option_map refusal_view result ≡ unless_at (at_global s) s }
     ensures global { result ≡ None → boundary ≡ Some global_name }
@@ -39,7 +40,8 @@ pub struct BoundaryZone<'a> {
 }
 
 impl Session {
-    /// The zone of the boundary, if it is of this kind.
+    /// The zone of the boundary, if it is of this kind. Returns `NoBoundary` if there is no boundary, and `WrongKind`
+    /// if it is GLOBAL or of another kind.
     pub fn place(&self, kind: ZoneKind) -> Result<BoundaryZone<'_>, Refusal>
         ensures named { IfOk result (λ v. self.now.boundary ≡ Some v.name) }
         ensures has { (s : State) → IsSessionOf s self.now → IsInventory (kept s)
@@ -57,7 +59,7 @@ impl Session {
         Ok(BoundaryZone { name, zone })
     }
 
-    /// The zone of this name, if the session has it.
+    /// The zone of this name, or `None` if there is no name or the session does not have the zone.
     pub fn zone_at(&self, name: Option<ZoneName>) -> Option<&Zone>
         ensures { option_copied result ≡ option_and_then (get bytes_eq self.now.zones) name }
     {

@@ -14,7 +14,7 @@ ghost use Rattle.smpe_zones.specs.Own.{IsOfZone};
 use crate::commit::commit_change;
 use crate::session::Session;
 use fields::{Attest, ZoneName};
-use report::{Header, Outcome, Refusal, ReportLine};
+use report::{Header, Outcome, ReportLine};
 use sqlite::Alter;
 use std::alloc::Global;
 use store::{Change, Store, StoreError};
@@ -50,16 +50,16 @@ impl Session {
             return Ok(Outcome::Ran { header, lines });
         }
         let Some(zone) = self.zones.get_mut(&name) else {
-            // The plan is for a zone that the session has.
-            let refusal = Refusal::WrongKind;
-            return Ok(Outcome::Refused { header, refusal });
+            // The callers name a zone that the session has. Without one, only the tables have to change.
+            return commit_change(
+                store,
+                &Change::Zone(name, delta),
+                Outcome::Ran { header, lines },
+            );
         };
         let prepared = zone.prepare(alloc, &delta)?;
-        let outcome = commit_change(
-            store,
-            &Change::Zone(name, delta),
-            Outcome::Ran { header, lines },
-        )?;
+        let change = Change::Zone(name, delta);
+        let outcome = commit_change(store, &change, Outcome::Ran { header, lines })?;
         zone.edit(prepared);
         Ok(outcome)
     }

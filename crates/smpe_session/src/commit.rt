@@ -10,7 +10,8 @@ ghost use Rattle.smpe_session.specs.Uses.{UsesStore};
 use sqlite::Alter;
 use store::{Change, Store, StoreError};
 
-/// Commits what leads from one state to another, and then returns this answer.
+/// The answer, once the change that leads from one state to another is committed. Returns `Memory` if memory runs out,
+/// and `Fault` if the disk fails or the database refuses a row.
 pub(crate) fn commit_change<S: Alter, T: Drop>(
     store: &mut Store<S>,
     change: &Change<'_>,

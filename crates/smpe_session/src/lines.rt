@@ -7,7 +7,7 @@ use report::ReportLine;
 use std::alloc::AllocError;
 
 /// The lines, or one that says that there is none.
-pub fn or_nothing(mut lines: Vec<ReportLine>) -> Result<Vec<ReportLine>, AllocError>
+pub fn lines_or_nothing(mut lines: Vec<ReportLine>) -> Result<Vec<ReportLine>, AllocError>
     ensures { IfOk result (λ all. map line_view all.items ≡ or_nothing (map line_view lines.items)) }
 {
     if lines.is_empty() {

@@ -12,7 +12,7 @@ use terms::CommandWord;
 
 impl Session {
     /// The outcome of a LIST, which refers to what the session has in memory. With `text` it includes the elements'
-    /// records.
+    /// records. It is a refusal if there is no boundary.
     pub fn list(&self, text: bool) -> Outcome<'_>
         ensures performs { (s : State) → IsSessionOf s self.now
             → (date : Text) (files : Files) → Performs date files s (ListZone text) s (outcome_view result) }

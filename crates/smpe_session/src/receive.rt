@@ -12,10 +12,10 @@ ghost use Rattle.smpe_session.specs.Uses.{UsesStore};
 ghost use Rattle.smpe_session.specs.Writing.{TellsOutcomeOf, TellsRun};
 ghost use Rattle.smpe_zones.specs.Own.{IsReceived};
 
-use crate::boundary::unless_global;
+use crate::boundary::refusal_unless_global;
 use crate::commit::commit_change;
 use crate::files::Files;
-use crate::lines::or_nothing;
+use crate::lines::lines_or_nothing;
 use crate::receive_files::{ReceiveItems, read_files};
 use crate::session::Session;
 use fields::{ReceiveWhat, Source};
@@ -27,8 +27,9 @@ use store::{Change, Store, StoreError};
 use sysmods::GlobalZone;
 use terms::CommandWord;
 
-// Takes in the items of PTFIN, and then those of the hold file.
-fn take_found(
+// The edits and the report lines of these items, those of PTFIN before those of the hold file. The edits are made in
+// the global zone of the session.
+fn receive_found_items(
     alloc: Global,
     global: &mut GlobalZone,
     found: ReceiveItems,
@@ -50,7 +51,9 @@ fn take_found(
 }
 
 impl Session {
-    /// RECEIVE of what the files have into the global zone.
+    /// The outcome of a RECEIVE of what the files have into the global zone. It is a refusal if the boundary is not
+    /// GLOBAL, or if a file that is read has a fault. Returns `Memory` if memory runs out, and `Fault` if the database
+    /// fails.
     pub fn receive<S: Alter>(
         &mut self,
         alloc: Global,
@@ -68,15 +71,20 @@ impl Session {
             boundary: self.boundary,
             check: false,
         };
-        if let Some(refusal) = unless_global(self.boundary) {
+        if let Some(refusal) = refusal_unless_global(self.boundary) {
             return Ok(Outcome::Refused { header, refusal });
         }
         let found = match read_files(alloc, files, what)? {
             Ok(found) => found,
             Err(refusal) => return Ok(Outcome::Refused { header, refusal }),
         };
-        let Taken { edits, lines } = take_found(alloc, &mut self.global, found, what.source)?;
-        let lines = or_nothing(lines)?;
+        let Taken { edits, lines } = receive_found_items(
+            alloc,
+            &mut self.global,
+            found,
+            what.source,
+        )?;
+        let lines = lines_or_nothing(lines)?;
         commit_change(
             store,
             &Change::Global(&self.global, edits),

@@ -9,7 +9,7 @@ ghost use Rattle.smpe_session.specs.Uses.{UsesStore};
 ghost use Rattle.smpe_session.specs.Writing.{TellsOutcomeOf, TellsRun};
 ghost use Rattle.smpe_zones.specs.Own.{IsRejected};
 
-use crate::boundary::unless_global;
+use crate::boundary::refusal_unless_global;
 use crate::commit::commit_change;
 use crate::session::Session;
 use fields::IdList;
@@ -21,19 +21,22 @@ use store::{Change, Store, StoreError};
 use terms::CommandWord;
 
 impl Session {
-    // Loads each zone that it does not have yet.
-    fn load_zones<S: Alter>(&mut self, store: &mut Store<S>) -> Result<(), StoreError>
+    // Loads each zone that the session does not have yet. Returns `Memory` if memory runs out, `Fault` if the database
+    // fails, and `NoState` if the rows of zones stand for none.
+    fn load_all_zones<S: Alter>(&mut self, store: &mut Store<S>) -> Result<(), StoreError>
         ensures { UsesStore S.Store store.old store.new (λ _. ⊥) (λ s ended. IsSessionOf s self.old
             → EndsLoad S.Store store.old store.new s (λ _. HasAllZones s self.new) ended) result }
     {
         let names = store.zone_names()?;
         for name in names.as_slice() {
-            self.seek(store, *name)?;
+            self.seek_zone(store, *name)?;
         }
         Ok(())
     }
 
-    /// REJECT of these ids from the global zone.
+    /// The outcome of a REJECT of these ids from the global zone. It is a refusal if the boundary is not GLOBAL.
+    /// Returns `Memory` if memory runs out, `Fault` if the database fails, and `NoState` if the rows of zones stand for
+    /// none.
     pub fn reject<S: Alter>(
         &mut self,
         alloc: Global,
@@ -50,10 +53,10 @@ impl Session {
             boundary: self.boundary,
             check: false,
         };
-        if let Some(refusal) = unless_global(self.boundary) {
+        if let Some(refusal) = refusal_unless_global(self.boundary) {
             return Ok(Outcome::Refused { header, refusal });
         }
-        self.load_zones(store)?;
+        self.load_all_zones(store)?;
         let Rejected { edits, lines } = reject(alloc, &mut self.global, &self.zones, ids)?;
         commit_change(
             store,

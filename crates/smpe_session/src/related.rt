@@ -1,7 +1,4 @@
 //! At which other zone a command looks: ACCEPT at a target zone, RESTORE at the distribution zone.
-ghost use Rattle.std.specs.Prelude.{◌≡◌, false, find, option_map};
-ghost use Rattle.std.specs.Option.{option_map_or};
-ghost use Rattle.std.specs.Str.{bytes_eq};
 ghost use Rattle.smpe_zones.specs.Calls.{EndsLoad};
 ghost use Rattle.smpe_session.specs.Places.{HasRelated};
 ghost use Rattle.smpe_session.specs.Restored.{HasAccepted};
@@ -10,24 +7,16 @@ ghost use Rattle.smpe_session.specs.Uses.{UsesStore};
 
 use crate::session::Session;
 use fields::ZoneName;
+use smpe_zones::target_name;
 use sqlite::Alter;
-use store::{Store, StoreError, ZoneHead};
+use store::{Store, StoreError};
 use terms::ZoneKind;
 
-/// The name of the first zone that names this one as its related zone.
-pub(crate) fn target_name(heads: &[ZoneHead], name: ZoneName) -> Option<ZoneName>
-    ensures { result ≡ option_map (λ head. head.name)
-        (find (λ head. option_map_or (bytes_eq name) head.related false) heads.now) }
-{
-    heads
-        .iter()
-        .find(|head| head.related == Some(name))
-        .map(|head| head.name)
-}
-
 impl Session {
-    /// The name of the other zone at which the command looks, if there is one: ACCEPT at the target zone whose related
-    /// zone is that of the boundary. The call loads it.
+    /// The name of the other zone at which a command for zones of this kind looks, or `None` if there is none. ACCEPT,
+    /// for distribution zones, looks at the target zone whose related zone is that of the boundary, and APPLY, for
+    /// target zones, at none. The call loads the zone. Returns `Memory` if memory runs out, `Fault` if the database
+    /// fails, and `NoState` if the rows of zones stand for none.
     pub fn seek_related<S: Alter>(
         &mut self,
         store: &mut Store<S>,
@@ -46,11 +35,13 @@ impl Session {
         let Some(target) = target_name(heads.as_slice(), name) else {
             return Ok(None);
         };
-        self.seek(store, target)?;
+        self.seek_zone(store, target)?;
         Ok(Some(target))
     }
 
-    /// The name of the zone to which that of the boundary is related, if there is one. The call loads it.
+    /// The name of the zone to which that of the boundary is related, or `None` if there is none. The call loads that
+    /// zone. Returns `Memory` if memory runs out, `Fault` if the database fails, and `NoState` if its rows stand for
+    /// none.
     pub fn seek_accepted<S: Alter>(
         &mut self,
         store: &mut Store<S>,
@@ -61,7 +52,7 @@ impl Session {
         let Some(accepted) = self.zone_at(self.boundary).and_then(|zone| zone.related()) else {
             return Ok(None);
         };
-        self.seek(store, accepted)?;
+        self.seek_zone(store, accepted)?;
         Ok(Some(accepted))
     }
 }

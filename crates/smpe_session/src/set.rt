@@ -19,8 +19,9 @@ use store::{Store, StoreError};
 use terms::CommandWord;
 
 impl Session {
-    /// Whether SET may name it. A zone that SET names is loaded once in a job.
-    pub(crate) fn seek<S: Alter>(
+    /// Whether SET may name the zone: it is GLOBAL or it exists. The call loads it, unless the session has it already.
+    /// Returns `Memory` if memory runs out, `Fault` if the database fails, and `NoState` if its rows stand for no zone.
+    pub(crate) fn seek_zone<S: Alter>(
         &mut self,
         store: &mut Store<S>,
         name: ZoneName,
@@ -42,7 +43,8 @@ impl Session {
         Ok(true)
     }
 
-    /// SET: the boundary is this zone, if it is one.
+    /// The outcome of a SET: the boundary becomes this zone, or the outcome is a refusal if there is no such zone.
+    /// Returns `Memory` if memory runs out, `Fault` if the database fails, and `NoState` if its rows stand for no zone.
     pub fn set<S: Alter>(
         &mut self,
         alloc: Global,
@@ -59,7 +61,7 @@ impl Session {
             boundary: Some(name),
             check: false,
         };
-        if !self.seek(store, name)? {
+        if !self.seek_zone(store, name)? {
             return Ok(Outcome::Refused {
                 header,
                 refusal: Refusal::NoZone,

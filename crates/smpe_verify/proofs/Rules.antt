@@ -26,7 +26,7 @@ use Rattle.smpe_verify.specs.declared.breach.ElementFault.TheVariants.{NotUpdate
 use Rattle.smpe_verify.specs.declared.breach.Breach.{Breach}
 use Rattle.smpe_verify.specs.declared.breach.Breach.TheVariants.{OfEntry, OfElement}
 use Rattle.smpe_verify.specs.FirstBreach.{not_applied, not_supplied, applied_in, deleted_in, support_fault}
-use Rattle.smpe_verify.specs.FirstBreach.{peace_fault, applied_fault, entry_fault, other_owner, level_fault}
+use Rattle.smpe_verify.specs.FirstBreach.{peace_fault, applied_fault, entry_fault, other_owner_fault, level_fault}
 use Rattle.smpe_verify.specs.FirstBreach.{change_fault, owner_fault, element_fault, entry_breach, element_breach}
 use Rattle.smpe_verify.specs.FirstBreach.{first_breach, first_of, none_or}
 use Rattle.smpe_verify.specs.Breaks.{EntryBreaks, ElementBreaks, Breaks, ids_at}
@@ -164,10 +164,10 @@ module _ (g : Global) (c : Choice) (zone : Zone) where
     other : (x : Id) → IsFalse (is_owned x) → owner g c x ≢ e.fmid
     other x isnt same = let is = same_owner x same in absurd (cc (isnt, is))
 
-    owned_at : (level : Level) → Judges (other_owner g c e.fmid level (ids_at e level))
+    owned_at : (level : Level) → Judges (other_owner_fault g c e.fmid level (ids_at e level))
         (All (λ x. owner g c x ≡ e.fmid) (ids_at e level)) (ElementBreaks g c zone e)
     owned_at level =
-        let found : Judges (other_owner g c e.fmid level (ids_at e level))
+        let found : Judges (other_owner_fault g c e.fmid level (ids_at e level))
         (All (λ x. IsTrue (is_owned x)) (ids_at e level)) (ElementBreaks g c zone e) =
         mapped (find (λ x. not (is_owned x)) (ids_at e level)) (λ x. OtherOwner level x (owner g c x))
         (λ x it. (it.1, refl, other x (not-true (is_owned x) it.0))) (searched_not is_owned (ids_at e level)) in

@@ -75,8 +75,8 @@ entry_fault g c zone e = option_or
     (option_map SupbyNotApplied (not_applied zone e.supby))
 
 -- the first id in the list whose elements belong to another function than this one
-abbrev pub other_owner : Global → Choice → Id → Level → List Id → Option ElementFault
-other_owner g c fmid level ids =
+abbrev pub other_owner_fault : Global → Choice → Id → Level → List Id → Option ElementFault
+other_owner_fault g c fmid level ids =
     option_map (λ x. OtherOwner level x (owner g c x)) (find (λ x. not (bytes_eq (owner g c x) fmid)) ids)
 
 -- IsOwned, clause by clause
@@ -95,9 +95,9 @@ change_fault g e = first (
 
 abbrev pub owner_fault : Global → Choice → Element → Option ElementFault
 owner_fault g c e = first (
-    other_owner g c e.fmid Fmid (e.fmid ∷ [])
-    ∷ other_owner g c e.fmid Rmid (e.rmid ∷ [])
-    ∷ other_owner g c e.fmid Umid e.umids
+    other_owner_fault g c e.fmid Fmid (e.fmid ∷ [])
+    ∷ other_owner_fault g c e.fmid Rmid (e.rmid ∷ [])
+    ∷ other_owner_fault g c e.fmid Umid e.umids
     ∷ [])
 
 -- the first fault of an element

@@ -15,8 +15,8 @@ use std::alloc::{AllocError, Global};
 use sysmods::{GlobalZone, VerChoice};
 use zones::{Element, Zone, choose};
 
-/// The first rule that the zone breaks: entries rising by id, then elements by type and name, and for each the rules in
-/// the order of the definition. There is none if and only if the zone is closed.
+/// The first breach of the zone: entries rising by id, then elements by type and name, and for each the rules in the
+/// order of the definition. `None` if and only if the zone is closed. Returns an error if memory runs out.
 pub fn first_breach(
     alloc: Global,
     global: &GlobalZone,
@@ -29,32 +29,43 @@ pub fn first_breach(
     ensures some { IfOk result
         (λ breach. IfSome breach (Breaks global.now (counting global.now zone.now []) zone.now)) }
 {
-    known_texts(zone);
-    breach_of(alloc, global, zone)
+    // (for the clauses `none` and `some`: that a text has the form of its type is no rule here)
+    attest_texts(zone);
+    find_breach(alloc, global, zone)
 }
 
-// By the `++VER`s that count in it.
-fn breach_of(alloc: Global, global: &GlobalZone, zone: &Zone) -> Result<Option<Breach>, AllocError>
+// Chooses the `++VER`s that count in the zone without any candidates, and finds the first breach by them, or `None`.
+fn find_breach(
+    alloc: Global,
+    global: &GlobalZone,
+    zone: &Zone,
+) -> Result<Option<Breach>, AllocError>
     ensures { IfOk result
         (λ breach. breach ≡ first_breach global.now (counting global.now zone.now []) zone.now) }
 {
     let no_candidates = IdList::new(alloc);
     let vers = choose(alloc, global, zone, &no_candidates)?;
-    breach_by(alloc, &vers, zone)
+    find_breach_by_vers(alloc, &vers, zone)
 }
 
-// By these `++VER`s.
-fn breach_by(alloc: Global, vers: &VerChoice<'_>, zone: &Zone) -> Result<Option<Breach>, AllocError>
+// Finds the first breach by these `++VER`s: that of an entry, or else that of an element, or else `None`. It stands
+// apart because its clause leaves open how the `++VER`s were chosen.
+fn find_breach_by_vers(
+    alloc: Global,
+    vers: &VerChoice<'_>,
+    zone: &Zone,
+) -> Result<Option<Breach>, AllocError>
     ensures { IfOk result
         (λ breach. breach ≡ first_breach vers.now.global.now (choice vers.now) zone.now) }
 {
-    if let Some(breach) = entry_breach(alloc, vers, zone)? {
+    if let Some(breach) = first_entry_breach(alloc, vers, zone)? {
         return Ok(Some(breach));
     }
-    Ok(element_breach(vers, zone))
+    Ok(first_element_breach(vers, zone))
 }
 
-fn entry_breach(
+// The breach of the first entry that breaks a rule; `None` if no entry does.
+fn first_entry_breach(
     alloc: Global,
     vers: &VerChoice<'_>,
     zone: &Zone,
@@ -63,15 +74,16 @@ fn entry_breach(
         ≡ first_of (entry_breach vers.now.global.now (choice vers.now) zone.now) zone.now.entries) }
 {
     for entry in zone.entries() {
-        let found = entry_fault(alloc, vers, zone, entry)?;
-        if let Some(fault) = found {
+        let broken_rule = entry_fault(alloc, vers, zone, entry)?;
+        if let Some(fault) = broken_rule {
             return Ok(Some(Breach::OfEntry(entry.id, fault)));
         }
     }
     Ok(None)
 }
 
-fn element_breach(vers: &VerChoice<'_>, zone: &Zone) -> Option<Breach>
+// The breach of the first element that breaks a rule; `None` if no element does.
+fn first_element_breach(vers: &VerChoice<'_>, zone: &Zone) -> Option<Breach>
     ensures { result
         ≡ first_of (element_breach vers.now.global.now (choice vers.now) zone.now) zone.now.elements }
 {
@@ -83,16 +95,19 @@ fn element_breach(vers: &VerChoice<'_>, zone: &Zone) -> Option<Breach>
     None
 }
 
-// A fact about each element's text. The call only goes over the elements.
-fn known_texts(zone: &Zone)
+// Proves for the clauses of the caller that the text of each element has the form of its type. The code only looks at
+// the elements.
+fn attest_texts(zone: &Zone)
     ensures { All (λ e. HasForm e.elem_type e.text) zone.now.elements }
 {
     for element in zone.elements() {
-        known_text(element);
+        attest_text(element);
     }
 }
 
-fn known_text(element: &Element)
+// Proves that the text of the element has the form of its type: the type `Element` promises that to any code that reads
+// a field, so this code reads the text, and does nothing with it.
+fn attest_text(element: &Element)
     ensures { HasForm element.now.elem_type element.now.text }
 {
     let _ = &element.text;

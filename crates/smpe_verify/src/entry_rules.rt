@@ -1,6 +1,6 @@
 //! The rules for SYSMOD entries.
 ghost use Rattle.std.specs.Prelude.{◌≡◌, None, IfOk, is_some, if◌then◌else◌};
-ghost use Rattle.terms.specs.Lookups.{at_most_one, delby_of, is_function};
+ghost use Rattle.terms.specs.Lookups.{at_most_one, is_function};
 ghost use Rattle.terms.specs.Choice.{npre_of};
 ghost use Rattle.terms.specs.Over.{chain};
 ghost use Rattle.sysmods.specs.Choices.{choice};
@@ -11,9 +11,10 @@ use crate::breach::EntryFault;
 use fields::Id;
 use std::alloc::{AllocError, Global};
 use sysmods::VerChoice;
-use zones::{Entry, Zone, requisites_held};
+use zones::{Entry, Zone, binding_requisites};
 
-/// The first rule that the entry breaks.
+/// The fault of the first rule that the entry breaks, or `None`: the rules for an applied SYSMOD, if its SYSMOD is
+/// applied, and then the one for its SUPBY. Returns an error if memory runs out; so do the calls below.
 pub(crate) fn entry_fault(
     alloc: Global,
     vers: &VerChoice<'_>,
@@ -23,14 +24,14 @@ pub(crate) fn entry_fault(
     ensures { IfOk result
         (λ fault. fault ≡ entry_fault vers.now.global.now (choice vers.now) zone.now entry.now) }
 {
-    if let Some(fault) = own_fault(alloc, vers, zone, entry)? {
+    if let Some(fault) = fault_if_applied(alloc, vers, zone, entry)? {
         return Ok(Some(fault));
     }
     Ok(first_not_applied(zone, entry.supby.as_slice()).map(|id| EntryFault::SupbyNotApplied(id)))
 }
 
-// The first rule for an applied SYSMOD that it breaks, if it is applied.
-fn own_fault(
+// The fault of the first rule for an applied SYSMOD that the entry breaks; `None` also if its SYSMOD is not applied.
+fn fault_if_applied(
     alloc: Global,
     vers: &VerChoice<'_>,
     zone: &Zone,
@@ -45,6 +46,8 @@ fn own_fault(
     applied_fault(alloc, vers, zone, entry.id)
 }
 
+// The fault of the first rule that the applied SYSMOD breaks, or `None`: first the rules by what it needs, then those
+// by what may not be so.
 fn applied_fault(
     alloc: Global,
     vers: &VerChoice<'_>,
@@ -56,10 +59,11 @@ fn applied_fault(
     if let Some(fault) = support_fault(alloc, vers, zone, id)? {
         return Ok(Some(fault));
     }
-    Ok(peace_fault(vers, zone, id))
+    Ok(npre_or_chain_fault(vers, zone, id))
 }
 
-// Its `++VER`, its FMID and its requisites.
+// The fault of the first thing that the applied SYSMOD needs and lacks: its `++VER`, its FMID, a requisite. `None` if
+// it lacks nothing.
 fn support_fault(
     alloc: Global,
     vers: &VerChoice<'_>,
@@ -74,13 +78,14 @@ fn support_fault(
     if let Some(fmid) = fmid_not_applied(zone, ver.fmid) {
         return Ok(Some(EntryFault::FmidNotApplied(fmid)));
     }
-    let requisites = requisites_held(alloc, vers, zone, id)?;
-    let open = first_not_supplied(zone, requisites.as_slice());
-    Ok(open.map(|id| EntryFault::RequisiteNotSupplied(id)))
+    let requisites = binding_requisites(alloc, vers, zone, id)?;
+    let missing = first_not_supplied(zone, requisites.as_slice());
+    Ok(missing.map(|id| EntryFault::RequisiteNotSupplied(id)))
 }
 
-// The NPRE of a function, and its chain.
-fn peace_fault(vers: &VerChoice<'_>, zone: &Zone, id: Id) -> Option<EntryFault>
+// The fault if the applied SYSMOD is a function and an id in its NPRE is applied, or else if its chain has a deleted
+// id; `None` if neither is so.
+fn npre_or_chain_fault(vers: &VerChoice<'_>, zone: &Zone, id: Id) -> Option<EntryFault>
     ensures { result ≡ peace_fault vers.now.global.now (choice vers.now) zone.now id }
 {
     if let Some(npre) = applied_npre(vers, zone, id) {
@@ -90,14 +95,14 @@ fn peace_fault(vers: &VerChoice<'_>, zone: &Zone, id: Id) -> Option<EntryFault>
     Some(EntryFault::DeletedInChain(deleted))
 }
 
-// The first id in the chain that was deleted.
+// The first id in the chain of the SYSMOD that was deleted from the zone, or `None`.
 fn deleted_in_chain(vers: &VerChoice<'_>, zone: &Zone, id: Id) -> Option<Id>
     ensures { result ≡ deleted_in zone.now (chain vers.now.global.now (choice vers.now) id) }
 {
-    vers.chain(id).find(|above| is_deleted(zone, *above))
+    vers.chain(id).find(|above| zone.is_deleted(*above))
 }
 
-// The first id in the NPRE of a function that is applied.
+// The first id in the NPRE of the SYSMOD that is applied; `None` if there is none, or the SYSMOD is no function.
 fn applied_npre(vers: &VerChoice<'_>, zone: &Zone, id: Id) -> Option<Id>
     ensures { result ≡ (if is_function vers.now.global.now id
         then applied_in zone.now (npre_of (choice vers.now) id) else None) }
@@ -108,15 +113,7 @@ fn applied_npre(vers: &VerChoice<'_>, zone: &Zone, id: Id) -> Option<Id>
     first_applied(zone, vers.ver(id)?.npre.as_slice())
 }
 
-fn is_deleted(zone: &Zone, id: Id) -> bool
-    ensures { result ≡ is_some (delby_of zone.now id) }
-{
-    match zone.entry(id) {
-        Some(entry) => entry.delby.is_some(),
-        None => false,
-    }
-}
-
+// The FMID if there is one and it is not applied, or `None`.
 fn fmid_not_applied(zone: &Zone, fmid: Option<Id>) -> Option<Id>
     ensures { result ≡ not_applied zone.now (at_most_one fmid) }
 {
@@ -128,19 +125,21 @@ fn fmid_not_applied(zone: &Zone, fmid: Option<Id>) -> Option<Id>
     }
 }
 
+// The first of these ids that is applied, or `None`.
 fn first_applied(zone: &Zone, ids: &[Id]) -> Option<Id>
     ensures { result ≡ applied_in zone.now ids.now }
 {
     ids.iter().copied().find(|id| zone.is_applied(*id))
 }
 
-/// The first of these ids that is not applied.
+/// The first of these ids that is not applied, or `None`.
 pub(crate) fn first_not_applied(zone: &Zone, ids: &[Id]) -> Option<Id>
     ensures { result ≡ not_applied zone.now ids.now }
 {
     ids.iter().copied().find(|id| !zone.is_applied(*id))
 }
 
+// The first of these ids that is neither applied nor superseded, or `None`.
 fn first_not_supplied(zone: &Zone, ids: &[Id]) -> Option<Id>
     ensures { result ≡ not_supplied zone.now ids.now }
 {

@@ -5,7 +5,7 @@ ghost use Rattle.machine.specs.Report.{words_line};
 
 use std::alloc::AllocError;
 
-/// Appends the bytes.
+/// Appends the bytes to the text. Like the calls below, returns an error if memory runs out.
 pub(crate) fn put(piece: &[u8], text: &mut Vec<u8>) -> Result<(), AllocError>
     ensures { OnOk result (text.new.items ≡ text.old.items ++ piece.now) }
 {
@@ -13,7 +13,7 @@ pub(crate) fn put(piece: &[u8], text: &mut Vec<u8>) -> Result<(), AllocError>
     Ok(())
 }
 
-/// Appends the words with one blank between them.
+/// Appends the words to the text, with one blank between each two.
 pub(crate) fn put_joined(words: &[&[u8]], text: &mut Vec<u8>) -> Result<(), AllocError>
     ensures { OnOk result
         (text.new.items ≡ text.old.items ++ join_with_byte 32 (map (λ word. word.now) words.now)) }
@@ -29,7 +29,7 @@ pub(crate) fn put_joined(words: &[&[u8]], text: &mut Vec<u8>) -> Result<(), Allo
     Ok(())
 }
 
-/// Appends a line of these words.
+/// Appends the words to the text, with one blank between each two and the end of a line after them.
 pub(crate) fn put_line(words: &[&[u8]], text: &mut Vec<u8>) -> Result<(), AllocError>
     ensures { OnOk result
         (text.new.items ≡ text.old.items ++ words_line (map (λ word. word.now) words.now)) }

@@ -6,7 +6,7 @@ pub fn verified_is_closed()
     ensures { VerifiedIsClosed }
 {}
 
-/// A breach that is told is one: the clause of a closed zone fails there.
+/// What the answer calls a breach is one: the clause of a closed zone fails there.
 pub fn told_is_broken()
     ensures { ToldIsBroken }
 {}

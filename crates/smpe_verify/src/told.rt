@@ -1,4 +1,4 @@
-//! What is told about a store.
+//! The line about what was found in a store.
 ghost use Rattle.std.specs.Prelude.{◌≡◌, ◌++◌, IfOk, OnOk};
 ghost use Rattle.smpe_verify.specs.Telling.{IsTold, counts_text, breach_text, entry_fault_text, element_fault_text};
 ghost use Rattle.smpe_verify.specs.Telling.{level_text};
@@ -11,30 +11,41 @@ use fields::spelling::type_text;
 use itoa::Buffer;
 use std::alloc::{AllocError, Global};
 
-/// The line that is told, and the program's status.
+/// The status of a program that has found a zone which is not closed.
+const BROKEN_STATUS: u8 = 12;
+
+/// The line about what was found, and the program's status.
 #[derive(Drop)]
 pub struct Verified {
     pub text: Vec<u8>,
     pub status: u8,
 }
 
-/// Tells what a store turned out to be: the counts, or the first breach by zone, by SYSMOD or element, and by rule.
-pub fn tell(alloc: Global, found: Verification) -> Result<Verified, AllocError>
-    ensures { IfOk result (IsTold found) }
+/// Puts into words what was found: the counts, or the first breach by zone, by SYSMOD or element, and by rule. Returns
+/// an error if memory runs out.
+pub fn describe_verification(
+    alloc: Global,
+    verification: Verification,
+) -> Result<Verified, AllocError>
+    ensures { IfOk result (IsTold verification) }
 {
     let mut text = Vec::new(alloc);
-    match found {
+    match verification {
         Verification::Closed(counts) => {
             put_counts(counts, &mut text)?;
             Ok(Verified { text, status: 0 })
         }
         Verification::Broken(zone, breach) => {
             put_breach(zone, breach, &mut text)?;
-            Ok(Verified { text, status: 12 })
+            Ok(Verified {
+                text,
+                status: BROKEN_STATUS,
+            })
         }
     }
 }
 
+// Appends the line of a store whose zones are all closed.
 fn put_counts(counts: Counts, text: &mut Vec<u8>) -> Result<(), AllocError>
     ensures { OnOk result (text.new.items ≡ text.old.items ++ counts_text counts) }
 {
@@ -58,6 +69,7 @@ fn put_counts(counts: Counts, text: &mut Vec<u8>) -> Result<(), AllocError>
     )
 }
 
+// Appends the line of the zone and the breach: the entry or the element, and after a colon the rule.
 fn put_breach(zone: ZoneName, breach: Breach, text: &mut Vec<u8>) -> Result<(), AllocError>
     ensures { OnOk result (text.new.items ≡ text.old.items ++ breach_text zone breach) }
 {
@@ -83,6 +95,7 @@ fn put_breach(zone: ZoneName, breach: Breach, text: &mut Vec<u8>) -> Result<(), 
     }
 }
 
+// Appends the rest of the line: the rule that an entry breaks.
 fn put_entry_fault(fault: EntryFault, text: &mut Vec<u8>) -> Result<(), AllocError>
     ensures { OnOk result (text.new.items ≡ text.old.items ++ entry_fault_text fault) }
 {
@@ -114,6 +127,7 @@ fn put_entry_fault(fault: EntryFault, text: &mut Vec<u8>) -> Result<(), AllocErr
     }
 }
 
+// Appends the rest of the line: the rule that an element breaks.
 fn put_element_fault(fault: ElementFault, text: &mut Vec<u8>) -> Result<(), AllocError>
     ensures { OnOk result (text.new.items ≡ text.old.items ++ element_fault_text fault) }
 {
@@ -139,6 +153,7 @@ fn put_element_fault(fault: ElementFault, text: &mut Vec<u8>) -> Result<(), Allo
     }
 }
 
+// The operand that names the level in the line.
 fn level_text(level: Level) -> &'static [u8]
     ensures { result.now ≡ level_text level }
 {

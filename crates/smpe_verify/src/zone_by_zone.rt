@@ -22,18 +22,18 @@ pub fn verify<S: Alter>(alloc: Global, store: &mut Store<S>) -> Result<Verificat
 {
     let global = store.load_global()?;
     let names = store.zone_names()?;
-    let mut counts = begun(&global, names.as_slice());
+    let mut counts = initial_counts(&global, names.as_slice());
     for name in names.as_slice() {
-        let found = verify_zone(alloc, store, &global, *name, &mut counts)?;
-        if let Some(breach) = found {
+        let zone_breach = verify_zone(alloc, store, &global, *name, &mut counts)?;
+        if let Some(breach) = zone_breach {
             return Ok(Verification::Broken(*name, breach));
         }
     }
     Ok(Verification::Closed(counts))
 }
 
-// The received SYSMODs and the zones are counted, and no entry or element.
-fn begun(global: &GlobalZone, names: &[ZoneName]) -> Counts
+// The counts before any zone is loaded: of received SYSMODs and of zones. No entry or element is counted yet.
+fn initial_counts(global: &GlobalZone, names: &[ZoneName]) -> Counts
     ensures { result ≡ begun global.now names.now }
 {
     Counts {
@@ -44,7 +44,8 @@ fn begun(global: &GlobalZone, names: &[ZoneName]) -> Counts
     }
 }
 
-// Counts the zone of this name, and finds its first breach.
+// Loads the zone of this name, adds it to the counts, and finds its first breach. `None` if the zone is closed, or if
+// no zone has the name. The errors are those of `verify`.
 fn verify_zone<S: Alter>(
     alloc: Global,
     store: &mut Store<S>,
@@ -55,25 +56,25 @@ fn verify_zone<S: Alter>(
     ensures { Loads S.Store store.old store.new (λ i breach. (breach ≡ breach_at i global.now name)
         × (counts.new ≡ counted i counts.old name)) result }
 {
-    let loaded = store.load_zone(name)?;
-    let Some(zone) = loaded else {
+    let named_zone = store.load_zone(name)?;
+    let Some(zone) = named_zone else {
         return Ok(None);
     };
-    count(&zone, counts)?;
+    count_zone(&zone, counts)?;
     Ok(first_breach(alloc, global, &zone)?)
 }
 
-// Adds the zone's entries and elements.
-fn count(zone: &Zone, counts: &mut Counts) -> Result<(), AllocError>
+// Adds the zone's entries and elements to the counts. Returns an error if a count does not fit.
+fn count_zone(zone: &Zone, counts: &mut Counts) -> Result<(), AllocError>
     ensures { OnOk result (IsCounted zone.now counts.old counts.new) }
 {
-    counts.entries = sum(counts.entries, zone.entries().len())?;
-    counts.elements = sum(counts.elements, zone.elements().len())?;
+    counts.entries = checked_sum(counts.entries, zone.entries().len())?;
+    counts.elements = checked_sum(counts.elements, zone.elements().len())?;
     Ok(())
 }
 
-// Their sum, or an error if it does not fit.
-fn sum(a: usize, b: usize) -> Result<usize, AllocError>
+// The sum, or an error if it does not fit.
+fn checked_sum(a: usize, b: usize) -> Result<usize, AllocError>
     ensures { IfOk result (λ sum. sum ≡ a + b) }
 {
     a.checked_add(b).ok_or(AllocError)

@@ -57,8 +57,8 @@ abbrev pub commands_of : Inquiry → List (List Id)
 commands_of a = if a.together then a.ids ∷ [] else map (λ x. x ∷ []) a.ids
 
 -- These are the candidates and the lines of an APPLY, in a distribution zone of an ACCEPT, that selects these ids.
-pub record Prints (g : Global) (zone : Zone) (related : Option Zone) (a : Inquiry) (ids cands : List Id) (lines : List Line)
-    : Type 0 where
+pub record Prints (g : Global) (zone : Zone) (related : Option Zone) (a : Inquiry) (ids cands : List Id)
+    (lines : List Line) : Type 0 where
   pub selection : Selection
   pub selects : Selects ids a.groupextend selection
   pub candidates : AreCandidates g zone selection cands

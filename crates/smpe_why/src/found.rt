@@ -1,18 +1,18 @@
-//! What is loaded to tell about ids in a zone.
-ghost use Rattle.std.specs.Prelude.{◌≡◌, false, find, option_map};
-ghost use Rattle.std.specs.Option.{option_map_or};
-ghost use Rattle.std.specs.Str.{bytes_eq};
+//! What is loaded to answer a question about ids in a zone.
+ghost use Rattle.std.specs.Prelude.{◌≡◌};
 ghost use Rattle.store.specs.Loads.{Loads};
-ghost use Rattle.smpe_why.specs.Telling.{IsFoundIn, target_at, target_for};
+ghost use Rattle.smpe_why.specs.Telling.{IsFoundIn, target_for};
 
 use fields::ZoneName;
+use smpe_zones::target_name;
 use sqlite::Alter;
 use store::{Store, StoreError, ZoneHead};
 use sysmods::GlobalZone;
 use terms::ZoneKind;
 use zones::Zone;
 
-/// The global zone, the zone of a name, if there is one, and the target zone at which an ACCEPT there also looks.
+/// The global zone, the zone of a name, if there is one, and the target zone at which an ACCEPT there also looks, if
+/// there is one.
 #[derive(Drop)]
 pub struct LoadedZones {
     pub global: GlobalZone,
@@ -23,7 +23,7 @@ pub struct LoadedZones {
 /// Loads the global zone, the zone of this name and the one at which an ACCEPT there also looks, and changes nothing.
 /// Returns `Memory` if memory runs out, `Fault` if the database fails, and `NoState` if the rows of one of them stand
 /// for none.
-pub fn find<S: Alter>(store: &mut Store<S>, name: ZoneName) -> Result<LoadedZones, StoreError>
+pub fn load_zones<S: Alter>(store: &mut Store<S>, name: ZoneName) -> Result<LoadedZones, StoreError>
     ensures { Loads S.Store store.old store.new (IsFoundIn name) result }
 {
     let global = store.load_global()?;
@@ -44,32 +44,16 @@ pub fn find<S: Alter>(store: &mut Store<S>, name: ZoneName) -> Result<LoadedZone
     })
 }
 
-// The name of the other zone at which an install into this zone looks, if the zone exists.
+// The name of the other zone at which an install into this zone looks: for a distribution zone the first zone that
+// names it as its related zone, if there is one. `None` for a target zone, and if the zone does not exist.
 fn target_for(heads: &[ZoneHead], name: ZoneName, zone: &Option<Zone>) -> Option<ZoneName>
     ensures { result ≡ target_for heads.now name zone.now }
 {
     match zone {
-        Some(zone) => target_at(heads, name, zone.kind()),
+        Some(zone) => match zone.kind() {
+            ZoneKind::Target => None,
+            ZoneKind::Distribution => target_name(heads, name),
+        },
         None => None,
     }
-}
-
-fn target_at(heads: &[ZoneHead], name: ZoneName, kind: ZoneKind) -> Option<ZoneName>
-    ensures { result ≡ target_at heads.now name kind }
-{
-    match kind {
-        ZoneKind::Target => None,
-        ZoneKind::Distribution => naming(heads, name),
-    }
-}
-
-// The name of the first zone that names this one as its related zone.
-fn naming(heads: &[ZoneHead], name: ZoneName) -> Option<ZoneName>
-    ensures { result ≡ option_map (λ head. head.name)
-        (find (λ head. option_map_or (bytes_eq name) head.related false) heads.now) }
-{
-    heads
-        .iter()
-        .find(|head| head.related == Some(name))
-        .map(|head| head.name)
 }

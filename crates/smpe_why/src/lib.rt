@@ -1,10 +1,10 @@
-//! What `smpe why` tells about ids in a zone of a store. `find` loads the global zone, the zone, and the target zone at
-//! which an ACCEPT there also looks, and changes nothing, whatever the tables hold. `tell` makes from them the lines of
-//! the facts of the ids, each with what an APPLY or ACCEPT that selects it, alone or with the others, would print about
-//! it, in words, and the program's status, or a refusal if there is no such zone. `bypass_of` reads the BYPASS of a
-//! question. Two laws of `machine_laws` say more: what such an APPLY prints is the same on any date (`prints_the_same`),
-//! and an id that no fact blocks is applied (`clear_is_applied`). Every call that allocates returns an error if memory
-//! runs out; no contract says when.
+//! What `smpe why` tells about ids in a zone of a store. `load_zones` loads the global zone, the zone, and the target
+//! zone at which an ACCEPT there also looks, and changes nothing, whatever the tables hold. `answer_question` makes
+//! from them the lines of the facts of the ids, each with what an APPLY or ACCEPT that selects it, alone or with the
+//! others, would print about it, in words, and the program's status, or a refusal if there is no such zone.
+//! `read_bypass` reads the BYPASS of a question. Two laws of `machine_laws` say more: what such an APPLY prints is the
+//! same on any date (`prints_the_same`), and an id that no fact blocks is applied (`clear_is_applied`). Every call that
+//! allocates returns an error if memory runs out; no contract says when.
 #![tactic(auto)]
 
 mod bypass_text;
@@ -12,7 +12,7 @@ mod found;
 mod question;
 mod told;
 
-pub use bypass_text::bypass_of;
-pub use found::{LoadedZones, find};
+pub use bypass_text::read_bypass;
+pub use found::{LoadedZones, load_zones};
 pub use question::Question;
-pub use told::{Told, tell};
+pub use told::{Told, answer_question};

@@ -1,4 +1,4 @@
-//! What is told about ids in a zone that was found.
+//! The answer to a question about ids in a zone that was loaded.
 ghost use Rattle.std.specs.Prelude.{◌≡◌, ◌++◌, ◌+◌, ℕ, max, Some, map, option_copied, IfOk, OnOk};
 ghost use Rattle.terms.specs.Types.{Text as AText, Zone as AZone};
 ghost use Rattle.terms.specs.Choice.{place};
@@ -18,32 +18,39 @@ use crate::question::Question;
 use fields::{Attest, Bypass, Id, IdList, Selection, SourceList, YyDdd};
 use report::{LineWord, ReportLine, append_words};
 use report_verdict::{Grounds, conflicts_of, put_verdict};
-use report_why::{Lookups, facts_code, facts_of, put_facts};
+use report_why::{Lookups, facts_code, id_facts, put_facts};
 use select::candidates;
 use smpe_service::{InstallChange, apply};
 use std::alloc::{AllocError, Global};
 use zones::{Candidates, Scope, Zone, choose, deletions};
 
-/// The lines that are told, and the program's status.
+/// The lines of the answer, and the program's status.
 #[derive(Drop)]
 pub struct Told {
     pub text: Vec<u8>,
     pub status: u8,
 }
 
-/// Tells the facts about the ids of the question, in their order, and what an APPLY, in a distribution zone an ACCEPT,
-/// that selects each, or all together, would make of it, or that there is no such zone.
-pub fn tell(alloc: Global, found: &LoadedZones, question: &Question<'_>) -> Result<Told, AllocError>
-    ensures { IfOk result (IsTold found.now.global found.now.zone found.now.related question.now) }
+/// Describes the facts about the ids of the question, in their order, and what an APPLY, in a distribution zone an
+/// ACCEPT, that selects each, or all together, would make of it, or that there is no such zone. Returns an error if
+/// memory runs out, as do all calls here.
+pub fn answer_question(
+    alloc: Global,
+    loaded_zones: &LoadedZones,
+    question: &Question<'_>,
+) -> Result<Told, AllocError>
+    ensures { IfOk result (IsTold loaded_zones.now.global loaded_zones.now.zone loaded_zones.now.related question.now) }
 {
-    let Some(zone) = &found.zone else {
-        return unknown(alloc);
+    let Some(zone) = &loaded_zones.zone else {
+        return refuse_unknown_zone(alloc);
     };
-    let lookups = Lookups::find(alloc, &found.global, zone)?;
-    told_in(alloc, &lookups, found.related.as_ref(), question)
+    let lookups = Lookups::find(alloc, &loaded_zones.global, zone)?;
+    answer_in_zone(alloc, &lookups, loaded_zones.related.as_ref(), question)
 }
 
-fn told_in(
+// The answer for a zone that exists: of one command that selects all ids, or of a command for each id, with the
+// greatest of their statuses.
+fn answer_in_zone(
     alloc: Global,
     lookups: &Lookups<'_>,
     related: Option<&Zone>,
@@ -53,38 +60,38 @@ fn told_in(
         (IsTold lookups.now.global.now (Some lookups.now.zone.now) (option_copied related.entry) question.now) }
 {
     if question.together {
-        return told_by(alloc, lookups, related, question, question.ids);
+        return describe_selected_ids(alloc, lookups, related, question, question.ids);
     }
     let ids = question.ids;
-    let mut told = Told {
+    let mut answer = Told {
         text: Vec::new(alloc),
         status: 0,
     };
     for id in ids {
-        let one = told_by(alloc, lookups, related, question, &[*id])?;
-        told.text.extend_from_slice(one.text.as_slice())?;
-        told.status = told.status.max(one.status);
+        let part = describe_selected_ids(alloc, lookups, related, question, &[*id])?;
+        answer.text.extend_from_slice(part.text.as_slice())?;
+        answer.status = answer.status.max(part.status);
     }
-    Ok(told)
+    Ok(answer)
 }
 
-// What is told about these ids by the lines of a command that selects them all.
-fn told_by(
+// Describes these ids one after the other, by the lines of one command that selects them all.
+fn describe_selected_ids(
     alloc: Global,
     lookups: &Lookups<'_>,
     related: Option<&Zone>,
     question: &Question<'_>,
     ids: &[Id],
 ) -> Result<Told, AllocError>
-    ensures { IfOk result (λ told. AreToldBy lookups.now.global.now lookups.now.zone.now (option_copied related.entry)
-        question.now ids.now told.text.items told.status) }
+    ensures { IfOk result (λ answer. AreToldBy lookups.now.global.now lookups.now.zone.now (option_copied related.entry)
+        question.now ids.now answer.text.items answer.status) }
 {
-    let selection = selection(alloc, ids, question.groupextend)?;
+    let selection = selection_of_ids(alloc, ids, question.groupextend)?;
     let Candidates {
         ids: candidates,
         ..
     } = candidates(alloc, lookups.global, lookups.zone, &selection)?;
-    let lines = lines_of(alloc, lookups, related, &selection, question.bypass)?;
+    let lines = install_lines(alloc, lookups, related, &selection, question.bypass)?;
     let lines = lines.as_slice();
     let vers = choose(alloc, lookups.global, lookups.zone, &candidates)?;
     let dels = deletions(alloc, &vers, candidates.as_slice())?;
@@ -95,11 +102,11 @@ fn told_by(
         dels: dels.as_slice(),
         bypass: question.bypass,
     };
-    told_in_turn(alloc, lookups, &scope, lines, ids)
+    describe_each_id(alloc, lookups, &scope, lines, ids)
 }
 
-// What these lines of an install with the candidates of this scope say about the ids, one after the other.
-fn told_in_turn<'a>(
+// Describes the ids, one after the other, by these lines of an install with the candidates of this scope.
+fn describe_each_id<'a>(
     alloc: Global,
     lookups: &Lookups<'a>,
     scope: &Scope<'_, 'a>,
@@ -107,53 +114,55 @@ fn told_in_turn<'a>(
     ids: &[Id],
 ) -> Result<Told, AllocError>
     requires { IsScopeOf lookups.now.global.now lookups.now.zone.now scope.now }
-    ensures { IfOk result (λ told. AreToldInTurn lookups.now.global.now lookups.now.zone.now scope.now.ids.now
-        scope.now.bypass.now (map line_view lines.now) ids.now told.text.items told.status) }
+    ensures { IfOk result (λ answer. AreToldInTurn lookups.now.global.now lookups.now.zone.now scope.now.ids.now
+        scope.now.bypass.now (map line_view lines.now) ids.now answer.text.items answer.status) }
 {
-    let mut told = Told {
+    let mut answer = Told {
         text: Vec::new(alloc),
         status: 0,
     };
     for id in ids {
-        tell_of(alloc, lookups, scope, lines, *id, &mut told)?;
+        describe_id(alloc, lookups, scope, lines, *id, &mut answer)?;
     }
-    Ok(told)
+    Ok(answer)
 }
 
-// Tells the facts of an id, for an install with the candidates of this scope, and what the lines say about it.
-fn tell_of<'a>(
+// Adds to the answer the facts of the id, for an install with the candidates of this scope, and what the lines say
+// about it. Raises the status to the code of the facts.
+fn describe_id<'a>(
     alloc: Global,
     lookups: &Lookups<'a>,
     scope: &Scope<'_, 'a>,
     lines: &[ReportLine],
     id: Id,
-    told: &mut Told,
+    answer: &mut Told,
 ) -> Result<(), AllocError>
     requires { IsScopeOf lookups.now.global.now lookups.now.zone.now scope.now }
     ensures { OnOk result ((text : AText) × (code : ℕ)
         × IsToldOf (among lookups.now.global.now lookups.now.zone.now scope.now.ids.now scope.now.bypass.now id)
         (map line_view lines.now) id text code
-        × (told.new.text.items ≡ told.old.text.items ++ text) × (told.new.status ≡ max told.old.status code)) }
+        × (answer.new.text.items ≡ answer.old.text.items ++ text) × (answer.new.status ≡ max answer.old.status code)) }
 {
     if scope.ids.contains(id) {
-        return tell_in(alloc, lookups, scope, lines, id, told);
+        return describe_candidate(alloc, lookups, scope, lines, id, answer);
     }
-    tell_other(alloc, lookups, scope, lines, id, told)
+    describe_non_candidate(alloc, lookups, scope, lines, id, answer)
 }
 
-// The same for an id that is no candidate, as if it were one too.
-fn tell_other<'a>(
+// Adds to the answer the facts of an id that is no candidate of this scope, as if it were one too, and what the lines
+// say about it.
+fn describe_non_candidate<'a>(
     alloc: Global,
     lookups: &Lookups<'a>,
     scope: &Scope<'_, 'a>,
     lines: &[ReportLine],
     id: Id,
-    told: &mut Told,
+    answer: &mut Told,
 ) -> Result<(), AllocError>
     ensures { OnOk result ((text : AText) × (code : ℕ)
         × IsToldOf (among lookups.now.global.now lookups.now.zone.now scope.now.ids.now scope.now.bypass.now id)
         (map line_view lines.now) id text code
-        × (told.new.text.items ≡ told.old.text.items ++ text) × (told.new.status ≡ max told.old.status code)) }
+        × (answer.new.text.items ≡ answer.old.text.items ++ text) × (answer.new.status ≡ max answer.old.status code)) }
 {
     let mut ids = scope.ids.try_clone(alloc)?;
     ids.insert(id)?;
@@ -166,17 +175,17 @@ fn tell_other<'a>(
         dels: dels.as_slice(),
         bypass: scope.bypass,
     };
-    tell_in(alloc, lookups, &with_id, lines, id, told)
+    describe_candidate(alloc, lookups, &with_id, lines, id, answer)
 }
 
-// The same for a candidate.
-fn tell_in<'a>(
+// Adds to the answer the facts of a candidate of this scope, and what the lines say about it.
+fn describe_candidate<'a>(
     alloc: Global,
     lookups: &Lookups<'a>,
     scope: &Scope<'_, 'a>,
     lines: &[ReportLine],
     id: Id,
-    told: &mut Told,
+    answer: &mut Told,
 ) -> Result<(), AllocError>
     requires global { scope.now.vers.now.global.now ≡ lookups.now.global.now }
     requires zone { scope.now.zone.now ≡ lookups.now.zone.now }
@@ -185,9 +194,9 @@ fn tell_in<'a>(
         ≡ place scope.now.vers.now.global.now scope.now.zone.now scope.now.ids.now id + 1 }
     ensures { OnOk result ((text : AText) × (code : ℕ)
         × IsToldOf (setting_of scope.now) (map line_view lines.now) id text code
-        × (told.new.text.items ≡ told.old.text.items ++ text) × (told.new.status ≡ max told.old.status code)) }
+        × (answer.new.text.items ≡ answer.old.text.items ++ text) × (answer.new.status ≡ max answer.old.status code)) }
 {
-    let facts = facts_of(alloc, lookups, scope, id)?;
+    let facts = id_facts(alloc, lookups, scope, id)?;
     let conflicts = conflicts_of(alloc, scope, lines, id)?;
     let grounds = Grounds {
         bypass: scope.bypass,
@@ -195,13 +204,13 @@ fn tell_in<'a>(
         conflicts: conflicts.as_slice(),
         lines,
     };
-    told.status = told.status.max(facts_code(grounds.facts));
-    put_facts(grounds.facts, &mut told.text)?;
-    put_verdict(id, &grounds, &mut told.text)
+    answer.status = answer.status.max(facts_code(grounds.facts));
+    put_facts(grounds.facts, &mut answer.text)?;
+    put_verdict(id, &grounds, &mut answer.text)
 }
 
 // The lines of an APPLY or ACCEPT by this selection. None of them has the date.
-fn lines_of(
+fn install_lines(
     alloc: Global,
     lookups: &Lookups<'_>,
     related: Option<&Zone>,
@@ -209,8 +218,10 @@ fn lines_of(
     bypass: &Bypass,
 ) -> Result<Vec<ReportLine>, AllocError>
     ensures { IfOk result (λ lines. (date : AText) × (new : AZone) × InstallsSelected lookups.now.global.now
-        lookups.now.zone.now (option_copied related.entry) selection.now bypass.now date new (map line_view lines.items)) }
+        lookups.now.zone.now (option_copied related.entry) selection.now bypass.now date new
+        (map line_view lines.items)) }
 {
+    // (any date does, because no line has it)
     let date = YyDdd::new(2000, 1);
     let InstallChange { delta, lines } = apply(
         alloc,
@@ -221,16 +232,16 @@ fn lines_of(
         bypass,
         date,
     )?;
+    // (for the clause: the edits of the delta have their form, so they make a new zone of this one)
     delta.attest();
     Ok(lines)
 }
 
-// SELECT of these ids.
-fn selection(alloc: Global, ids: &[Id], groupextend: bool) -> Result<Selection, AllocError>
+// The selection of these ids by SELECT, with GROUPEXTEND or without.
+fn selection_of_ids(alloc: Global, ids: &[Id], groupextend: bool) -> Result<Selection, AllocError>
     ensures { IfOk result (Selects ids.now groupextend) }
 {
     let select = IdList::from_vec(Vec::from_slice(alloc, ids)?);
-    select.attest();
     let exclude = IdList::new(alloc);
     let sourceid = SourceList::new(alloc);
     let forfmid = IdList::new(alloc);
@@ -249,9 +260,9 @@ fn selection(alloc: Global, ids: &[Id], groupextend: bool) -> Result<Selection, 
     })
 }
 
-// There is no zone of the name, as SET tells it.
-fn unknown(alloc: Global) -> Result<Told, AllocError>
-    ensures { IfOk result (λ told. (told.text.items ≡ refused_text NoZone) × (told.status ≡ 12)) }
+// The refusal that SET prints if no zone has the name, with its status.
+fn refuse_unknown_zone(alloc: Global) -> Result<Told, AllocError>
+    ensures { IfOk result (λ answer. (answer.text.items ≡ refused_text NoZone) × (answer.status ≡ 12)) }
 {
     let mut text = Vec::new(alloc);
     append_words(b"REFUSED", &[LineWord::Of(b"Cm2")], &mut text)?;

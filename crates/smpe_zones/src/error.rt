@@ -24,10 +24,13 @@ pub enum ZoneFault {
 /// Why a zone was not defined.
 #[derive(Clone, Copy, Debug, PartialEq, Eq, Error)]
 pub enum ZoneError {
+    /// The definition has this fault, and nothing changed.
     #[error("{0}")]
     Refused(ZoneFault),
+    /// The store failed, but not because memory ran out.
     #[error("{0}")]
     Store(StoreError),
+    /// Memory ran out.
     #[error("out of memory")]
     Memory,
 }

@@ -11,16 +11,18 @@ use fields::{Srel, ZoneName};
 use store::ZoneHead;
 use terms::ZoneKind;
 
-// No more zones than these can be defined.
+// The most zones that can be defined.
 const MOST_ZONES: usize = 64;
 
-fn named(heads: &[ZoneHead], name: ZoneName) -> Option<&ZoneHead>
+// The head of the zone of this name, or `None` if there is no such zone.
+fn head_named(heads: &[ZoneHead], name: ZoneName) -> Option<&ZoneHead>
     ensures { option_copied result ≡ named heads.now name }
 {
     heads.iter().find(|head| head.name == name)
 }
 
-fn names_it(head: &ZoneHead, name: ZoneName) -> bool
+// Whether the zone of the head is related to the zone of this name.
+fn is_related_to(head: &ZoneHead, name: ZoneName) -> bool
     ensures { result ≡ names_it name head.now }
 {
     match head.related {
@@ -29,12 +31,14 @@ fn names_it(head: &ZoneHead, name: ZoneName) -> bool
     }
 }
 
-fn is_related(heads: &[ZoneHead], name: ZoneName) -> bool
+// Whether some zone is related to the zone of this name.
+fn is_related_zone(heads: &[ZoneHead], name: ZoneName) -> bool
     ensures { result ≡ list_any (names_it name) heads.now }
 {
-    heads.iter().any(|head| names_it(head, name))
+    heads.iter().any(|head| is_related_to(head, name))
 }
 
+// Whether there is a zone and it is a distribution zone.
 fn is_distribution_head(head: Option<&ZoneHead>) -> bool
     ensures { result ≡ is_distribution_head (option_copied head.entry) }
 {
@@ -44,23 +48,25 @@ fn is_distribution_head(head: Option<&ZoneHead>) -> bool
     }
 }
 
-// Whether a target zone may be related to the zone of this name.
-fn is_free(heads: &[ZoneHead], name: ZoneName) -> bool
+// Whether a new target zone may be related to the zone of this name: a distribution zone to which no zone is related.
+fn is_free_distribution(heads: &[ZoneHead], name: ZoneName) -> bool
     ensures { result ≡ is_free heads.now name }
 {
-    is_distribution_head(named(heads, name)) && !is_related(heads, name)
+    is_distribution_head(head_named(heads, name)) && !is_related_zone(heads, name)
 }
 
+// Whether a zone of this kind may be defined with this related zone.
 fn has_right_related(heads: &[ZoneHead], kind: ZoneKind, related: &Option<ZoneName>) -> bool
     ensures { result ≡ has_right_related heads.now kind related.now }
 {
     match (kind, related) {
-        (ZoneKind::Target, Some(name)) => is_free(heads, *name),
+        (ZoneKind::Target, Some(name)) => is_free_distribution(heads, *name),
         (ZoneKind::Target, None) => false,
         (ZoneKind::Distribution, related) => related.is_none(),
     }
 }
 
+// Whether there is a zone and it has this SREL.
 fn has_srel(head: Option<&ZoneHead>, srel: Srel) -> bool
     ensures { result ≡ has_srel srel (option_copied head.entry) }
 {
@@ -70,23 +76,26 @@ fn has_srel(head: Option<&ZoneHead>, srel: Srel) -> bool
     }
 }
 
+// Whether the related zone, if one is named, has this SREL.
 fn has_same_srel(heads: &[ZoneHead], srel: Srel, related: &Option<ZoneName>) -> bool
     ensures { result ≡ has_same_srel heads.now srel related.now }
 {
     match related {
-        Some(name) => has_srel(named(heads, *name), srel),
+        Some(name) => has_srel(head_named(heads, *name), srel),
         None => true,
     }
 }
 
-fn is_taken(heads: &[ZoneHead], name: ZoneName) -> bool
+// Whether no new zone may have this name: it is GLOBAL, or a zone has it.
+fn is_name_taken(heads: &[ZoneHead], name: ZoneName) -> bool
     ensures taken { result ≡ is_taken heads.now name }
     ensures form { IsZoneName name }
 {
-    name.as_bytes() == b"GLOBAL".as_slice() || named(heads, name).is_some()
+    name.as_bytes() == b"GLOBAL".as_slice() || head_named(heads, name).is_some()
 }
 
-/// Why a zone cannot be defined among the zones of these heads, if it cannot. Its name and its SREL have their forms.
+/// The first fault, in the order of `ZoneFault`, of the definition of a zone beside the zones of these heads, or `None`
+/// if the zone can be defined. Its name and its SREL have their forms, as their types say.
 pub(crate) fn first_fault(
     heads: &[ZoneHead],
     name: ZoneName,
@@ -99,7 +108,7 @@ pub(crate) fn first_fault(
     ensures srel { IsSrel srel }
 {
     prove!(srel.as_bytes().len() == 4);
-    if is_taken(heads, name) {
+    if is_name_taken(heads, name) {
         return Some(ZoneFault::NameTaken);
     }
     if !has_right_related(heads, kind, related) {

@@ -6,12 +6,12 @@ ghost use Rattle.solve.specs.Causes.{HasFailed, HasBareNeed, IsRoot, IsCauser, L
 ghost use Rattle.solve.specs.Rows.{row_at, times};
 ghost use Rattle.solve.specs.Marks.{AreLeads, AreClear, IsMarked, is_in};
 
-use crate::rows::{add_under, empty_rows};
+use crate::rows::{add_to_rows, empty_rows};
 use crate::sets::{Kept, serves};
 use crate::system::System;
 use std::alloc::{AllocError, Global};
 
-// Which candidates have a need that no candidate serves.
+// For each candidate, whether it has a need that no candidate serves.
 fn bare_needs(alloc: Global, s: &System) -> Result<Vec<bool>, AllocError>
     ensures size { IfOk result (λ bare. length bare.items ≡ s.now.size) }
     ensures exact { IfOk result (λ bare. (x : ℕ) → IsTrue (holds bare.items x) ↔ HasBareNeed s.now x) }
@@ -36,21 +36,21 @@ fn is_root(s: &System, kept: &[bool], bare: &[bool], x: u32) -> bool
     !kept[x as usize] && (!s.eligible()[x as usize] || bare[x as usize])
 }
 
-// For each candidate those that lead to it.
-fn leads_to(alloc: Global, s: &System, kept: &[bool]) -> Result<Vec<Vec<u32>>, AllocError>
+// For each candidate, those that lead to it: they failed, and it would serve a need of theirs that stays open.
+fn predecessors(alloc: Global, s: &System, kept: &[bool]) -> Result<Vec<Vec<u32>>, AllocError>
     requires { length kept.now ≡ s.now.size }
     ensures { IfOk result (λ leads. AreLeads s.now kept.now leads.items) }
 {
     let mut leads = empty_rows(alloc, s.size())?;
     for need in s.needs() {
         if !kept[need.of as usize] && !serves(kept, &need.any) {
-            add_under(&mut leads, &need.any, need.of)?;
+            add_to_rows(&mut leads, &need.any, need.of)?;
         }
     }
     Ok(leads)
 }
 
-// Marks the members of a row, and adds those that were not marked to the list.
+// Marks the members of a row, and adds to the list those that were not marked before.
 fn mark_row(row: &[u32], marks: &mut [bool], list: &mut Vec<u32>) -> Result<(), AllocError>
     requires { All (λ x. x < length marks.old) row.now }
     ensures { OnOk result (IsMarked row.now marks.old marks.new list.old.items list.new.items) }
@@ -65,7 +65,7 @@ fn mark_row(row: &[u32], marks: &mut [bool], list: &mut Vec<u32>) -> Result<(), 
 }
 
 // Removes the marks of a list.
-fn clear(marks: &mut [bool], list: &[u32])
+fn clear_marks(marks: &mut [bool], list: &[u32])
     requires { All (λ x. x < length marks.old) list.now }
     ensures { (x : ℕ) → holds marks.new x ≡ (holds marks.old x && not (is_in list.now x)) }
 {
@@ -75,7 +75,7 @@ fn clear(marks: &mut [bool], list: &[u32])
 }
 
 // The candidates from which steps lead to y, each once: a search backwards from y.
-fn reaching(
+fn search_backwards(
     alloc: Global,
     leads: &[Vec<u32>],
     y: u32,
@@ -100,7 +100,7 @@ fn reaching(
         next += 1;
         mark_row(&leads[z as usize], marks, &mut list)?;
     }
-    clear(marks, &list);
+    clear_marks(marks, &list);
     Ok(list)
 }
 
@@ -123,12 +123,12 @@ pub fn causers(alloc: Global, s: &System, kept: &Kept) -> Result<Vec<Vec<u32>>, 
     }
     let flags = kept.flags();
     let bare = bare_needs(alloc, s)?;
-    let leads = leads_to(alloc, s, flags)?;
+    let leads = predecessors(alloc, s, flags)?;
     let mut marks = vec![in alloc; false; s.size() as usize]?;
     for y in 0..s.size() {
         if is_root(s, flags, &bare, y) {
-            let list = reaching(alloc, &leads, y, &mut marks)?;
-            add_under(&mut rows, &list, y)?;
+            let list = search_backwards(alloc, &leads, y, &mut marks)?;
+            add_to_rows(&mut rows, &list, y)?;
         }
     }
     Ok(rows)

@@ -38,8 +38,8 @@ impl Model for Rules {
     ghost invariant = { λ r. IsSystem r.outside };
 }
 
-// The flags, negated.
-fn turned(alloc: Global, flags: &[bool]) -> Result<Vec<bool>, AllocError>
+// Each flag turned into its opposite.
+fn negate_flags(alloc: Global, flags: &[bool]) -> Result<Vec<bool>, AllocError>
     ensures { IfOk result (λ turned. turned.items ≡ map not flags.now) }
 {
     flags.iter().map(|flag| !*flag).collect(alloc)
@@ -50,7 +50,7 @@ impl Rules {
     pub fn new(alloc: Global, start: &[bool]) -> Result<Rules, SystemError>
         ensures { IfOk result (λ rules. rules ≡ record { start = start.now; rules = [] }) }
     {
-        let eligible = turned(alloc, start)?;
+        let eligible = negate_flags(alloc, start)?;
         let outside = System::new(alloc, eligible)?;
         Ok(Rules { outside })
     }
@@ -95,5 +95,5 @@ pub fn least(alloc: Global, rules: &Rules) -> Result<Vec<bool>, AllocError>
     ensures { IfOk result (λ set. IsLeast rules.now set.items) }
 {
     let out = Worklist.greatest(alloc, &rules.outside)?;
-    turned(alloc, out.flags())
+    negate_flags(alloc, out.flags())
 }

@@ -1,8 +1,8 @@
 //! Which of some numbered candidates, each of which needs others, support each other. The crate knows only numbers, no
 //! ids and no zones. Every `Solver` returns the union of all self-supporting sets, `least` what all closed sets have in
-//! common, and `causers` the roots to which a failed candidate leads. `Worklist::count` has its strikes exact and its
-//! turns bounded; that each loop body raises `turns` shows only in the code. Every call that allocates returns an error
-//! if memory runs out.
+//! common, and `causers` the roots to which a failed candidate leads. The contract of `Worklist::count` gives the exact
+//! number of strikes and a bound on the turns. That each loop body raises `turns` shows only in the code. Every call
+//! that allocates returns an error if memory runs out.
 #![tactic(auto)]
 
 mod causes;

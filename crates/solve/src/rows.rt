@@ -17,7 +17,7 @@ pub fn empty_rows<T: Copy>(alloc: Global, n: u32) -> Result<Vec<Vec<T>>, AllocEr
 }
 
 /// Adds a value to the row of each number of the list, as often as the list has the number.
-pub(crate) fn add_under<T: Copy>(
+pub(crate) fn add_to_rows<T: Copy>(
     rows: &mut [Vec<T>],
     list: &[u32],
     value: T,

@@ -30,17 +30,19 @@ fn rises(list: &[u32]) -> bool
 }
 
 // Whether a system of so many candidates admits the need.
-fn is_need(size: u32, of: u32, any: &[u32]) -> bool
+fn is_valid_need(size: u32, of: u32, any: &[u32]) -> bool
     ensures { IsTrue result ↔ IsNeed size (record { of = of; any = any.now }) }
 {
     of < size && any.iter().all(|y| *y < size) && rises(any)
 }
 
 // Whether a system of so many candidates admits all the needs.
-fn are_needs(size: u32, needs: &[Need]) -> bool
+fn are_valid_needs(size: u32, needs: &[Need]) -> bool
     ensures { IsTrue result ↔ All (λ need. IsNeed size (numbered need)) needs.now }
 {
-    needs.iter().all(|need| is_need(size, need.of, &need.any))
+    needs
+        .iter()
+        .all(|need| is_valid_need(size, need.of, &need.any))
 }
 
 /// Candidates below a number, which of them are eligible, and what they need.
@@ -88,7 +90,7 @@ impl System {
         let Ok(size) = u32::try_from(eligible.len()) else {
             return Err(SystemError::TooMany);
         };
-        if !are_needs(size, &needs) {
+        if !are_valid_needs(size, &needs) {
             return Err(SystemError::BadNeed);
         }
         Ok(System {
@@ -144,7 +146,7 @@ impl System {
     pub fn admits(&self, of: u32, any: &[u32]) -> bool
         ensures { IsTrue result ↔ IsNeed self.now.size (record { of = of; any = any.now }) }
     {
-        is_need(self.size, of, any)
+        is_valid_need(self.size, of, any)
     }
 
     /// Adds a need; `admits` tests whether it may. An error changes nothing.

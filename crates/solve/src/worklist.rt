@@ -1,4 +1,4 @@
-//! The kept set, found by following each candidate that falls, with a count of the work.
+//! The kept set, found by following each candidate that is dropped, with a count of the work.
 ghost use Rattle.std.specs.Prelude.{◌≡◌, ◌<◌, ◌≤◌, ◌+◌, ◌^◌, ◌++◌, ◌∷◌, [], ℕ, List, IfOk, OnOk, length, All};
 ghost use Rattle.std.specs.Prelude.{count_by, replicate};
 ghost use Rattle.solve.specs.System.{AreKept, holds, pairs_of, strikes_of, most_turns};
@@ -23,18 +23,21 @@ pub struct Count {
 #[derive(Clone, Copy, Debug)]
 pub struct Worklist;
 
-/// The living candidates, the number of living members of each need, and the fallen candidates whose strikes are still
-/// due.
+/// The state of a search. A strike lowers the count of a need after a member of it was dropped.
 #[derive(Drop)]
 struct Board {
+    // For each candidate, whether it is still in the set.
     standing: Vec<bool>,
+    // For each need, how many of its members are in the set or have strikes that are still due.
     living: Vec<usize>,
+    // The candidates that left the set and whose strikes are still due.
     dropped: Vec<u32>,
+    // The work so far.
     count: Count,
 }
 
 impl Board {
-    // Drops a candidate, if it lives. There is room for all that may be dropped.
+    // Drops a candidate, if it is still in the set. There is room for all that may be dropped.
     fn drop_candidate(&mut self, x: u32)
         requires x { x < length self.old.standing.items }
         requires room { open_in self.old ≤ self.old.dropped.cap }
@@ -50,7 +53,7 @@ impl Board {
         }
     }
 
-    // Takes a living member from a need, and drops the need's candidate with the last one.
+    // Takes a member from a need, and drops the need's candidate when the last one is gone.
     fn strike(&mut self, s: &System, need: usize)
         requires need { need < length s.now.needs }
         requires due { (rest : List ℕ) × AtRest s.now (need ∷ rest) self.old }
@@ -103,7 +106,7 @@ impl Board {
     }
 
     // Makes the strikes of all dropped candidates, and of those that are dropped in turn.
-    fn run(&mut self, s: &System, served: &[Vec<usize>])
+    fn follow_drops(&mut self, s: &System, served: &[Vec<usize>])
         requires served { AreServed s.now.needs served.now }
         requires size { length served.now ≡ s.now.size }
         requires board { AtRest s.now [] self.old }
@@ -121,8 +124,8 @@ impl Board {
     }
 }
 
-// Puts a need into the row of each candidate that serves it, and returns how many of these are eligible.
-fn add_served(
+// Adds a need to the row of each candidate that serves it, and returns how many of these are eligible.
+fn index_need(
     eligible: &[bool],
     any: &[u32],
     need: usize,
@@ -147,7 +150,7 @@ fn add_served(
 }
 
 // The board at the start, and for each candidate the needs that it serves.
-fn prepare(alloc: Global, s: &System) -> Result<(Board, Vec<Vec<usize>>), AllocError>
+fn prepare_board(alloc: Global, s: &System) -> Result<(Board, Vec<Vec<usize>>), AllocError>
     ensures board { IfOk result (λ r. SettledBelow s.now 0 r.0) }
     ensures strikes { IfOk result (λ r. r.0.count.strikes ≡ 0) }
     ensures turns { IfOk result (λ r. r.0.count.turns ≡ s.now.size + length s.now.needs + pairs_of s.now.needs) }
@@ -168,7 +171,7 @@ fn prepare(alloc: Global, s: &System) -> Result<(Board, Vec<Vec<usize>>), AllocE
     let mut living = Vec::with_capacity(alloc, needs.len())?;
     for (k, need) in needs.iter().enumerate() {
         turns += 1;
-        let alive = add_served(s.eligible(), &need.any, k, &mut served, &mut turns)?;
+        let alive = index_need(s.eligible(), &need.any, k, &mut served, &mut turns)?;
         living.push(alive)?;
     }
     let board = Board {
@@ -190,9 +193,9 @@ impl Worklist {
         // Each strike is made in a turn of its own.
         ensures made { IfOk result (λ r. r.1.strikes ≤ r.1.turns) }
     {
-        let (mut board, served) = prepare(alloc, s)?;
+        let (mut board, served) = prepare_board(alloc, s)?;
         board.drop_unserved(s);
-        board.run(s, &served);
+        board.follow_drops(s, &served);
         Ok((Kept::new(s.size(), board.standing), board.count))
     }
 }

@@ -11,7 +11,7 @@ pub trait TryClone: Drop {
 }
 
 /// A copy of each item.
-pub fn copied<T: TryClone>(alloc: Global, items: &[T]) -> Result<Vec<T>, AllocError>
+pub fn try_clone_all<T: TryClone>(alloc: Global, items: &[T]) -> Result<Vec<T>, AllocError>
     ensures { IfOk result (λ copies. copies.items ≡ items.now) }
 {
     let mut copies = Vec::new(alloc);

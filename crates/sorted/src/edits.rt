@@ -97,7 +97,7 @@ fn move_before<T: Keyed + Drop>(rest: &mut VecDeque<T>, new: &mut Vec<T>, key: T
     }
 }
 
-// Removes the item of the key, if no item is before it.
+// Removes the item of the key, if there is one. No item comes before the key.
 fn drop_at<T: Keyed + Drop>(rest: &mut VecDeque<T>, key: T::Key)
     requires rises { Rises T.Key.cmp T.key_of rest.old.items }
     requires none { before T.Key.cmp T.key_of key rest.old.items ≡ [] }
@@ -108,11 +108,11 @@ fn drop_at<T: Keyed + Drop>(rest: &mut VecDeque<T>, key: T::Key)
         return;
     };
     if first.key() == key {
-        let _ = rest.pop_front();
+        drop(rest.pop_front());
     }
 }
 
-// Moves all items that are left.
+// Moves all items that are left to the end of `new`.
 fn move_all<T: Drop>(mut rest: VecDeque<T>, new: &mut Vec<T>)
     requires { vec_len new.old + deque_len rest ≤ vec_capacity new.old }
     ensures { new.new.items ≡ new.old.items ++ rest.items }

@@ -27,7 +27,7 @@ pub fn place<T: Keyed>(items: &[T], key: T::Key) -> Result<usize, usize>
 }
 
 /// Whether all items come before the key.
-pub(crate) fn stands_last<T: Keyed>(items: &[T], key: T::Key) -> bool
+pub(crate) fn comes_after_all<T: Keyed>(items: &[T], key: T::Key) -> bool
     requires { Rises T.Key.cmp T.key_of items.now }
     ensures { IsTrue result ↔ All (λ x. IsTrue (is_lt (T.Key.cmp (T.key_of x) key))) items.now }
 {
@@ -42,7 +42,7 @@ pub fn are_rising<T: Keyed>(items: &[T]) -> bool
     ensures { IsTrue result ↔ Rises T.Key.cmp T.key_of items.now }
 {
     for i in 0..items.len() {
-        if !stands_last(&items[..i], items[i].key()) {
+        if !comes_after_all(&items[..i], items[i].key()) {
             return false;
         }
     }

@@ -10,7 +10,7 @@ pub mod lists;
 mod merging;
 mod table;
 
-pub use copies::{TryClone, copied};
+pub use copies::{TryClone, try_clone_all};
 pub use edits::Edit;
 pub use keyed::{Keyed, are_rising, place};
 pub use table::{Prepared, Table};

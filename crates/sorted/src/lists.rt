@@ -21,7 +21,7 @@ pub fn add<K: Ord + Copy, V: Drop>(
         values.push(value)?;
         return Ok(());
     }
-    lists.insert(key, only(alloc, value)?)?;
+    lists.insert(key, list_of_one(alloc, value)?)?;
     Ok(())
 }
 
@@ -41,7 +41,8 @@ pub fn add_to_all<K: Ord + Copy, V: Copy>(
     Ok(())
 }
 
-fn only<V: Drop>(alloc: Global, value: V) -> Result<Vec<V>, AllocError>
+// The value by itself, as the list of a new key.
+fn list_of_one<V: Drop>(alloc: Global, value: V) -> Result<Vec<V>, AllocError>
     ensures { IfOk result (λ values. values.items ≡ value ∷ []) }
 {
     let mut values = Vec::new(alloc);

@@ -23,7 +23,7 @@ pub(crate) fn edited_copy<T: Keyed + TryClone>(
     let mut rest = items;
     for edit in edits {
         let key = edit.key();
-        rest = past(copy_before(alloc, rest, key, &mut new)?, key);
+        rest = skip_key(copy_before(alloc, rest, key, &mut new)?, key);
         copy_put(alloc, edit, &mut new)?;
     }
     copy_all(alloc, rest, &mut new)?;
@@ -55,8 +55,8 @@ fn copy_before<'a, T: Keyed + TryClone>(
     Ok(rest)
 }
 
-// The items without the one of the key, if no item is before it.
-fn past<T: Keyed>(items: &[T], key: T::Key) -> &[T]
+// The items without the one of the key. No item comes before the key.
+fn skip_key<T: Keyed>(items: &[T], key: T::Key) -> &[T]
     requires rises { Rises T.Key.cmp T.key_of items.now }
     requires none { before T.Key.cmp T.key_of key items.now ≡ [] }
     ensures { result.now ≡ behind T.Key.cmp T.key_of key items.now }
@@ -81,6 +81,7 @@ fn copy_put<T: Keyed + TryClone>(
     Ok(())
 }
 
+// Copies all items that are left.
 fn copy_all<T: TryClone>(alloc: Global, items: &[T], new: &mut Vec<T>) -> Result<(), AllocError>
     ensures { OnOk result (new.new.items ≡ new.old.items ++ items.now) }
 {

@@ -6,9 +6,9 @@ ghost use Rattle.std.specs.Ordering.{is_lt};
 ghost use Rattle.terms.specs.Rising.{Rises, with_item};
 ghost use Rattle.sorted.specs.Edits.{edited};
 
-use crate::copies::{TryClone, copied};
+use crate::copies::{TryClone, try_clone_all};
 use crate::edits::{Edit, make_edits};
-use crate::keyed::{Keyed, are_rising, place, stands_last};
+use crate::keyed::{Keyed, are_rising, comes_after_all, place};
 use crate::merging::edited_copy;
 use std::alloc::{AllocError, Global};
 use std::marker::Model;
@@ -102,6 +102,7 @@ impl<T: Keyed + Drop> Table<T> {
     pub fn put(&mut self, item: T) -> Result<(), AllocError>
         ensures ok { OnOk result (self.new ≡ with_item T.Key.cmp T.key_of self.old item) }
         ensures err { OnErr result (self.new ≡ self.old) }
+        ensures rising { Rises T.Key.cmp T.key_of self.new }
     {
         match place(self.items.as_slice(), item.key()) {
             Ok(place) => {
@@ -124,7 +125,7 @@ impl<T: Keyed + Drop> Table<T> {
             (λ fits. self.new ≡ (if fits then self.old ++ item ∷ [] else self.old)) }
         ensures err { OnErr result (self.new ≡ self.old) }
     {
-        let fits = stands_last(self.items.as_slice(), item.key());
+        let fits = comes_after_all(self.items.as_slice(), item.key());
         if fits {
             self.items.push(item)?;
         }
@@ -138,13 +139,14 @@ impl<T: Keyed + TryClone> Table<T> {
         ensures { IfOk result (λ copy. copy ≡ self.now) }
     {
         Ok(Table {
-            items: copied(alloc, self.items.as_slice())?,
+            items: try_clone_all(alloc, self.items.as_slice())?,
         })
     }
 
     /// A new table after these edits, in time proportional to the number of items and edits.
     pub fn edited(&self, alloc: Global, edits: &Table<Edit<T, T::Key>>) -> Result<Self, AllocError>
-        ensures { IfOk result (λ new. new ≡ edited T.Key.cmp T.key_of self.now edits.now) }
+        ensures items { IfOk result (λ new. new ≡ edited T.Key.cmp T.key_of self.now edits.now) }
+        ensures rising { IfOk result (Rises T.Key.cmp T.key_of) }
     {
         let items = edited_copy(alloc, self.items.as_slice(), edits.items.as_slice())?;
         Ok(Table { items })
@@ -169,7 +171,8 @@ impl<T: Keyed + TryClone> Table<T> {
     /// this takes no memory.
     pub fn edit(&mut self, prepared: Prepared<T>)
         requires { length self.old + length prepared.edits ≤ prepared.room }
-        ensures { self.new ≡ edited T.Key.cmp T.key_of self.old prepared.edits }
+        ensures items { self.new ≡ edited T.Key.cmp T.key_of self.old prepared.edits }
+        ensures rising { Rises T.Key.cmp T.key_of self.new }
     {
         let Prepared { edits, room } = prepared;
         make_edits(&mut self.items, edits.into_vec(), room);

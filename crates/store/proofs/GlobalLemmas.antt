@@ -114,7 +114,10 @@ module _ {S : Type 0} (g : Ghosts S) (old new : Held S) where
                       IsPermutation-refl _,
                       (
                         IsPermutation-refl _,
-                        (IsPermutation-refl _, (IsPermutation-refl _, (IsPermutation-refl _, (IsPermutation-refl _, tt)))),
+                        (
+                          IsPermutation-refl _,
+                          (IsPermutation-refl _, (IsPermutation-refl _, (IsPermutation-refl _, tt))),
+                        ),
                       ),
                     ),
                   ),
@@ -149,7 +152,10 @@ module _ {S : Type 0} (g : Ghosts S) (old new : Held S) where
                       IsPermutation-refl _,
                       (
                         IsPermutation-refl _,
-                        (IsPermutation-refl _, (IsPermutation-refl _, (IsPermutation-refl _, (IsPermutation-refl _, tt)))),
+                        (
+                          IsPermutation-refl _,
+                          (IsPermutation-refl _, (IsPermutation-refl _, (IsPermutation-refl _, tt))),
+                        ),
                       ),
                     ),
                   ),

@@ -119,7 +119,8 @@ calls_of (Global stated edits) = edits_calls stated.now edits.items
 -- the database refused one of the statements
 abbrev pub IsRefused : {S : Type 0} → Ghosts S → Change → Held S → Type 0
 IsRefused {S} g change old =
-    (last : Held S) × (error : Error) × RefusedCall g (calls_of change) (record old { in_transaction = true }) last error
+    (last : Held S) × (error : Error)
+    × RefusedCall g (calls_of change) (record old { in_transaction = true }) last error
 
 -- the disk failed or refused, the connection had been shut, or the database refused one of the statements
 abbrev pub FailsToWrite : {S : Type 0} → Ghosts S → Change → Held S → Held S → Type 0

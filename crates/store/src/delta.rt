@@ -1,5 +1,6 @@
 //! What a delta puts and removes, written in an open transaction. What is put instead of something else, or removed,
-//! has a statement of its own. What is new comes in at the end, many rows by one statement.
+//! has a statement of its own. What is new comes in at the end, many rows by one statement. What writes returns an
+//! error if the database refuses a row, if the disk fails or if memory runs out.
 
 ghost use Rattle.std.specs.Prelude.{◌≡◌, OnOk, IfOk, map};
 ghost use Rattle.std.specs.List.{filter_map, flat_map, zip};
@@ -25,8 +26,9 @@ use zones_maps::{Element, Entry, ZoneDelta};
 
 // ---- entries
 
-// Makes the edit, unless the entry that it puts is new.
-fn change_entry<S: Alter>(
+// Makes the edit, unless it puts a new entry. `stood` has the number of the `++VER` that installed the entry which the
+// zone has at its key, or none if there is no such entry.
+fn edit_old_entry<S: Alter>(
     alloc: Global,
     tx: &mut Transaction<'_, S>,
     name: ZoneName,
@@ -47,8 +49,8 @@ fn change_entry<S: Alter>(
     }
 }
 
-// Makes each edit, given what the zone had at its key, except those that put a new entry.
-fn change_entries<S: Alter>(
+// Makes each edit that does not put a new entry. `stood` says for each what the zone has at its key.
+fn edit_old_entries<S: Alter>(
     alloc: Global,
     tx: &mut Transaction<'_, S>,
     name: ZoneName,
@@ -63,12 +65,12 @@ fn change_entries<S: Alter>(
         (EditsEntries zone (others new_entry_of (zip edits.now stood.now)))) }
 {
     for (edit, before) in edits.iter().zip(stood) {
-        change_entry(alloc, tx, name, edit, *before)?;
+        edit_old_entry(alloc, tx, name, edit, *before)?;
     }
     Ok(())
 }
 
-// The entry that the edit puts, if it is new.
+// The new entry that the edit puts, or `None` if it removes an entry or puts one in place of another.
 fn new_entry(edit: &Edit<Entry, Id>, stood: Option<VerNumber>) -> Option<&Entry>
     ensures { option_copied result ≡ new_entry_of (edit.now, stood) }
 {
@@ -81,6 +83,7 @@ fn new_entry(edit: &Edit<Entry, Id>, stood: Option<VerNumber>) -> Option<&Entry>
     }
 }
 
+// The new entries that the edits put, in their order.
 fn new_entries<'a>(
     alloc: Global,
     edits: &'a [Edit<Entry, Id>],
@@ -99,7 +102,7 @@ fn new_entries<'a>(
     Ok(news)
 }
 
-// Makes each edit of an entry, given what the zone had at its key.
+// Makes the edits of entries. `stood` says for each what the zone has at its key.
 fn edit_entries<S: Alter>(
     alloc: Global,
     tx: &mut Transaction<'_, S>,
@@ -113,15 +116,15 @@ fn edit_entries<S: Alter>(
     ensures ok { OnOk result ((zone : Zone) → stood.now ≡ map (entry_stood zone) edits.now
         → ChangesZone S.Store tx.old.conn.now tx.new.conn.now name (EditsEntries zone edits.now)) }
 {
-    change_entries(alloc, tx, name, edits, stood)?;
+    edit_old_entries(alloc, tx, name, edits, stood)?;
     let news = new_entries(alloc, edits, stood)?;
     insert_entries(alloc, tx, name, news.as_slice())
 }
 
 // ---- elements
 
-// Makes the edit, unless the element that it puts is new.
-fn change_element<S: Alter>(
+// Makes the edit, unless it puts a new element. `stood` says whether the zone has an element at its key.
+fn edit_old_element<S: Alter>(
     alloc: Global,
     tx: &mut Transaction<'_, S>,
     name: ZoneName,
@@ -144,8 +147,8 @@ fn change_element<S: Alter>(
     }
 }
 
-// Makes each edit, given whether the zone had an element at its key, except those that put a new element.
-fn change_elements<S: Alter>(
+// Makes each edit that does not put a new element. `stood` says for each whether the zone has one at its key.
+fn edit_old_elements<S: Alter>(
     alloc: Global,
     tx: &mut Transaction<'_, S>,
     name: ZoneName,
@@ -160,12 +163,12 @@ fn change_elements<S: Alter>(
         (EditsElements zone (others new_element_of (zip edits.now stood.now)))) }
 {
     for (edit, before) in edits.iter().zip(stood) {
-        change_element(alloc, tx, name, edit, *before)?;
+        edit_old_element(alloc, tx, name, edit, *before)?;
     }
     Ok(())
 }
 
-// The element that the edit puts, if it is new.
+// The new element that the edit puts, or `None` if it removes an element or puts one in place of another.
 fn new_element(edit: &Edit<Element, (ElemType, Name)>, stood: bool) -> Option<&Element>
     ensures { option_copied result ≡ new_element_of (edit.now, stood) }
 {
@@ -180,6 +183,7 @@ fn new_element(edit: &Edit<Element, (ElemType, Name)>, stood: bool) -> Option<&E
     }
 }
 
+// The new elements that the edits put, in their order.
 fn new_elements<'a>(
     alloc: Global,
     edits: &'a [Edit<Element, (ElemType, Name)>],
@@ -198,7 +202,7 @@ fn new_elements<'a>(
     Ok(news)
 }
 
-// Makes each edit of an element, given whether the zone had one at its key.
+// Makes the edits of elements. `stood` says for each whether the zone has one at its key.
 fn edit_elements<S: Alter>(
     alloc: Global,
     tx: &mut Transaction<'_, S>,
@@ -212,12 +216,13 @@ fn edit_elements<S: Alter>(
     ensures ok { OnOk result ((zone : Zone) → stood.now ≡ map (element_stood zone) edits.now
         → ChangesZone S.Store tx.old.conn.now tx.new.conn.now name (EditsElements zone edits.now)) }
 {
-    change_elements(alloc, tx, name, edits, stood)?;
+    edit_old_elements(alloc, tx, name, edits, stood)?;
     let news = new_elements(alloc, edits, stood)?;
     insert_elements(alloc, tx, name, news.as_slice())
 }
 
-/// Writes only the rows of the edits, in the zone of this name, if the delta knows what that has at their keys.
+/// Makes the edits of the delta in the zone of this name, and writes no other rows. The delta must know what the zone
+/// has at their keys.
 pub(crate) fn write_delta<S: Alter>(
     alloc: Global,
     tx: &mut Transaction<'_, S>,

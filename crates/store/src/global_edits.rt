@@ -1,5 +1,6 @@
 //! Edits of the global zone, written in an open transaction. SYSMODs that come wait for others, so that one statement
-//! puts rows of several.
+//! puts rows of several. Each call returns an error if the database refuses a row, if the disk fails or if memory runs
+//! out.
 
 ghost use Rattle.std.specs.Prelude.{◌≡◌, false, List, [], OnOk};
 ghost use Rattle.terms.specs.Global.{with_sysmod};
@@ -25,7 +26,7 @@ use sysmods_values::Sysmod;
 /// How many SYSMODs wait at most.
 const MOST_WAIT: usize = 256;
 
-// Writes the SYSMODs that wait.
+// Writes the SYSMODs that wait. Afterwards none waits.
 fn write_waiting<S: Alter>(
     alloc: Global,
     tx: &mut Transaction<'_, S>,
@@ -40,7 +41,7 @@ fn write_waiting<S: Alter>(
     Ok(())
 }
 
-// If the greatest number wait, writes them.
+// Writes the SYSMODs that wait if there are so many that no other may wait with them.
 fn make_room<S: Alter>(
     alloc: Global,
     tx: &mut Transaction<'_, S>,
@@ -56,7 +57,7 @@ fn make_room<S: Alter>(
     write_waiting(alloc, tx, waiting)
 }
 
-// The SYSMOD waits with the others.
+// Lets the SYSMOD with these sources wait with the others, which it writes first if there are too many.
 fn add_waiting<S: Alter>(
     alloc: Global,
     tx: &mut Transaction<'_, S>,
@@ -75,6 +76,8 @@ fn add_waiting<S: Alter>(
     Ok(())
 }
 
+// Makes the edit. A SYSMOD that is received waits; edits that remove or replace rows first write those that wait. A
+// SYSMOD of which `stated` has no statements is not received.
 fn write_edit<S: Alter>(
     alloc: Global,
     tx: &mut Transaction<'_, S>,
@@ -105,6 +108,7 @@ fn write_edit<S: Alter>(
     }
 }
 
+/// Makes the edits of the global zone, in their order. `stated` has the statements of the SYSMODs that are received.
 pub(crate) fn write_edits<S: Alter>(
     alloc: Global,
     tx: &mut Transaction<'_, S>,

@@ -31,7 +31,7 @@ pub struct GlobalLists {
 
 /// The SYSMODs and holds of a database of this schema. Returns `BadRow` if the rows stand for no such lists, `Memory`
 /// if memory runs out, and `Fault` if the disk fails or the tables are others.
-pub fn load_lists<S: Alter>(
+pub fn load_global_lists<S: Alter>(
     alloc: Global,
     conn: &mut Connection<S>,
     schema: Schema,
@@ -51,9 +51,9 @@ pub fn load_lists<S: Alter>(
     Ok(GlobalLists { sysmods, holds })
 }
 
-/// The global zone of these lists, if they are those of one. Returns `BadRow` if they are not, `Memory` if memory runs
+/// The global zone with these SYSMODs and holds. Returns `BadRow` if no global zone has them, `Memory` if memory runs
 /// out, and never `Fault`.
-pub fn joined(alloc: Global, lists: GlobalLists) -> Result<GlobalZone, ReadError>
+pub fn assemble_global(alloc: Global, lists: GlobalLists) -> Result<GlobalZone, ReadError>
     ensures same { IfOk result (λ global. global ≡ a_global lists.sysmods.items lists.holds.items) }
     ensures whole { OnOk result (IsGlobal (a_global lists.sysmods.items lists.holds.items)) }
     ensures none { IsErrOf result ReadError.BadRow → ¬ IsGlobal (a_global lists.sysmods.items lists.holds.items) }
@@ -65,7 +65,8 @@ pub fn joined(alloc: Global, lists: GlobalLists) -> Result<GlobalZone, ReadError
     }
 }
 
-/// The global zone.
+/// The global zone of a database with the store's tables. Returns `BadRow` if the rows stand for none, `Memory` if
+/// memory runs out, and `Fault` if the disk fails or the tables are others.
 pub(crate) fn load_global<S: Alter>(
     alloc: Global,
     conn: &mut Connection<S>,
@@ -77,6 +78,6 @@ pub(crate) fn load_global<S: Alter>(
     ensures rows { HasCleanDisk (state S.Store conn.new) → IfOk result (ShowsGlobal S.Store conn.old) }
     ensures reads { OnlyReads S.Store store_schema ReadError.BadRow ReadError.Fault conn.old conn.new result }
 {
-    let lists = load_lists(alloc, conn, Schema::Third)?;
-    joined(alloc, lists)
+    let lists = load_global_lists(alloc, conn, Schema::Third)?;
+    assemble_global(alloc, lists)
 }

@@ -17,9 +17,9 @@ mod open;
 mod write;
 
 pub use change::Change;
-pub use global_load::{GlobalLists, joined, load_lists};
+pub use global_load::{GlobalLists, assemble_global, load_global_lists};
 pub use law::found_again;
-pub use load::told;
+pub use load::map_read_error;
 pub use open::Store;
 pub use store_schema::StoreError;
 pub use store_zones::ZoneHead;

@@ -17,7 +17,7 @@ use store_zones::ZoneHead;
 use sysmods::GlobalZone;
 use zones_maps::Zone;
 
-// The error for a reading that failed: rows that stand for nothing stand for no state.
+// The store's error for a load that failed: `NoState` for `BadRow`, as rows that stand for nothing stand for no state.
 fn store_error(error: ReadError) -> StoreError
     ensures { result ≡ store_error error }
 {
@@ -28,8 +28,8 @@ fn store_error(error: ReadError) -> StoreError
     }
 }
 
-/// The answer for a reading: `Memory` and `Fault` stay, and `BadRow` becomes `NoState`.
-pub fn told<T>(read: Result<T, ReadError>) -> Result<T, StoreError>
+/// What was loaded, or the store's error: `Memory` and `Fault` stay, and `BadRow` becomes `NoState`.
+pub fn map_read_error<T>(read: Result<T, ReadError>) -> Result<T, StoreError>
     ensures { result ≡ told read }
 {
     match read {
@@ -47,17 +47,17 @@ impl<S: Alter> Store<S> {
     {
         // Outside a transaction, the connection shows what it last committed.
         prove!(self.conn.is_autocommit());
-        told(load_global(self.alloc, &mut self.conn))
+        map_read_error(load_global(self.alloc, &mut self.conn))
     }
 
-    /// The zone of this name, if there is one. Returns `Memory` if memory runs out, `Fault` if the database fails, and
-    /// `NoState` if its rows stand for none.
+    /// The zone of this name, or `None` if there is none. Returns `Memory` if memory runs out, `Fault` if the database
+    /// fails, and `NoState` if its rows stand for no zone.
     pub fn load_zone(&mut self, name: ZoneName) -> Result<Option<Zone>, StoreError>
         ensures { Loads S.Store self.old self.new (λ i zone. zone ≡ zone_in i name) result }
     {
         // Outside a transaction, the connection shows what it last committed.
         prove!(self.conn.is_autocommit());
-        told(store_zones::load_zone(self.alloc, &mut self.conn, Schema::Third, name))
+        map_read_error(store_zones::load_zone(self.alloc, &mut self.conn, Schema::Third, name))
     }
 
     /// All zones without their entries and elements, rising by name. Returns `Memory` if memory runs out, `Fault` if
@@ -67,7 +67,7 @@ impl<S: Alter> Store<S> {
     {
         // Outside a transaction, the connection shows what it last committed.
         prove!(self.conn.is_autocommit());
-        told(store_zones::zone_heads(self.alloc, &mut self.conn))
+        map_read_error(store_zones::zone_heads(self.alloc, &mut self.conn))
     }
 
     /// The names of all zones, rising. Returns `Memory` if memory runs out, `Fault` if the database fails, and
@@ -77,6 +77,6 @@ impl<S: Alter> Store<S> {
     {
         // Outside a transaction, the connection shows what it last committed.
         prove!(self.conn.is_autocommit());
-        told(store_zones::zone_names(self.alloc, &mut self.conn))
+        map_read_error(store_zones::zone_names(self.alloc, &mut self.conn))
     }
 }

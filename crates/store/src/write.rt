@@ -18,7 +18,9 @@ use sqlite::{Alter, Connection, Error, Transaction};
 use std::alloc::Global;
 use store_zones::insert_zone;
 
-fn write<S: Alter>(
+// Writes the rows of the change in an open transaction. Returns an error if the database refuses a row, if the disk
+// fails or if memory runs out.
+fn write_change<S: Alter>(
     alloc: Global,
     tx: &mut Transaction<'_, S>,
     change: &Change<'_>,
@@ -36,7 +38,8 @@ fn write<S: Alter>(
     }
 }
 
-/// Makes the change, or fails and leaves what was last committed.
+/// Makes the change in one transaction. Returns an error if the database refuses a row, if the disk fails or if memory
+/// runs out; the last commit then stays.
 pub(crate) fn commit_change<S: Alter>(
     alloc: Global,
     conn: &mut Connection<S>,
@@ -55,6 +58,6 @@ pub(crate) fn commit_change<S: Alter>(
     // Outside a transaction, the connection shows what it last committed.
     prove!(conn.is_autocommit());
     let mut tx = conn.transaction();
-    write(alloc, &mut tx, change)?;
+    write_change(alloc, &mut tx, change)?;
     tx.commit()
 }

@@ -1,5 +1,6 @@
 -- How a migration ends, from how its calls do.
-use Rattle.std.proofs.Common.{◌≡◌, ◌≢◌, ◌⊎◌, inl, inr, Result, Ok, Err, OnOk, OnErr, IfOk, IsErrOf, IsErrAnd, IsTrue, Vec}
+use Rattle.std.proofs.Common.{◌≡◌, ◌≢◌, ◌⊎◌, inl, inr, Result, Ok, Err, OnOk, OnErr, IfOk, IsErrOf, IsErrAnd, IsTrue}
+use Rattle.std.proofs.Common.{Vec}
 use Rattle.std.proofs.Common.{false, arith, refl, sym, ap, subst, ◌∙◌}
 use Rattle.std.specs.declared.alloc.Global.{Global as AnyGlobal}
 use Rattle.sqlite.specs.declared.error.Error.{Error}

@@ -31,8 +31,8 @@ use Rattle.store_sysmod_loads.specs.Runs.{if_rows, ver_rows, elem_rows}
 -- ---- an order by two keys
 
 before_from : (a b : Change) → IsTrue (is_lt (change_cmp a b)) → IsTrue (is_change_before a b)
-before_from a b lower = lower_first (type_number a.elem_type) (type_number b.elem_type) (slice_cmp nat_cmp a.name b.name)
-    lower
+before_from a b lower =
+    lower_first (type_number a.elem_type) (type_number b.elem_type) (slice_cmp nat_cmp a.name b.name) lower
 
 -- ---- one SYSMOD
 

@@ -19,7 +19,8 @@ use Rattle.store_schema.specs.Stands.{StandsFor, rows_of}
 use Rattle.store_schema.specs.Tables.{store_schema}
 use Rattle.store_schema.specs.declared.schema.Schema.TheVariants.{First, Second}
 use Rattle.store_schema.proofs.OneState.{one_earlier_state}
-use Rattle.store_migration.specs.Migrated.{HasRowids, IsTakenOver, Migrated, Unmigrated, Migrates, NextMigrationFinds, NextOpenFinds}
+use Rattle.store_migration.specs.Migrated.{HasRowids, IsTakenOver, Migrated, Unmigrated, Migrates}
+use Rattle.store_migration.specs.Migrated.{NextMigrationFinds, NextOpenFinds}
 use Rattle.store.specs.View.{IsEarlierFound, LeavesEarlier}
 use Rattle.store.proofs.Reopening.{found_left, found_earlier}
 use Rattle.store.proofs.ViewLemmas.{Settled, IsOutside, leaves_committed}
@@ -69,7 +70,8 @@ module _ {S : Type 0} (g : Ghosts S) (old new : Held S) (outside : IsOutside g o
         crash = m.crash;
       }
 
-  pub is_unmigrated : {X : Type 0} (r : Result X StoreError) (e : StoreError) → Settled g old → r ≡ Err e → Migrates g old new r → Unmigrated g old new e
+  pub is_unmigrated : {X : Type 0} (r : Result X StoreError) (e : StoreError) → Settled g old → r ≡ Err e
+      → Migrates g old new r → Unmigrated g old new e
   is_unmigrated r e settled failed m = record {
     other = λ clean is. m.other clean (failed ∙ ap (λ z. Err z) is);
     none = λ clean is. m.none clean (failed ∙ ap (λ z. Err z) is);

@@ -44,7 +44,8 @@ all_shown : (db : Trees) (r : Schema) → AllByRecursion (IsShown db r) (tables_
 unfolding rows_at
 all_shown db First = (refl, (refl, (refl, (refl, (refl, (refl, (refl, (refl, (refl, tt)))))))))
 all_shown db Second = (refl, (refl, (refl, (refl, (refl, (refl, (refl, (refl, (refl, (refl, tt))))))))))
-all_shown db Third = (refl, (refl, (refl, (refl, (refl, (refl, (refl, (refl, (refl, (refl, (refl, (refl, (refl, tt)))))))))))))
+all_shown db Third =
+    (refl, (refl, (refl, (refl, (refl, (refl, (refl, (refl, (refl, (refl, (refl, (refl, (refl, tt)))))))))))))
 
 abbrev IsNumbered : Trees → Table → Type 0
 IsNumbered db t = AreNumbered (map (λ r. rowid r ∷ shown t r) (db t.tree))
@@ -132,18 +133,105 @@ stands : (r : Schema) (c : Contents) (db : Database) (held : HasContents (schema
     (known : HasTablesUnder r db) (global : Global) (g : HoldsGlobal r c global) (all : List NamedZone)
     (z : HoldsZones r c all) → StandsUnder r (record { global = global; zones = all }) db
 stands First c db held known global g all z = record {
-  tables = permuted (schema_under First) c (rows_under First (record { global = global; zones = all })) db (meta_row First c db held known global g all z, (g.lists.sysmod_rows.heads, (g.lists.sysmod_rows.vers, (g.lists.sysmod_rows.ifs, (g.lists.hold_rows, (g.lists.sysmod_rows.elems, (zones_are First c db held known global g all z, (entries_are First c db held known global g all z, (elements_are First c db held known global g all z, tt))))))))) held;
+  tables = permuted (schema_under First) c (rows_under First (record { global = global; zones = all })) db (
+    meta_row First c db held known global g all z,
+    (
+      g.lists.sysmod_rows.heads,
+      (
+        g.lists.sysmod_rows.vers,
+        (
+          g.lists.sysmod_rows.ifs,
+          (
+            g.lists.hold_rows,
+            (
+              g.lists.sysmod_rows.elems,
+              (
+                zones_are First c db held known global g all z,
+                (
+                  entries_are First c db held known global g all z,
+                  (elements_are First c db held known global g all z, tt),
+                ),
+              ),
+            ),
+          ),
+        ),
+      ),
+    ),
+  ) held;
   inventory = is_inventory First c db held known global g all z;
   earlier = first_earlier c global g all z;
   sources = short_sources global.sysmods g.lists.formed;
 }
 stands Second c db held known global g all z = record {
-  tables = permuted (schema_under Second) c (rows_under Second (record { global = global; zones = all })) db (meta_row Second c db held known global g all z, (g.lists.sysmod_rows.heads.0, (g.lists.sysmod_rows.vers, (g.lists.sysmod_rows.ifs, (g.lists.hold_rows, (g.lists.sysmod_rows.elems, (zones_are Second c db held known global g all z, (entries_are Second c db held known global g all z, (elements_are Second c db held known global g all z, (g.lists.sysmod_rows.heads.1, tt)))))))))) held;
+  tables = permuted (schema_under Second) c (rows_under Second (record { global = global; zones = all })) db (
+    meta_row Second c db held known global g all z,
+    (
+      g.lists.sysmod_rows.heads.0,
+      (
+        g.lists.sysmod_rows.vers,
+        (
+          g.lists.sysmod_rows.ifs,
+          (
+            g.lists.hold_rows,
+            (
+              g.lists.sysmod_rows.elems,
+              (
+                zones_are Second c db held known global g all z,
+                (
+                  entries_are Second c db held known global g all z,
+                  (
+                    elements_are Second c db held known global g all z,
+                    (g.lists.sysmod_rows.heads.1, tt),
+                  ),
+                ),
+              ),
+            ),
+          ),
+        ),
+      ),
+    ),
+  ) held;
   inventory = is_inventory Second c db held known global g all z;
   earlier = second_earlier c global g all z;
 }
 stands Third c db held known global g all z = record {
-  tables = permuted (schema_under Third) c (rows_under Third (record { global = global; zones = all })) db (meta_row Third c db held known global g all z, (g.lists.sysmod_rows.heads.0, (g.lists.sysmod_rows.vers, (g.lists.sysmod_rows.ifs, (g.lists.hold_rows, (g.lists.sysmod_rows.elems, (zones_are Third c db held known global g all z, (entries_are Third c db held known global g all z, (elements_are Third c db held known global g all z, (g.lists.sysmod_rows.heads.1, (g.lists.sysmod_rows.more.0, (g.lists.sysmod_rows.more.1, (chosen_are c db all held z, tt))))))))))))) held;
+  tables = permuted (schema_under Third) c (rows_under Third (record { global = global; zones = all })) db (
+    meta_row Third c db held known global g all z,
+    (
+      g.lists.sysmod_rows.heads.0,
+      (
+        g.lists.sysmod_rows.vers,
+        (
+          g.lists.sysmod_rows.ifs,
+          (
+            g.lists.hold_rows,
+            (
+              g.lists.sysmod_rows.elems,
+              (
+                zones_are Third c db held known global g all z,
+                (
+                  entries_are Third c db held known global g all z,
+                  (
+                    elements_are Third c db held known global g all z,
+                    (
+                      g.lists.sysmod_rows.heads.1,
+                      (
+                        g.lists.sysmod_rows.more.0,
+                        (
+                          g.lists.sysmod_rows.more.1,
+                          (chosen_are c db all held z, tt),
+                        ),
+                      ),
+                    ),
+                  ),
+                ),
+              ),
+            ),
+          ),
+        ),
+      ),
+    ),
+  ) held;
   inventory = is_inventory Third c db held known global g all z;
 }
 

@@ -1,4 +1,5 @@
-//! All rows of a schema's tables, read to make sure that they stand for a state.
+//! All rows of a schema's tables, read to make sure that they stand for a state. Each call returns `BadRow` if the rows
+//! that it reads stand for none, `Memory` if memory runs out, and `Fault` if the disk fails or the tables are others.
 
 ghost use Rattle.std.specs.Prelude.{◌≡◌, List, Some, OnOk, IfOk, IsErrOf, IsSome, IsTrue};
 ghost use Rattle.sqlite.specs.Held.{state};
@@ -14,16 +15,17 @@ ghost use Rattle.terms.specs.Types as terms;
 ghost use Rattle.store_migration.specs.Checked.{Checks, ChecksZones};
 ghost use Rattle.store.specs.Whole.{HoldsGlobal, HoldsZones};
 
-use crate::head::{Head, heads_of};
+use crate::head::{Head, moving_heads};
 use fields::ZoneName;
 use sqlite::{Alter, Connection};
 use std::alloc::Global;
-use store::{joined, load_lists};
+use store::{assemble_global, load_global_lists};
 use store_rows::ReadError;
 use store_schema::Schema;
 use store_zones::{ZoneHead, load_zone, zone_heads};
 
-// The global zone is dropped, except for what moves.
+// The heads of the SYSMODs whose sources move, once the whole global zone is read. Returns `BadRow` if the rows stand
+// for no global zone.
 fn check_global<S: Alter>(
     alloc: Global,
     conn: &mut Connection<S>,
@@ -39,12 +41,13 @@ fn check_global<S: Alter>(
         → (global : terms.Global) × HoldsGlobal schema contents global) }
     ensures reads { OnlyReads S.Store (schema_under schema) ReadError.BadRow ReadError.Fault conn.old conn.new result }
 {
-    let lists = load_lists(alloc, conn, schema)?;
-    let heads = heads_of(alloc, schema, lists.sysmods.as_slice())?;
-    joined(alloc, lists)?;
+    let lists = load_global_lists(alloc, conn, schema)?;
+    let heads = moving_heads(alloc, schema, lists.sysmods.as_slice())?;
+    assemble_global(alloc, lists)?;
     Ok(heads)
 }
 
+// Reads the zone of this name. Returns `BadRow` if there is none, or if its rows stand for no zone.
 fn check_zone<S: Alter>(
     alloc: Global,
     conn: &mut Connection<S>,
@@ -64,7 +67,8 @@ fn check_zone<S: Alter>(
     }
 }
 
-fn check_each<S: Alter>(
+// Reads the zone of each head, one after the other. Returns `BadRow` if the rows of one stand for no zone.
+fn check_each_zone<S: Alter>(
     alloc: Global,
     conn: &mut Connection<S>,
     schema: Schema,
@@ -79,7 +83,7 @@ fn check_each<S: Alter>(
     Ok(())
 }
 
-// One zone after the other.
+// Loads the heads of all zones, and reads the zone of each. Returns `BadRow` if the rows stand for no zones.
 fn check_zones<S: Alter>(
     alloc: Global,
     conn: &mut Connection<S>,
@@ -93,10 +97,11 @@ fn check_zones<S: Alter>(
     ensures reads { OnlyReads S.Store (schema_under schema) ReadError.BadRow ReadError.Fault conn.old conn.new result }
 {
     let heads = zone_heads(alloc, conn)?;
-    check_each(alloc, conn, schema, heads.as_slice())
+    check_each_zone(alloc, conn, schema, heads.as_slice())
 }
 
-/// Reads all rows, and returns what moves.
+/// The heads of the SYSMODs whose sources move, once all rows of the tables of the schema are read. Returns `BadRow` if
+/// the rows stand for no state, `Memory` if memory runs out, and `Fault` if the disk fails or the tables are others.
 pub(crate) fn check_all<S: Alter>(
     alloc: Global,
     conn: &mut Connection<S>,

@@ -18,7 +18,8 @@ pub struct Head {
     pub sources: SourceList,
 }
 
-fn head_of(alloc: Global, sysmod: &Sysmod) -> Result<Head, AllocError>
+// The SYSMOD as in its own row, with a copy of its sources.
+fn copy_head(alloc: Global, sysmod: &Sysmod) -> Result<Head, AllocError>
     ensures { IfOk result (λ head. head ≡ the_head sysmod.now) }
 {
     Ok(Head {
@@ -28,23 +29,28 @@ fn head_of(alloc: Global, sysmod: &Sysmod) -> Result<Head, AllocError>
     })
 }
 
-fn all_heads(alloc: Global, sysmods: &[Sysmod]) -> Result<Vec<Head>, AllocError>
+// Each SYSMOD as in its own row, in their order.
+fn copy_heads(alloc: Global, sysmods: &[Sysmod]) -> Result<Vec<Head>, AllocError>
     ensures { IfOk result (λ heads. heads.items ≡ map the_head sysmods.now) }
 {
     let mut heads = Vec::with_capacity(alloc, sysmods.len())?;
     for sysmod in sysmods {
-        let head = head_of(alloc, sysmod)?;
+        let head = copy_head(alloc, sysmod)?;
         heads.push(head)?;
     }
     Ok(heads)
 }
 
-/// What moves of all SYSMODs, which are these, if the tables are those of the schema.
-pub fn heads_of(alloc: Global, schema: Schema, sysmods: &[Sysmod]) -> Result<Vec<Head>, AllocError>
+/// The heads of these SYSMODs whose sources move to a table of their own: all of schema 1, and none of a later schema.
+pub fn moving_heads(
+    alloc: Global,
+    schema: Schema,
+    sysmods: &[Sysmod],
+) -> Result<Vec<Head>, AllocError>
     ensures { IfOk result (λ heads. heads.items ≡ moved_heads schema sysmods.now) }
 {
     match schema {
-        Schema::First => all_heads(alloc, sysmods),
+        Schema::First => copy_heads(alloc, sysmods),
         _ => Ok(Vec::new(alloc)),
     }
 }

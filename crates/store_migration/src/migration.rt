@@ -9,28 +9,29 @@ use crate::check::check_all;
 use crate::taking::take_over;
 use sqlite::{Alter, Connection};
 use std::alloc::Global;
-use store::{Store, told};
-use store_schema::{Schema, StoreError, found_schema, set_up};
+use store::{Store, map_read_error};
+use store_schema::{Schema, StoreError, find_schema, set_up};
 
-// What an open connection shows is a database. The call does nothing.
+// Establishes for the proofs that an open connection shows a database. The call does nothing.
 fn attest<S: Alter>(conn: &Connection<S>)
     ensures { IsLive (state S.Store conn.now) }
 {
     let _ = conn.schema();
 }
 
-// Reads all rows, and then writes.
-fn migrated<S: Alter>(alloc: Global, conn: &mut Connection<S>) -> Result<(), StoreError>
+// Reads all rows, and then makes the tables those of the store. Creates them if there are none. Returns the same errors
+// as `migrate`.
+fn migrate_tables<S: Alter>(alloc: Global, conn: &mut Connection<S>) -> Result<(), StoreError>
     requires { conn.old.in_transaction ≡ false }
     ensures { Migrates S.Store conn.old conn.new result }
 {
     // Outside a transaction, the connection shows what it last committed.
     prove!(conn.is_autocommit());
     attest(conn);
-    let Some(schema) = found_schema(alloc, conn)? else {
+    let Some(schema) = find_schema(alloc, conn)? else {
         return set_up(alloc, conn);
     };
-    let heads = told(check_all(alloc, conn, schema))?;
+    let heads = map_read_error(check_all(alloc, conn, schema))?;
     match schema {
         Schema::Third => Ok(()),
         _ => {
@@ -55,7 +56,7 @@ pub fn migrate<S: Alter>(
 {
     // Outside a transaction, the connection shows what it last committed.
     prove!(conn.is_autocommit());
-    match migrated(alloc, &mut conn) {
+    match migrate_tables(alloc, &mut conn) {
         Ok(()) => Ok(Store::over(alloc, conn)),
         Err(error) => Err((conn, error)),
     }

@@ -12,7 +12,8 @@ use store_rows::replace;
 
 const REPLACE: &str = "UPDATE meta SET k = ?1, v = ?2 WHERE k = ?1";
 
-/// Writes the store's number in place of the one that is there.
+/// Writes the number of the store's schema, which is 3, in place of the one that `meta` has. Returns an error if the
+/// database refuses the row, if the disk fails or if memory runs out.
 pub(crate) fn write_number<S: Alter>(tx: &mut Transaction<'_, S>) -> Result<(), Error>
     ensures continues { Continues S.Store tx.old tx.new }
     ensures ok { OnOk result (Turns S.Store tx.old.conn.now tx.new.conn.now (HasContents store_schema) with_number) }

@@ -1,4 +1,5 @@
-//! The sources of SYSMODs, from their own rows to a table.
+//! The sources of SYSMODs, from their own rows to a table. Each call returns an error if the database refuses a row, if
+//! the disk fails or if memory runs out.
 
 ghost use Rattle.std.specs.Prelude.{fold, OnOk};
 ghost use Rattle.store_rows.specs.Inside.{Continues, Turns};
@@ -18,6 +19,7 @@ use store_sysmods::insert_source;
 
 const REPLACE: &str = "UPDATE sysmod SET id = ?1, kind = ?2, sources = ?3 WHERE id = ?1";
 
+// Adds the rows of the SYSMOD's sources to their table.
 fn insert_sources<S: Alter>(
     tx: &mut Transaction<'_, S>,
     id: &Id,
@@ -33,8 +35,8 @@ fn insert_sources<S: Alter>(
     Ok(())
 }
 
-// The SYSMOD's row keeps all but its sources.
-fn empty_column<S: Alter>(tx: &mut Transaction<'_, S>, head: &Head) -> Result<(), Error>
+// Empties the column of sources in the SYSMOD's row, which keeps the others.
+fn clear_sources_column<S: Alter>(tx: &mut Transaction<'_, S>, head: &Head) -> Result<(), Error>
     ensures continues { Continues S.Store tx.old tx.new }
     ensures ok { OnOk result (Turns S.Store tx.old.conn.now tx.new.conn.now (HasContents store_schema)
         (in_table sysmod_table (in_place (Text head.now.id ∷ []) (bare_row head.now)))) }
@@ -44,16 +46,17 @@ fn empty_column<S: Alter>(tx: &mut Transaction<'_, S>, head: &Head) -> Result<()
     replace(tx, REPLACE, &[id, kind, ValueRef::Text(b"")])
 }
 
-fn move_head<S: Alter>(tx: &mut Transaction<'_, S>, head: &Head) -> Result<(), Error>
+// Moves the sources of one SYSMOD from its row to their table.
+fn move_sources_of<S: Alter>(tx: &mut Transaction<'_, S>, head: &Head) -> Result<(), Error>
     ensures continues { Continues S.Store tx.old tx.new }
     ensures ok { OnOk result (Turns S.Store tx.old.conn.now tx.new.conn.now (HasContents store_schema)
         (λ contents. with_moved contents head.now)) }
 {
     insert_sources(tx, &head.id, head.sources.as_slice())?;
-    empty_column(tx, head)
+    clear_sources_column(tx, head)
 }
 
-/// Moves the sources of these SYSMODs.
+/// Moves the sources of these SYSMODs from their rows to a table.
 pub(crate) fn move_sources<S: Alter>(
     tx: &mut Transaction<'_, S>,
     heads: &[Head],
@@ -63,7 +66,7 @@ pub(crate) fn move_sources<S: Alter>(
         (λ contents. fold with_moved contents heads.now)) }
 {
     for head in heads {
-        move_head(tx, head)?;
+        move_sources_of(tx, head)?;
     }
     Ok(())
 }

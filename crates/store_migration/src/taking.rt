@@ -12,7 +12,13 @@ use crate::sources::move_sources;
 use sqlite::{Alter, Connection, Error, Transaction};
 use store_schema::{Schema, add_tables};
 
-fn write<S: Alter>(tx: &mut Transaction<'_, S>, schema: Schema, heads: &[Head]) -> Result<(), Error>
+// Adds the tables that the schema lacks, moves the sources of these SYSMODs, and writes the store's number, all in an
+// open transaction. Returns the same errors as `take_over`.
+fn convert_tables<S: Alter>(
+    tx: &mut Transaction<'_, S>,
+    schema: Schema,
+    heads: &[Head],
+) -> Result<(), Error>
     ensures continues { Continues S.Store tx.old tx.new }
     ensures ok { HasCleanDisk (state S.Store tx.new.conn.now) → OnOk result
         (Takes schema heads.now (state S.Store tx.old.conn.now).now (state S.Store tx.new.conn.now).now) }
@@ -42,6 +48,6 @@ pub fn take_over<S: Alter>(
     ensures mode { conn.new.in_transaction ≡ false }
 {
     let mut tx = conn.transaction();
-    write(&mut tx, schema, heads)?;
+    convert_tables(&mut tx, schema, heads)?;
     tx.commit()
 }

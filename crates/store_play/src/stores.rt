@@ -31,7 +31,7 @@ pub fn commit_zone<S: Alter>(
     edits: ZoneEdits,
 ) -> Result<(), Fail> {
     let zone = loaded(store, name)?;
-    let delta = ZoneDelta::of(alloc, edits, &zone)?;
+    let delta = ZoneDelta::from_edits(alloc, edits, &zone)?;
     commit(store, &Change::Zone(name, delta))
 }
 

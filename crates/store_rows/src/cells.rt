@@ -8,8 +8,8 @@ use sqlite_value::row::Row as Cells;
 use sqlite_value::value::ValueRef;
 use std::alloc::{AllocError, Global};
 
-/// A row of these columns.
-pub fn cells_of(alloc: Global, values: &[ValueRef<'_>]) -> Result<Cells, AllocError>
+/// A row whose columns are copies of these values.
+pub fn row_of_values(alloc: Global, values: &[ValueRef<'_>]) -> Result<Cells, AllocError>
     ensures { IfOk result (λ cells. as_bound cells ≡ bound values.now) }
 {
     let mut cells = Cells::new(alloc);

@@ -8,7 +8,7 @@ mod error;
 mod reading;
 mod statement;
 
-pub use cells::cells_of;
+pub use cells::row_of_values;
 pub use error::ReadError;
 pub use reading::{FromRow, load};
 pub use statement::{insert, insert_rows, put, remove, remove_parent, replace};

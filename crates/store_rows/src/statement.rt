@@ -18,11 +18,11 @@ use sqlite_value::row::Row as Cells;
 use sqlite_value::value::ValueRef;
 use std::alloc::{AllocError, Global};
 
-/// How many rows one statement puts.
+/// How many rows one statement adds at most.
 const MANY: usize = 16;
 
 // Runs a statement that shows no rows.
-fn run<S: Alter>(
+fn run_statement<S: Alter>(
     tx: &mut Transaction<'_, S>,
     sql: &str,
     params: &[ValueRef<'_>],
@@ -38,7 +38,7 @@ fn run<S: Alter>(
 }
 
 // The columns of the rows, row after row.
-fn values_of<'a>(alloc: Global, rows: &'a [Cells]) -> Result<Vec<ValueRef<'a>>, AllocError>
+fn columns_of_rows<'a>(alloc: Global, rows: &'a [Cells]) -> Result<Vec<ValueRef<'a>>, AllocError>
     ensures { IfOk result (λ values. bound values.items ≡ columns_of (map as_bound rows.now)) }
 {
     let mut values = Vec::new(alloc);
@@ -50,8 +50,8 @@ fn values_of<'a>(alloc: Global, rows: &'a [Cells]) -> Result<Vec<ValueRef<'a>>, 
     Ok(values)
 }
 
-// Puts these rows by one statement.
-fn insert_run<S: Alter>(
+// Adds these rows by one statement, which has a place for each of their columns.
+fn insert_by_one_statement<S: Alter>(
     alloc: Global,
     tx: &mut Transaction<'_, S>,
     sql: &str,
@@ -66,38 +66,38 @@ fn insert_run<S: Alter>(
         → Turns S.Store tx.old.conn.now tx.new.conn.now (HasContents schema)
         (in_table table (with_rows (map as_bound rows.now)))) }
 {
-    let values = values_of(alloc, rows)?;
-    run(tx, sql, values.as_slice())
+    let values = columns_of_rows(alloc, rows)?;
+    run_statement(tx, sql, values.as_slice())
 }
 
-/// Adds these rows to the table that the texts name. The first text puts as many rows at a time as go into one
-/// statement, and the second puts the remaining ones, one at a time. Returns an error if the database refuses a
-/// statement, as for a row whose key exists already, if the disk fails or if memory runs out.
+/// Adds these rows to the table that the two statements name: `many_sql` adds `MANY` rows at a time, and `one_sql` the
+/// remaining ones, one at a time. Returns an error if the database refuses a statement, as for a row whose key exists
+/// already, if the disk fails or if memory runs out.
 pub fn insert_rows<S: Alter>(
     alloc: Global,
     tx: &mut Transaction<'_, S>,
-    some: &str,
-    one: &str,
+    many_sql: &str,
+    one_sql: &str,
     rows: &[Cells],
 ) -> Result<(), Error>
     ensures continues { Continues S.Store tx.old tx.new }
-    ensures calls { RunsInside S.Store (puts some.now one.now (map as_bound rows.now)) tx.old.conn.now
+    ensures calls { RunsInside S.Store (puts many_sql.now one_sql.now (map as_bound rows.now)) tx.old.conn.now
         tx.new.conn.now result }
     ensures ok { OnOk result ((schema : Schema) (at : ℕ) (table : Table)
-        → PutsIn schema at table many some.now → PutsIn schema at table 1 one.now
+        → PutsIn schema at table many many_sql.now → PutsIn schema at table 1 one_sql.now
         → AllByRecursion (SuitColumns table.columns) (map as_bound rows.now)
         → Turns S.Store tx.old.conn.now tx.new.conn.now (HasContents schema)
         (in_table table (with_rows (map as_bound rows.now)))) }
 {
     let mut rest = rows;
     while rest.len() >= MANY {
-        let (run, more) = rest.split_at(MANY);
-        insert_run(alloc, tx, some, run)?;
+        let (front, more) = rest.split_at(MANY);
+        insert_by_one_statement(alloc, tx, many_sql, front)?;
         rest = more;
     }
     while !rest.is_empty() {
         let (row, more) = rest.split_at(1);
-        insert_run(alloc, tx, one, row)?;
+        insert_by_one_statement(alloc, tx, one_sql, row)?;
         rest = more;
     }
     Ok(())
@@ -117,7 +117,7 @@ pub fn insert<S: Alter>(
         → Turns S.Store tx.old.conn.now tx.new.conn.now (HasContents schema)
         (in_table table (with_row (bound row.now)))) }
 {
-    run(tx, sql, row)
+    run_statement(tx, sql, row)
 }
 
 /// Removes from the table that the text names the rows whose first columns are the parameters. Returns an error if the
@@ -134,7 +134,7 @@ pub fn remove<S: Alter>(
         → Turns S.Store tx.old.conn.now tx.new.conn.now (HasContents schema)
         (in_table table (without (bound key.now)))) }
 {
-    run(tx, sql, key)
+    run_statement(tx, sql, key)
 }
 
 /// Puts a row, whose columns are the parameters, into the table that the text names. If a row has its key, that row is
@@ -153,7 +153,7 @@ pub fn put<S: Alter>(
         → Turns S.Store tx.old.conn.now tx.new.conn.now (HasContents schema)
         (with_put table (take width (bound row.now)) (bound row.now))) }
 {
-    run(tx, sql, row)
+    run_statement(tx, sql, row)
 }
 
 /// Puts the parameters, as the columns of a row, in place of each row of the table that the text names whose first
@@ -171,7 +171,7 @@ pub fn replace<S: Alter>(
         → Turns S.Store tx.old.conn.now tx.new.conn.now (HasContents schema)
         (in_table table (in_place (take width (bound columns.now)) (bound columns.now)))) }
 {
-    run(tx, sql, columns)
+    run_statement(tx, sql, columns)
 }
 
 /// Removes from the table that the text names the rows whose first column is the one parameter, if the tables that
@@ -192,5 +192,5 @@ pub fn remove_parent<S: Alter>(
         → HasContents schema (in_table table (without (bound parent.now)) contents)
         (state S.Store tx.new.conn.now).now) }
 {
-    run(tx, sql, parent)
+    run_statement(tx, sql, parent)
 }

@@ -1,13 +1,28 @@
 -- What the texts mean: each makes its table over those before it.
-use Rattle.std.proofs.Common.{List, ℕ, [], ◌∷◌, ◌++◌, codes, refl}
+use Rattle.std.proofs.Common.{List, ℕ, [], ◌∷◌, ◌++◌, refl}
 use Rattle.store_schema.specs.Tables.{meta, sysmod, ver, ifreq, hold, elem, zone, entry, zelem, source, morever}
 use Rattle.store_schema.specs.Tables.{moreif, chosen, first_tables, second_tables}
+use Rattle.store_schema.specs.declared.creating.TheConstants.{
+  CREATE_META,
+  CREATE_SYSMOD,
+  CREATE_VER,
+  CREATE_IFREQ,
+  CREATE_HOLD,
+  CREATE_ELEM,
+  CREATE_ZONE,
+  CREATE_ENTRY,
+  CREATE_ZELEM,
+  CREATE_SOURCE,
+  CREATE_MOREVER,
+  CREATE_MOREIF,
+  CREATE_CHOSEN,
+}
 use Rattle.store_schema.proofs.Making.{Makes}
 use Rattle.sqlite.specs.Listing.{understood}
 use Rattle.sqlite_tied.specs.Compute.{everything}
 
 abbrev pub create_meta : List ℕ
-create_meta = codes "CREATE TABLE meta (k TEXT NOT NULL, v INTEGER NOT NULL, PRIMARY KEY (k)) STRICT"
+create_meta = CREATE_META.now
 
 pub makes_meta : Makes create_meta ([]) meta
 unfolding understood everything
@@ -22,7 +37,7 @@ makes_meta = record {
 }
 
 abbrev pub create_sysmod : List ℕ
-create_sysmod = codes "CREATE TABLE sysmod (id TEXT NOT NULL, kind TEXT NOT NULL, sources TEXT NOT NULL, PRIMARY KEY (id)) STRICT"
+create_sysmod = CREATE_SYSMOD.now
 
 pub makes_sysmod : Makes create_sysmod (meta ∷ []) sysmod
 unfolding understood everything
@@ -37,7 +52,7 @@ makes_sysmod = record {
 }
 
 abbrev pub create_ver : List ℕ
-create_ver = codes "CREATE TABLE ver (id TEXT NOT NULL, srel TEXT NOT NULL, fmid TEXT, pre TEXT NOT NULL, req TEXT NOT NULL, sup TEXT NOT NULL, npre TEXT NOT NULL, del TEXT NOT NULL, PRIMARY KEY (id, srel), FOREIGN KEY (id) REFERENCES sysmod (id) ON DELETE CASCADE) STRICT"
+create_ver = CREATE_VER.now
 
 pub makes_ver : Makes create_ver (meta ∷ sysmod ∷ []) ver
 unfolding understood everything
@@ -52,7 +67,7 @@ makes_ver = record {
 }
 
 abbrev pub create_ifreq : List ℕ
-create_ifreq = codes "CREATE TABLE ifreq (id TEXT NOT NULL, srel TEXT NOT NULL, n INTEGER NOT NULL, fmid TEXT NOT NULL, req TEXT NOT NULL, PRIMARY KEY (id, srel, n), FOREIGN KEY (id) REFERENCES sysmod (id) ON DELETE CASCADE) STRICT"
+create_ifreq = CREATE_IFREQ.now
 
 pub makes_ifreq : Makes create_ifreq (meta ∷ sysmod ∷ ver ∷ []) ifreq
 unfolding understood everything
@@ -67,7 +82,7 @@ makes_ifreq = record {
 }
 
 abbrev pub create_hold : List ℕ
-create_hold = codes "CREATE TABLE hold (id TEXT NOT NULL, kind TEXT NOT NULL, reason TEXT NOT NULL, fmid TEXT NOT NULL, class TEXT, date TEXT, comment TEXT, internal INTEGER NOT NULL, PRIMARY KEY (id, kind, reason)) STRICT"
+create_hold = CREATE_HOLD.now
 
 pub makes_hold : Makes create_hold (meta ∷ sysmod ∷ ver ∷ ifreq ∷ []) hold
 unfolding understood everything
@@ -82,7 +97,7 @@ makes_hold = record {
 }
 
 abbrev pub create_elem : List ℕ
-create_elem = codes "CREATE TABLE elem (id TEXT NOT NULL, type TEXT NOT NULL, name TEXT NOT NULL, upd INTEGER NOT NULL, distlib TEXT, syslib TEXT, text BLOB NOT NULL, PRIMARY KEY (id, type, name), FOREIGN KEY (id) REFERENCES sysmod (id) ON DELETE CASCADE) STRICT"
+create_elem = CREATE_ELEM.now
 
 pub makes_elem : Makes create_elem (meta ∷ sysmod ∷ ver ∷ ifreq ∷ hold ∷ []) elem
 unfolding understood everything
@@ -97,7 +112,7 @@ makes_elem = record {
 }
 
 abbrev pub create_zone : List ℕ
-create_zone = codes "CREATE TABLE zone (name TEXT NOT NULL, kind TEXT NOT NULL, srel TEXT NOT NULL, related TEXT, PRIMARY KEY (name)) STRICT"
+create_zone = CREATE_ZONE.now
 
 pub makes_zone : Makes create_zone (meta ∷ sysmod ∷ ver ∷ ifreq ∷ hold ∷ elem ∷ []) zone
 unfolding understood everything
@@ -112,7 +127,7 @@ makes_zone = record {
 }
 
 abbrev pub create_entry : List ℕ
-create_entry = codes "CREATE TABLE entry (zone TEXT NOT NULL, id TEXT NOT NULL, date TEXT, supby TEXT NOT NULL, delby TEXT, waived TEXT NOT NULL, PRIMARY KEY (zone, id), FOREIGN KEY (zone) REFERENCES zone (name)) STRICT"
+create_entry = CREATE_ENTRY.now
 
 pub makes_entry : Makes create_entry (meta ∷ sysmod ∷ ver ∷ ifreq ∷ hold ∷ elem ∷ zone ∷ []) entry
 unfolding understood everything
@@ -127,7 +142,7 @@ makes_entry = record {
 }
 
 abbrev pub create_zelem : List ℕ
-create_zelem = codes "CREATE TABLE zelem (zone TEXT NOT NULL, type TEXT NOT NULL, name TEXT NOT NULL, fmid TEXT NOT NULL, rmid TEXT NOT NULL, umid TEXT NOT NULL, distlib TEXT NOT NULL, syslib TEXT NOT NULL, text BLOB NOT NULL, PRIMARY KEY (zone, type, name), FOREIGN KEY (zone) REFERENCES zone (name)) STRICT"
+create_zelem = CREATE_ZELEM.now
 
 pub makes_zelem : Makes create_zelem (meta ∷ sysmod ∷ ver ∷ ifreq ∷ hold ∷ elem ∷ zone ∷ entry ∷ []) zelem
 unfolding understood everything
@@ -142,7 +157,7 @@ makes_zelem = record {
 }
 
 abbrev pub create_source : List ℕ
-create_source = codes "CREATE TABLE source (id TEXT NOT NULL, name TEXT NOT NULL, PRIMARY KEY (id, name), FOREIGN KEY (id) REFERENCES sysmod (id) ON DELETE CASCADE) STRICT"
+create_source = CREATE_SOURCE.now
 
 pub makes_source : Makes create_source first_tables source
 unfolding understood everything
@@ -157,7 +172,7 @@ makes_source = record {
 }
 
 abbrev pub create_morever : List ℕ
-create_morever = codes "CREATE TABLE morever (id TEXT NOT NULL, srel TEXT NOT NULL, n INTEGER NOT NULL, fmid TEXT, pre TEXT NOT NULL, req TEXT NOT NULL, sup TEXT NOT NULL, PRIMARY KEY (id, srel, n), FOREIGN KEY (id) REFERENCES sysmod (id) ON DELETE CASCADE) STRICT"
+create_morever = CREATE_MOREVER.now
 
 pub makes_morever : Makes create_morever second_tables morever
 unfolding understood everything
@@ -172,7 +187,7 @@ makes_morever = record {
 }
 
 abbrev pub create_moreif : List ℕ
-create_moreif = codes "CREATE TABLE moreif (id TEXT NOT NULL, srel TEXT NOT NULL, v INTEGER NOT NULL, n INTEGER NOT NULL, fmid TEXT NOT NULL, req TEXT NOT NULL, PRIMARY KEY (id, srel, v, n), FOREIGN KEY (id) REFERENCES sysmod (id) ON DELETE CASCADE) STRICT"
+create_moreif = CREATE_MOREIF.now
 
 pub makes_moreif : Makes create_moreif (second_tables ++ morever ∷ []) moreif
 unfolding understood everything
@@ -187,7 +202,7 @@ makes_moreif = record {
 }
 
 abbrev pub create_chosen : List ℕ
-create_chosen = codes "CREATE TABLE chosen (zone TEXT NOT NULL, id TEXT NOT NULL, n INTEGER NOT NULL, PRIMARY KEY (zone, id), FOREIGN KEY (zone) REFERENCES zone (name)) STRICT"
+create_chosen = CREATE_CHOSEN.now
 
 pub makes_chosen : Makes create_chosen (second_tables ++ morever ∷ moreif ∷ []) chosen
 unfolding understood everything

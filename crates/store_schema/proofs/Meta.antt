@@ -14,7 +14,8 @@ use Rattle.sqlite.proofs.Callers.{IsPlain, command_of, reads_as, one_permutation
 use Rattle.sqlite_tied.specs.Compute.{everything}
 use Rattle.store_schema.specs.Tables.{meta, schema_of}
 use Rattle.store_schema.specs.Known.{select_meta, select_own, GivesOther, IsNumber, own_numbers, known_numbers}
-use Rattle.store_schema.specs.Known.{HasNumberBut, HasNumbersAmong, HasNoState, HasNoSchema, HasOwnTables, HasTablesUnder}
+use Rattle.store_schema.specs.Known.{HasNumberBut, HasNumbersAmong, HasNoState, HasNoSchema, HasOwnTables}
+use Rattle.store_schema.specs.Known.{HasTablesUnder}
 use Rattle.store_schema.specs.Earlier.{tables_under, schema_under, number_under, IsEarlierStateOf}
 use Rattle.store_schema.specs.declared.schema.Schema.{Schema}
 use Rattle.store_schema.specs.declared.schema.Schema.TheVariants.{First, Second, Third}

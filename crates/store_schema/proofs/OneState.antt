@@ -45,7 +45,8 @@ use Rattle.store_schema.specs.Earlier.{first_sysmod_row, first_rows_of, second_r
 use Rattle.store_schema.specs.Earlier.{IsOfEarlier, schema_under, StandsUnder, IsEarlierStateOf, HasOneEarlierState}
 use Rattle.store_schema.specs.declared.schema.Schema.{Schema}
 use Rattle.store_schema.specs.declared.schema.Schema.TheVariants.{First, Second, Third}
-use Rattle.store_schema.proofs.WrittenLists.{same_sorted, lower_once, one_place, has_all, ascending, ascending_by, flat_has}
+use Rattle.store_schema.proofs.WrittenLists.{same_sorted, lower_once, one_place, has_all, ascending, ascending_by}
+use Rattle.store_schema.proofs.WrittenLists.{flat_has}
 use Rattle.store_schema.proofs.WrittenLists.{flat_had, IsLower, numbers_rise, values}
 use Rattle.store_schema.proofs.Spelled.{kind_same, hold_same, type_same, zone_same, or_null_same, flag_same}
 use Rattle.store_schema.proofs.Spelled.{ids_are_words, sources_are_words, ids_same, text_same, before_once}

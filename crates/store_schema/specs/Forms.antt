@@ -12,6 +12,7 @@ use Rattle.terms.specs.Forms.{IsId, IsClass, IsReason, IsSource, IsSrel, IsName,
 use Rattle.terms.specs.Forms.{BeginsDark}
 use Rattle.terms.specs.Statement.{behind_list}
 use Rattle.terms.specs.Texts.{IsNumbered, IsUpdate}
+pub use Rattle.terms.specs.Texts.{TakesUpdates}
 
 -- ids of this form, rising
 pub record AreSorted (form : Text → Type 0) (ids : List Text) : Type 0 where
@@ -32,12 +33,6 @@ abbrev pub IsTextOf : ElemType → Lines → Type 0
 IsTextOf Mac text = AreRecords text × IsNumbered text
 IsTextOf Src text = AreRecords text × IsNumbered text
 IsTextOf _ text = AreRecords text
-
--- ++MACUPD and ++SRCUPD exist
-abbrev pub TakesUpdates : ElemType → Type 0
-TakesUpdates Mac = Unit {0}
-TakesUpdates Src = Unit {0}
-TakesUpdates _ = ⊥
 
 -- ++IF: at least one requisite, none of them the SYSMOD itself
 pub record HasIfForms (x : Id) (i : IfReq) : Type 0 where

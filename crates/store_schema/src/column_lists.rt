@@ -30,8 +30,8 @@ pub fn joined_ids(alloc: Global, ids: &[Id]) -> Result<Vec<u8>, AllocError>
     Ok(text)
 }
 
-// The parts of the text between commas; the empty text has none.
-fn parts(alloc: Global, text: &[u8]) -> Result<Vec<&[u8]>, AllocError>
+// The parts of the text between its commas. The empty text has none.
+fn split_at_commas(alloc: Global, text: &[u8]) -> Result<Vec<&[u8]>, AllocError>
     ensures { IfOk result (λ parts. map (λ part. part.now) parts.items ≡ parts_of text.now) }
 {
     if text.is_empty() {
@@ -40,7 +40,8 @@ fn parts(alloc: Global, text: &[u8]) -> Result<Vec<&[u8]>, AllocError>
     text.split(|b| *b == b',').collect(alloc)
 }
 
-fn id_list(alloc: Global, parts: &[&[u8]]) -> Result<IdList, ReadError>
+// The ids of these texts. Returns `BadRow` if one of them is no id, or if they do not rise.
+fn read_ids(alloc: Global, parts: &[&[u8]]) -> Result<IdList, ReadError>
     ensures some { IfOk result (λ list. (list ≡ map (λ part. part.now) parts.now) × AreSorted IsId list) }
     ensures none { IsErrOf result ReadError.BadRow → ¬ AreSorted IsId (map (λ part. part.now) parts.now) }
     ensures fault { IsErrOf result ReadError.Fault → ⊥ }
@@ -57,7 +58,8 @@ fn id_list(alloc: Global, parts: &[&[u8]]) -> Result<IdList, ReadError>
     Ok(list)
 }
 
-fn source_list(alloc: Global, parts: &[&[u8]]) -> Result<SourceList, ReadError>
+// The sources of these texts. Returns `BadRow` if one of them is no source, or if they do not rise.
+fn read_sources(alloc: Global, parts: &[&[u8]]) -> Result<SourceList, ReadError>
     ensures some { IfOk result (λ list. (list ≡ map (λ part. part.now) parts.now) × AreSorted IsSource list) }
     ensures none { IsErrOf result ReadError.BadRow → ¬ AreSorted IsSource (map (λ part. part.now) parts.now) }
     ensures fault { IsErrOf result ReadError.Fault → ⊥ }
@@ -74,30 +76,30 @@ fn source_list(alloc: Global, parts: &[&[u8]]) -> Result<SourceList, ReadError>
     Ok(list)
 }
 
-// The ids of a rising list, which are joined by commas.
-fn ids_of(alloc: Global, text: &[u8]) -> Result<IdList, ReadError>
+// The ids of a rising list that commas join.
+fn read_joined_ids(alloc: Global, text: &[u8]) -> Result<IdList, ReadError>
     ensures read { IfOk result (λ list. (text.now ≡ join_with_byte 44 list) × AreSorted IsId list) }
     ensures none { IsErrOf result ReadError.BadRow → (list : List (List ℕ)) → AreSorted IsId list
         → text.now ≢ join_with_byte 44 list }
     ensures fault { IsErrOf result ReadError.Fault → ⊥ }
 {
-    let parts = parts(alloc, text)?;
-    id_list(alloc, &parts)
+    let parts = split_at_commas(alloc, text)?;
+    read_ids(alloc, &parts)
 }
 
-// The sources of a rising list, which are joined by commas.
-fn sources_of(alloc: Global, text: &[u8]) -> Result<SourceList, ReadError>
+// The sources of a rising list that commas join.
+fn read_joined_sources(alloc: Global, text: &[u8]) -> Result<SourceList, ReadError>
     ensures read { IfOk result (λ list. (text.now ≡ join_with_byte 44 list) × AreSorted IsSource list) }
     ensures none { IsErrOf result ReadError.BadRow → (list : List (List ℕ)) → AreSorted IsSource list
         → text.now ≢ join_with_byte 44 list }
     ensures fault { IsErrOf result ReadError.Fault → ⊥ }
 {
-    let parts = parts(alloc, text)?;
-    source_list(alloc, &parts)
+    let parts = split_at_commas(alloc, text)?;
+    read_sources(alloc, &parts)
 }
 
-// The records of the bytes, if these end with a whole record.
-fn lines_in(alloc: Global, bytes: &[u8]) -> Result<Vec<Line>, ReadError>
+// The records of the bytes. Returns `BadRow` if the last one is not whole.
+fn read_records(alloc: Global, bytes: &[u8]) -> Result<Vec<Line>, ReadError>
     ensures some { IfOk result (λ lines. (bytes.now ≡ concat lines.items) × AreRecords lines.items) }
     ensures none { IsErrOf result ReadError.BadRow → (lines : List (List ℕ)) → AreRecords lines
         → bytes.now ≢ concat lines }
@@ -117,17 +119,17 @@ impl Columns<'_> {
             → self.old ≢ ids list ∷ rest }
         ensures fault { IsErrOf result ReadError.Fault → ⊥ }
     {
-        ids_of(alloc, self.text()?)
+        read_joined_ids(alloc, self.text()?)
     }
 
     /// A rising list of sources.
     pub fn sources(&mut self, alloc: Global) -> Result<SourceList, ReadError>
         ensures read { IfOk result (λ list. (self.old ≡ ids list ∷ self.new) × AreSorted IsSource list) }
-        ensures none { IsErrOf result ReadError.BadRow → (list : List (List ℕ)) (rest : SqlRow) → AreSorted IsSource list
-            → self.old ≢ ids list ∷ rest }
+        ensures none { IsErrOf result ReadError.BadRow → (list : List (List ℕ)) (rest : SqlRow)
+            → AreSorted IsSource list → self.old ≢ ids list ∷ rest }
         ensures fault { IsErrOf result ReadError.Fault → ⊥ }
     {
-        sources_of(alloc, self.text()?)
+        read_joined_sources(alloc, self.text()?)
     }
 
     /// The records of a text, one after the other in a blob.
@@ -137,6 +139,6 @@ impl Columns<'_> {
             → self.old ≢ records lines ∷ rest }
         ensures fault { IsErrOf result ReadError.Fault → ⊥ }
     {
-        lines_in(alloc, self.blob()?)
+        read_records(alloc, self.blob()?)
     }
 }

@@ -32,13 +32,14 @@ impl<'a> Model for Columns<'a> {
 }
 
 impl<'a> Columns<'a> {
-    pub fn of(row: &'a Row) -> Columns<'a>
+    /// All columns of the row.
+    pub fn new(row: &'a Row) -> Columns<'a>
         ensures { result ≡ row.now }
     {
         Columns { row, at: 0 }
     }
 
-    /// Establishes that no column is left.
+    /// Returns `BadRow` if a column is left.
     pub fn end(&self) -> Result<(), ReadError>
         ensures read { IfOk result (λ _. self.now ≡ []) }
         ensures none { IsErrOf result ReadError.BadRow → self.now ≢ [] }
@@ -50,8 +51,8 @@ impl<'a> Columns<'a> {
         Ok(())
     }
 
-    // The next column.
-    fn value(&mut self) -> Option<ValueRef<'a>>
+    // The value of the next column, or none if no column is left.
+    fn next_value(&mut self) -> Option<ValueRef<'a>>
         ensures some { IfSome result (λ value. self.old ≡ owned value ∷ self.new) }
         ensures none { IfNone result (self.old ≡ []) }
     {
@@ -63,12 +64,13 @@ impl<'a> Columns<'a> {
         Some(value)
     }
 
+    /// The bytes of a text.
     pub fn text(&mut self) -> Result<&'a [u8], ReadError>
         ensures read { IfOk result (λ t. self.old ≡ Text t.now ∷ self.new) }
         ensures none { IsErrOf result ReadError.BadRow → (t : List ℕ) (rest : SqlRow) → self.old ≢ Text t ∷ rest }
         ensures fault { IsErrOf result ReadError.Fault → ⊥ }
     {
-        match self.value() {
+        match self.next_value() {
             Some(ValueRef::Text(text)) => Ok(text),
             _ => Err(ReadError::BadRow),
         }
@@ -81,31 +83,32 @@ impl<'a> Columns<'a> {
             → self.old ≢ or_null Text t ∷ rest }
         ensures fault { IsErrOf result ReadError.Fault → ⊥ }
     {
-        match self.value() {
+        match self.next_value() {
             Some(ValueRef::Text(text)) => Ok(Some(text)),
             Some(ValueRef::Null) => Ok(None),
             _ => Err(ReadError::BadRow),
         }
     }
 
-    /// A whole number.
+    /// A whole number, which may be negative.
     pub fn whole(&mut self) -> Result<i64, ReadError>
         ensures read { IfOk result (λ n. self.old ≡ Int n ∷ self.new) }
         ensures none { IsErrOf result ReadError.BadRow → (n : ℤ) (rest : SqlRow) → self.old ≢ Int n ∷ rest }
         ensures fault { IsErrOf result ReadError.Fault → ⊥ }
     {
-        match self.value() {
+        match self.next_value() {
             Some(ValueRef::Int(number)) => Ok(number),
             _ => Err(ReadError::BadRow),
         }
     }
 
+    /// The bytes of a blob.
     pub fn blob(&mut self) -> Result<&'a [u8], ReadError>
         ensures read { IfOk result (λ b. self.old ≡ Blob b.now ∷ self.new) }
         ensures none { IsErrOf result ReadError.BadRow → (b : List ℕ) (rest : SqlRow) → self.old ≢ Blob b ∷ rest }
         ensures fault { IsErrOf result ReadError.Fault → ⊥ }
     {
-        match self.value() {
+        match self.next_value() {
             Some(ValueRef::Blob(bytes)) => Ok(bytes),
             _ => Err(ReadError::BadRow),
         }

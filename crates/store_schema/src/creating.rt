@@ -12,9 +12,41 @@ ghost use Rattle.store_schema.specs.Tables.{meta, global_tables, first_tables, s
 ghost use Rattle.store_schema.specs.Tables.{chosen, schema_of, store_schema};
 
 use crate::schema::Schema;
+use crate::{
+    chosen_columns, elem_columns, entry_columns, hold_columns, ifreq_columns, meta_columns,
+    moreif_columns, morever_columns, source_columns, sysmod_columns, ver_columns, zelem_columns,
+    zone_columns,
+};
 use sqlite::{Alter, Error, Transaction};
 
-pub(crate) fn run<S: Alter>(tx: &mut Transaction<'_, S>, sql: &str) -> Result<(), Error>
+const CREATE_META: &str = meta_columns!(create_text);
+
+const CREATE_SYSMOD: &str = sysmod_columns!(create_text);
+
+const CREATE_VER: &str = ver_columns!(create_text);
+
+const CREATE_IFREQ: &str = ifreq_columns!(create_text);
+
+const CREATE_HOLD: &str = hold_columns!(create_text);
+
+const CREATE_ELEM: &str = elem_columns!(create_text);
+
+const CREATE_ZONE: &str = zone_columns!(create_text);
+
+const CREATE_ENTRY: &str = entry_columns!(create_text);
+
+const CREATE_ZELEM: &str = zelem_columns!(create_text);
+
+const CREATE_SOURCE: &str = source_columns!(create_text);
+
+const CREATE_MOREVER: &str = morever_columns!(create_text);
+
+const CREATE_MOREIF: &str = moreif_columns!(create_text);
+
+const CREATE_CHOSEN: &str = chosen_columns!(create_text);
+
+/// Runs a statement that has no parameters and shows no rows.
+pub(crate) fn run_statement<S: Alter>(tx: &mut Transaction<'_, S>, sql: &str) -> Result<(), Error>
     ensures continues { Continues S.Store tx.old tx.new }
     ensures ran { HasCleanDisk (state S.Store tx.new.conn.now)
         → OnOk result (HasRun sql.now (state S.Store tx.old.conn.now) (state S.Store tx.new.conn.now)) }
@@ -23,119 +55,61 @@ pub(crate) fn run<S: Alter>(tx: &mut Transaction<'_, S>, sql: &str) -> Result<()
     Ok(())
 }
 
-// SYSMODs with their `++VER`s, `++IF`s and elements, and holds.
-fn make_global<S: Alter>(tx: &mut Transaction<'_, S>) -> Result<(), Error>
+// Creates the tables of SYSMODs with their `++VER`s, `++IF`s and elements, and holds.
+fn create_global_tables<S: Alter>(tx: &mut Transaction<'_, S>) -> Result<(), Error>
     ensures continues { Continues S.Store tx.old tx.new }
     ensures ok { OnOk result (Leads S.Store tx.old.conn.now tx.new.conn.now (HasTables (meta ∷ []))
         (HasTables (meta ∷ global_tables))) }
 {
-    run(
-        tx,
-        "CREATE TABLE sysmod (id TEXT NOT NULL, kind TEXT NOT NULL, sources TEXT NOT NULL, \
-        PRIMARY KEY (id)) STRICT",
-    )?;
-    run(
-        tx,
-        "CREATE TABLE ver (id TEXT NOT NULL, srel TEXT NOT NULL, fmid TEXT, pre TEXT NOT NULL, \
-        req TEXT NOT NULL, sup TEXT NOT NULL, npre TEXT NOT NULL, del TEXT NOT NULL, PRIMARY KEY (id, srel), \
-        FOREIGN KEY (id) REFERENCES sysmod (id) ON DELETE CASCADE) STRICT",
-    )?;
-    run(
-        tx,
-        "CREATE TABLE ifreq (id TEXT NOT NULL, srel TEXT NOT NULL, n INTEGER NOT NULL, fmid TEXT NOT NULL, \
-        req TEXT NOT NULL, PRIMARY KEY (id, srel, n), \
-        FOREIGN KEY (id) REFERENCES sysmod (id) ON DELETE CASCADE) STRICT",
-    )?;
-    run(
-        tx,
-        "CREATE TABLE hold (id TEXT NOT NULL, kind TEXT NOT NULL, reason TEXT NOT NULL, fmid TEXT NOT NULL, \
-        class TEXT, date TEXT, comment TEXT, internal INTEGER NOT NULL, \
-        PRIMARY KEY (id, kind, reason)) STRICT",
-    )?;
-    run(
-        tx,
-        "CREATE TABLE elem (id TEXT NOT NULL, type TEXT NOT NULL, name TEXT NOT NULL, upd INTEGER NOT NULL, \
-        distlib TEXT, syslib TEXT, text BLOB NOT NULL, PRIMARY KEY (id, type, name), \
-        FOREIGN KEY (id) REFERENCES sysmod (id) ON DELETE CASCADE) STRICT",
-    )
+    run_statement(tx, CREATE_SYSMOD)?;
+    run_statement(tx, CREATE_VER)?;
+    run_statement(tx, CREATE_IFREQ)?;
+    run_statement(tx, CREATE_HOLD)?;
+    run_statement(tx, CREATE_ELEM)
 }
 
-// Zones with their entries.
-fn make_zones<S: Alter>(tx: &mut Transaction<'_, S>) -> Result<(), Error>
+// Creates the tables of zones with their entries.
+fn create_zone_tables<S: Alter>(tx: &mut Transaction<'_, S>) -> Result<(), Error>
     ensures continues { Continues S.Store tx.old tx.new }
     ensures ok { OnOk result (Leads S.Store tx.old.conn.now tx.new.conn.now (HasTables (meta ∷ global_tables))
         (HasTables first_tables)) }
 {
-    run(
-        tx,
-        "CREATE TABLE zone (name TEXT NOT NULL, kind TEXT NOT NULL, srel TEXT NOT NULL, related TEXT, \
-        PRIMARY KEY (name)) STRICT",
-    )?;
-    run(
-        tx,
-        "CREATE TABLE entry (zone TEXT NOT NULL, id TEXT NOT NULL, date TEXT, supby TEXT NOT NULL, delby TEXT, \
-        waived TEXT NOT NULL, PRIMARY KEY (zone, id), FOREIGN KEY (zone) REFERENCES zone (name)) STRICT",
-    )?;
-    run(
-        tx,
-        "CREATE TABLE zelem (zone TEXT NOT NULL, type TEXT NOT NULL, name TEXT NOT NULL, fmid TEXT NOT NULL, \
-        rmid TEXT NOT NULL, umid TEXT NOT NULL, distlib TEXT NOT NULL, syslib TEXT NOT NULL, \
-        text BLOB NOT NULL, PRIMARY KEY (zone, type, name), \
-        FOREIGN KEY (zone) REFERENCES zone (name)) STRICT",
-    )
+    run_statement(tx, CREATE_ZONE)?;
+    run_statement(tx, CREATE_ENTRY)?;
+    run_statement(tx, CREATE_ZELEM)
 }
 
-/// The tables that every schema has.
-pub(crate) fn make_first<S: Alter>(tx: &mut Transaction<'_, S>) -> Result<(), Error>
+/// Creates the tables that every schema has.
+pub(crate) fn create_first_tables<S: Alter>(tx: &mut Transaction<'_, S>) -> Result<(), Error>
     ensures continues { Continues S.Store tx.old tx.new }
     ensures ok { OnOk result (Leads S.Store tx.old.conn.now tx.new.conn.now IsBlank (HasTables first_tables)) }
 {
-    run(
-        tx,
-        "CREATE TABLE meta (k TEXT NOT NULL, v INTEGER NOT NULL, PRIMARY KEY (k)) STRICT",
-    )?;
-    make_global(tx)?;
-    make_zones(tx)
+    run_statement(tx, CREATE_META)?;
+    create_global_tables(tx)?;
+    create_zone_tables(tx)
 }
 
-/// The sources of SYSMODs.
-pub(crate) fn add_source<S: Alter>(tx: &mut Transaction<'_, S>) -> Result<(), Error>
+/// Creates the table that the second schema adds to the first one: the sources of SYSMODs.
+pub(crate) fn add_second_tables<S: Alter>(tx: &mut Transaction<'_, S>) -> Result<(), Error>
     ensures continues { Continues S.Store tx.old tx.new }
     ensures ok { OnOk result ((contents : Contents) → Leads S.Store tx.old.conn.now tx.new.conn.now
         (HasContents (schema_of first_tables) contents)
         (HasContents (schema_of second_tables) (with_new (source ∷ []) contents))) }
 {
-    run(
-        tx,
-        "CREATE TABLE source (id TEXT NOT NULL, name TEXT NOT NULL, PRIMARY KEY (id, name), \
-        FOREIGN KEY (id) REFERENCES sysmod (id) ON DELETE CASCADE) STRICT",
-    )
+    run_statement(tx, CREATE_SOURCE)
 }
 
-// Further `++VER`s of one SREL with their `++IF`s, and which of them installed an entry.
-fn add_more<S: Alter>(tx: &mut Transaction<'_, S>) -> Result<(), Error>
+// Creates the tables that the third schema adds to the second one: further `++VER`s of one SREL with their `++IF`s, and
+// which of them installed an entry.
+fn add_third_tables<S: Alter>(tx: &mut Transaction<'_, S>) -> Result<(), Error>
     ensures continues { Continues S.Store tx.old tx.new }
     ensures ok { OnOk result ((contents : Contents) → Leads S.Store tx.old.conn.now tx.new.conn.now
         (HasContents (schema_of second_tables) contents)
         (HasContents store_schema (with_new (morever ∷ moreif ∷ chosen ∷ []) contents))) }
 {
-    run(
-        tx,
-        "CREATE TABLE morever (id TEXT NOT NULL, srel TEXT NOT NULL, n INTEGER NOT NULL, fmid TEXT, \
-        pre TEXT NOT NULL, req TEXT NOT NULL, sup TEXT NOT NULL, PRIMARY KEY (id, srel, n), \
-        FOREIGN KEY (id) REFERENCES sysmod (id) ON DELETE CASCADE) STRICT",
-    )?;
-    run(
-        tx,
-        "CREATE TABLE moreif (id TEXT NOT NULL, srel TEXT NOT NULL, v INTEGER NOT NULL, n INTEGER NOT NULL, \
-        fmid TEXT NOT NULL, req TEXT NOT NULL, PRIMARY KEY (id, srel, v, n), \
-        FOREIGN KEY (id) REFERENCES sysmod (id) ON DELETE CASCADE) STRICT",
-    )?;
-    run(
-        tx,
-        "CREATE TABLE chosen (zone TEXT NOT NULL, id TEXT NOT NULL, n INTEGER NOT NULL, \
-        PRIMARY KEY (zone, id), FOREIGN KEY (zone) REFERENCES zone (name)) STRICT",
-    )
+    run_statement(tx, CREATE_MOREVER)?;
+    run_statement(tx, CREATE_MOREIF)?;
+    run_statement(tx, CREATE_CHOSEN)
 }
 
 /// Creates the tables of the store that the schema lacks, in an open transaction. The rows of the others stay. Returns
@@ -148,10 +122,10 @@ pub fn add_tables<S: Alter>(tx: &mut Transaction<'_, S>, schema: Schema) -> Resu
 {
     match schema {
         Schema::First => {
-            add_source(tx)?;
-            add_more(tx)
+            add_second_tables(tx)?;
+            add_third_tables(tx)
         }
-        Schema::Second => add_more(tx),
+        Schema::Second => add_third_tables(tx),
         Schema::Third => Ok(()),
     }
 }

@@ -1,8 +1,8 @@
 //! The texts of elements.
 
-ghost use Rattle.std.specs.Prelude.{◌≡◌, ◌≢◌, ◌↔◌, ◌∷◌, ℕ, List, IsTrue, IfOk, IsErrOf};
+ghost use Rattle.std.specs.Prelude.{◌≡◌, ◌≢◌, ◌∷◌, ℕ, List, IfOk, IsErrOf};
 ghost use Rattle.sqlite.specs.Order.{Row as SqlRow};
-ghost use Rattle.store_schema.specs.Forms.{IsTextOf, TakesUpdates};
+ghost use Rattle.store_schema.specs.Forms.{IsTextOf};
 ghost use Rattle.store_schema.specs.Rows.{records};
 
 use crate::columns::Columns;
@@ -11,15 +11,9 @@ use store_rows::ReadError;
 use terms::ElemType;
 use text80::{Line, Numbered};
 
-/// Whether elements of this type have updates, and so numbered texts.
-pub fn is_updated(elem_type: ElemType) -> bool
-    ensures { IsTrue result ↔ TakesUpdates elem_type }
-{
-    matches!(elem_type, ElemType::Mac | ElemType::Src)
-}
-
 impl Columns<'_> {
-    /// The records of an element of this type: those of macros and sources are numbered.
+    /// The records of an element of this type. Returns `BadRow` if they should be numbered, as those of macros and
+    /// sources, and are not.
     pub fn element_text(
         &mut self,
         alloc: Global,
@@ -32,7 +26,7 @@ impl Columns<'_> {
         ensures fault { IsErrOf result ReadError.Fault → ⊥ }
     {
         let lines = self.records(alloc)?;
-        if !is_updated(elem_type) {
+        if !elem_type.is_numbered() {
             return Ok(lines);
         }
         match Numbered::read(lines) {

@@ -16,6 +16,7 @@ pub enum StoreError {
     /// The rows stand for no state.
     #[error("Sf3")]
     NoState,
+    /// Memory ran out.
     #[error("out of memory")]
     Memory,
 }

@@ -11,14 +11,15 @@ ghost use Rattle.store_schema.specs.Looks.{LeavesAll, KeepsLast, SurvivesAs};
 ghost use Rattle.store_schema.specs.Stands.{StandsFor, IsStateOf, IsSetUp};
 
 use crate::error::StoreError;
-use crate::numbers::{check_number, check_numbers};
+use crate::numbers::{check_number, refuse_other_numbers};
 use crate::schema::Schema;
-use crate::tables::{create, is_blank, is_schema_under};
+use crate::tables::{create_store, is_blank, is_schema_under};
 use sqlite::{Alter, Connection};
 use std::alloc::Global;
 
-// Recognizes the store's tables by all that they are.
-fn check_own<S: Alter>(alloc: Global, conn: &mut Connection<S>) -> Result<(), StoreError>
+// Checks that the tables, and then that the number in the only row of `meta`, are the store's. Returns `NoState` if one
+// of them is not.
+fn check_store_tables<S: Alter>(alloc: Global, conn: &mut Connection<S>) -> Result<(), StoreError>
     ensures ours { HasCleanDisk (state S.Store conn.new) → OnOk result (HasOwnTables (state S.Store conn.old).now) }
     ensures none { HasCleanDisk (state S.Store conn.new) → IsErrOf result StoreError.NoState
         → ¬ HasOwnTables (state S.Store conn.old).now }
@@ -34,8 +35,9 @@ fn check_own<S: Alter>(alloc: Global, conn: &mut Connection<S>) -> Result<(), St
     check_number(conn, Schema::Third)
 }
 
-// Recognizes the store's tables by their number, and then by all that they are.
-fn check<S: Alter>(alloc: Global, conn: &mut Connection<S>) -> Result<(), StoreError>
+// Checks the number in any table `meta`, whatever the other tables are, so that another schema is `OtherSchema` and not
+// `NoState`. Then checks that the tables and their number are the store's, which is 3; `NoState` if they are not.
+fn recognize_store<S: Alter>(alloc: Global, conn: &mut Connection<S>) -> Result<(), StoreError>
     ensures ours { HasCleanDisk (state S.Store conn.new) → OnOk result (HasOwnTables (state S.Store conn.old).now) }
     ensures other { HasCleanDisk (state S.Store conn.new) → IsErrOf result StoreError.OtherSchema
         → HasOtherNumber (state S.Store conn.old) }
@@ -46,8 +48,8 @@ fn check<S: Alter>(alloc: Global, conn: &mut Connection<S>) -> Result<(), StoreE
     ensures crash { SurvivesAs S.Store conn.old conn.new }
     ensures mode { conn.old.in_transaction ≡ false → conn.new.in_transaction ≡ false }
 {
-    check_numbers(conn, &[3])?;
-    check_own(alloc, conn)
+    refuse_other_numbers(conn, &[3])?;
+    check_store_tables(alloc, conn)
 }
 
 /// Creates the tables in a database that has none, and recognizes those of another. It changes nothing if they are the
@@ -75,8 +77,8 @@ pub fn set_up<S: Alter>(alloc: Global, conn: &mut Connection<S>) -> Result<(), S
     ensures mode { conn.new.in_transaction ≡ false }
 {
     if conn.is_autocommit() && is_blank(conn.schema()) {
-        create(conn)?;
+        create_store(conn)?;
         return Ok(());
     }
-    check(alloc, conn)
+    recognize_store(alloc, conn)
 }

@@ -46,9 +46,9 @@ pub trait Query {
             → Self.Rows.row_of a ≡ Self.Rows.row_of b → a ≡ b };
 }
 
-/// What the rows that the query asks for stand for; their first columns are the key. Returns `BadRow` if a row stands
+/// The items of the rows that the query asks for; their first columns are the key. Returns `BadRow` if a row stands
 /// for nothing, `Memory` if memory runs out, and `Fault` if the disk fails or the tables are others.
-pub fn load_listed<S: Alter, Q: Query>(
+pub fn load_query<S: Alter, Q: Query>(
     alloc: Global,
     conn: &mut Connection<S>,
     key: &[ValueRef<'_>],

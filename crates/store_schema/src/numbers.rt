@@ -14,7 +14,7 @@ use crate::schema::Schema;
 use sqlite::{Alter, Connection, Error, Row};
 use sqlite_value::value::ValueRef;
 
-// What `meta` says, whatever the other tables are.
+// The keys and values of `meta`, in a database with any tables.
 fn meta_rows<S: Alter>(conn: &mut Connection<S>) -> Result<Vec<Row>, Error>
     ensures shown { HasCleanDisk (state S.Store conn.new) → IfOk result
         (λ rows. Shown select_meta [] (state S.Store conn.old) (state S.Store conn.new) rows.items) }
@@ -26,8 +26,8 @@ fn meta_rows<S: Alter>(conn: &mut Connection<S>) -> Result<Vec<Row>, Error>
     conn.query_all("SELECT k, v FROM meta", &[])
 }
 
-// All rows of the `meta` of a schema.
-fn own_rows<S: Alter>(conn: &mut Connection<S>) -> Result<Vec<Row>, Error>
+// The rows of `meta` with their rowids, in a database that may have the tables of a schema.
+fn meta_rows_with_rowid<S: Alter>(conn: &mut Connection<S>) -> Result<Vec<Row>, Error>
     ensures shown { HasCleanDisk (state S.Store conn.new) → IfOk result
         (λ rows. Shown select_own [] (state S.Store conn.old) (state S.Store conn.new) rows.items) }
     ensures same { LeavesAll S.Store conn.old conn.new result }
@@ -38,14 +38,15 @@ fn own_rows<S: Alter>(conn: &mut Connection<S>) -> Result<Vec<Row>, Error>
     conn.query_all("SELECT rowid, k, v FROM meta", &[])
 }
 
+// Whether the key of a row of `meta` says that its value is the number of the schema.
 fn is_schema_word(word: &[u8]) -> bool
     ensures { IsTrue result ↔ (word.now ≡ codes "schema") }
 {
     word == b"schema".as_slice()
 }
 
-// The number that a row of `meta` gives to the schema.
-fn number_of(row: &Row) -> Option<i64>
+// The number that a row of `meta`, as `meta_rows` reads it, gives to the schema.
+fn number_in_row(row: &Row) -> Option<i64>
     ensures some { IfSome result (λ n. Gives n row.now) }
     ensures none { IfNone result ((n : ℤ) → ¬ Gives n row.now) }
 {
@@ -60,8 +61,8 @@ fn number_of(row: &Row) -> Option<i64>
     }
 }
 
-// The number that a row of the `meta` of a schema gives to the schema.
-fn own_number_of(row: &Row) -> Option<i64>
+// The number that a row of `meta` with its rowid, as `meta_rows_with_rowid` reads it, gives to the schema.
+fn number_in_row_with_rowid(row: &Row) -> Option<i64>
     ensures some { IfSome result (λ n. GivesOwn n row.now) }
     ensures none { IfNone result ((n : ℤ) → ¬ GivesOwn n row.now) }
 {
@@ -75,25 +76,27 @@ fn own_number_of(row: &Row) -> Option<i64>
     }
 }
 
+// Whether the row gives a number that is none of these.
 fn gives_other_number(row: &Row, numbers: &[i64]) -> bool
     ensures { IsTrue result ↔ GivesOther numbers.now row.now }
 {
-    match number_of(row) {
+    match number_in_row(row) {
         Some(number) => !numbers.contains(&number),
         None => false,
     }
 }
 
-fn gives_own_number(row: &Row, schema: Schema) -> bool
+// Whether the row gives the number of the schema.
+fn gives_number(row: &Row, schema: Schema) -> bool
     ensures { IsTrue result ↔ GivesOwn (number_under schema) row.now }
 {
-    match own_number_of(row) {
+    match number_in_row_with_rowid(row) {
         Some(number) => number == schema.number(),
         None => false,
     }
 }
 
-// Whether a row gives a number that is none of these.
+// Whether any row gives a number that is none of these.
 fn has_other_number(rows: &[Row], numbers: &[i64]) -> bool
     ensures { IsTrue result ↔ Any (GivesOther numbers.now) rows.now }
 {
@@ -105,8 +108,8 @@ fn has_other_number(rows: &[Row], numbers: &[i64]) -> bool
     false
 }
 
-/// Establishes that `meta` gives the schema no number but these.
-pub(crate) fn check_numbers<S: Alter>(
+/// Returns `OtherSchema` if `meta` gives the schema a number that is none of these.
+pub(crate) fn refuse_other_numbers<S: Alter>(
     conn: &mut Connection<S>,
     numbers: &[i64],
 ) -> Result<(), StoreError>
@@ -128,13 +131,13 @@ pub(crate) fn check_numbers<S: Alter>(
 }
 
 // Whether `meta` has one row, with the number of the schema.
-fn is_number(rows: &[Row], schema: Schema) -> bool
+fn gives_only_number(rows: &[Row], schema: Schema) -> bool
     ensures { IsTrue result ↔ IsNumber (number_under schema) rows.now }
 {
-    rows.len() == 1 && gives_own_number(&rows[0], schema)
+    rows.len() == 1 && gives_number(&rows[0], schema)
 }
 
-/// Establishes the number of a schema, if the tables are its own.
+/// Returns `NoState` if `meta` of a database with the tables of the schema gives it another number or none.
 pub(crate) fn check_number<S: Alter>(
     conn: &mut Connection<S>,
     schema: Schema,
@@ -150,8 +153,8 @@ pub(crate) fn check_number<S: Alter>(
     ensures crash { SurvivesAs S.Store conn.old conn.new }
     ensures mode { conn.old.in_transaction ≡ false → conn.new.in_transaction ≡ false }
 {
-    let rows = own_rows(conn)?;
-    if !is_number(rows.as_slice(), schema) {
+    let rows = meta_rows_with_rowid(conn)?;
+    if !gives_only_number(rows.as_slice(), schema) {
         return Err(StoreError::NoState);
     }
     Ok(())

@@ -12,7 +12,7 @@ pub enum Schema {
 }
 
 impl Schema {
-    /// What `meta` says of its tables.
+    /// The number that `meta` gives to the schema.
     pub(crate) fn number(self) -> i64
         ensures { result ≡ number_under self }
     {

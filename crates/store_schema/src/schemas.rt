@@ -9,13 +9,13 @@ ghost use Rattle.store_schema.specs.Looks.{LeavesAll, KeepsLast, SurvivesAs};
 ghost use Rattle.store_schema.specs.declared.schema.Schema.{Schema as SchemaOf};
 
 use crate::error::StoreError;
-use crate::numbers::{check_number, check_numbers};
+use crate::numbers::{check_number, refuse_other_numbers};
 use crate::schema::Schema;
-use crate::tables::{is_blank, schema_with};
+use crate::tables::{is_blank, schema_of_tables};
 use sqlite::{Alter, Connection};
 use std::alloc::Global;
 
-// Recognizes the tables of a schema by all that they are.
+// The schema that has just these tables and its number in `meta`. Returns `NoState` if there is none.
 fn schema_by_tables<S: Alter>(alloc: Global, conn: &mut Connection<S>) -> Result<Schema, StoreError>
     ensures known { HasCleanDisk (state S.Store conn.new) → IfOk result
         (λ schema. HasTablesUnder schema (state S.Store conn.old).now) }
@@ -27,15 +27,16 @@ fn schema_by_tables<S: Alter>(alloc: Global, conn: &mut Connection<S>) -> Result
     ensures crash { SurvivesAs S.Store conn.old conn.new }
     ensures mode { conn.old.in_transaction ≡ false → conn.new.in_transaction ≡ false }
 {
-    let Some(schema) = schema_with(alloc, conn.schema())? else {
+    let Some(schema) = schema_of_tables(alloc, conn.schema())? else {
         return Err(StoreError::NoState);
     };
     check_number(conn, schema)?;
     Ok(schema)
 }
 
-// The schema of the tables, whatever number the database gives.
-fn known_schema<S: Alter>(alloc: Global, conn: &mut Connection<S>) -> Result<Schema, StoreError>
+// The schema of the tables. Returns `OtherSchema` if `meta` gives a number that no schema has, and `NoState` if the
+// tables otherwise are those of no schema.
+fn recognize_schema<S: Alter>(alloc: Global, conn: &mut Connection<S>) -> Result<Schema, StoreError>
     ensures known { HasCleanDisk (state S.Store conn.new) → IfOk result
         (λ schema. HasTablesUnder schema (state S.Store conn.old).now) }
     ensures other { HasCleanDisk (state S.Store conn.new) → IsErrOf result StoreError.OtherSchema
@@ -47,14 +48,14 @@ fn known_schema<S: Alter>(alloc: Global, conn: &mut Connection<S>) -> Result<Sch
     ensures crash { SurvivesAs S.Store conn.old conn.new }
     ensures mode { conn.old.in_transaction ≡ false → conn.new.in_transaction ≡ false }
 {
-    check_numbers(conn, &[1, 2, 3])?;
+    refuse_other_numbers(conn, &[1, 2, 3])?;
     schema_by_tables(alloc, conn)
 }
 
 /// The schema of the tables, or none if there are no tables and views. It changes nothing. Returns `OtherSchema` if
 /// `meta` gives a number that no schema has, `NoState` if the tables otherwise are those of no schema, `Fault` if the
 /// database fails or has tables but no `meta` with its columns, and `Memory` if memory runs out.
-pub fn found_schema<S: Alter>(
+pub fn find_schema<S: Alter>(
     alloc: Global,
     conn: &mut Connection<S>,
 ) -> Result<Option<Schema>, StoreError>
@@ -77,6 +78,6 @@ pub fn found_schema<S: Alter>(
     if is_blank(conn.schema()) {
         return Ok(None);
     }
-    let schema = known_schema(alloc, conn)?;
+    let schema = recognize_schema(alloc, conn)?;
     Ok(Some(schema))
 }

@@ -12,38 +12,39 @@ ghost use Rattle.store_schema.specs.Tables.{meta, global_tables, first_tables, s
 ghost use Rattle.store_schema.specs.Earlier.{tables_under, schema_under};
 ghost use Rattle.store_schema.specs.declared.schema.Schema.{Schema as SchemaOf};
 
-use crate::creating::{add_source, add_tables, make_first, run};
+use crate::creating::{add_second_tables, add_tables, create_first_tables, run_statement};
 use crate::same::same_schema;
 use crate::schema::Schema;
 use sqlite::{Alter, Connection, Error, Transaction};
 use sqlite_schema::schema::Schema as SqliteSchema;
 use std::alloc::Global;
 
-fn make_all<S: Alter>(tx: &mut Transaction<'_, S>) -> Result<(), Error>
+// Creates the tables of the store, and writes the number of their schema.
+fn create_all_tables<S: Alter>(tx: &mut Transaction<'_, S>) -> Result<(), Error>
     ensures continues { Continues S.Store tx.old tx.new }
     ensures ok { OnOk result (Leads S.Store tx.old.conn.now tx.new.conn.now IsBlank (StandsFor empty_inventory)) }
 {
-    make_first(tx)?;
+    create_first_tables(tx)?;
     add_tables(tx, Schema::First)?;
-    run(tx, "INSERT INTO meta (k, v) VALUES ('schema', 3)")
+    run_statement(tx, "INSERT INTO meta (k, v) VALUES ('schema', 3)")
 }
 
-// The tables of a schema, without its number.
-fn make_under<S: Alter>(tx: &mut Transaction<'_, S>, schema: Schema) -> Result<(), Error>
+// Creates the tables of a schema, without its number.
+fn create_tables_of<S: Alter>(tx: &mut Transaction<'_, S>, schema: Schema) -> Result<(), Error>
     ensures continues { Continues S.Store tx.old tx.new }
     ensures ok { OnOk result (Leads S.Store tx.old.conn.now tx.new.conn.now IsBlank
         (HasTables (tables_under schema))) }
 {
-    make_first(tx)?;
+    create_first_tables(tx)?;
     match schema {
         Schema::First => Ok(()),
-        Schema::Second => add_source(tx),
+        Schema::Second => add_second_tables(tx),
         Schema::Third => add_tables(tx, Schema::First),
     }
 }
 
-/// Creates the tables, and writes the number of their schema, in a database that has none.
-pub(crate) fn create<S: Alter>(conn: &mut Connection<S>) -> Result<(), Error>
+/// Creates the tables of the store, with the number of their schema, in a database that has none.
+pub(crate) fn create_store<S: Alter>(conn: &mut Connection<S>) -> Result<(), Error>
     requires { conn.old.in_transaction ≡ false }
     ensures made { HasCleanDisk (state S.Store conn.new) → OnOk result
         (IsBlank (state S.Store conn.old).now → StandsFor empty_inventory (state S.Store conn.new).now
@@ -58,7 +59,7 @@ pub(crate) fn create<S: Alter>(conn: &mut Connection<S>) -> Result<(), Error>
     ensures mode { conn.new.in_transaction ≡ false }
 {
     let mut tx = conn.transaction();
-    make_all(&mut tx)?;
+    create_all_tables(&mut tx)?;
     tx.commit()
 }
 
@@ -69,14 +70,14 @@ pub(crate) fn is_blank(held: &SqliteSchema) -> bool
     held.tables.is_empty() && held.indexes.is_empty() && held.views.is_empty()
 }
 
-// Creates the tables of a schema in a database that has none.
-fn create_under<S: Alter>(conn: &mut Connection<S>, schema: Schema) -> Result<(), Error>
+// Creates the tables of a schema, without its number, in a database that has none.
+fn create_schema<S: Alter>(conn: &mut Connection<S>, schema: Schema) -> Result<(), Error>
     requires { conn.old.in_transaction ≡ false }
     ensures made { HasCleanDisk (state S.Store conn.new) → OnOk result
         (IsBlank (state S.Store conn.old).now → HasTables (tables_under schema) (state S.Store conn.new).now) }
 {
     let mut tx = conn.transaction();
-    make_under(&mut tx, schema)?;
+    create_tables_of(&mut tx, schema)?;
     tx.commit()
 }
 
@@ -89,12 +90,12 @@ pub(crate) fn is_schema_under(
     ensures { IfOk result (λ is. IsTrue is ↔ (held.now ≡ schema_under schema)) }
 {
     let mut conn = Connection::open_in_memory(alloc)?;
-    create_under(&mut conn, schema)?;
+    create_schema(&mut conn, schema)?;
     Ok(same_schema(held, conn.schema()))
 }
 
-/// The schema of the tables.
-pub(crate) fn schema_with(alloc: Global, held: &SqliteSchema) -> Result<Option<Schema>, Error>
+/// The schema of the tables, or none if no schema has just these tables.
+pub(crate) fn schema_of_tables(alloc: Global, held: &SqliteSchema) -> Result<Option<Schema>, Error>
     ensures some { IfOk result (λ found. IfSome found (λ schema. held.now ≡ schema_under schema)) }
     ensures none { IfOk result (λ found. IfNone found ((schema : SchemaOf) → held.now ≢ schema_under schema)) }
 {

@@ -13,7 +13,7 @@ ghost use Rattle.store_sysmods.specs.declared.elem.ElemRow.{ElemRow as ElemLine}
 ghost use Rattle.store_sysmod_loads.specs.Runs.{AreBare};
 ghost use Rattle.store_sysmod_loads.specs.Built.{MayDo, IsBuilt, sysmod_from, BeginsWithSysmod, AreTaken};
 
-use crate::gathering::{next_of, take_changes, take_vers};
+use crate::gathering::{pop_row, take_changes, take_vers};
 use fields::Id;
 use sorted::are_rising;
 use std::alloc::Global;
@@ -33,8 +33,8 @@ fn suits_kind(kind: Kind, ver: &Ver) -> bool
     }
 }
 
-// Whether a SYSMOD of this kind may have such a statement.
-fn may_do(kind: Kind, change: &ElemChange) -> bool
+// Whether a SYSMOD of this kind may have this element statement. A function has no updates.
+fn is_change_allowed(kind: Kind, change: &ElemChange) -> bool
     ensures { IsTrue result ↔ MayDo kind change.now.action }
 {
     match (kind, &change.action) {
@@ -43,52 +43,57 @@ fn may_do(kind: Kind, change: &ElemChange) -> bool
     }
 }
 
-fn all_suit(kind: Kind, vers: &[Ver]) -> bool
+// Whether the operands of each `++VER` are those of a SYSMOD of this kind.
+fn all_suit_kind(kind: Kind, vers: &[Ver]) -> bool
     ensures { IsTrue result ↔ All (VerSuitsKind kind) vers.now }
 {
     vers.iter().all(|ver| suits_kind(kind, ver))
 }
 
 // Whether two `++VER`s of these FMIDs may be for one SREL in a SYSMOD of this kind.
-fn may_share(kind: Kind, fmid: Option<Id>, other: Option<Id>) -> bool
+fn may_share_srel(kind: Kind, fmid: Option<Id>, other: Option<Id>) -> bool
     ensures { IsTrue result ↔ ((kind ≢ Function) × (fmid ≢ other)) }
 {
     kind != Kind::Function && fmid != other
 }
 
-// Whether the second `++VER` may follow the first in a SYSMOD of this kind.
-fn is_apart(kind: Kind, ver: &Ver, other: &Ver) -> bool
+// Whether the other `++VER` may follow this one in a SYSMOD of this kind: its SREL is later, or they may share one.
+fn may_follow(kind: Kind, ver: &Ver, other: &Ver) -> bool
     ensures { IsTrue result ↔ AreVersApart kind ver.now other.now }
 {
     if ver.srel == other.srel {
-        return may_share(kind, ver.fmid, other.fmid);
+        return may_share_srel(kind, ver.fmid, other.fmid);
     }
     ver.srel < other.srel
 }
 
-fn is_apart_from(kind: Kind, vers: &[Ver], other: &Ver) -> bool
+// Whether the other `++VER` may follow each of these in a SYSMOD of this kind.
+fn may_follow_all(kind: Kind, vers: &[Ver], other: &Ver) -> bool
     ensures { IsTrue result ↔ All (λ ver. AreVersApart kind ver other.now) vers.now }
 {
-    vers.iter().all(|ver| is_apart(kind, ver, other))
+    vers.iter().all(|ver| may_follow(kind, ver, other))
 }
 
-fn are_apart(kind: Kind, vers: &[Ver]) -> bool
+// Whether each `++VER` may follow all that come before it in a SYSMOD of this kind.
+fn may_be_together(kind: Kind, vers: &[Ver]) -> bool
     ensures { IsTrue result ↔ AllPairs (AreVersApart kind) vers.now }
 {
     for i in 0..vers.len() {
-        if !is_apart_from(kind, &vers[..i], &vers[i]) {
+        if !may_follow_all(kind, &vers[..i], &vers[i]) {
             return false;
         }
     }
     true
 }
 
-fn all_may(kind: Kind, changes: &[ElemChange]) -> bool
+// Whether a SYSMOD of this kind may have each of these element statements.
+fn are_changes_allowed(kind: Kind, changes: &[ElemChange]) -> bool
     ensures { IsTrue result ↔ All (λ c. MayDo kind c.action) changes.now }
 {
-    changes.iter().all(|change| may_do(kind, change))
+    changes.iter().all(|change| is_change_allowed(kind, change))
 }
 
+// Whether the element statements rise by type and name.
 fn are_in_order(changes: &[ElemChange]) -> bool
     ensures { IsTrue result ↔ Rises change_cmp (λ c. c) changes.now }
 {
@@ -96,21 +101,22 @@ fn are_in_order(changes: &[ElemChange]) -> bool
 }
 
 // Whether a SYSMOD of this kind may have these `++VER`s.
-fn may_have(kind: Kind, vers: &[Ver]) -> bool
+fn may_have_vers(kind: Kind, vers: &[Ver]) -> bool
     ensures { IsTrue result ↔ (All (VerSuitsKind kind) vers.now × AllPairs (AreVersApart kind) vers.now) }
 {
-    all_suit(kind, vers) && are_apart(kind, vers)
+    all_suit_kind(kind, vers) && may_be_together(kind, vers)
 }
 
-// Whether a SYSMOD of this kind may have these element statements.
-fn may_do_all(kind: Kind, changes: &[ElemChange]) -> bool
+// Whether a SYSMOD of this kind may have these element statements, in this order.
+fn may_have_changes(kind: Kind, changes: &[ElemChange]) -> bool
     ensures { IsTrue result ↔ (All (λ c. MayDo kind c.action) changes.now × Rises change_cmp (λ c. c) changes.now) }
 {
-    all_may(kind, changes) && are_in_order(changes)
+    are_changes_allowed(kind, changes) && are_in_order(changes)
 }
 
-// The SYSMOD of these parts.
-fn built(
+// The SYSMOD of these parts. Returns `BadRow`, and no other error, if it has no `++VER`, or if no SYSMOD of its kind may
+// have these statements.
+fn build_sysmod(
     alloc: Global,
     head: HeadRow,
     vers: Vec<Ver>,
@@ -124,10 +130,10 @@ fn built(
     if vers.is_empty() {
         return Err(ReadError::BadRow);
     }
-    if !may_have(head.kind, vers.as_slice()) {
+    if !may_have_vers(head.kind, vers.as_slice()) {
         return Err(ReadError::BadRow);
     }
-    if !may_do_all(head.kind, changes.as_slice()) {
+    if !may_have_changes(head.kind, changes.as_slice()) {
         return Err(ReadError::BadRow);
     }
     Ok(Sysmod {
@@ -140,7 +146,8 @@ fn built(
     })
 }
 
-// Takes the SYSMOD of the row.
+// The SYSMOD of this head, built from the rows of its statements, which it takes off the front of the lists. Returns
+// `BadRow` if they stand for no SYSMOD, and `Memory` if memory runs out.
 fn take_sysmod(
     alloc: Global,
     head: HeadRow,
@@ -162,11 +169,13 @@ fn take_sysmod(
 {
     let found = take_vers(alloc, vers, ifs, head.id)?;
     let changes = take_changes(alloc, elems, head.id)?;
-    built(alloc, head, found, changes)
+    build_sysmod(alloc, head, found, changes)
 }
 
-/// The SYSMODs whose rows these are. The caller keeps the lists: to drop them would have to be proved at each exit.
-pub(crate) fn assemble(
+/// The SYSMODs of all heads, in their order. It takes the rows of one after the other, until no row is left. Returns
+/// `BadRow` if the rows of a head stand for no SYSMOD, or if rows are left after the last head, and `Memory` if memory
+/// runs out. The caller keeps the lists: if this function dropped them, that would have to be proved at each exit.
+pub(crate) fn take_all_sysmods(
     alloc: Global,
     heads: &mut VecDeque<HeadRow>,
     vers: &mut VecDeque<VerRow>,
@@ -183,7 +192,7 @@ pub(crate) fn assemble(
     ensures fault { IsErrOf result ReadError.Fault → ⊥ }
 {
     let mut sysmods = Vec::with_capacity(alloc, heads.len())?;
-    while let Some(head) = next_of(heads) {
+    while let Some(head) = pop_row(heads) {
         let sysmod = take_sysmod(alloc, head, vers, ifs, elems)?;
         if sysmods.push(sysmod).is_err() {
             return Err(ReadError::Memory);

@@ -14,7 +14,7 @@ use sorted::Keyed;
 use std::alloc::{AllocError, Global};
 use std::collections::VecDeque;
 use store_rows::ReadError;
-use store_sysmods::{ElemRow, IfRow, SourceRow, VerRow, number_behind};
+use store_sysmods::{ElemRow, IfRow, SourceRow, VerRow, number_after};
 use sysmods_values::{ElemChange, IfReq, Ver};
 
 /// A row that belongs to another row.
@@ -23,7 +23,8 @@ pub(crate) trait Child: Drop {
 
     ghost parent_of: { Self → Self.Parent };
 
-    fn is_of(&self, parent: Self::Parent) -> bool
+    /// Whether it belongs to this parent.
+    fn belongs_to(&self, parent: Self::Parent) -> bool
         ensures { IsTrue result ↔ (parent_of self.now ≡ parent) };
 }
 
@@ -34,7 +35,7 @@ impl Child for SourceRow {
 
     ghost parent_of = { parent_of_source };
 
-    fn is_of(&self, parent: Id) -> bool {
+    fn belongs_to(&self, parent: Id) -> bool {
         self.id == parent
     }
 }
@@ -46,7 +47,7 @@ impl Child for VerRow {
 
     ghost parent_of = { parent_of_ver };
 
-    fn is_of(&self, parent: Id) -> bool {
+    fn belongs_to(&self, parent: Id) -> bool {
         self.id == parent
     }
 }
@@ -58,7 +59,7 @@ impl Child for IfRow {
 
     ghost parent_of = { parent_of_if };
 
-    fn is_of(&self, parent: (Id, Srel, u64)) -> bool {
+    fn belongs_to(&self, parent: (Id, Srel, u64)) -> bool {
         self.id == parent.0 && self.srel == parent.1 && self.place == parent.2
     }
 }
@@ -70,41 +71,42 @@ impl Child for ElemRow {
 
     ghost parent_of = { parent_of_elem };
 
-    fn is_of(&self, parent: Id) -> bool {
+    fn belongs_to(&self, parent: Id) -> bool {
         self.id == parent
     }
 }
 
-/// Takes the first row.
-pub(crate) fn next_of<T: Drop>(rows: &mut VecDeque<T>) -> Option<T>
+/// The first row, which it takes off the list, or `None` if there is no row.
+pub(crate) fn pop_row<T: Drop>(rows: &mut VecDeque<T>) -> Option<T>
     ensures some { IfSome result (λ row. rows.old.items ≡ row ∷ rows.new.items) }
     ensures none { IfNone result (rows.old.items ≡ []) }
 {
     rows.pop_front()
 }
 
-// Whether the first row belongs to the parent.
-fn begins<T: Child>(rows: &VecDeque<T>, parent: T::Parent) -> bool
+// Whether there is a first row and it belongs to the parent.
+fn first_belongs_to<T: Child>(rows: &VecDeque<T>, parent: T::Parent) -> bool
     ensures { IsTrue result ↔ Begins T.parent_of parent rows.now.items }
 {
     match rows.front() {
-        Some(row) => row.is_of(parent),
+        Some(row) => row.belongs_to(parent),
         None => false,
     }
 }
 
-/// Takes the first row, if it belongs to the parent.
-pub(crate) fn pop_of<T: Child>(rows: &mut VecDeque<T>, parent: T::Parent) -> Option<T>
+/// The first row, which it takes off the list, or `None` if there is no row or the first belongs to another parent.
+pub(crate) fn pop_row_of<T: Child>(rows: &mut VecDeque<T>, parent: T::Parent) -> Option<T>
     ensures some { IfSome result (λ row. (rows.old.items ≡ row ∷ rows.new.items) × (T.parent_of row ≡ parent)) }
     ensures none { IfNone result ((rows.new.items ≡ rows.old.items) × StandsApart T.parent_of parent rows.old.items) }
 {
-    if !begins(rows, parent) {
+    if !first_belongs_to(rows, parent) {
         return None;
     }
     rows.pop_front()
 }
 
-/// Takes the `++IF`s of a `++VER`, whose numbers count from 1.
+/// The `++IF`s of a `++VER`, whose rows it takes off the front of the list. Returns `BadRow` if their numbers do not
+/// count from 1, and `Memory` if memory runs out.
 pub(crate) fn take_ifs(
     alloc: Global,
     rows: &mut VecDeque<IfRow>,
@@ -120,7 +122,7 @@ pub(crate) fn take_ifs(
     ensures fault { IsErrOf result ReadError.Fault → ⊥ }
 {
     let mut ifs = Vec::new(alloc);
-    while let Some(row) = pop_of(rows, (id, srel, place)) {
+    while let Some(row) = pop_row_of(rows, (id, srel, place)) {
         if row.number != ifs.len() as u64 + 1 {
             return Err(ReadError::BadRow);
         }
@@ -132,6 +134,7 @@ pub(crate) fn take_ifs(
     Ok(ifs)
 }
 
+// The `++VER` with these `++IF`s in place of its own.
 fn with_ifs(ver: Ver, ifs: Vec<IfReq>) -> Ver
     ensures { result ≡ record ver { ifs = ifs.items } }
 {
@@ -147,8 +150,9 @@ fn with_ifs(ver: Ver, ifs: Vec<IfReq>) -> Ver
     }
 }
 
-// The `++VER` with its `++IF`s, which it takes.
-fn filled(alloc: Global, ifs: &mut VecDeque<IfRow>, id: Id, row: VerRow) -> Result<Ver, ReadError>
+// The `++VER` of the row with its `++IF`s, whose rows it takes off the front of `ifs`. Returns `BadRow` if their numbers
+// do not count from 1, and `Memory` if memory runs out.
+fn fill_ver(alloc: Global, ifs: &mut VecDeque<IfRow>, id: Id, row: VerRow) -> Result<Ver, ReadError>
     ensures same { IfOk result (λ ver. ver ≡ record row.ver { ifs = ver.ifs }) }
     ensures taken { IfOk result (λ ver. HasIfs id row.ver.srel row.number 1 ifs.old.items ver.ifs ifs.new.items) }
     ensures only { IfOk result (λ ver. (others : List terms.IfReq) (rest : List IfLine)
@@ -166,10 +170,12 @@ fn filled(alloc: Global, ifs: &mut VecDeque<IfRow>, id: Id, row: VerRow) -> Resu
 fn comes_next(vers: &[Ver], row: &VerRow) -> bool
     ensures { IsTrue result ↔ (length vers.now < 8) × (row.now.number ≡ number_behind vers.now row.now.ver) }
 {
-    vers.len() < 8 && row.number == number_behind(vers, &row.ver) as u64
+    vers.len() < 8 && row.number == number_after(vers, &row.ver) as u64
 }
 
-/// Takes the `++VER`s of a SYSMOD, at most eight, with their `++IF`s.
+/// The `++VER`s of a SYSMOD with their `++IF`s, whose rows it takes off the front of the lists. Returns `BadRow` if there
+/// are more than eight, if one has not the next number of its SREL, or if the numbers of its `++IF`s do not count from
+/// 1. Returns `Memory` if memory runs out.
 pub(crate) fn take_vers(
     alloc: Global,
     rows: &mut VecDeque<VerRow>,
@@ -189,11 +195,11 @@ pub(crate) fn take_vers(
     ensures fault { IsErrOf result ReadError.Fault → ⊥ }
 {
     let mut vers = Vec::new(alloc);
-    while let Some(row) = pop_of(rows, id) {
+    while let Some(row) = pop_row_of(rows, id) {
         if !comes_next(vers.as_slice(), &row) {
             return Err(ReadError::BadRow);
         }
-        let ver = filled(alloc, ifs, id, row)?;
+        let ver = fill_ver(alloc, ifs, id, row)?;
         if vers.push(ver).is_err() {
             return Err(ReadError::Memory);
         }
@@ -202,7 +208,7 @@ pub(crate) fn take_vers(
     Ok(vers)
 }
 
-/// Takes the element statements of a SYSMOD.
+/// The element statements of a SYSMOD, whose rows it takes off the front of the list.
 pub(crate) fn take_changes(
     alloc: Global,
     rows: &mut VecDeque<ElemRow>,
@@ -213,7 +219,7 @@ pub(crate) fn take_changes(
         → HasChanges id rows.old.items others rest → (others ≡ changes.items) × (rest ≡ rows.new.items)) }
 {
     let mut changes = Vec::new(alloc);
-    while let Some(row) = pop_of(rows, id) {
+    while let Some(row) = pop_row_of(rows, id) {
         changes.push(row.change)?;
     }
     changes.shrink_to_fit();

@@ -1,4 +1,5 @@
-//! SYSMODs without their statements, under each schema.
+//! SYSMODs without their statements, under each schema. What loads them returns `BadRow` if the rows stand for none,
+//! `Memory` if memory runs out, and `Fault` if the disk fails or the tables are others.
 
 ghost use Rattle.std.specs.Prelude.{◌≡◌, ◌≢◌, map, IfOk, IsPermutation};
 ghost use Rattle.std.specs.List.{AllByRecursion};
@@ -12,7 +13,7 @@ ghost use Rattle.store_sysmod_loads.specs.Gathered.{HoldHeads};
 ghost use Rattle.store_sysmod_loads.specs.Joined.{bare_of, all_sources};
 ghost use Rattle.store_sysmod_loads.specs.Parts.{LoadsPart};
 
-use crate::joining::joined;
+use crate::joining::join_sources;
 use sqlite::{Alter, Connection};
 use std::alloc::Global;
 use std::collections::VecDeque;
@@ -21,7 +22,7 @@ use store_schema::Schema;
 use store_sysmods::{BareHead, BareHeads, HeadRow, Heads, SourceRow, Sources, load_sorted};
 
 // The heads of schema 1, whose rows have the sources.
-fn load_with_sources<S: Alter>(
+fn load_heads_of_first_schema<S: Alter>(
     alloc: Global,
     conn: &mut Connection<S>,
 ) -> Result<Vec<HeadRow>, ReadError>
@@ -32,7 +33,11 @@ fn load_with_sources<S: Alter>(
     load_sorted::<S, Heads>(alloc, conn)
 }
 
-fn load_bare<S: Alter>(alloc: Global, conn: &mut Connection<S>) -> Result<Vec<BareHead>, ReadError>
+// The heads of later schemas, whose column of sources is empty.
+fn load_bare_heads<S: Alter>(
+    alloc: Global,
+    conn: &mut Connection<S>,
+) -> Result<Vec<BareHead>, ReadError>
     ensures part { (r : ARelease) → r ≢ First → LoadsPart S.Store r
         (λ heads contents. IsPermutation (map row_of_bare heads.items) (contents sysmod.tree))
         (λ heads sysmods. heads.items ≡ map bare_of (map head_of sysmods)) conn.old conn.new result }
@@ -41,6 +46,7 @@ fn load_bare<S: Alter>(alloc: Global, conn: &mut Connection<S>) -> Result<Vec<Ba
     load_sorted::<S, BareHeads>(alloc, conn)
 }
 
+// The rows of the sources of all SYSMODs, from the table of later schemas.
 fn load_sources<S: Alter>(
     alloc: Global,
     conn: &mut Connection<S>,
@@ -53,19 +59,22 @@ fn load_sources<S: Alter>(
     load_sorted::<S, Sources>(alloc, conn)
 }
 
-// The heads and their sources, each from a table of its own.
-fn load_joined<S: Alter>(alloc: Global, conn: &mut Connection<S>) -> Result<Vec<HeadRow>, ReadError>
+// The heads with their sources, which later schemas keep in a table of their own.
+fn load_and_join_heads<S: Alter>(
+    alloc: Global,
+    conn: &mut Connection<S>,
+) -> Result<Vec<HeadRow>, ReadError>
     ensures part { (r : ARelease) → r ≢ First → LoadsPart S.Store r
         (λ heads contents. HoldHeads r heads.items contents)
         (λ heads sysmods. heads.items ≡ map head_of sysmods) conn.old conn.new result }
     ensures forms { IfOk result (λ heads. AllByRecursion HasHeadForms heads.items) }
 {
-    let bare = load_bare(alloc, conn)?;
+    let bare = load_bare_heads(alloc, conn)?;
     let sources = load_sources(alloc, conn)?;
-    joined(alloc, VecDeque::from(bare), VecDeque::from(sources))
+    join_sources(alloc, VecDeque::from(bare), VecDeque::from(sources))
 }
 
-/// The heads, with their sources.
+/// The heads of all SYSMODs with their sources, from the tables of the schema.
 pub(crate) fn load_heads<S: Alter>(
     alloc: Global,
     conn: &mut Connection<S>,
@@ -77,8 +86,8 @@ pub(crate) fn load_heads<S: Alter>(
     ensures forms { IfOk result (λ heads. AllByRecursion (HasFormsUnder schema) heads.items) }
 {
     match schema {
-        Schema::First => load_with_sources(alloc, conn),
-        Schema::Second => load_joined(alloc, conn),
-        Schema::Third => load_joined(alloc, conn),
+        Schema::First => load_heads_of_first_schema(alloc, conn),
+        Schema::Second => load_and_join_heads(alloc, conn),
+        Schema::Third => load_and_join_heads(alloc, conn),
     }
 }

@@ -7,14 +7,15 @@ ghost use Rattle.store_sysmods.specs.declared.source.SourceRow.{SourceRow as Sou
 ghost use Rattle.store_sysmod_loads.specs.Runs.{HasSources};
 ghost use Rattle.store_sysmod_loads.specs.Joined.{AreJoined};
 
-use crate::gathering::{next_of, pop_of};
+use crate::gathering::{pop_row, pop_row_of};
 use fields::{Id, SourceList};
 use std::alloc::Global;
 use std::collections::VecDeque;
 use store_rows::ReadError;
 use store_sysmods::{BareHead, HeadRow, SourceRow};
 
-// Takes the sources of a SYSMOD, which rise.
+// The sources of a SYSMOD, whose rows it takes off the front of the list. Returns `BadRow` if they do not rise, and
+// `Memory` if memory runs out.
 fn take_sources(
     alloc: Global,
     rows: &mut VecDeque<SourceRow>,
@@ -28,7 +29,7 @@ fn take_sources(
     ensures fault { IsErrOf result ReadError.Fault → ⊥ }
 {
     let mut names = SourceList::new(alloc);
-    while let Some(row) = pop_of(rows, id) {
+    while let Some(row) = pop_row_of(rows, id) {
         if !names.push_last(row.name)? {
             return Err(ReadError::BadRow);
         }
@@ -36,8 +37,9 @@ fn take_sources(
     Ok(names)
 }
 
-/// The heads with their sources. It takes all sources.
-pub(crate) fn joined(
+/// The heads with their sources. Returns `BadRow` if the sources of a head do not rise, or if rows of sources are left
+/// after the last head, and `Memory` if memory runs out.
+pub(crate) fn join_sources(
     alloc: Global,
     mut bare: VecDeque<BareHead>,
     mut sources: VecDeque<SourceRow>,
@@ -50,7 +52,7 @@ pub(crate) fn joined(
     ensures fault { IsErrOf result ReadError.Fault → ⊥ }
 {
     let mut heads = Vec::with_capacity(alloc, bare.len())?;
-    while let Some(head) = next_of(&mut bare) {
+    while let Some(head) = pop_row(&mut bare) {
         let names = take_sources(alloc, &mut sources, head.id)?;
         let whole = HeadRow {
             id: head.id,

@@ -15,8 +15,10 @@ ghost use Rattle.store_sysmod_loads.specs.Both.{AreOfBoth, AreRowsIn, LoadsRows}
 use sqlite::{Alter, Connection};
 use std::alloc::{AllocError, Global};
 use store_rows::{FromRow, ReadError};
-use store_schema::{Query, Schema, load_listed};
-use store_sysmods::{IfRow, Ifs, Listed, MoreIfs, MoreVers, VerRow, Vers, by_keys, load_sorted};
+use store_schema::{Query, Schema, load_query};
+use store_sysmods::{
+    IfRow, Ifs, Listed, MoreIfs, MoreVers, VerRow, Vers, load_sorted, sort_by_keys,
+};
 
 /// A row of which each of two tables has some, with the same keys; the second table came with schema 3.
 pub(crate) trait InTwo: Drop {
@@ -63,8 +65,8 @@ impl InTwo for IfRow {
     ghost third = { refl };
 }
 
-// The items of both lists, by their keys.
-fn merged<T: Listed>(
+// The items of both lists as one list, sorted by their keys.
+fn merge_sorted<T: Listed>(
     mut items: Vec<<T::Rows as FromRow>::Item>,
     mut more: Vec<<T::Rows as FromRow>::Item>,
 ) -> Result<Vec<<T::Rows as FromRow>::Item>, AllocError>
@@ -73,11 +75,12 @@ fn merged<T: Listed>(
         → Rises T.Key.cmp T.key_of xs → all.items ≡ xs) }
 {
     items.append(&mut more)?;
-    Ok(by_keys::<T>(items))
+    Ok(sort_by_keys::<T>(items))
 }
 
-// What the rows of both tables stand for, by their keys.
-fn load_both<S: Alter, T: InTwo>(
+// The items of both tables as one list, sorted by their keys. Returns `BadRow` if a row stands for no item, `Memory` if
+// memory runs out, and `Fault` if the disk fails or the tables are others.
+fn load_both_tables<S: Alter, T: InTwo>(
     alloc: Global,
     conn: &mut Connection<S>,
 ) -> Result<Vec<T>, ReadError>
@@ -100,15 +103,16 @@ fn load_both<S: Alter, T: InTwo>(
     ensures reads { (r : ARelease) → T.Firsts.knows r → T.Furthers.knows r
         → OnlyReads S.Store (schema_under r) ReadError.BadRow ReadError.Fault conn.old conn.new result }
 {
-    let firsts = load_listed::<S, T::Firsts>(alloc, conn, &[])?;
-    let furthers = load_listed::<S, T::Furthers>(alloc, conn, &[])?;
-    let rows = merged::<T::Firsts>(firsts, furthers)?;
+    let firsts = load_query::<S, T::Firsts>(alloc, conn, &[])?;
+    let furthers = load_query::<S, T::Furthers>(alloc, conn, &[])?;
+    let rows = merge_sorted::<T::Firsts>(firsts, furthers)?;
     Ok(rows)
 }
 
-/// What the rows in the tables of the schema stand for, by their keys. Under an earlier schema each `++VER` is the
-/// first for its SREL.
-pub(crate) fn load_parted<S: Alter, T: InTwo>(
+/// The items of the first table and, under schema 3, of the second, sorted by their keys. Under an earlier schema each
+/// `++VER` is the first for its SREL. Returns `BadRow` if a row stands for no item, `Memory` if memory runs out, and
+/// `Fault` if the disk fails or the tables are others.
+pub(crate) fn load_firsts_and_furthers<S: Alter, T: InTwo>(
     alloc: Global,
     conn: &mut Connection<S>,
     schema: Schema,
@@ -120,6 +124,6 @@ pub(crate) fn load_parted<S: Alter, T: InTwo>(
 {
     match schema {
         Schema::First | Schema::Second => load_sorted::<S, T::Firsts>(alloc, conn),
-        Schema::Third => load_both::<S, T>(alloc, conn),
+        Schema::Third => load_both_tables::<S, T>(alloc, conn),
     }
 }

@@ -1,4 +1,5 @@
-//! All rows of SYSMODs, and the SYSMODs for which they stand.
+//! All rows of SYSMODs, and the SYSMODs for which they stand. What loads them returns `BadRow` if the rows stand for
+//! none, `Memory` if memory runs out, and `Fault` if the disk fails or the tables are others.
 
 ghost use Rattle.std.specs.Prelude.{◌≡◌, List, map, IfOk, IsErrOf, IsPermutation};
 ghost use Rattle.std.specs.List.{AllByRecursion};
@@ -11,9 +12,9 @@ ghost use Rattle.store_sysmod_loads.specs.Flats.{all_elems, AreWhole, AreFormed,
 ghost use Rattle.store_sysmod_loads.specs.Gathered.{HaveForms, HoldRows, HasRows, IsGathered};
 ghost use Rattle.store_sysmod_loads.specs.Parts.{LoadsPart};
 
-use crate::building::assemble;
+use crate::building::take_all_sysmods;
 use crate::heads::load_heads;
-use crate::loading::load_parted;
+use crate::loading::load_firsts_and_furthers;
 use sorted::are_rising;
 use sqlite::{Alter, Connection};
 use std::alloc::Global;
@@ -32,6 +33,7 @@ pub(crate) struct FlatRows {
     pub elems: Vec<ElemRow>,
 }
 
+// The rows of all element statements, sorted by their keys.
 fn load_elems<S: Alter>(alloc: Global, conn: &mut Connection<S>) -> Result<Vec<ElemRow>, ReadError>
     ensures part { (r : ARelease) → LoadsPart S.Store r
         (λ rows contents. IsPermutation (map row_of_elem rows.items) (contents elem.tree))
@@ -41,7 +43,7 @@ fn load_elems<S: Alter>(alloc: Global, conn: &mut Connection<S>) -> Result<Vec<E
     load_sorted::<S, Elems>(alloc, conn)
 }
 
-/// All rows of SYSMODs, in the tables of the schema.
+/// All rows of SYSMODs and of their statements, from the tables of the schema.
 pub(crate) fn load_rows<S: Alter>(
     alloc: Global,
     conn: &mut Connection<S>,
@@ -51,8 +53,8 @@ pub(crate) fn load_rows<S: Alter>(
     ensures forms { IfOk result (HaveForms schema) }
 {
     let heads = load_heads(alloc, conn, schema)?;
-    let vers = load_parted::<S, VerRow>(alloc, conn, schema)?;
-    let ifs = load_parted::<S, IfRow>(alloc, conn, schema)?;
+    let vers = load_firsts_and_furthers::<S, VerRow>(alloc, conn, schema)?;
+    let ifs = load_firsts_and_furthers::<S, IfRow>(alloc, conn, schema)?;
     let elems = load_elems(alloc, conn)?;
     Ok(FlatRows {
         heads,
@@ -62,8 +64,9 @@ pub(crate) fn load_rows<S: Alter>(
     })
 }
 
-/// The SYSMODs whose rows these are.
-pub(crate) fn gathered(alloc: Global, rows: FlatRows) -> Result<Vec<Sysmod>, ReadError>
+/// The SYSMODs whose rows these are. Returns `BadRow` if two SYSMODs have one id, if the rows of one stand for no
+/// SYSMOD, or if a row belongs to none, and `Memory` if memory runs out. It never returns `Fault`.
+pub(crate) fn gather_sysmods(alloc: Global, rows: FlatRows) -> Result<Vec<Sysmod>, ReadError>
     requires { AreBare rows.vers.items }
     ensures taken { IfOk result (λ sysmods. IsGathered rows sysmods.items) }
     ensures only { IfOk result (λ sysmods. (others : List SysmodTerm) → AreWhole others → HasRows rows others
@@ -79,11 +82,12 @@ pub(crate) fn gathered(alloc: Global, rows: FlatRows) -> Result<Vec<Sysmod>, Rea
     let mut vers = VecDeque::from(rows.vers);
     let mut ifs = VecDeque::from(rows.ifs);
     let mut elems = VecDeque::from(rows.elems);
-    assemble(alloc, &mut heads, &mut vers, &mut ifs, &mut elems)
+    take_all_sysmods(alloc, &mut heads, &mut vers, &mut ifs, &mut elems)
 }
 
-/// The SYSMODs whose rows the tables of the schema hold.
-pub(crate) fn load_gathered<S: Alter>(
+/// The SYSMODs whose rows the tables of the schema hold. Returns `BadRow` if the rows stand for no SYSMODs, `Memory` if
+/// memory runs out, and `Fault` if the disk fails or the tables are others.
+pub(crate) fn load_and_gather<S: Alter>(
     alloc: Global,
     conn: &mut Connection<S>,
     schema: Schema,
@@ -93,5 +97,5 @@ pub(crate) fn load_gathered<S: Alter>(
     ensures forms { IfOk result (λ sysmods. AreFormed schema sysmods.items) }
 {
     let rows = load_rows(alloc, conn, schema)?;
-    gathered(alloc, rows)
+    gather_sysmods(alloc, rows)
 }

@@ -13,8 +13,8 @@ use std::alloc::Global;
 use store_rows::ReadError;
 use store_schema::Columns;
 
-/// Ids that do not include the SYSMOD's own.
-pub(crate) fn others_in(
+/// The ids of the next column. Returns `BadRow` if the SYSMOD's own id is among them.
+pub(crate) fn read_other_ids(
     alloc: Global,
     columns: &mut Columns<'_>,
     id: Id,
@@ -31,8 +31,9 @@ pub(crate) fn others_in(
     Ok(list)
 }
 
-/// The requisites of an `++IF`: ids of others, at least one.
-pub(crate) fn requisites_in(
+/// The requisites of an `++IF`: the next column's ids. Returns `BadRow` if there is none, or if the SYSMOD's own is
+/// among them.
+pub(crate) fn read_requisites(
     alloc: Global,
     columns: &mut Columns<'_>,
     id: Id,
@@ -42,15 +43,15 @@ pub(crate) fn requisites_in(
         → list ≢ [] → columns.old ≢ ids list ∷ rest }
     ensures fault { IsErrOf result ReadError.Fault → ⊥ }
 {
-    let list = others_in(alloc, columns, id)?;
+    let list = read_other_ids(alloc, columns, id)?;
     if list.is_empty() {
         return Err(ReadError::BadRow);
     }
     Ok(list)
 }
 
-/// The id of another SYSMOD, if there is one.
-pub(crate) fn other_in(columns: &mut Columns<'_>, id: Id) -> Result<Option<Id>, ReadError>
+/// The id in the next column, or none if the column is NULL. Returns `BadRow` if it is the SYSMOD's own.
+pub(crate) fn read_other_id(columns: &mut Columns<'_>, id: Id) -> Result<Option<Id>, ReadError>
     ensures read { IfOk result (λ other. (columns.old ≡ or_null Text other ∷ columns.new)
         × IfSome other (λ o. IsId o × (o ≢ id))) }
     ensures none { IsErrOf result ReadError.BadRow → (other : Option (List ℕ)) (rest : Row)
@@ -64,8 +65,8 @@ pub(crate) fn other_in(columns: &mut Columns<'_>, id: Id) -> Result<Option<Id>, 
     Ok(other)
 }
 
-/// The number of a `++VER` that is not the first for its SREL.
-pub(crate) fn further_in(columns: &mut Columns<'_>) -> Result<u64, ReadError>
+/// The number of a `++VER` that is not the first for its SREL. Returns `BadRow` if it is below 2.
+pub(crate) fn read_further_number(columns: &mut Columns<'_>) -> Result<u64, ReadError>
     ensures read { IfOk result (λ n. (columns.old ≡ Int (pos n) ∷ columns.new) × (1 < n)) }
     ensures none { IsErrOf result ReadError.BadRow → (n : ℕ) (rest : Row) → 1 < n
         → columns.old ≢ Int (pos n) ∷ rest }

@@ -28,25 +28,18 @@ use sqlite::{Alter, Error, Row, Transaction};
 use sqlite_value::row::Row as Cells;
 use sqlite_value::value::ValueRef;
 use std::alloc::{AllocError, Global};
-use store_rows::{FromRow, ReadError, cells_of, remove};
-use store_schema::{Columns, Query, is_updated};
+use store_rows::{FromRow, ReadError, remove, row_of_values};
+use store_schema::{Columns, Query, elem_columns};
 use sysmods_values::{Action, ElemChange};
 use terms::ElemType;
 use text80::{Line, TextError, Update, bytes_of};
 
-const SELECT: &str =
-    "SELECT id, type, name, upd, distlib, syslib, text FROM elem ORDER BY id, type, name";
+const SELECT: &str = elem_columns!(select_text "ORDER BY id, type, name");
 
-pub(crate) const INSERT: &str =
-    "INSERT INTO elem (id, type, name, upd, distlib, syslib, text) VALUES (?1, ?2, ?3, ?4, ?5, ?6, ?7)";
+pub(crate) const INSERT: &str = elem_columns!(insert_text);
 
-// Sixteen rows, as many as one statement puts.
-pub(crate) const INSERT_MANY: &str =
-    "INSERT INTO elem (id, type, name, upd, distlib, syslib, text) VALUES \
-    (?, ?, ?, ?, ?, ?, ?), (?, ?, ?, ?, ?, ?, ?), (?, ?, ?, ?, ?, ?, ?), (?, ?, ?, ?, ?, ?, ?), \
-    (?, ?, ?, ?, ?, ?, ?), (?, ?, ?, ?, ?, ?, ?), (?, ?, ?, ?, ?, ?, ?), (?, ?, ?, ?, ?, ?, ?), \
-    (?, ?, ?, ?, ?, ?, ?), (?, ?, ?, ?, ?, ?, ?), (?, ?, ?, ?, ?, ?, ?), (?, ?, ?, ?, ?, ?, ?), \
-    (?, ?, ?, ?, ?, ?, ?), (?, ?, ?, ?, ?, ?, ?), (?, ?, ?, ?, ?, ?, ?), (?, ?, ?, ?, ?, ?, ?)";
+// For sixteen rows, as many as one statement adds.
+pub(crate) const INSERT_MANY: &str = elem_columns!(insert_many_text);
 
 const DELETE: &str = "DELETE FROM elem WHERE id = ?1";
 
@@ -59,8 +52,8 @@ pub struct ElemRow {
     pub change: ElemChange,
 }
 
-// The records of a replacement, at least one.
-fn replacement_in(
+// The records of a replacement. Returns `BadRow` if there is none.
+fn read_replacement(
     alloc: Global,
     columns: &mut Columns<'_>,
     elem_type: ElemType,
@@ -78,8 +71,8 @@ fn replacement_in(
     Ok(text)
 }
 
-// The records as an update of the element of this name.
-fn checked_update(alloc: Global, records: Vec<Line>, name: &[u8]) -> Result<Update, ReadError>
+// The update that these records are of the element of this name. Returns `BadRow` if they are none.
+fn parse_update(alloc: Global, records: Vec<Line>, name: &[u8]) -> Result<Update, ReadError>
     ensures some { IfOk result (λ update. (update ≡ records.items) × IsUpdate name.now records.items) }
     ensures none { IsErrOf result ReadError.BadRow → ¬ IsUpdate name.now records.items }
     ensures fault { IsErrOf result ReadError.Fault → ⊥ }
@@ -91,8 +84,9 @@ fn checked_update(alloc: Global, records: Vec<Line>, name: &[u8]) -> Result<Upda
     }
 }
 
-// An update of the element of this type and name.
-fn update_in(
+// The update of the element of this type and name in the next column. Returns `BadRow` if elements of this type have no
+// updates.
+fn read_update(
     alloc: Global,
     columns: &mut Columns<'_>,
     elem_type: ElemType,
@@ -104,15 +98,15 @@ fn update_in(
         → AreRecords text → IsUpdate name text → columns.old ≢ records text ∷ rest }
     ensures fault { IsErrOf result ReadError.Fault → ⊥ }
 {
-    if !is_updated(elem_type) {
+    if !elem_type.is_numbered() {
         return Err(ReadError::BadRow);
     }
     let lines = columns.records(alloc)?;
-    checked_update(alloc, lines, name.as_bytes())
+    parse_update(alloc, lines, name.as_bytes())
 }
 
-// What the statement does to the element of this type and name, as all columns that are left.
-fn action_in(
+// What the statement does to the element of this type and name, which all columns that are left say.
+fn read_action(
     alloc: Global,
     columns: &mut Columns<'_>,
     elem_type: ElemType,
@@ -129,7 +123,7 @@ fn action_in(
     let syslib = columns.optional()?;
     match (updates, distlib, syslib) {
         (false, Some(distlib), Some(syslib)) => {
-            let lines = replacement_in(alloc, columns, elem_type)?;
+            let lines = read_replacement(alloc, columns, elem_type)?;
             columns.end()?;
             Ok(Action::Replaces {
                 distlib,
@@ -138,7 +132,7 @@ fn action_in(
             })
         }
         (true, None, None) => {
-            let update = update_in(alloc, columns, elem_type, name)?;
+            let update = read_update(alloc, columns, elem_type, name)?;
             columns.end()?;
             Ok(Action::Updates { update })
         }
@@ -164,11 +158,11 @@ impl FromRow for Elems {
             → row.now ≢ row_of_elem item }
         ensures fault { IsErrOf result ReadError.Fault → ⊥ }
     {
-        let mut columns = Columns::of(row);
+        let mut columns = Columns::new(row);
         let id = columns.id()?;
         let elem_type = columns.elem_type()?;
         let name = columns.name()?;
-        let action = action_in(alloc, &mut columns, elem_type, name)?;
+        let action = read_action(alloc, &mut columns, elem_type, name)?;
         let change = ElemChange {
             elem_type,
             name,
@@ -213,7 +207,8 @@ impl Listed for Elems {
 
 // ---- as it is written
 
-fn lines_of(action: &Action) -> &[Line]
+// The records of the replacement or update.
+fn action_lines(action: &Action) -> &[Line]
     ensures { result.now ≡ lines_in (action_of action.now) }
 {
     match action {
@@ -232,6 +227,7 @@ fn update_value(action: &Action) -> ValueRef<'static>
     }
 }
 
+// The distribution library of a replacement, or NULL for an update.
 fn distlib_value(action: &Action) -> ValueRef<'_>
     ensures { owned result ≡ or_null Text (distlib_of (action_of action.now)) }
 {
@@ -241,6 +237,7 @@ fn distlib_value(action: &Action) -> ValueRef<'_>
     }
 }
 
+// The target library of a replacement, or NULL for an update.
 fn syslib_value(action: &Action) -> ValueRef<'_>
     ensures { owned result ≡ or_null Text (syslib_of (action_of action.now)) }
 {
@@ -250,8 +247,8 @@ fn syslib_value(action: &Action) -> ValueRef<'_>
     }
 }
 
-// The element statement's row, of whose records these are the bytes.
-fn row_of<'a>(
+// The element statement's row, with these bytes of its records.
+fn make_element_row<'a>(
     alloc: Global,
     id: &'a Id,
     change: &'a ElemChange,
@@ -267,7 +264,7 @@ fn row_of<'a>(
     let distlib = distlib_value(&change.action);
     let syslib = syslib_value(&change.action);
     let text = ValueRef::Blob(text);
-    cells_of(alloc, &[id, elem_type, name, update, distlib, syslib, text])
+    row_of_values(alloc, &[id, elem_type, name, update, distlib, syslib, text])
 }
 
 /// The rows of the SYSMOD's element statements.
@@ -291,13 +288,13 @@ impl Rows for Changes {
         _front: &[ElemChange],
         change: &ElemChange,
     ) -> Result<(), AllocError> {
-        let text = bytes_of(self.alloc, lines_of(&change.action))?;
-        rows.push(row_of(self.alloc, &self.id, change, text.as_slice())?)?;
+        let text = bytes_of(self.alloc, action_lines(&change.action))?;
+        rows.push(make_element_row(self.alloc, &self.id, change, text.as_slice())?)?;
         Ok(())
     }
 }
 
-/// Takes out the SYSMOD's rows.
+/// Removes the rows of the SYSMOD's element statements.
 pub(crate) fn remove_rows<S: Alter>(tx: &mut Transaction<'_, S>, id: Id) -> Result<(), Error>
     ensures { RunsCalls S.Store ((delete_elems, sysmod_key id) ∷ [])
         (in_table elem_table (without (sysmod_key id))) tx.old tx.new result }

@@ -24,19 +24,17 @@ use sqlite::{Alter, Error, Row, Transaction};
 use sqlite_value::row::Row as Cells;
 use sqlite_value::value::ValueRef;
 use std::alloc::{AllocError, Global};
-use store_rows::{FromRow, ReadError, cells_of, remove_parent};
-use store_schema::{Columns, Query};
+use store_rows::{FromRow, ReadError, remove_parent, row_of_values};
+use store_schema::{Columns, Query, sysmod_columns};
 use sysmods_values::Sysmod;
 use terms::Kind;
 
-const SELECT: &str = "SELECT id, kind, sources FROM sysmod ORDER BY id";
+const SELECT: &str = sysmod_columns!(select_text "ORDER BY id");
 
-pub(crate) const INSERT: &str = "INSERT INTO sysmod (id, kind, sources) VALUES (?1, ?2, ?3)";
+pub(crate) const INSERT: &str = sysmod_columns!(insert_text);
 
-// Sixteen rows, as many as one statement puts.
-pub(crate) const INSERT_MANY: &str = "INSERT INTO sysmod (id, kind, sources) VALUES \
-    (?, ?, ?), (?, ?, ?), (?, ?, ?), (?, ?, ?), (?, ?, ?), (?, ?, ?), (?, ?, ?), (?, ?, ?), (?, ?, ?), (?, ?, ?), \
-    (?, ?, ?), (?, ?, ?), (?, ?, ?), (?, ?, ?), (?, ?, ?), (?, ?, ?)";
+// For sixteen rows, as many as one statement adds.
+pub(crate) const INSERT_MANY: &str = sysmod_columns!(insert_many_text);
 
 const DELETE: &str = "DELETE FROM sysmod WHERE id = ?1";
 
@@ -60,20 +58,23 @@ impl Keyed for HeadRow {
     }
 }
 
+// Whether the name of a source has at most 8 characters.
 fn is_short(name: Source) -> bool
     ensures { IsTrue result ↔ (length name ≤ 8) }
 {
     name.as_bytes().len() <= 8
 }
 
+// Whether each name of a source has at most 8 characters.
 fn are_short(names: &[Source]) -> bool
     ensures { IsTrue result ↔ AreShort names.now }
 {
     names.iter().all(|name| is_short(*name))
 }
 
-// The sources of schema 1, which had at most 8 characters.
-fn short_sources_in(alloc: Global, columns: &mut Columns<'_>) -> Result<SourceList, ReadError>
+// The sources in the next column, as schema 1 has them. Returns `BadRow` if a name has more than the 8 characters that
+// this schema allows.
+fn read_short_sources(alloc: Global, columns: &mut Columns<'_>) -> Result<SourceList, ReadError>
     ensures read { IfOk result (λ names. (columns.old ≡ ids names ∷ columns.new) × AreSorted IsSource names
         × AreShort names) }
     ensures none { IsErrOf result ReadError.BadRow → (names : List (List ℕ)) (rest : SqlRow)
@@ -105,10 +106,10 @@ impl FromRow for Heads {
             → row.now ≢ row_of_head item }
         ensures fault { IsErrOf result ReadError.Fault → ⊥ }
     {
-        let mut columns = Columns::of(row);
+        let mut columns = Columns::new(row);
         let id = columns.id()?;
         let kind = columns.kind()?;
-        let sources = short_sources_in(alloc, &mut columns)?;
+        let sources = read_short_sources(alloc, &mut columns)?;
         columns.end()?;
         Ok(HeadRow { id, kind, sources })
     }
@@ -172,7 +173,7 @@ impl FromRow for BareHeads {
             → row.now ≢ row_of_bare item }
         ensures fault { IsErrOf result ReadError.Fault → ⊥ }
     {
-        let mut columns = Columns::of(row);
+        let mut columns = Columns::new(row);
         let id = columns.id()?;
         let kind = columns.kind()?;
         if !columns.text()?.is_empty() {
@@ -218,17 +219,17 @@ impl Listed for BareHeads {
 
 // ---- as it is written
 
-/// The SYSMOD's own row, whose column of sources stays empty.
-pub(crate) fn row_of(alloc: Global, sysmod: &Sysmod) -> Result<Cells, AllocError>
+/// The SYSMOD's row in this table. Its column of sources stays empty: they have a table of their own.
+pub(crate) fn make_head_row(alloc: Global, sysmod: &Sysmod) -> Result<Cells, AllocError>
     ensures { IfOk result (λ row. as_bound row ≡ sysmod_row sysmod.now) }
 {
     let id = ValueRef::Text(sysmod.id.as_bytes());
     let kind = ValueRef::Text(kind_text(sysmod.kind));
     let sources = ValueRef::Text(b"");
-    cells_of(alloc, &[id, kind, sources])
+    row_of_values(alloc, &[id, kind, sources])
 }
 
-/// Removes the SYSMOD's own row, if the tables that refer to it hold none of the SYSMOD.
+/// Removes the SYSMOD's row from this table. The tables that refer to it must have no row of the SYSMOD left.
 pub(crate) fn remove_row<S: Alter>(tx: &mut Transaction<'_, S>, id: Id) -> Result<(), Error>
     ensures continues { Continues S.Store tx.old tx.new }
     ensures calls { RunsInside S.Store ((delete_sysmod, sysmod_key id) ∷ []) tx.old.conn.now tx.new.conn.now result }

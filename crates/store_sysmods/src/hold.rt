@@ -1,6 +1,6 @@
 //! The table of holds: external ones and those of SYSMODs.
 
-ghost use Rattle.std.specs.Prelude.{◌≡◌, ◌≢◌, ◌↔◌, ◌∷◌, ℕ, List, Option, map, option_map, IsTrue, IfOk, IfSome};
+ghost use Rattle.std.specs.Prelude.{◌≡◌, ◌≢◌, ◌∷◌, ℕ, List, Option, map, option_map, IfOk, IfSome};
 ghost use Rattle.std.specs.Prelude.{IsErrOf, IsPermutation, OnOk};
 ghost use Rattle.std.specs.List.{AllByRecursion};
 ghost use Rattle.std.specs.String.{string_bytes};
@@ -32,46 +32,34 @@ use sqlite::{Alter, Connection, Error, Row, Transaction};
 use sqlite_value::value::ValueRef;
 use std::alloc::Global;
 use store_rows::{FromRow, ReadError, put, remove};
-use store_schema::{Columns, Query, text_or_null};
+use store_schema::{Columns, Query, hold_columns, text_or_null};
 use sysmods_values::Hold;
 use terms::HoldKind;
 
-const SELECT: &str =
-    "SELECT id, kind, reason, fmid, class, date, comment, internal FROM hold ORDER BY id, kind, reason";
+const SELECT: &str = hold_columns!(select_text "ORDER BY id, kind, reason");
 
-const PUT: &str = "INSERT INTO hold (id, kind, reason, fmid, class, date, comment, internal) \
-    VALUES (?1, ?2, ?3, ?4, ?5, ?6, ?7, ?8) \
-    ON CONFLICT (id, kind, reason) DO UPDATE SET fmid = excluded.fmid, class = excluded.class, \
-    date = excluded.date, comment = excluded.comment, internal = excluded.internal";
+const PUT: &str = hold_columns!(put_text);
 
 const DELETE: &str = "DELETE FROM hold WHERE id = ?1 AND kind = ?2 AND reason = ?3";
 
 // ---- as it is read
 
-// Whether the reason suits the kind.
-fn suits(kind: HoldKind, reason: Reason) -> bool
-    ensures { IsTrue result ↔ IsReason kind reason }
-{
-    match kind {
-        HoldKind::Error => reason.is_id(),
-        _ => true,
-    }
-}
-
-fn reason_in(columns: &mut Columns<'_>, kind: HoldKind) -> Result<Reason, ReadError>
+// The reason ID in the next column. Returns `BadRow` if holds of this kind cannot have it.
+fn read_reason(columns: &mut Columns<'_>, kind: HoldKind) -> Result<Reason, ReadError>
     ensures read { IfOk result (λ reason. (columns.old ≡ Text reason ∷ columns.new) × IsReason kind reason) }
     ensures none { IsErrOf result ReadError.BadRow → (reason : List ℕ) (rest : SqlRow) → IsReason kind reason
         → columns.old ≢ Text reason ∷ rest }
     ensures fault { IsErrOf result ReadError.Fault → ⊥ }
 {
     let reason = Reason::read(columns.text()?).ok_or(ReadError::BadRow)?;
-    if !suits(kind, reason) {
+    if !reason.suits(kind) {
         return Err(ReadError::BadRow);
     }
     Ok(reason)
 }
 
-fn comment_in(alloc: Global, columns: &mut Columns<'_>) -> Result<Option<String>, ReadError>
+// The comment in the next column, or none if the column is NULL. Returns `BadRow` if the text is no comment.
+fn read_comment(alloc: Global, columns: &mut Columns<'_>) -> Result<Option<String>, ReadError>
     ensures read { IfOk result (λ comment. (columns.old ≡ or_null Text (option_map string_bytes comment) ∷ columns.new)
         × IfSome (option_map string_bytes comment) IsComment) }
     ensures none { IsErrOf result ReadError.BadRow → (comment : Option (List ℕ)) (rest : SqlRow)
@@ -109,14 +97,14 @@ impl FromRow for HoldReader {
             → row.now ≢ hold_row hold }
         ensures fault { IsErrOf result ReadError.Fault → ⊥ }
     {
-        let mut columns = Columns::of(row);
+        let mut columns = Columns::new(row);
         let id = columns.id()?;
         let kind = columns.hold_kind()?;
-        let reason = reason_in(&mut columns, kind)?;
+        let reason = read_reason(&mut columns, kind)?;
         let fmid = columns.id()?;
         let class = columns.optional()?;
         let date = columns.optional()?;
-        let comment = comment_in(alloc, &mut columns)?;
+        let comment = read_comment(alloc, &mut columns)?;
         let internal = columns.flag()?;
         columns.end()?;
         Ok(Hold {
@@ -188,6 +176,7 @@ pub fn load_holds<S: Alter>(alloc: Global, conn: &mut Connection<S>) -> Result<V
 
 // ---- as it is written
 
+// The comment, or NULL if there is none.
 fn comment_value(comment: &Option<String>) -> ValueRef<'_>
     ensures { owned result ≡ or_null Text (option_map string_bytes comment.now) }
 {
@@ -197,6 +186,7 @@ fn comment_value(comment: &Option<String>) -> ValueRef<'_>
     }
 }
 
+// 1 for yes, and 0 for no.
 fn flag_value(flag: bool) -> ValueRef<'static>
     ensures { owned result ≡ flag_of flag }
 {
@@ -206,7 +196,8 @@ fn flag_value(flag: bool) -> ValueRef<'static>
     ValueRef::Int(0)
 }
 
-/// Removes the hold that has the key, if there is one. Returns an error if the disk fails or memory runs out.
+/// Removes the hold of this id, kind and reason ID, if there is one. Returns an error if the disk fails or memory runs
+/// out.
 pub fn remove_hold<S: Alter>(
     tx: &mut Transaction<'_, S>,
     id: Id,
@@ -226,7 +217,8 @@ pub fn remove_hold<S: Alter>(
     remove(tx, DELETE, &key)
 }
 
-/// Puts the hold, instead of one of the same key. Returns an error if the disk fails or memory runs out.
+/// Puts the hold, in place of the one of its id, kind and reason ID if there is one. Returns an error if the disk fails
+/// or memory runs out.
 pub fn put_hold<S: Alter>(tx: &mut Transaction<'_, S>, hold: &Hold) -> Result<(), Error>
     ensures continues { Continues S.Store tx.old tx.new }
     ensures calls { RunsInside S.Store (put_hold_calls hold.now) tx.old.conn.now tx.new.conn.now result }

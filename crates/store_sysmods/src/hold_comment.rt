@@ -7,7 +7,7 @@ ghost use Rattle.store_schema.specs.Forms.{IsComment, IsPaired};
 /// The greatest number of characters in a comment.
 const LONGEST: usize = 200;
 
-// Whether the first character is not a blank.
+// Whether there is a first character, and it is not a blank.
 fn begins_dark(text: &[u8]) -> bool
     ensures { IsTrue result ↔ BeginsDark text.now }
 {
@@ -17,7 +17,7 @@ fn begins_dark(text: &[u8]) -> bool
     }
 }
 
-// Whether the last character is not a blank.
+// Whether there is a last character, and it is not a blank.
 fn ends_dark(text: &[u8]) -> bool
     ensures { IsTrue result ↔ BeginsDark (reverse text.now) }
 {
@@ -27,6 +27,7 @@ fn ends_dark(text: &[u8]) -> bool
     }
 }
 
+// Whether all characters are printable: from the blank to the tilde.
 fn is_printable(text: &[u8]) -> bool
     ensures { IsTrue result ↔ All (λ b. IsTrue (nat_le 32 b && nat_le b 126)) text.now }
 {

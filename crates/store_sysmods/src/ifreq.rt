@@ -10,29 +10,25 @@ ghost use Rattle.store_sysmods.specs.Ifs.{delete_ifreqs};
 ghost use Rattle.store_sysmods.specs.Steps.{RunsCalls};
 ghost use Rattle.store_sysmods.specs.Sysmods.{sysmod_key};
 
-use crate::cells::requisites_in;
+use crate::cells::read_requisites;
 use crate::item_rows::{Rows, push_all};
 use crate::listed::Listed;
-use crate::numbers::number_behind;
+use crate::numbers::number_after;
 use fields::{Id, Srel};
 use sqlite::{Alter, Error, Row, Transaction};
 use sqlite_value::row::Row as Cells;
 use sqlite_value::value::ValueRef;
 use std::alloc::{AllocError, Global};
-use store_rows::{FromRow, ReadError, cells_of, remove};
-use store_schema::{Columns, Query, joined_ids};
+use store_rows::{FromRow, ReadError, remove, row_of_values};
+use store_schema::{Columns, Query, ifreq_columns, joined_ids};
 use sysmods_values::{IfReq, Ver};
 
-const SELECT: &str = "SELECT id, srel, n, fmid, req FROM ifreq ORDER BY id, srel, n";
+const SELECT: &str = ifreq_columns!(select_text "ORDER BY id, srel, n");
 
-pub(crate) const INSERT: &str =
-    "INSERT INTO ifreq (id, srel, n, fmid, req) VALUES (?1, ?2, ?3, ?4, ?5)";
+pub(crate) const INSERT: &str = ifreq_columns!(insert_text);
 
-// Sixteen rows, as many as one statement puts.
-pub(crate) const INSERT_MANY: &str = "INSERT INTO ifreq (id, srel, n, fmid, req) VALUES \
-    (?, ?, ?, ?, ?), (?, ?, ?, ?, ?), (?, ?, ?, ?, ?), (?, ?, ?, ?, ?), (?, ?, ?, ?, ?), (?, ?, ?, ?, ?), \
-    (?, ?, ?, ?, ?), (?, ?, ?, ?, ?), (?, ?, ?, ?, ?), (?, ?, ?, ?, ?), (?, ?, ?, ?, ?), (?, ?, ?, ?, ?), \
-    (?, ?, ?, ?, ?), (?, ?, ?, ?, ?), (?, ?, ?, ?, ?), (?, ?, ?, ?, ?)";
+// For sixteen rows, as many as one statement adds.
+pub(crate) const INSERT_MANY: &str = ifreq_columns!(insert_many_text);
 
 const DELETE: &str = "DELETE FROM ifreq WHERE id = ?1";
 
@@ -66,12 +62,12 @@ impl FromRow for Ifs {
             → row.now ≢ row_of_if item }
         ensures fault { IsErrOf result ReadError.Fault → ⊥ }
     {
-        let mut columns = Columns::of(row);
+        let mut columns = Columns::new(row);
         let id = columns.id()?;
         let srel = columns.srel()?;
         let number = columns.number()?;
         let function = columns.id()?;
-        let req = requisites_in(alloc, &mut columns, id)?;
+        let req = read_requisites(alloc, &mut columns, id)?;
         columns.end()?;
         let ifreq = IfReq { function, req };
         Ok(IfRow {
@@ -119,8 +115,8 @@ impl Listed for Ifs {
 
 // ---- as it is written
 
-// The `++IF`'s row, of whose requisites this is the text.
-fn row_of<'a>(
+// The `++IF`'s row, with this text of its requisites.
+fn make_if_row<'a>(
     alloc: Global,
     id: &'a Id,
     srel: &'a Srel,
@@ -137,7 +133,7 @@ fn row_of<'a>(
     let number = ValueRef::Int(number as i64);
     let function = ValueRef::Text(ifreq.function.as_bytes());
     let req = ValueRef::Text(req);
-    cells_of(alloc, &[id, srel, number, function, req])
+    row_of_values(alloc, &[id, srel, number, function, req])
 }
 
 /// The rows of the `++IF`s of a `++VER` for the SREL, which count from 1.
@@ -164,7 +160,7 @@ impl Rows for IfsOf {
     ) -> Result<(), AllocError> {
         let req = joined_ids(self.alloc, ifreq.req.as_slice())?;
         let number = front.len() + 1;
-        rows.push(row_of(
+        rows.push(make_if_row(
             self.alloc,
             &self.id,
             &self.srel,
@@ -192,7 +188,7 @@ impl Rows for FirstIfs {
     ghost of_item = { λ of. of_numbered (first_ifs of.id) };
 
     fn push(&self, rows: &mut Vec<Cells>, front: &[Ver], ver: &Ver) -> Result<(), AllocError> {
-        if number_behind(front, ver) != 1 {
+        if number_after(front, ver) != 1 {
             return Ok(());
         }
         let ifs = IfsOf {
@@ -204,7 +200,7 @@ impl Rows for FirstIfs {
     }
 }
 
-/// Takes out the SYSMOD's rows.
+/// Removes the rows of the `++IF`s of the SYSMOD's first `++VER`s.
 pub(crate) fn remove_rows<S: Alter>(tx: &mut Transaction<'_, S>, id: Id) -> Result<(), Error>
     ensures { RunsCalls S.Store ((delete_ifreqs, sysmod_key id) ∷ [])
         (in_table ifreq_table (without (sysmod_key id))) tx.old tx.new result }

@@ -29,7 +29,7 @@ pub(crate) trait Rows {
             ≡ map as_bound rows.old.items ++ of_item self.now front.now item.now) };
 }
 
-/// Adds the rows of each item.
+/// Adds the rows of each item, in order.
 pub(crate) fn push_all<R: Rows>(
     rows: &mut Vec<Cells>,
     kind: &R,

@@ -13,7 +13,7 @@ ghost use Rattle.terms.specs.Rising.{Rises};
 use sqlite::{Alter, Connection};
 use std::alloc::Global;
 use store_rows::{FromRow, ReadError};
-use store_schema::{Query, load_listed};
+use store_schema::{Query, load_query};
 
 /// A query for a whole table, whose rows have different keys.
 pub trait Listed: Query {
@@ -30,8 +30,8 @@ pub trait Listed: Query {
     ghost whole: { Self.width ≡ 0 };
 }
 
-/// The items by their keys.
-pub fn by_keys<T: Listed>(
+/// The items, sorted by their keys.
+pub fn sort_by_keys<T: Listed>(
     mut items: Vec<<T::Rows as FromRow>::Item>,
 ) -> Vec<<T::Rows as FromRow>::Item>
     ensures same { IsPermutation items.items result.items }
@@ -42,8 +42,8 @@ pub fn by_keys<T: Listed>(
     items
 }
 
-/// The items of the table's rows, by their keys. Returns `BadRow` if a row stands for no item, `Memory` if memory runs
-/// out, and `Fault` if the disk fails or the tables are others.
+/// The items of the table's rows, sorted by their keys. Returns `BadRow` if a row stands for no item, `Memory` if
+/// memory runs out, and `Fault` if the disk fails or the tables are others.
 pub fn load_sorted<S: Alter, T: Listed>(
     alloc: Global,
     conn: &mut Connection<S>,
@@ -64,6 +64,6 @@ pub fn load_sorted<S: Alter, T: Listed>(
     ensures reads { (r : ARelease) → T.knows r
         → OnlyReads S.Store (schema_under r) ReadError.BadRow ReadError.Fault conn.old conn.new result }
 {
-    let items = load_listed::<S, T>(alloc, conn, &[])?;
-    Ok(by_keys::<T>(items))
+    let items = load_query::<S, T>(alloc, conn, &[])?;
+    Ok(sort_by_keys::<T>(items))
 }

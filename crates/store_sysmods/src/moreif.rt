@@ -10,30 +10,25 @@ ghost use Rattle.store_sysmods.specs.MoreIfs.{delete_moreifs};
 ghost use Rattle.store_sysmods.specs.Steps.{RunsCalls};
 ghost use Rattle.store_sysmods.specs.Sysmods.{sysmod_key};
 
-use crate::cells::{further_in, requisites_in};
+use crate::cells::{read_further_number, read_requisites};
 use crate::ifreq::IfRow;
 use crate::item_rows::{Rows, push_all};
-use crate::numbers::number_behind;
+use crate::numbers::number_after;
 use fields::{Id, Srel};
 use sqlite::{Alter, Error, Row, Transaction};
 use sqlite_value::row::Row as Cells;
 use sqlite_value::value::ValueRef;
 use std::alloc::{AllocError, Global};
-use store_rows::{FromRow, ReadError, cells_of, remove};
-use store_schema::{Columns, Query, joined_ids};
+use store_rows::{FromRow, ReadError, remove, row_of_values};
+use store_schema::{Columns, Query, joined_ids, moreif_columns};
 use sysmods_values::{IfReq, Ver};
 
-const SELECT: &str = "SELECT id, srel, v, n, fmid, req FROM moreif ORDER BY id, srel, v, n";
+const SELECT: &str = moreif_columns!(select_text "ORDER BY id, srel, v, n");
 
-pub(crate) const INSERT: &str =
-    "INSERT INTO moreif (id, srel, v, n, fmid, req) VALUES (?1, ?2, ?3, ?4, ?5, ?6)";
+pub(crate) const INSERT: &str = moreif_columns!(insert_text);
 
-// Sixteen rows, as many as one statement puts.
-pub(crate) const INSERT_MANY: &str = "INSERT INTO moreif (id, srel, v, n, fmid, req) VALUES \
-    (?, ?, ?, ?, ?, ?), (?, ?, ?, ?, ?, ?), (?, ?, ?, ?, ?, ?), (?, ?, ?, ?, ?, ?), (?, ?, ?, ?, ?, ?), \
-    (?, ?, ?, ?, ?, ?), (?, ?, ?, ?, ?, ?), (?, ?, ?, ?, ?, ?), (?, ?, ?, ?, ?, ?), (?, ?, ?, ?, ?, ?), \
-    (?, ?, ?, ?, ?, ?), (?, ?, ?, ?, ?, ?), (?, ?, ?, ?, ?, ?), (?, ?, ?, ?, ?, ?), (?, ?, ?, ?, ?, ?), \
-    (?, ?, ?, ?, ?, ?)";
+// For sixteen rows, as many as one statement adds.
+pub(crate) const INSERT_MANY: &str = moreif_columns!(insert_many_text);
 
 const DELETE: &str = "DELETE FROM moreif WHERE id = ?1";
 
@@ -57,13 +52,13 @@ impl FromRow for MoreIfs {
             → row.now ≢ row_of_more_if item }
         ensures fault { IsErrOf result ReadError.Fault → ⊥ }
     {
-        let mut columns = Columns::of(row);
+        let mut columns = Columns::new(row);
         let id = columns.id()?;
         let srel = columns.srel()?;
-        let place = further_in(&mut columns)?;
+        let place = read_further_number(&mut columns)?;
         let number = columns.number()?;
         let function = columns.id()?;
-        let req = requisites_in(alloc, &mut columns, id)?;
+        let req = read_requisites(alloc, &mut columns, id)?;
         columns.end()?;
         let ifreq = IfReq { function, req };
         Ok(IfRow {
@@ -98,24 +93,24 @@ impl Query for MoreIfs {
 
 // ---- as it is written
 
-// The row of an `++IF` of the `++VER` of the place, of whose requisites this is the text.
-fn row_of<'a>(
-    of: &'a FurtherIfsOf,
+// The row of an `++IF` of the `++VER` at the place that `ifs` names, with this text of its requisites.
+fn make_further_if_row<'a>(
+    ifs: &'a FurtherIfsOf,
     number: usize,
     ifreq: &'a IfReq,
     req: &'a [u8],
 ) -> Result<Cells, AllocError>
     requires number { number < 2 ^ 63 }
     requires req { req.now ≡ join_with_byte 44 ifreq.now.req }
-    ensures { IfOk result (λ row. as_bound row ≡ moreif_row of.now.id of.now.srel of.now.place (number, ifreq.now)) }
+    ensures { IfOk result (λ row. as_bound row ≡ moreif_row ifs.now.id ifs.now.srel ifs.now.place (number, ifreq.now)) }
 {
-    let id = ValueRef::Text(of.id.as_bytes());
-    let srel = ValueRef::Text(of.srel.as_bytes());
-    let place = ValueRef::Int(of.place as i64);
+    let id = ValueRef::Text(ifs.id.as_bytes());
+    let srel = ValueRef::Text(ifs.srel.as_bytes());
+    let place = ValueRef::Int(ifs.place as i64);
     let number = ValueRef::Int(number as i64);
     let function = ValueRef::Text(ifreq.function.as_bytes());
     let req = ValueRef::Text(req);
-    cells_of(of.alloc, &[id, srel, place, number, function, req])
+    row_of_values(ifs.alloc, &[id, srel, place, number, function, req])
 }
 
 /// The rows of the `++IF`s of the `++VER` of the place, which count from 1.
@@ -143,7 +138,7 @@ impl Rows for FurtherIfsOf {
         ifreq: &IfReq,
     ) -> Result<(), AllocError> {
         let req = joined_ids(self.alloc, ifreq.req.as_slice())?;
-        rows.push(row_of(self, front.len() + 1, ifreq, req.as_slice())?)?;
+        rows.push(make_further_if_row(self, front.len() + 1, ifreq, req.as_slice())?)?;
         Ok(())
     }
 }
@@ -164,7 +159,7 @@ impl Rows for FurtherIfs {
     ghost of_item = { λ of. of_numbered (further_ifs of.id) };
 
     fn push(&self, rows: &mut Vec<Cells>, front: &[Ver], ver: &Ver) -> Result<(), AllocError> {
-        let place = number_behind(front, ver);
+        let place = number_after(front, ver);
         if place == 1 {
             return Ok(());
         }
@@ -178,7 +173,7 @@ impl Rows for FurtherIfs {
     }
 }
 
-/// Takes out the SYSMOD's rows.
+/// Removes the rows of the `++IF`s of the SYSMOD's further `++VER`s.
 pub(crate) fn remove_rows<S: Alter>(tx: &mut Transaction<'_, S>, id: Id) -> Result<(), Error>
     ensures { RunsCalls S.Store ((delete_moreifs, sysmod_key id) ∷ [])
         (in_table moreif_table (without (sysmod_key id))) tx.old tx.new result }

@@ -10,31 +10,25 @@ ghost use Rattle.store_sysmods.specs.Steps.{RunsCalls};
 ghost use Rattle.store_sysmods.specs.Sysmods.{sysmod_key};
 ghost use Rattle.store_sysmods.specs.Vers.{AreVerTexts};
 
-use crate::cells::{further_in, other_in, others_in};
+use crate::cells::{read_further_number, read_other_id, read_other_ids};
 use crate::item_rows::Rows;
-use crate::numbers::number_behind;
-use crate::ver::{VerRow, VerTexts, lists_of};
+use crate::numbers::number_after;
+use crate::ver::{VerRow, VerTexts, join_ver_lists};
 use fields::{Id, IdList};
 use sqlite::{Alter, Error, Row, Transaction};
 use sqlite_value::row::Row as Cells;
 use sqlite_value::value::ValueRef;
 use std::alloc::{AllocError, Global};
-use store_rows::{FromRow, ReadError, cells_of, remove};
-use store_schema::{Columns, Query, text_or_null};
+use store_rows::{FromRow, ReadError, remove, row_of_values};
+use store_schema::{Columns, Query, morever_columns, text_or_null};
 use sysmods_values::Ver;
 
-const SELECT: &str = "SELECT id, srel, n, fmid, pre, req, sup FROM morever ORDER BY id, srel, n";
+const SELECT: &str = morever_columns!(select_text "ORDER BY id, srel, n");
 
-pub(crate) const INSERT: &str =
-    "INSERT INTO morever (id, srel, n, fmid, pre, req, sup) VALUES (?1, ?2, ?3, ?4, ?5, ?6, ?7)";
+pub(crate) const INSERT: &str = morever_columns!(insert_text);
 
-// Sixteen rows, as many as one statement puts.
-pub(crate) const INSERT_MANY: &str =
-    "INSERT INTO morever (id, srel, n, fmid, pre, req, sup) VALUES \
-    (?, ?, ?, ?, ?, ?, ?), (?, ?, ?, ?, ?, ?, ?), (?, ?, ?, ?, ?, ?, ?), (?, ?, ?, ?, ?, ?, ?), \
-    (?, ?, ?, ?, ?, ?, ?), (?, ?, ?, ?, ?, ?, ?), (?, ?, ?, ?, ?, ?, ?), (?, ?, ?, ?, ?, ?, ?), \
-    (?, ?, ?, ?, ?, ?, ?), (?, ?, ?, ?, ?, ?, ?), (?, ?, ?, ?, ?, ?, ?), (?, ?, ?, ?, ?, ?, ?), \
-    (?, ?, ?, ?, ?, ?, ?), (?, ?, ?, ?, ?, ?, ?), (?, ?, ?, ?, ?, ?, ?), (?, ?, ?, ?, ?, ?, ?)";
+// For sixteen rows, as many as one statement adds.
+pub(crate) const INSERT_MANY: &str = morever_columns!(insert_many_text);
 
 const DELETE: &str = "DELETE FROM morever WHERE id = ?1";
 
@@ -58,14 +52,14 @@ impl FromRow for MoreVers {
             → row.now ≢ row_of_more_ver item }
         ensures fault { IsErrOf result ReadError.Fault → ⊥ }
     {
-        let mut columns = Columns::of(row);
+        let mut columns = Columns::new(row);
         let id = columns.id()?;
         let srel = columns.srel()?;
-        let number = further_in(&mut columns)?;
-        let fmid = other_in(&mut columns, id)?;
-        let pre = others_in(alloc, &mut columns, id)?;
-        let req = others_in(alloc, &mut columns, id)?;
-        let sup = others_in(alloc, &mut columns, id)?;
+        let number = read_further_number(&mut columns)?;
+        let fmid = read_other_id(&mut columns, id)?;
+        let pre = read_other_ids(alloc, &mut columns, id)?;
+        let req = read_other_ids(alloc, &mut columns, id)?;
+        let sup = read_other_ids(alloc, &mut columns, id)?;
         columns.end()?;
         let npre = IdList::new(alloc);
         let del = IdList::new(alloc);
@@ -106,8 +100,8 @@ impl Query for MoreVers {
 
 // ---- as it is written
 
-// The row of the `++VER` of this number; these are the texts of its only lists.
-fn row_of<'a>(
+// The row of the `++VER` of this number, with these texts of its lists. It has no NPRE and no DELETE.
+fn make_further_ver_row<'a>(
     alloc: Global,
     id: &'a Id,
     number: usize,
@@ -125,7 +119,7 @@ fn row_of<'a>(
     let pre = ValueRef::Text(lists.pre.as_slice());
     let req = ValueRef::Text(lists.req.as_slice());
     let sup = ValueRef::Text(lists.sup.as_slice());
-    cells_of(alloc, &[id, srel, number, fmid, pre, req, sup])
+    row_of_values(alloc, &[id, srel, number, fmid, pre, req, sup])
 }
 
 /// The rows of the SYSMOD's further `++VER`s, without those of their `++IF`s.
@@ -144,17 +138,17 @@ impl Rows for FurtherVers {
     ghost of_item = { λ of. of_numbered (further_row of.id) };
 
     fn push(&self, rows: &mut Vec<Cells>, front: &[Ver], ver: &Ver) -> Result<(), AllocError> {
-        let number = number_behind(front, ver);
+        let number = number_after(front, ver);
         if number == 1 {
             return Ok(());
         }
-        let lists = lists_of(self.alloc, ver)?;
-        rows.push(row_of(self.alloc, &self.id, number, ver, &lists)?)?;
+        let lists = join_ver_lists(self.alloc, ver)?;
+        rows.push(make_further_ver_row(self.alloc, &self.id, number, ver, &lists)?)?;
         Ok(())
     }
 }
 
-/// Takes out the SYSMOD's rows.
+/// Removes the rows of the SYSMOD's further `++VER`s.
 pub(crate) fn remove_rows<S: Alter>(tx: &mut Transaction<'_, S>, id: Id) -> Result<(), Error>
     ensures { RunsCalls S.Store ((delete_morevers, sysmod_key id) ∷ [])
         (in_table morever_table (without (sysmod_key id))) tx.old tx.new result }

@@ -16,17 +16,15 @@ use sqlite::{Alter, Error, Row, Transaction};
 use sqlite_value::row::Row as Cells;
 use sqlite_value::value::ValueRef;
 use std::alloc::{AllocError, Global};
-use store_rows::{FromRow, ReadError, cells_of, insert, remove};
-use store_schema::{Columns, Query};
+use store_rows::{FromRow, ReadError, insert, remove, row_of_values};
+use store_schema::{Columns, Query, source_columns};
 
-const SELECT: &str = "SELECT id, name FROM source ORDER BY id, name";
+const SELECT: &str = source_columns!(select_text "ORDER BY id, name");
 
-pub(crate) const INSERT: &str = "INSERT INTO source (id, name) VALUES (?1, ?2)";
+pub(crate) const INSERT: &str = source_columns!(insert_text);
 
-// Sixteen rows, as many as one statement puts.
-pub(crate) const INSERT_MANY: &str = "INSERT INTO source (id, name) VALUES \
-    (?, ?), (?, ?), (?, ?), (?, ?), (?, ?), (?, ?), (?, ?), (?, ?), (?, ?), (?, ?), (?, ?), (?, ?), (?, ?), \
-    (?, ?), (?, ?), (?, ?)";
+// For sixteen rows, as many as one statement adds.
+pub(crate) const INSERT_MANY: &str = source_columns!(insert_many_text);
 
 const DELETE: &str = "DELETE FROM source WHERE id = ?1";
 
@@ -57,7 +55,7 @@ impl FromRow for Sources {
             → row.now ≢ row_of_source item }
         ensures fault { IsErrOf result ReadError.Fault → ⊥ }
     {
-        let mut columns = Columns::of(row);
+        let mut columns = Columns::new(row);
         let id = columns.id()?;
         let name = columns.source()?;
         columns.end()?;
@@ -117,12 +115,12 @@ pub fn insert_source<'a, S: Alter>(
 }
 
 // The row of a source.
-fn row_of<'a>(alloc: Global, id: &'a Id, source: &'a Source) -> Result<Cells, AllocError>
+fn make_source_row<'a>(alloc: Global, id: &'a Id, source: &'a Source) -> Result<Cells, AllocError>
     ensures { IfOk result (λ row. as_bound row ≡ source_row id.now source.now) }
 {
     let id = ValueRef::Text(id.as_bytes());
     let name = ValueRef::Text(source.as_bytes());
-    cells_of(alloc, &[id, name])
+    row_of_values(alloc, &[id, name])
 }
 
 /// The rows of the SYSMOD's sources.
@@ -146,12 +144,12 @@ impl Rows for SourcesOf {
         _front: &[Source],
         source: &Source,
     ) -> Result<(), AllocError> {
-        rows.push(row_of(self.alloc, &self.id, source)?)?;
+        rows.push(make_source_row(self.alloc, &self.id, source)?)?;
         Ok(())
     }
 }
 
-/// Takes out the SYSMOD's rows.
+/// Removes the rows of the SYSMOD's sources.
 pub(crate) fn remove_rows<S: Alter>(tx: &mut Transaction<'_, S>, id: Id) -> Result<(), Error>
     ensures { RunsCalls S.Store ((delete_sources, sysmod_key id) ∷ [])
         (in_table source_table (without (sysmod_key id))) tx.old tx.new result }

@@ -38,6 +38,7 @@ pub struct SysmodRows {
 }
 
 impl SysmodRows {
+    /// No rows.
     pub fn new(alloc: Global) -> SysmodRows
         ensures { AreWaitingRows result [] }
     {
@@ -52,7 +53,7 @@ impl SysmodRows {
         }
     }
 
-    /// The number of these SYSMODs.
+    /// How many SYSMODs have rows that wait here.
     pub fn len(&self) -> usize
         ensures { (ss : List ASysmod) → AreWaitingRows self.now ss → result ≡ length ss }
     {
@@ -72,7 +73,7 @@ impl SysmodRows {
     {
         let id = sysmod.id;
         let vers = sysmod.vers.as_slice();
-        self.sysmods.push(head::row_of(alloc, sysmod)?)?;
+        self.sysmods.push(head::make_head_row(alloc, sysmod)?)?;
         push_all(&mut self.sources, &SourcesOf { alloc, id }, sources)?;
         push_all(&mut self.vers, &FirstVers { alloc, id }, vers)?;
         push_all(&mut self.ifreqs, &FirstIfs { alloc, id }, vers)?;

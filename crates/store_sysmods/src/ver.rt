@@ -9,31 +9,25 @@ ghost use Rattle.store_sysmods.specs.Steps.{RunsCalls};
 ghost use Rattle.store_sysmods.specs.Sysmods.{sysmod_key};
 ghost use Rattle.store_sysmods.specs.Vers.{delete_vers, AreVerTexts};
 
-use crate::cells::{other_in, others_in};
+use crate::cells::{read_other_id, read_other_ids};
 use crate::item_rows::Rows;
 use crate::listed::Listed;
-use crate::numbers::number_behind;
+use crate::numbers::number_after;
 use fields::{Id, Srel};
 use sqlite::{Alter, Error, Row, Transaction};
 use sqlite_value::row::Row as Cells;
 use sqlite_value::value::ValueRef;
 use std::alloc::{AllocError, Global};
-use store_rows::{FromRow, ReadError, cells_of, remove};
-use store_schema::{Columns, Query, joined_ids, text_or_null};
+use store_rows::{FromRow, ReadError, remove, row_of_values};
+use store_schema::{Columns, Query, joined_ids, text_or_null, ver_columns};
 use sysmods_values::Ver;
 
-const SELECT: &str = "SELECT id, srel, fmid, pre, req, sup, npre, del FROM ver ORDER BY id, srel";
+const SELECT: &str = ver_columns!(select_text "ORDER BY id, srel");
 
-pub(crate) const INSERT: &str =
-    "INSERT INTO ver (id, srel, fmid, pre, req, sup, npre, del) VALUES (?1, ?2, ?3, ?4, ?5, ?6, ?7, ?8)";
+pub(crate) const INSERT: &str = ver_columns!(insert_text);
 
-// Sixteen rows, as many as one statement puts.
-pub(crate) const INSERT_MANY: &str =
-    "INSERT INTO ver (id, srel, fmid, pre, req, sup, npre, del) VALUES \
-    (?, ?, ?, ?, ?, ?, ?, ?), (?, ?, ?, ?, ?, ?, ?, ?), (?, ?, ?, ?, ?, ?, ?, ?), (?, ?, ?, ?, ?, ?, ?, ?), \
-    (?, ?, ?, ?, ?, ?, ?, ?), (?, ?, ?, ?, ?, ?, ?, ?), (?, ?, ?, ?, ?, ?, ?, ?), (?, ?, ?, ?, ?, ?, ?, ?), \
-    (?, ?, ?, ?, ?, ?, ?, ?), (?, ?, ?, ?, ?, ?, ?, ?), (?, ?, ?, ?, ?, ?, ?, ?), (?, ?, ?, ?, ?, ?, ?, ?), \
-    (?, ?, ?, ?, ?, ?, ?, ?), (?, ?, ?, ?, ?, ?, ?, ?), (?, ?, ?, ?, ?, ?, ?, ?), (?, ?, ?, ?, ?, ?, ?, ?)";
+// For sixteen rows, as many as one statement adds.
+pub(crate) const INSERT_MANY: &str = ver_columns!(insert_many_text);
 
 const DELETE: &str = "DELETE FROM ver WHERE id = ?1";
 
@@ -65,15 +59,15 @@ impl FromRow for Vers {
             → row.now ≢ row_of_ver item }
         ensures fault { IsErrOf result ReadError.Fault → ⊥ }
     {
-        let mut columns = Columns::of(row);
+        let mut columns = Columns::new(row);
         let id = columns.id()?;
         let srel = columns.srel()?;
-        let fmid = other_in(&mut columns, id)?;
-        let pre = others_in(alloc, &mut columns, id)?;
-        let req = others_in(alloc, &mut columns, id)?;
-        let sup = others_in(alloc, &mut columns, id)?;
-        let npre = others_in(alloc, &mut columns, id)?;
-        let del = others_in(alloc, &mut columns, id)?;
+        let fmid = read_other_id(&mut columns, id)?;
+        let pre = read_other_ids(alloc, &mut columns, id)?;
+        let req = read_other_ids(alloc, &mut columns, id)?;
+        let sup = read_other_ids(alloc, &mut columns, id)?;
+        let npre = read_other_ids(alloc, &mut columns, id)?;
+        let del = read_other_ids(alloc, &mut columns, id)?;
         columns.end()?;
         let ifs = Vec::new(alloc);
         let ver = Ver {
@@ -125,7 +119,7 @@ impl Listed for Vers {
 
 // ---- as it is written
 
-/// The texts of a `++VER`'s lists.
+/// The ids of each list of a `++VER`, joined by commas.
 #[derive(Drop)]
 pub(crate) struct VerTexts {
     pub pre: Vec<u8>,
@@ -135,7 +129,8 @@ pub(crate) struct VerTexts {
     pub del: Vec<u8>,
 }
 
-pub(crate) fn lists_of(alloc: Global, ver: &Ver) -> Result<VerTexts, AllocError>
+/// The texts of the lists of this `++VER`.
+pub(crate) fn join_ver_lists(alloc: Global, ver: &Ver) -> Result<VerTexts, AllocError>
     ensures { IfOk result (λ lists. AreVerTexts lists ver.now) }
 {
     Ok(VerTexts {
@@ -147,8 +142,8 @@ pub(crate) fn lists_of(alloc: Global, ver: &Ver) -> Result<VerTexts, AllocError>
     })
 }
 
-// The `++VER`'s row, of whose lists these are the texts.
-fn row_of(alloc: Global, id: &Id, ver: &Ver, lists: &VerTexts) -> Result<Cells, AllocError>
+// The `++VER`'s row, with these texts of its lists.
+fn make_ver_row(alloc: Global, id: &Id, ver: &Ver, lists: &VerTexts) -> Result<Cells, AllocError>
     requires { AreVerTexts lists.now ver.now }
     ensures { IfOk result (λ row. as_bound row ≡ ver_row id.now ver.now) }
 {
@@ -160,7 +155,7 @@ fn row_of(alloc: Global, id: &Id, ver: &Ver, lists: &VerTexts) -> Result<Cells, 
     let sup = ValueRef::Text(lists.sup.as_slice());
     let npre = ValueRef::Text(lists.npre.as_slice());
     let del = ValueRef::Text(lists.del.as_slice());
-    cells_of(alloc, &[id, srel, fmid, pre, req, sup, npre, del])
+    row_of_values(alloc, &[id, srel, fmid, pre, req, sup, npre, del])
 }
 
 /// The rows of the SYSMOD's first `++VER`s, without those of their `++IF`s.
@@ -179,16 +174,16 @@ impl Rows for FirstVers {
     ghost of_item = { λ of. of_numbered (first_row of.id) };
 
     fn push(&self, rows: &mut Vec<Cells>, front: &[Ver], ver: &Ver) -> Result<(), AllocError> {
-        if number_behind(front, ver) != 1 {
+        if number_after(front, ver) != 1 {
             return Ok(());
         }
-        let lists = lists_of(self.alloc, ver)?;
-        rows.push(row_of(self.alloc, &self.id, ver, &lists)?)?;
+        let lists = join_ver_lists(self.alloc, ver)?;
+        rows.push(make_ver_row(self.alloc, &self.id, ver, &lists)?)?;
         Ok(())
     }
 }
 
-/// Takes out the SYSMOD's rows.
+/// Removes the rows of the SYSMOD's first `++VER`s.
 pub(crate) fn remove_rows<S: Alter>(tx: &mut Transaction<'_, S>, id: Id) -> Result<(), Error>
     ensures { RunsCalls S.Store ((delete_vers, sysmod_key id) ∷ [])
         (in_table ver_table (without (sysmod_key id))) tx.old tx.new result }

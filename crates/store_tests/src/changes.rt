@@ -83,7 +83,7 @@ fn told_of_no_zone<S: Alter>(
     store: &mut Store<S>,
 ) -> Result<Result<(), StoreError>, Fail> {
     let zone = loaded(store, zone_name(b"TGT1")?)?;
-    let delta = ZoneDelta::of(alloc, edits_of(alloc, &zone)?, &zone)?;
+    let delta = ZoneDelta::from_edits(alloc, edits_of(alloc, &zone)?, &zone)?;
     Ok(store.commit(&Change::Zone(zone_name(b"TGT9")?, delta)))
 }
 
@@ -273,7 +273,7 @@ const WRITTEN: &[&str] = &[
 ];
 
 fn commit_two<S: Alter>(alloc: Global, store: &mut Store<S>, zone: &Zone) -> Result<(), Fail> {
-    let delta = ZoneDelta::of(alloc, removals(alloc)?, zone)?;
+    let delta = ZoneDelta::from_edits(alloc, removals(alloc)?, zone)?;
     commit(store, &Change::Zone(zone_name(b"TGT1")?, delta))?;
     commit_edits(alloc, store, new_sources(alloc)?)
 }

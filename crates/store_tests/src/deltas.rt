@@ -8,7 +8,9 @@ use std::test::Fail;
 use store::{Change, Store};
 use store_play::{CHOSEN, commit, compare, known_with, lines, loaded, opened, zone_name};
 use terms::ElemType;
-use zones_maps::{Applied, Element, Entry, Zone, ZoneDelta, ZoneEdits, are_same, is_same_entry};
+use zones_maps::{
+    Applied, Element, Entry, Zone, ZoneDelta, ZoneEdits, are_same_elements, is_same_entry,
+};
 
 fn id(text: &[u8]) -> Result<Id, Fail> {
     Ok(Id::read(text).ok_or("no id")?)
@@ -88,7 +90,7 @@ const TGT1_LINES: &str = "AAA0001 - 1\nHAA1000 - 1\nHAA1100 24.140 2\nMAC1 UAA00
 // Commits the edits, and what they leave when they are applied beside the zone.
 fn committed(alloc: Global, store: &mut Store<MemStore>) -> Result<Zone, Fail> {
     let zone = loaded(store, zone_name(b"TGT1")?)?;
-    let delta = ZoneDelta::of(alloc, edits(alloc, &zone)?, &zone)?;
+    let delta = ZoneDelta::from_edits(alloc, edits(alloc, &zone)?, &zone)?;
     let applied = delta.apply(alloc, &zone)?;
     commit(store, &Change::Zone(zone_name(b"TGT1")?, delta))?;
     Ok(applied)
@@ -116,7 +118,10 @@ fn have_same_entries(a: &[Entry], b: &[Entry]) -> bool {
 }
 
 fn have_same_elements(a: &[Element], b: &[Element]) -> bool {
-    a.len() == b.len() && a.iter().zip(b).all(|(x, y)| are_same(Some(x), Some(y)))
+    a.len() == b.len()
+        && a.iter()
+            .zip(b)
+            .all(|(x, y)| are_same_elements(Some(x), Some(y)))
 }
 
 #[test]

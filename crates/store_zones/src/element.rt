@@ -24,33 +24,20 @@ use sqlite::{Alter, Error, Row, Transaction};
 use sqlite_value::row::Row as Cells;
 use sqlite_value::value::ValueRef;
 use std::alloc::{AllocError, Global};
-use store_rows::{FromRow, ReadError, cells_of, insert, put, remove};
-use store_schema::{Columns, Query, joined_ids};
+use store_rows::{FromRow, ReadError, insert, put, remove, row_of_values};
+use store_schema::{Columns, Query, joined_ids, zelem_columns};
 use terms::ElemType;
 use text80::bytes_of;
 use zones_maps::Element;
 
-const SELECT: &str = "SELECT zone, type, name, fmid, rmid, umid, distlib, syslib, text FROM zelem \
-    WHERE zone = ?1 ORDER BY type, name";
+const SELECT: &str = zelem_columns!(select_text "WHERE zone = ?1 ORDER BY type, name");
 
-const INSERT: &str =
-    "INSERT INTO zelem (zone, type, name, fmid, rmid, umid, distlib, syslib, text) \
-    VALUES (?1, ?2, ?3, ?4, ?5, ?6, ?7, ?8, ?9)";
+const INSERT: &str = zelem_columns!(insert_text);
 
-// Sixteen rows, as many as one statement puts.
-const INSERT_MANY: &str =
-    "INSERT INTO zelem (zone, type, name, fmid, rmid, umid, distlib, syslib, text) VALUES \
-    (?, ?, ?, ?, ?, ?, ?, ?, ?), (?, ?, ?, ?, ?, ?, ?, ?, ?), (?, ?, ?, ?, ?, ?, ?, ?, ?), \
-    (?, ?, ?, ?, ?, ?, ?, ?, ?), (?, ?, ?, ?, ?, ?, ?, ?, ?), (?, ?, ?, ?, ?, ?, ?, ?, ?), \
-    (?, ?, ?, ?, ?, ?, ?, ?, ?), (?, ?, ?, ?, ?, ?, ?, ?, ?), (?, ?, ?, ?, ?, ?, ?, ?, ?), \
-    (?, ?, ?, ?, ?, ?, ?, ?, ?), (?, ?, ?, ?, ?, ?, ?, ?, ?), (?, ?, ?, ?, ?, ?, ?, ?, ?), \
-    (?, ?, ?, ?, ?, ?, ?, ?, ?), (?, ?, ?, ?, ?, ?, ?, ?, ?), (?, ?, ?, ?, ?, ?, ?, ?, ?), \
-    (?, ?, ?, ?, ?, ?, ?, ?, ?)";
+// For sixteen rows, as many as one statement adds.
+const INSERT_MANY: &str = zelem_columns!(insert_many_text);
 
-const PUT: &str = "INSERT INTO zelem (zone, type, name, fmid, rmid, umid, distlib, syslib, text) \
-    VALUES (?1, ?2, ?3, ?4, ?5, ?6, ?7, ?8, ?9) \
-    ON CONFLICT (zone, type, name) DO UPDATE SET fmid = excluded.fmid, rmid = excluded.rmid, \
-    umid = excluded.umid, distlib = excluded.distlib, syslib = excluded.syslib, text = excluded.text";
+const PUT: &str = zelem_columns!(put_text);
 
 const DELETE: &str = "DELETE FROM zelem WHERE zone = ?1 AND type = ?2 AND name = ?3";
 
@@ -74,8 +61,9 @@ pub fn insert_elements<S: Alter>(
     insert_items(alloc, tx, &zone, INSERT_MANY, INSERT, elements)
 }
 
-/// Puts the element into the zone, instead of the one of its type and name, if there is one. Returns an error if the
-/// zone has one after all, if there is no such zone, if the disk fails or if memory runs out.
+/// Puts the element into the zone, in place of the one of its type and name. `stood` says whether there is one. Returns
+/// an error if the zone has one although `stood` says no, if there is no such zone, if the disk fails or if memory runs
+/// out.
 pub fn put_element<S: Alter>(
     alloc: Global,
     tx: &mut Transaction<'_, S>,
@@ -93,11 +81,11 @@ pub fn put_element<S: Alter>(
 {
     let umids = joined_ids(alloc, element.umids.as_slice())?;
     let text = bytes_of(alloc, element.text.as_slice())?;
-    put_row(tx, &zone, stood, element, umids.as_slice(), text.as_slice())
+    put_element_row(tx, &zone, stood, element, umids.as_slice(), text.as_slice())
 }
 
-// The element's row, with these bytes of its UMIDs and records.
-fn row_of<'a>(
+// The columns of the element's row, with these bytes of its UMIDs and records.
+fn element_values<'a>(
     zone: &'a ZoneName,
     element: &'a Element,
     umids: &'a [u8],
@@ -120,9 +108,8 @@ fn row_of<'a>(
     ]
 }
 
-// Puts the element's row, with these bytes of its UMIDs and records, instead of that of the old element, if there was
-// one.
-fn put_row<S: Alter>(
+// Puts the element's row, with these bytes of its UMIDs and records, in place of the one that stood, if one did.
+fn put_element_row<S: Alter>(
     tx: &mut Transaction<'_, S>,
     zone: &ZoneName,
     stood: bool,
@@ -138,7 +125,7 @@ fn put_row<S: Alter>(
     ensures ok { OnOk result (Turns S.Store tx.old.conn.now tx.new.conn.now (HasContents store_schema)
         (with_element zone.now stood element.now)) }
 {
-    let row = row_of(zone, element, umids, text);
+    let row = element_values(zone, element, umids, text);
     if stood {
         return put(tx, PUT, &row);
     }
@@ -187,7 +174,7 @@ impl FromRow for Elements {
             → row.now ≢ row_of_element item }
         ensures fault { IsErrOf result ReadError.Fault → ⊥ }
     {
-        let mut columns = Columns::of(row);
+        let mut columns = Columns::new(row);
         let zone = columns.zone_name()?;
         let elem_type = columns.elem_type()?;
         let name = columns.name()?;
@@ -238,11 +225,11 @@ impl ZoneItem for Element {
 
     type Rows = Elements;
 
-    fn cells(&self, alloc: Global, zone: &ZoneName) -> Result<Cells, AllocError> {
+    fn row_in_zone(&self, alloc: Global, zone: &ZoneName) -> Result<Cells, AllocError> {
         let umids = joined_ids(alloc, self.umids.as_slice())?;
         let text = bytes_of(alloc, self.text.as_slice())?;
-        let row = row_of(zone, self, umids.as_slice(), text.as_slice());
-        cells_of(alloc, &row)
+        let row = element_values(zone, self, umids.as_slice(), text.as_slice());
+        row_of_values(alloc, &row)
     }
 
     ghost by_zone = { refl };

@@ -29,27 +29,18 @@ use sqlite::{Alter, Error, Row, Transaction};
 use sqlite_value::row::Row as Cells;
 use sqlite_value::value::ValueRef;
 use std::alloc::{AllocError, Global};
-use store_rows::{FromRow, ReadError, cells_of, insert, put, remove};
-use store_schema::{Columns, Query, joined_ids, text_or_null};
+use store_rows::{FromRow, ReadError, insert, put, remove, row_of_values};
+use store_schema::{Columns, Query, entry_columns, joined_ids, text_or_null};
 use zones_maps::{Applied, Entry};
 
-const SELECT: &str =
-    "SELECT zone, id, date, supby, delby, waived FROM entry WHERE zone = ?1 ORDER BY id";
+const SELECT: &str = entry_columns!(select_text "WHERE zone = ?1 ORDER BY id");
 
-const INSERT: &str =
-    "INSERT INTO entry (zone, id, date, supby, delby, waived) VALUES (?1, ?2, ?3, ?4, ?5, ?6)";
+const INSERT: &str = entry_columns!(insert_text);
 
-// Sixteen rows, as many as one statement puts.
-const INSERT_MANY: &str = "INSERT INTO entry (zone, id, date, supby, delby, waived) VALUES \
-    (?, ?, ?, ?, ?, ?), (?, ?, ?, ?, ?, ?), (?, ?, ?, ?, ?, ?), (?, ?, ?, ?, ?, ?), \
-    (?, ?, ?, ?, ?, ?), (?, ?, ?, ?, ?, ?), (?, ?, ?, ?, ?, ?), (?, ?, ?, ?, ?, ?), \
-    (?, ?, ?, ?, ?, ?), (?, ?, ?, ?, ?, ?), (?, ?, ?, ?, ?, ?), (?, ?, ?, ?, ?, ?), \
-    (?, ?, ?, ?, ?, ?), (?, ?, ?, ?, ?, ?), (?, ?, ?, ?, ?, ?), (?, ?, ?, ?, ?, ?)";
+// For sixteen rows, as many as one statement adds.
+const INSERT_MANY: &str = entry_columns!(insert_many_text);
 
-const PUT: &str = "INSERT INTO entry (zone, id, date, supby, delby, waived) \
-    VALUES (?1, ?2, ?3, ?4, ?5, ?6) \
-    ON CONFLICT (zone, id) DO UPDATE SET date = excluded.date, supby = excluded.supby, \
-    delby = excluded.delby, waived = excluded.waived";
+const PUT: &str = entry_columns!(put_text);
 
 const DELETE: &str = "DELETE FROM entry WHERE zone = ?1 AND id = ?2";
 
@@ -73,8 +64,9 @@ pub fn insert_entries<S: Alter>(
     insert_numbers(alloc, tx, &zone, entries)
 }
 
-/// Puts the entry into the zone. The old one of its id, if there is one, was installed by this `++VER`. Returns an
-/// error if the zone has one after all, if there is no such zone, if the disk fails or if memory runs out.
+/// Puts the entry into the zone, in place of the one of its id. `stood` has the number of the `++VER` that installed
+/// the old entry, or none if there is no old entry. Returns an error if the zone has one although `stood` says no, if
+/// there is no such zone, if the disk fails or if memory runs out.
 pub fn put_entry<S: Alter>(
     alloc: Global,
     tx: &mut Transaction<'_, S>,
@@ -92,7 +84,7 @@ pub fn put_entry<S: Alter>(
 {
     let supby = joined_ids(alloc, entry.supby.as_slice())?;
     let waived = joined_ids(alloc, entry.waived.as_slice())?;
-    put_row(
+    put_entry_row(
         tx,
         &zone,
         stood.is_some(),
@@ -109,7 +101,7 @@ pub fn put_entry<S: Alter>(
     )
 }
 
-// The date of APPLY or ACCEPT, or NULL.
+// The date on which the SYSMOD was applied or accepted, or NULL if it was not.
 fn date_value(applied: &Option<Applied>) -> ValueRef<'_>
     ensures { owned result ≡ or_null Text (option_map (λ a. a.date) applied.now) }
 {
@@ -119,8 +111,8 @@ fn date_value(applied: &Option<Applied>) -> ValueRef<'_>
     }
 }
 
-// The entry's row, with these texts of its lists.
-fn row_of<'a>(
+// The columns of the entry's row, with these texts of its lists.
+fn entry_values<'a>(
     zone: &'a ZoneName,
     entry: &'a Entry,
     supby: &'a [u8],
@@ -140,8 +132,8 @@ fn row_of<'a>(
     ]
 }
 
-// Puts the entry's row, with these texts of its lists, instead of that of the old entry, if there was one.
-fn put_row<S: Alter>(
+// Puts the entry's row, with these texts of its lists, in place of the one that stood, if one did.
+fn put_entry_row<S: Alter>(
     tx: &mut Transaction<'_, S>,
     zone: &ZoneName,
     stood: bool,
@@ -159,15 +151,19 @@ fn put_row<S: Alter>(
     ensures ok { OnOk result (Turns S.Store tx.old.conn.now tx.new.conn.now (HasContents store_schema)
         (in_table entry_table (rows_with stood (entry_key zone.now entry.now.id) (entry_row zone.now entry.now)))) }
 {
-    let row = row_of(zone, entry, supby, waived);
+    let row = entry_values(zone, entry, supby, waived);
     if stood {
         return put(tx, PUT, &row);
     }
     insert(tx, INSERT, &row)
 }
 
-// Takes out the entry's row, if there is one.
-fn remove_row<S: Alter>(tx: &mut Transaction<'_, S>, zone: &ZoneName, id: &Id) -> Result<(), Error>
+// Removes the row of the entry of this id, if there is one.
+fn remove_entry_row<S: Alter>(
+    tx: &mut Transaction<'_, S>,
+    zone: &ZoneName,
+    id: &Id,
+) -> Result<(), Error>
     ensures continues { Continues S.Store tx.old tx.new }
     ensures calls { RunsInside S.Store ((delete_entry, entry_key zone.now id.now) ∷ [])
         tx.old.conn.now tx.new.conn.now result }
@@ -181,8 +177,8 @@ fn remove_row<S: Alter>(tx: &mut Transaction<'_, S>, zone: &ZoneName, id: &Id) -
     remove(tx, DELETE, &key)
 }
 
-/// Removes the entry of the id, which was installed by this `++VER`, from the zone, if there is one. Returns an error
-/// if the disk fails or memory runs out.
+/// Removes the entry of the id from the zone. `stood` has the number of the `++VER` that installed it, or none if there
+/// is no such entry. Returns an error if the disk fails or memory runs out.
 pub fn remove_entry<S: Alter>(
     tx: &mut Transaction<'_, S>,
     zone: ZoneName,
@@ -197,7 +193,7 @@ pub fn remove_entry<S: Alter>(
     ensures stands { OnOk result ((old : Option EntryTerm) → option_map number_of old ≡ stood
         → ChangesZone S.Store tx.old.conn.now tx.new.conn.now zone (HasRemovedEntry old id)) }
 {
-    remove_row(tx, &zone, &id)?;
+    remove_entry_row(tx, &zone, &id)?;
     change_number(tx, &zone, &id, number_before(stood), 1)
 }
 
@@ -219,10 +215,10 @@ impl FromRow for Entries {
             → row.now ≢ row_of_entry item }
         ensures fault { IsErrOf result ReadError.Fault → ⊥ }
     {
-        let mut columns = Columns::of(row);
+        let mut columns = Columns::new(row);
         let zone = columns.zone_name()?;
         let id = columns.id()?;
-        let applied = applied_in(&mut columns)?;
+        let applied = read_applied(&mut columns)?;
         let supby = columns.ids(alloc)?;
         let delby = columns.optional()?;
         let waived = columns.ids(alloc)?;
@@ -240,8 +236,9 @@ impl FromRow for Entries {
     }
 }
 
-// When it was applied, or NULL. The row has no number, so it is 1 until that of another table is found.
-fn applied_in(columns: &mut Columns<'_>) -> Result<Option<Applied>, ReadError>
+// When the SYSMOD was applied or accepted, or none if it was not. The row has no number of a `++VER`: it is 1 unless
+// the table of numbers has another one.
+fn read_applied(columns: &mut Columns<'_>) -> Result<Option<Applied>, ReadError>
     ensures read { IfOk result (λ applied.
         (columns.old ≡ or_null Text (option_map (λ a. a.date) applied) ∷ columns.new)
         × IfSome applied HasAppliedForms × IfSome applied (λ a. a.number ≡ 1)) }
@@ -280,11 +277,11 @@ impl ZoneItem for Entry {
 
     type Rows = Entries;
 
-    fn cells(&self, alloc: Global, zone: &ZoneName) -> Result<Cells, AllocError> {
+    fn row_in_zone(&self, alloc: Global, zone: &ZoneName) -> Result<Cells, AllocError> {
         let supby = joined_ids(alloc, self.supby.as_slice())?;
         let waived = joined_ids(alloc, self.waived.as_slice())?;
-        let row = row_of(zone, self, supby.as_slice(), waived.as_slice());
-        cells_of(alloc, &row)
+        let row = entry_values(zone, self, supby.as_slice(), waived.as_slice());
+        row_of_values(alloc, &row)
     }
 
     ghost by_zone = { refl };

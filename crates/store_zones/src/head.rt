@@ -21,8 +21,8 @@ ghost use Rattle.store_zones.specs.Held.{HoldsHead, HoldsHeads};
 ghost use Rattle.store_zones.specs.Related.{AreRelated};
 ghost use Rattle.store_zones.specs.Zones.{AddsZone, empty_zone};
 
-use crate::related::only_related;
-use crate::zone_rows::table_of;
+use crate::related::require_related;
+use crate::zone_rows::into_table;
 use fields::spelling::zone_kind_text;
 use fields::{Srel, ZoneName};
 use sorted::{Keyed, TryClone};
@@ -30,15 +30,14 @@ use sqlite::{Alter, Connection, Error, Row, Transaction};
 use sqlite_value::value::ValueRef;
 use std::alloc::{AllocError, Global};
 use store_rows::{FromRow, ReadError, insert};
-use store_schema::{Columns, Query, load_listed, text_or_null};
+use store_schema::{Columns, Query, load_query, text_or_null, zone_columns};
 use terms::ZoneKind;
 
-const SELECT: &str = "SELECT name, kind, srel, related FROM zone ORDER BY name";
+const SELECT: &str = zone_columns!(select_text "ORDER BY name");
 
-const SELECT_NAMED: &str =
-    "SELECT name, kind, srel, related FROM zone WHERE name = ?1 ORDER BY name";
+const SELECT_NAMED: &str = zone_columns!(select_text "WHERE name = ?1 ORDER BY name");
 
-const INSERT: &str = "INSERT INTO zone (name, kind, srel, related) VALUES (?1, ?2, ?3, ?4)";
+const INSERT: &str = zone_columns!(insert_text);
 
 // ---- as it is read
 
@@ -67,6 +66,7 @@ impl TryClone for ZoneHead {
     }
 }
 
+// Whether zones of this kind are target zones.
 fn is_target(kind: ZoneKind) -> bool
     ensures { result ≡ is_target kind }
 {
@@ -94,7 +94,7 @@ impl FromRow for ZoneHeads {
             → row.now ≢ head_row head }
         ensures fault { IsErrOf result ReadError.Fault → ⊥ }
     {
-        let mut columns = Columns::of(row);
+        let mut columns = Columns::new(row);
         let name = columns.zone_name()?;
         let kind = columns.zone_kind()?;
         let srel = columns.srel()?;
@@ -156,7 +156,8 @@ impl Query for NamedHeads {
     }
 }
 
-fn at_most_one(heads: &[ZoneHead]) -> Result<Option<ZoneHead>, ReadError>
+// The only one of these heads, or none if there is none. Returns `BadRow` if there are more.
+fn only_head(heads: &[ZoneHead]) -> Result<Option<ZoneHead>, ReadError>
     ensures one { IfOk result (λ head. heads.now ≡ option_to_list head) }
     ensures more { OnErr result ((head : Option ZoneHead) → heads.now ≢ option_to_list head) }
     ensures fault { IsErrOf result ReadError.Fault → ⊥ }
@@ -168,7 +169,7 @@ fn at_most_one(heads: &[ZoneHead]) -> Result<Option<ZoneHead>, ReadError>
     }
 }
 
-/// The head of the zone of this name, if there is one.
+/// The head of the zone of this name, if there is one. Returns `BadRow` if its row is not a head.
 pub(crate) fn zone_head<S: Alter>(
     alloc: Global,
     conn: &mut Connection<S>,
@@ -183,8 +184,8 @@ pub(crate) fn zone_head<S: Alter>(
     ensures reads { (r : Schema) → OnlyReads S.Store (schema_under r) ReadError.BadRow ReadError.Fault conn.old
         conn.new result }
 {
-    let heads = load_listed::<S, NamedHeads>(alloc, conn, &[ValueRef::Text(name.as_bytes())])?;
-    at_most_one(heads.as_slice())
+    let heads = load_query::<S, NamedHeads>(alloc, conn, &[ValueRef::Text(name.as_bytes())])?;
+    only_head(heads.as_slice())
 }
 
 /// The heads of all zones, by name. A target zone names a distribution zone of its SREL that no other one names.
@@ -208,12 +209,13 @@ pub fn zone_heads<S: Alter>(
     ensures reads { (r : Schema) → OnlyReads S.Store (schema_under r) ReadError.BadRow ReadError.Fault conn.old
         conn.new result }
 {
-    let heads = load_listed::<S, AllHeads>(alloc, conn, &[])?;
-    let sorted = table_of(heads)?;
-    only_related(sorted.into_vec())
+    let heads = load_query::<S, AllHeads>(alloc, conn, &[])?;
+    let sorted = into_table(heads)?;
+    require_related(sorted.into_vec())
 }
 
-fn names_of(alloc: Global, heads: &[ZoneHead]) -> Result<Vec<ZoneName>, AllocError>
+// The names of the zones with these heads.
+fn names_of_heads(alloc: Global, heads: &[ZoneHead]) -> Result<Vec<ZoneName>, AllocError>
     ensures { IfOk result (λ names. names.items ≡ map (λ head. head.name) heads.now) }
 {
     let mut names = Vec::with_capacity(alloc, heads.len())?;
@@ -238,7 +240,7 @@ pub fn zone_names<S: Alter>(
         conn.new result }
 {
     let heads = zone_heads(alloc, conn)?;
-    Ok(names_of(alloc, heads.as_slice())?)
+    Ok(names_of_heads(alloc, heads.as_slice())?)
 }
 
 // ---- as it is written

@@ -26,33 +26,30 @@ use sqlite::{Alter, Error, Row, Transaction};
 use sqlite_value::row::Row as Cells;
 use sqlite_value::value::ValueRef;
 use std::alloc::{AllocError, Global};
-use store_rows::{FromRow, ReadError, cells_of, insert, insert_rows, put, remove};
-use store_schema::{Columns, Query};
+use store_rows::{FromRow, ReadError, insert, insert_rows, put, remove, row_of_values};
+use store_schema::{Columns, Query, chosen_columns};
 use zones_maps::Entry;
 
-const SELECT: &str = "SELECT zone, id, n FROM chosen WHERE zone = ?1 ORDER BY id";
+const SELECT: &str = chosen_columns!(select_text "WHERE zone = ?1 ORDER BY id");
 
-const INSERT: &str = "INSERT INTO chosen (zone, id, n) VALUES (?1, ?2, ?3)";
+const INSERT: &str = chosen_columns!(insert_text);
 
-// Sixteen rows, as many as one statement puts.
-const INSERT_MANY: &str = "INSERT INTO chosen (zone, id, n) VALUES \
-    (?, ?, ?), (?, ?, ?), (?, ?, ?), (?, ?, ?), (?, ?, ?), (?, ?, ?), (?, ?, ?), (?, ?, ?), \
-    (?, ?, ?), (?, ?, ?), (?, ?, ?), (?, ?, ?), (?, ?, ?), (?, ?, ?), (?, ?, ?), (?, ?, ?)";
+// For sixteen rows, as many as one statement adds.
+const INSERT_MANY: &str = chosen_columns!(insert_many_text);
 
-const PUT: &str = "INSERT INTO chosen (zone, id, n) VALUES (?1, ?2, ?3) \
-    ON CONFLICT (zone, id) DO UPDATE SET n = excluded.n";
+const PUT: &str = chosen_columns!(put_text);
 
 const DELETE: &str = "DELETE FROM chosen WHERE zone = ?1 AND id = ?2";
 
-/// The number of the old entry of an id.
+/// The number of the `++VER` that installed the old entry of an id, or 1 if there was no old entry.
 pub(crate) fn number_before(stood: Option<VerNumber>) -> usize
     ensures { result ≡ number_before stood }
 {
     stood.unwrap_or(VerNumber::FIRST).get()
 }
 
-// The row of the entry of this id.
-fn row_of<'a>(zone: &'a ZoneName, id: &'a Id, number: usize) -> [ValueRef<'a>; 3]
+// The columns of the row that gives the entry of this id its number.
+fn number_values<'a>(zone: &'a ZoneName, id: &'a Id, number: usize) -> [ValueRef<'a>; 3]
     requires { number < 2 ^ 63 }
     ensures { bound result ≡ chosen_row zone.now id.now number }
 {
@@ -63,8 +60,8 @@ fn row_of<'a>(zone: &'a ZoneName, id: &'a Id, number: usize) -> [ValueRef<'a>; 3
     ]
 }
 
-// The rows of these entries, except those that were installed by the first `++VER`.
-fn rows_of(alloc: Global, zone: &ZoneName, entries: &[&Entry]) -> Result<Vec<Cells>, AllocError>
+// The rows of the numbers of these entries. An entry that the first `++VER` installed has none.
+fn number_rows(alloc: Global, zone: &ZoneName, entries: &[&Entry]) -> Result<Vec<Cells>, AllocError>
     ensures { IfOk result (λ rows. map as_bound rows.items
         ≡ flat_map (chosen_in zone.now) (map (λ e. e.now) entries.now)) }
 {
@@ -75,12 +72,12 @@ fn rows_of(alloc: Global, zone: &ZoneName, entries: &[&Entry]) -> Result<Vec<Cel
             continue;
         }
         let id = entry.id;
-        rows.push(EntryNumber { id, number }.cells(alloc, zone)?)?;
+        rows.push(EntryNumber { id, number }.row_in_zone(alloc, zone)?)?;
     }
     Ok(rows)
 }
 
-/// Adds the numbers of these entries, of whose ids the zone has none.
+/// Adds the numbers of these entries, which are new in the zone.
 pub(crate) fn insert_numbers<S: Alter>(
     alloc: Global,
     tx: &mut Transaction<'_, S>,
@@ -95,12 +92,12 @@ pub(crate) fn insert_numbers<S: Alter>(
         (in_table chosen
         (with_rows (flat_map (chosen_in zone.now) (map (λ e. e.now) entries.now))))) }
 {
-    let rows = rows_of(alloc, zone, entries)?;
+    let rows = number_rows(alloc, zone, entries)?;
     insert_rows(alloc, tx, INSERT_MANY, INSERT, rows.as_slice())
 }
 
-// Adds the row of the entry of this id, which has none.
-fn insert_row<'a, S: Alter>(
+// Adds the row of the number of this entry, which has no row yet.
+fn insert_number_row<'a, S: Alter>(
     tx: &mut Transaction<'_, S>,
     zone: &'a ZoneName,
     id: &'a Id,
@@ -113,12 +110,12 @@ fn insert_row<'a, S: Alter>(
     ensures ok { OnOk result (Turns S.Store tx.old.conn.now tx.new.conn.now (HasContents store_schema)
         (in_table chosen (with_row (chosen_row zone.now id.now number)))) }
 {
-    let row = row_of(zone, id, number);
+    let row = number_values(zone, id, number);
     insert(tx, INSERT, &row)
 }
 
-// Puts the row of the entry of this id, instead of the one that it has.
-fn put_row<'a, S: Alter>(
+// Puts the row of the number of this entry, in place of the one that it has.
+fn put_number_row<'a, S: Alter>(
     tx: &mut Transaction<'_, S>,
     zone: &'a ZoneName,
     id: &'a Id,
@@ -131,12 +128,16 @@ fn put_row<'a, S: Alter>(
     ensures ok { OnOk result (Turns S.Store tx.old.conn.now tx.new.conn.now (HasContents store_schema)
         (with_put chosen (entry_key zone.now id.now) (chosen_row zone.now id.now number))) }
 {
-    let row = row_of(zone, id, number);
+    let row = number_values(zone, id, number);
     put(tx, PUT, &row)
 }
 
-// Takes out the row of the entry of this id.
-fn remove_row<S: Alter>(tx: &mut Transaction<'_, S>, zone: &ZoneName, id: &Id) -> Result<(), Error>
+// Removes the row of the number of this entry.
+fn remove_number_row<S: Alter>(
+    tx: &mut Transaction<'_, S>,
+    zone: &ZoneName,
+    id: &Id,
+) -> Result<(), Error>
     ensures continues { Continues S.Store tx.old tx.new }
     ensures calls { RunsInside S.Store ((delete_chosen, entry_key zone.now id.now) ∷ [])
         tx.old.conn.now tx.new.conn.now result }
@@ -150,7 +151,7 @@ fn remove_row<S: Alter>(tx: &mut Transaction<'_, S>, zone: &ZoneName, id: &Id) -
     remove(tx, DELETE, &key)
 }
 
-/// The number of the entry of this id becomes another. The number 1 has no row.
+/// Changes the number of the entry of this id from `old` to `new`. The number 1 has no row.
 pub(crate) fn change_number<S: Alter>(
     tx: &mut Transaction<'_, S>,
     zone: &ZoneName,
@@ -168,15 +169,15 @@ pub(crate) fn change_number<S: Alter>(
         return Ok(());
     }
     if new == 1 {
-        return remove_row(tx, zone, id);
+        return remove_number_row(tx, zone, id);
     }
     if old == 1 {
-        return insert_row(tx, zone, id, new);
+        return insert_number_row(tx, zone, id, new);
     }
-    put_row(tx, zone, id, new)
+    put_number_row(tx, zone, id, new)
 }
 
-/// The id of an entry, and by which `++VER` it was installed, which was not the first.
+/// The id of an entry, and the number of the `++VER` that installed it, which was not the first.
 #[derive(Clone, Copy, Debug, PartialEq, Eq)]
 pub(crate) struct EntryNumber {
     pub id: Id,
@@ -193,8 +194,8 @@ impl Keyed for EntryNumber {
     }
 }
 
-// A number that is not 1, which is where numbers begin.
-fn number_in(columns: &mut Columns<'_>) -> Result<VerNumber, ReadError>
+// A number from 2 on, because the number 1 has no row.
+fn read_number(columns: &mut Columns<'_>) -> Result<VerNumber, ReadError>
     ensures read { IfOk result (λ n. (columns.old ≡ Int (pos n) ∷ columns.new) × (2 ≤ n) × (n < 2 ^ 63)) }
     ensures none { IsErrOf result ReadError.BadRow → (n : ℕ) (rest : SqlRow) → 2 ≤ n
         → columns.old ≢ Int (pos n) ∷ rest }
@@ -225,10 +226,10 @@ impl FromRow for Numbers {
             → row.now ≢ row_of_number item }
         ensures fault { IsErrOf result ReadError.Fault → ⊥ }
     {
-        let mut columns = Columns::of(row);
+        let mut columns = Columns::new(row);
         let zone = columns.zone_name()?;
         let id = columns.id()?;
-        let number = number_in(&mut columns)?;
+        let number = read_number(&mut columns)?;
         columns.end()?;
         Ok(ZoneRow {
             zone,
@@ -262,8 +263,8 @@ impl ZoneItem for EntryNumber {
 
     type Rows = Numbers;
 
-    fn cells(&self, alloc: Global, zone: &ZoneName) -> Result<Cells, AllocError> {
-        cells_of(alloc, &row_of(zone, &self.id, self.number.get()))
+    fn row_in_zone(&self, alloc: Global, zone: &ZoneName) -> Result<Cells, AllocError> {
+        row_of_values(alloc, &number_values(zone, &self.id, self.number.get()))
     }
 
     ghost by_zone = { refl };

@@ -15,7 +15,7 @@ ghost use Rattle.store_schema.specs.declared.schema.Schema.{Schema};
 ghost use Rattle.store_schema.specs.Earlier.{schema_under};
 ghost use Rattle.store_zones.specs.Held.{HoldsItems, in_zone};
 
-use crate::zone_rows::{ZoneRow, zone_table};
+use crate::zone_rows::{ZoneRow, zone_items};
 use fields::ZoneName;
 use sorted::{Keyed, Table};
 use sqlite::{Alter, Connection, Error, Transaction};
@@ -23,9 +23,9 @@ use sqlite_value::row::Row as Cells;
 use sqlite_value::value::ValueRef;
 use std::alloc::{AllocError, Global};
 use store_rows::{FromRow, ReadError, insert_rows};
-use store_schema::{Query, load_listed};
+use store_schema::{Query, load_query};
 
-/// As many rows as one statement puts.
+/// How many rows one statement adds at most.
 const RUN: usize = 16;
 
 /// What a zone contains, by its keys, the query for its rows, whose first column is the name of the zone, and the row
@@ -40,7 +40,7 @@ pub(crate) trait ZoneItem: Keyed + Drop {
     type Rows: FromRow<Item = ZoneRow<Self>> + Query<Rows = Self::Rows>;
 
     /// The item's row in the zone of this name.
-    fn cells(&self, alloc: Global, zone: &ZoneName) -> Result<Cells, AllocError>
+    fn row_in_zone(&self, alloc: Global, zone: &ZoneName) -> Result<Cells, AllocError>
         ensures { IfOk result (λ cells. as_bound cells ≡ in_zone Self.Rows.row_of zone.now self.now) };
 
     ghost by_zone: { Self.Rows.width ≡ 1 };
@@ -65,12 +65,12 @@ pub(crate) fn load_items<S: Alter, T: ZoneItem>(
     ensures reads { (r : Schema) → T.Rows.knows r
         → OnlyReads S.Store (schema_under r) ReadError.BadRow ReadError.Fault conn.old conn.new result }
 {
-    let rows = load_listed::<S, T::Rows>(alloc, conn, &[ValueRef::Text(name.as_bytes())])?;
-    zone_table(alloc, rows)
+    let rows = load_query::<S, T::Rows>(alloc, conn, &[ValueRef::Text(name.as_bytes())])?;
+    zone_items(alloc, rows)
 }
 
-// The rows of the items in the zone of this name.
-fn rows_of<T: ZoneItem>(
+// The rows of these items of the zone.
+fn item_rows<T: ZoneItem>(
     alloc: Global,
     zone: &ZoneName,
     items: &[&T],
@@ -80,28 +80,27 @@ fn rows_of<T: ZoneItem>(
 {
     let mut rows = Vec::with_capacity(alloc, items.len())?;
     for item in items {
-        rows.push(item.cells(alloc, zone)?)?;
+        rows.push(item.row_in_zone(alloc, zone)?)?;
     }
     Ok(rows)
 }
 
-/// Adds the rows of the items to the table that the texts name. The first text puts as many rows as go into one
-/// statement, and the second puts the remaining ones, one at a time. So it holds a copy of no more items than one
-/// statement puts.
+/// Adds the rows of the items to the table that the two statements name: `many_sql` adds `RUN` rows at a time, and
+/// `one_sql` the remaining ones, one at a time. It makes the rows of at most `RUN` items at a time, to save memory.
 pub(crate) fn insert_items<S: Alter, T: ZoneItem>(
     alloc: Global,
     tx: &mut Transaction<'_, S>,
     zone: &ZoneName,
-    some: &str,
-    one: &str,
+    many_sql: &str,
+    one_sql: &str,
     items: &[&T],
 ) -> Result<(), Error>
     ensures continues { Continues S.Store tx.old tx.new }
     ensures calls { RunsInside S.Store
-        (puts some.now one.now (map (in_zone T.Rows.row_of zone.now) (map (λ x. x.now) items.now)))
+        (puts many_sql.now one_sql.now (map (in_zone T.Rows.row_of zone.now) (map (λ x. x.now) items.now)))
         tx.old.conn.now tx.new.conn.now result }
     ensures ok { OnOk result ((schema : ASchema) (at : ℕ) (table : ATable)
-        → PutsIn schema at table many some.now → PutsIn schema at table 1 one.now
+        → PutsIn schema at table many many_sql.now → PutsIn schema at table 1 one_sql.now
         → AllByRecursion (SuitColumns table.columns) (map (in_zone T.Rows.row_of zone.now) (map (λ x. x.now) items.now))
         → Turns S.Store tx.old.conn.now tx.new.conn.now (HasContents schema)
         (in_table table (with_rows (map (in_zone T.Rows.row_of zone.now) (map (λ x. x.now) items.now))))) }
@@ -109,8 +108,8 @@ pub(crate) fn insert_items<S: Alter, T: ZoneItem>(
     let mut done = 0;
     while done < items.len() {
         let end = done + (items.len() - done).min(RUN);
-        let rows = rows_of(alloc, zone, &items[done..end])?;
-        insert_rows(alloc, tx, some, one, rows.as_slice())?;
+        let rows = item_rows(alloc, zone, &items[done..end])?;
+        insert_rows(alloc, tx, many_sql, one_sql, rows.as_slice())?;
         done = end;
     }
     Ok(())

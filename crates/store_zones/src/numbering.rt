@@ -6,7 +6,7 @@ ghost use Rattle.store_zones.specs.Numbered as spec;
 ghost use Rattle.store_zones.specs.Numbered.{left_over, behind_first, with_first, begins_with};
 
 use crate::installed_vers::EntryNumber;
-use crate::zone_rows::table_of;
+use crate::zone_rows::into_table;
 use fields::VerNumber;
 use sorted::Table;
 use std::alloc::{AllocError, Global};
@@ -14,7 +14,8 @@ use std::collections::VecDeque;
 use store_rows::ReadError;
 use zones_maps::{Applied, Entry};
 
-fn applied_by(applied: Option<Applied>, number: VerNumber) -> Option<Applied>
+// The same date, with this number of a `++VER`.
+fn applied_with_number(applied: Option<Applied>, number: VerNumber) -> Option<Applied>
     ensures { result ≡ option_map (λ a. an_applied a.date number) applied }
 {
     let applied = applied?;
@@ -24,21 +25,21 @@ fn applied_by(applied: Option<Applied>, number: VerNumber) -> Option<Applied>
     })
 }
 
-// The entry with this number, if it is applied.
-fn renumbered(entry: Entry, number: VerNumber) -> Entry
+// The entry, installed by the `++VER` of this number if it is applied.
+fn with_number(entry: Entry, number: VerNumber) -> Entry
     ensures { result ≡ spec.renumbered entry number }
 {
     Entry {
         id: entry.id,
-        applied: applied_by(entry.applied, number),
+        applied: applied_with_number(entry.applied, number),
         supby: entry.supby,
         delby: entry.delby,
         waived: entry.waived,
     }
 }
 
-// Whether the first number is that of the entry, which is applied.
-fn begins_with(numbers: &VecDeque<EntryNumber>, entry: &Entry) -> bool
+// Whether the first of the numbers is that of this entry, and the entry is applied.
+fn begins_with_number_of(numbers: &VecDeque<EntryNumber>, entry: &Entry) -> bool
     ensures { result ≡ begins_with entry.now numbers.now.items }
 {
     match numbers.front() {
@@ -47,30 +48,31 @@ fn begins_with(numbers: &VecDeque<EntryNumber>, entry: &Entry) -> bool
     }
 }
 
-// The entry with the first of the numbers, if that is its own.
-fn with_first(entry: Entry, numbers: &mut VecDeque<EntryNumber>) -> Entry
+// Gives the entry the first of the numbers, and takes it from them, if it is the number of this entry.
+fn give_number(entry: Entry, numbers: &mut VecDeque<EntryNumber>) -> Entry
     ensures same { result ≡ with_first entry numbers.old.items }
     ensures left { numbers.new.items ≡ behind_first entry numbers.old.items }
 {
-    if !begins_with(numbers, &entry) {
+    if !begins_with_number_of(numbers, &entry) {
         return entry;
     }
     match numbers.pop_front() {
-        Some(first) => renumbered(entry, first.number),
+        Some(first) => with_number(entry, first.number),
         None => entry,
     }
 }
 
-// Takes the first entry.
-fn next_of(entries: &mut VecDeque<Entry>) -> Option<Entry>
+// Takes the first of the entries.
+fn pop_entry(entries: &mut VecDeque<Entry>) -> Option<Entry>
     ensures some { IfSome result (λ entry. entries.old.items ≡ entry ∷ entries.new.items) }
     ensures none { IfNone result (entries.old.items ≡ []) }
 {
     entries.pop_front()
 }
 
-// The entries with their numbers, in the order in which both rise.
-fn with_numbers(
+// The entries with their numbers, which it takes from `numbers`. Both lists rise by id. A number that is left belongs
+// to no applied entry.
+fn entries_with_numbers(
     alloc: Global,
     mut entries: VecDeque<Entry>,
     numbers: &mut VecDeque<EntryNumber>,
@@ -79,14 +81,15 @@ fn with_numbers(
     ensures left { IfOk result (λ all. numbers.new.items ≡ left_over entries.items numbers.old.items) }
 {
     let mut all = Vec::with_capacity(alloc, entries.len())?;
-    while let Some(entry) = next_of(&mut entries) {
-        all.push(with_first(entry, numbers))?;
+    while let Some(entry) = pop_entry(&mut entries) {
+        all.push(give_number(entry, numbers))?;
     }
     Ok(all)
 }
 
-/// The entries with their numbers, each of which is that of an applied entry.
-pub(crate) fn numbered(
+/// The entries with their numbers. An entry that has none was installed by the first `++VER`. Returns `BadRow` if a
+/// number is not that of an applied entry.
+pub(crate) fn number_entries(
     alloc: Global,
     entries: Table<Entry>,
     numbers: Table<EntryNumber>,
@@ -100,9 +103,9 @@ pub(crate) fn numbered(
     if numbers.is_empty() {
         return Ok(entries);
     }
-    let all = with_numbers(alloc, VecDeque::from(entries.into_vec()), &mut numbers)?;
+    let all = entries_with_numbers(alloc, VecDeque::from(entries.into_vec()), &mut numbers)?;
     if !numbers.is_empty() {
         return Err(ReadError::BadRow);
     }
-    table_of(all)
+    into_table(all)
 }

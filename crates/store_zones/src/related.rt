@@ -9,20 +9,21 @@ use fields::{Srel, ZoneName};
 use store_rows::ReadError;
 use terms::ZoneKind;
 
-// Whether it is the distribution zone of this name and SREL.
+// Whether this is the head of the distribution zone of this name and SREL.
 fn is_distribution(head: &ZoneHead, name: ZoneName, srel: Srel) -> bool
     ensures { IsTrue result ↔ IsDistributionOf name srel head.now }
 {
     head.name == name && head.kind == ZoneKind::Distribution && head.srel == srel
 }
 
+// Whether one of these is the head of the distribution zone of this name and SREL.
 fn has_distribution(heads: &[ZoneHead], name: ZoneName, srel: Srel) -> bool
     ensures { IsTrue result ↔ Any (IsDistributionOf name srel) heads.now }
 {
     heads.iter().any(|head| is_distribution(head, name, srel))
 }
 
-// Whether the zone that it names is among them.
+// Whether the distribution zone that this head names is among the heads. A head that names none passes.
 fn is_related(heads: &[ZoneHead], head: &ZoneHead) -> bool
     ensures { IsTrue result ↔ IsRelatedAmong heads.now head.now }
 {
@@ -32,13 +33,14 @@ fn is_related(heads: &[ZoneHead], head: &ZoneHead) -> bool
     }
 }
 
+// Whether the distribution zone that each head names is among the heads.
 fn are_related(heads: &[ZoneHead]) -> bool
     ensures { IsTrue result ↔ All (IsRelatedAmong heads.now) heads.now }
 {
     heads.iter().all(|head| is_related(heads, head))
 }
 
-// Whether the second names no zone that the first names.
+// Whether the two heads do not name the same related zone.
 fn is_apart(head: &ZoneHead, other: &ZoneHead) -> bool
     ensures { IsTrue result ↔ HeadsAreApart head.now other.now }
 {
@@ -48,12 +50,14 @@ fn is_apart(head: &ZoneHead, other: &ZoneHead) -> bool
     }
 }
 
+// Whether none of these heads names the same related zone as the other head.
 fn is_apart_from(heads: &[ZoneHead], other: &ZoneHead) -> bool
     ensures { IsTrue result ↔ All (λ head. HeadsAreApart head other.now) heads.now }
 {
     heads.iter().all(|head| is_apart(head, other))
 }
 
+// Whether no two heads name the same related zone.
 fn are_apart(heads: &[ZoneHead]) -> bool
     ensures { IsTrue result ↔ AllPairs HeadsAreApart heads.now }
 {
@@ -65,8 +69,9 @@ fn are_apart(heads: &[ZoneHead]) -> bool
     true
 }
 
-/// The heads, if each related zone exists and no two zones name the same one.
-pub(crate) fn only_related(heads: Vec<ZoneHead>) -> Result<Vec<ZoneHead>, ReadError>
+/// The same heads. Returns `BadRow` if one of them names a distribution zone that does not exist, or if two of them
+/// name the same one.
+pub(crate) fn require_related(heads: Vec<ZoneHead>) -> Result<Vec<ZoneHead>, ReadError>
     ensures same { IfOk result (λ same. same.items ≡ heads.items) }
     ensures related { IfOk result (λ same. AreRelated same.items) }
     ensures none { IsErrOf result ReadError.BadRow → ¬ AreRelated heads.items }

@@ -14,7 +14,7 @@ ghost use Rattle.terms.specs.Types.{Entry as EntryTerm, Zone as ZoneTerm, a_zone
 use crate::head::{ZoneHead, zone_head};
 use crate::installed_vers::EntryNumber;
 use crate::items::load_items;
-use crate::numbering::numbered;
+use crate::numbering::number_entries;
 use fields::ZoneName;
 use sorted::Table;
 use sqlite::{Alter, Connection};
@@ -23,8 +23,12 @@ use store_rows::ReadError;
 use store_schema::Schema;
 use zones_maps::{Element, Entry, Zone};
 
-// The zone of these parts, if they may be in one.
-fn join(head: ZoneHead, entries: Table<Entry>, elements: Table<Element>) -> Result<Zone, ReadError>
+// The zone of these parts. Returns `BadRow` if no zone may have them together.
+fn assemble_zone(
+    head: ZoneHead,
+    entries: Table<Entry>,
+    elements: Table<Element>,
+) -> Result<Zone, ReadError>
     ensures same { IfOk result (λ zone. zone ≡ a_zone head.kind head.srel head.related entries elements) }
     ensures may_be { IfOk result (λ zone. MayBeZone head.kind head.related entries) }
     ensures none { IsErrOf result ReadError.BadRow → ¬ MayBeZone head.kind head.related entries }
@@ -36,8 +40,9 @@ fn join(head: ZoneHead, entries: Table<Entry>, elements: Table<Element>) -> Resu
     }
 }
 
-// The entries of the zone of this name with their numbers, if the tables are those of this schema.
-fn load_numbered<S: Alter>(
+// The entries of the zone of this name, with the numbers of the `++VER`s that installed them, from the tables of this
+// schema. Earlier schemas have no numbers, so all are 1.
+fn load_entries<S: Alter>(
     alloc: Global,
     conn: &mut Connection<S>,
     schema: Schema,
@@ -56,13 +61,13 @@ fn load_numbered<S: Alter>(
         Schema::First | Schema::Second => Ok(entries),
         Schema::Third => {
             let numbers = load_items::<S, EntryNumber>(alloc, conn, name)?;
-            numbered(alloc, entries, numbers)
+            number_entries(alloc, entries, numbers)
         }
     }
 }
 
-// The zone that has this head.
-fn load_rest<S: Alter>(
+// The zone with this head, from the tables of this schema.
+fn load_rest_of_zone<S: Alter>(
     alloc: Global,
     conn: &mut Connection<S>,
     schema: Schema,
@@ -78,13 +83,13 @@ fn load_rest<S: Alter>(
         → ¬ HoldsUnder schema contents head.name (Some zone) }
     ensures reads { OnlyReads S.Store (schema_under schema) ReadError.BadRow ReadError.Fault conn.old conn.new result }
 {
-    let entries = load_numbered(alloc, conn, schema, &head.name)?;
+    let entries = load_entries(alloc, conn, schema, &head.name)?;
     let elements = load_items::<S, Element>(alloc, conn, &head.name)?;
-    join(head, entries, elements)
+    assemble_zone(head, entries, elements)
 }
 
-// The zone of this name, if the tables are those of this schema.
-fn load_under<S: Alter>(
+// The zone of this name, if there is one, from the tables of this schema.
+fn load_zone_under<S: Alter>(
     alloc: Global,
     conn: &mut Connection<S>,
     schema: Schema,
@@ -101,7 +106,7 @@ fn load_under<S: Alter>(
     let Some(head) = zone_head(alloc, conn, name)? else {
         return Ok(None);
     };
-    Ok(Some(load_rest(alloc, conn, schema, head)?))
+    Ok(Some(load_rest_of_zone(alloc, conn, schema, head)?))
 }
 
 /// The zone of this name, if there is one, in the tables of this schema. Under earlier schemas each entry was installed
@@ -125,5 +130,5 @@ pub fn load_zone<S: Alter>(
         → ¬ StandsUnder schema i (state S.Store conn.old).now }
     ensures reads { OnlyReads S.Store (schema_under schema) ReadError.BadRow ReadError.Fault conn.old conn.new result }
 {
-    load_under(alloc, conn, schema, &name)
+    load_zone_under(alloc, conn, schema, &name)
 }

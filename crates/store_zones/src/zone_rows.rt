@@ -15,7 +15,8 @@ pub(crate) struct ZoneRow<T> {
     pub item: T,
 }
 
-fn without_zone<T: Drop>(alloc: Global, rows: Vec<ZoneRow<T>>) -> Result<Vec<T>, AllocError>
+// The items of the rows, in the same order.
+fn items_of_rows<T: Drop>(alloc: Global, rows: Vec<ZoneRow<T>>) -> Result<Vec<T>, AllocError>
     ensures { IfOk result (λ items. items.items ≡ map (λ row. row.item) rows.items) }
 {
     let mut items = Vec::with_capacity(alloc, rows.len())?;
@@ -25,8 +26,8 @@ fn without_zone<T: Drop>(alloc: Global, rows: Vec<ZoneRow<T>>) -> Result<Vec<T>,
     Ok(items)
 }
 
-/// The items by their keys, if no two have the same key.
-pub(crate) fn table_of<T: Keyed + Drop>(items: Vec<T>) -> Result<Table<T>, ReadError>
+/// The items, sorted by their keys. Returns `BadRow` if two have the same key.
+pub(crate) fn into_table<T: Keyed + Drop>(items: Vec<T>) -> Result<Table<T>, ReadError>
     ensures same { IfOk result (λ table. IsPermutation items.items table) }
     ensures rise { IfOk result (λ table. Rises T.Key.cmp T.key_of table) }
     ensures none { IsErrOf result ReadError.BadRow → (xs : List T) → IsPermutation items.items xs
@@ -39,8 +40,8 @@ pub(crate) fn table_of<T: Keyed + Drop>(items: Vec<T>) -> Result<Table<T>, ReadE
     }
 }
 
-/// What the rows say belongs to one zone, by its keys.
-pub(crate) fn zone_table<T: Keyed + Drop>(
+/// The items of the rows of one zone, sorted by their keys. Returns `BadRow` if two have the same key.
+pub(crate) fn zone_items<T: Keyed + Drop>(
     alloc: Global,
     rows: Vec<ZoneRow<T>>,
 ) -> Result<Table<T>, ReadError>
@@ -50,5 +51,5 @@ pub(crate) fn zone_table<T: Keyed + Drop>(
         → IsPermutation (map (λ row. row.item) rows.items) xs → ¬ Rises T.Key.cmp T.key_of xs }
     ensures fault { IsErrOf result ReadError.Fault → ⊥ }
 {
-    table_of(without_zone(alloc, rows)?)
+    into_table(items_of_rows(alloc, rows)?)
 }

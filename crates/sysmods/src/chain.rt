@@ -30,9 +30,11 @@ impl<'a, 'b> Model for Chain<'a, 'b> {
 }
 
 impl<'a, 'b> Chain<'a, 'b> {
+    /// The walk that begins at the id. It takes at most one step more than there are SYSMODs.
     pub(crate) fn new(vers: &'a VerChoice<'b>, id: Id) -> Chain<'a, 'b>
         ensures { result ≡ chain vers.now.global.now (choice vers.now) id }
     {
+        // So adding 1 to the number of SYSMODs does not overflow.
         vers.global().attest();
         Chain {
             vers,

@@ -4,8 +4,8 @@ ghost use Rattle.sysmods.specs.Graphs.{IsFalling, IsSearchDown, LeadsDown, Marks
 
 use std::alloc::{AllocError, Global};
 
-// Marks these numbers.
-fn mark(numbers: &[usize], marks: &mut Vec<bool>)
+// Marks each of these numbers.
+fn mark_numbers(numbers: &[usize], marks: &mut Vec<bool>)
     requires { All (λ n. n < length marks.old.items) numbers.now }
     ensures { Marks numbers.now marks.old.items marks.new.items }
 {
@@ -14,8 +14,8 @@ fn mark(numbers: &[usize], marks: &mut Vec<bool>)
     }
 }
 
-// Marks what a number leads to, if it is marked itself.
-fn go_down(lists: &[Vec<usize>], number: usize, marks: &mut Vec<bool>)
+// Marks the numbers that a marked number names. For a number without a mark it does nothing.
+fn mark_successors(lists: &[Vec<usize>], number: usize, marks: &mut Vec<bool>)
     requires number { number < length lists.now }
     requires marks { number < length marks.old.items }
     requires falling { IsFalling (list_at lists.now) }
@@ -25,7 +25,7 @@ fn go_down(lists: &[Vec<usize>], number: usize, marks: &mut Vec<bool>)
     if !marks[number] {
         return;
     }
-    mark(lists[number].as_slice(), marks);
+    mark_numbers(lists[number].as_slice(), marks);
 }
 
 /// Whether a number leads to a lower one. It goes through the numbers between them, from the highest on.
@@ -41,14 +41,14 @@ pub(crate) fn leads_down(
     ensures { IfOk result (λ found. IsTrue found ↔ LeadsDown (list_at lists.now) high low) }
 {
     let mut marks = vec![in alloc; false; high]?;
-    mark(lists[high].as_slice(), &mut marks);
+    mark_numbers(lists[high].as_slice(), &mut marks);
     let mut next = high;
     while low + 1 < next {
         if marks[low] {
             return Ok(true);
         }
         next -= 1;
-        go_down(lists, next, &mut marks);
+        mark_successors(lists, next, &mut marks);
     }
     Ok(marks[low])
 }

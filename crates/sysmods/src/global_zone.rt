@@ -6,7 +6,8 @@ ghost use Rattle.std.specs.Map.Iter.{ShowsInOrder, deref};
 ghost use Rattle.std.specs.Option.{option_map_or};
 ghost use Rattle.terms.specs.declared.kinds.HoldKind.TheVariants.{System};
 ghost use Rattle.terms.specs.Types.{Id as AnId};
-ghost use Rattle.terms.specs.Lookups.{sysmod_of, changes_of, is_received, is_function, holds_of};
+ghost use Rattle.terms.specs.Lookups.{sysmod_of, changes_of, change_of, has_change, is_received, is_function, holds_of};
+ghost use Rattle.terms.specs.Changes.{has_replacement};
 ghost use Rattle.terms.specs.Global.{IsGlobal, hold_of, is_replacing, hold as with_hold, release as released};
 ghost use Rattle.terms.specs.Global.{Receives, assign as assigned, without_sysmod};
 ghost use Rattle.terms.specs.Types.{a_global};
@@ -17,16 +18,16 @@ ghost use Rattle.sysmods.specs.Parts.{IsMadeOf};
 
 use crate::holds::{Holds, Placed, ReleaseError};
 use crate::iter::Iter;
-use crate::parts::{are_owned, received_from};
-use crate::receive::{receivable, take_in};
+use crate::parts::{are_owned, build_received};
+use crate::receive::{check_receivable, take_in};
 use crate::received::Received;
 use crate::refused::Refused;
-use fields::{Attest, Id, Reason, Source, Srel};
+use fields::{Attest, Id, Name, Reason, Source, Srel};
 use std::alloc::{AllocError, Global};
 use std::collections::btree_map::Values;
 use std::marker::Model;
 use sysmods_values::{ElemChange, Hold, Sysmod, Ver};
-use terms::{HoldKind, Kind};
+use terms::{ElemType, HoldKind, Kind};
 use thiserror::Error;
 
 /// Why a SYSMOD is not rejected. This does not say whether a zone has it applied.
@@ -86,7 +87,7 @@ impl GlobalZone {
     ) -> Result<Option<Self>, AllocError>
         ensures { IfOk result (IsMadeOf (a_global sysmods.items holds.items)) }
     {
-        let Some(sysmods) = received_from(alloc, sysmods)? else {
+        let Some(sysmods) = build_received(alloc, sysmods)? else {
             return Ok(None);
         };
         if !are_owned(&sysmods, holds.as_slice()) {
@@ -115,6 +116,7 @@ impl GlobalZone {
     /// The received SYSMODs, in order.
     pub fn sysmods(&self) -> Values<'_, Id, Sysmod>
         ensures rest { result ≡ self.now.sysmods }
+        ensures form { IsGlobal self.now }
         ensures runs { ShowsInOrder (deref {X = Sysmod}) }
     {
         self.sysmods.iter()
@@ -178,6 +180,32 @@ impl GlobalZone {
         }
     }
 
+    /// What the SYSMOD does to the element of this type and name, if it is received and does anything to it.
+    pub fn change_of(&self, id: Id, elem_type: ElemType, name: Name) -> Option<&ElemChange>
+        ensures { option_copied result ≡ change_of self.now id elem_type name }
+    {
+        self.changes_of(id)
+            .iter()
+            .find(|change| change.is_about(elem_type, name))
+    }
+
+    /// Whether the SYSMOD is received and changes the element.
+    pub fn has_change(&self, id: Id, elem_type: ElemType, name: Name) -> bool
+        ensures { result ≡ has_change self.now id elem_type name }
+    {
+        self.change_of(id, elem_type, name).is_some()
+    }
+
+    /// Whether the SYSMOD is received and replaces the element.
+    pub fn has_replacement(&self, id: Id, elem_type: ElemType, name: Name) -> bool
+        ensures { result ≡ has_replacement self.now id elem_type name }
+    {
+        match self.change_of(id, elem_type, name) {
+            Some(change) => change.is_replacement(),
+            None => false,
+        }
+    }
+
     /// Whether a function of this id is received.
     pub fn is_function(&self, id: Id) -> bool
         ensures { result ≡ is_function self.now id }
@@ -200,7 +228,7 @@ impl GlobalZone {
         ensures rest { result ≡ holds_of self.now kind id }
         ensures fits { length result < 2 ^ 63 }
     {
-        self.holds.of(id, kind)
+        self.holds.holds_on(id, kind)
     }
 
     /// RECEIVE of a SYSMOD. It takes the SYSMOD in, with its holds, unless a fault refuses it. The error is the first
@@ -210,7 +238,7 @@ impl GlobalZone {
         ensures refused { IfErr result (IsRefused self.old sysmod) }
         ensures err { OnErr result (self.new ≡ self.old) }
     {
-        receivable(alloc, &self.sysmods, &sysmod)?;
+        check_receivable(alloc, &self.sysmods, &sysmod)?;
         sysmod.attest();
         take_in(&mut self.sysmods, &mut self.holds, alloc, sysmod)?;
         Ok(())

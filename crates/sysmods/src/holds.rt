@@ -110,7 +110,7 @@ impl Holds {
     }
 
     /// The holds of a kind on an id, in order.
-    pub fn of(&self, id: Id, kind: HoldKind) -> Iter<'_>
+    pub fn holds_on(&self, id: Id, kind: HoldKind) -> Iter<'_>
         ensures rest { result ≡ filter (is_on id kind) self.now }
         ensures fits { length result < 2 ^ 63 }
     {
@@ -190,7 +190,7 @@ impl Holds {
         }
     }
 
-    /// Puts a hold, and returns what undoes that.
+    /// Puts a hold instead of one of the same key, and returns what undoes that.
     pub(crate) fn exchange(&mut self, hold: Hold) -> Result<Undo, AllocError>
         ensures undo { IfOk result (λ undo. is_restoring undo ≡ is_some (held self.old hold.id hold.kind hold.reason)) }
         ensures back { IfOk result (Undoes self.old self.new) }
@@ -198,14 +198,14 @@ impl Holds {
         ensures err { OnErr result (self.new ≡ self.old) }
     {
         let key = key_of(&hold);
-        let hold = marked(hold, self.map.get(&key));
+        let hold = with_internal_mark(hold, self.map.get(&key));
         let Some(old) = self.map.insert(key, hold)? else {
             return Ok(Undo::Remove(key));
         };
         Ok(Undo::Restore(old))
     }
 
-    /// Undoes one change. A key that is present takes no memory.
+    /// Undoes one change. It takes no memory, because a hold comes back under a key that is present.
     pub(crate) fn take_back(&mut self, undo: Undo)
         ensures { (old : List terms.Hold) → Undoes old self.old undo → self.new ≡ old }
     {
@@ -216,7 +216,7 @@ impl Holds {
     }
 }
 
-// The key of the next internal hold on the id of a key, from that key on.
+// The key of the first internal hold on the id of this key, from this key on.
 fn next_internal(map: &BTreeMap<HoldKey, Hold>, from: HoldKey) -> Option<HoldKey>
     requires { IsByKey map.now.entries }
     ensures { IsNextInternal map.now.entries from result }
@@ -234,8 +234,8 @@ fn next_internal(map: &BTreeMap<HoldKey, Hold>, from: HoldKey) -> Option<HoldKey
     None
 }
 
-// The hold with the mark that it takes over from the one before.
-fn marked(mut hold: Hold, was: Option<&Hold>) -> Hold
+// The hold, marked as internal if the hold that it replaces is internal.
+fn with_internal_mark(mut hold: Hold, was: Option<&Hold>) -> Hold
     ensures { result ≡ marked (option_copied was.entry) hold }
 {
     if let Some(was) = was {

@@ -16,7 +16,8 @@ pub(crate) enum IndexEntry {
     More(BTreeSet<Id>),
 }
 
-fn both(alloc: Global, first: Id, second: Id) -> Result<BTreeSet<Id>, AllocError>
+// The set of these two ids.
+fn set_of_two(alloc: Global, first: Id, second: Id) -> Result<BTreeSet<Id>, AllocError>
     ensures first { IfOk result (λ set. IsTrue (is_in set.keys first)) }
     ensures second { IfOk result (λ set. IsTrue (is_in set.keys second)) }
 {
@@ -27,6 +28,7 @@ fn both(alloc: Global, first: Id, second: Id) -> Result<BTreeSet<Id>, AllocError
 }
 
 impl IndexEntry {
+    // Adds the namer. The second one turns a single id into a set.
     fn insert(&mut self, alloc: Global, namer: Id) -> Result<(), AllocError>
         ensures has { OnOk result (IsTrue (is_in (members self.new) namer)) }
         ensures grows { KeepsMembers self.old self.new }
@@ -41,12 +43,12 @@ impl IndexEntry {
         if first == namer {
             return Ok(());
         }
-        let set = both(alloc, first, namer)?;
+        let set = set_of_two(alloc, first, namer)?;
         *self = IndexEntry::More(set);
         Ok(())
     }
 
-    // A single id stays.
+    // Removes the namer from a set. A single id stays, because an entry may contain too many.
     fn remove(&mut self, namer: Id)
         ensures { KeepsMembersBut namer self.old self.new }
     {
@@ -64,6 +66,7 @@ pub(crate) struct Index {
 }
 
 impl Index {
+    /// An index without entries.
     pub(crate) fn new(alloc: Global) -> Index {
         Index {
             sets: BTreeMap::new(alloc),
@@ -71,6 +74,7 @@ impl Index {
         }
     }
 
+    // Adds the namer to the entry of an id that it names.
     fn insert(&mut self, named: Id, namer: Id) -> Result<(), AllocError>
         ensures has { OnOk result (IsTrue (has self.new.sets named namer)) }
         ensures grows { Grows self.old.sets self.new.sets }
@@ -83,6 +87,7 @@ impl Index {
         Ok(())
     }
 
+    // Adds the namer to the entry of each of these ids.
     fn insert_all(&mut self, named: &[Id], namer: Id) -> Result<(), AllocError>
         ensures has { OnOk result (HasAll self.new.sets namer (is_in named.now)) }
         ensures grows { Grows self.old.sets self.new.sets }
@@ -93,6 +98,7 @@ impl Index {
         Ok(())
     }
 
+    // Adds the namer to the entry of the function of each `++IF`.
     fn insert_functions(&mut self, conditions: &[IfReq], namer: Id) -> Result<(), AllocError>
         ensures has { OnOk result (HasAll self.new.sets namer (is_in (map (λ i. i.function) conditions.now))) }
         ensures grows { Grows self.old.sets self.new.sets }
@@ -103,6 +109,7 @@ impl Index {
         Ok(())
     }
 
+    // Adds the namer to the entry of its FMID, if it has one.
     fn insert_fmid(&mut self, fmid: Option<Id>, namer: Id) -> Result<(), AllocError>
         ensures has { OnOk result (HasAll self.new.sets namer (is_in (at_most_one fmid))) }
         ensures grows { Grows self.old.sets self.new.sets }
@@ -113,6 +120,7 @@ impl Index {
         }
     }
 
+    // Adds the namer to the entry of each id that its `++VER` names.
     fn insert_ver(&mut self, ver: &Ver, namer: Id) -> Result<(), AllocError>
         ensures has { OnOk result (HasAll self.new.sets namer (mentions ver.now)) }
         ensures grows { Grows self.old.sets self.new.sets }
@@ -136,6 +144,7 @@ impl Index {
         Ok(())
     }
 
+    // Removes the namer from the entry of this id.
     fn remove(&mut self, named: Id, namer: Id)
         ensures { KeepsOthers namer self.old.sets self.new.sets }
     {
@@ -144,6 +153,7 @@ impl Index {
         }
     }
 
+    // Removes the namer from the entry of each of these ids.
     fn remove_all(&mut self, named: &[Id], namer: Id)
         ensures { KeepsOthers namer self.old.sets self.new.sets }
     {
@@ -152,6 +162,7 @@ impl Index {
         }
     }
 
+    // Removes the namer from the entry of the function of each `++IF`.
     fn remove_functions(&mut self, conditions: &[IfReq], namer: Id)
         ensures { KeepsOthers namer self.old.sets self.new.sets }
     {
@@ -160,6 +171,7 @@ impl Index {
         }
     }
 
+    // Removes the namer from the entry of each id that its `++VER` names.
     fn remove_ver(&mut self, ver: &Ver, namer: Id)
         ensures { KeepsOthers namer self.old.sets self.new.sets }
     {

@@ -26,6 +26,7 @@ impl<'a> Model for Iter<'a> {
 }
 
 impl<'a> Iter<'a> {
+    /// The holds of these entries.
     pub(crate) fn new(entries: Range<'a, HoldKey, Hold>) -> Iter<'a>
         ensures { result ≡ values_of entries.entry }
     {

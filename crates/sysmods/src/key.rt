@@ -25,6 +25,7 @@ pub(crate) struct HoldKey {
 }
 
 impl HoldKey {
+    /// The key of the hold of this reason.
     pub(crate) fn new(id: Id, kind: HoldKind, reason: Reason) -> HoldKey
         ensures { result ≡ record { id = id; kind = kind; place = HoldPlace.At reason } }
     {

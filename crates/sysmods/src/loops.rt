@@ -11,6 +11,7 @@ use fields::Srel;
 use std::alloc::{AllocError, Global};
 use sysmods_values::Sysmod;
 
+// Whether the `++VER`s for this SREL lead from the new SYSMOD back to itself.
 fn leads_back(
     alloc: Global,
     received: &Received,

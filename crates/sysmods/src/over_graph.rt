@@ -25,6 +25,7 @@ enum NumbersFound {
     Missing(Id),
 }
 
+// The numbers of these ids, or the first of them that has none.
 fn numbers_of(
     alloc: Global,
     nodes: &IndexMap<Id, Vec<usize>>,
@@ -43,6 +44,7 @@ fn numbers_of(
 }
 
 impl OverGraph {
+    /// A graph without ids.
     pub(crate) fn new(alloc: Global) -> Self
         ensures { result.nodes.entries ≡ [] }
     {
@@ -51,7 +53,7 @@ impl OverGraph {
         }
     }
 
-    // Gives the id a number if all that it names have one. Otherwise it returns one that has none.
+    // Gives the id a number if all that it names have one, and returns `None`. Otherwise returns one that has none.
     fn add(&mut self, alloc: Global, vers: &VerChoice<'_>, id: Id) -> Result<Option<Id>, AllocError>
         requires { IsGraph (choice vers.now) (keys self.old.nodes) (values self.old.nodes) }
         ensures { IsGraph (choice vers.now) (keys self.new.nodes) (values self.new.nodes) }
@@ -71,8 +73,9 @@ impl OverGraph {
     }
 
     /// Gives the id a number, after all to which it leads. The path from the id to one without a number has no id
-    /// twice, because SYSMODs make no loop.
-    pub(crate) fn add_all(
+    /// twice, because SYSMODs make no loop. No clause says that the id has a number then: `over` searches without numbers
+    /// if it has none.
+    pub(crate) fn add_with_named(
         &mut self,
         alloc: Global,
         vers: &VerChoice<'_>,
@@ -94,7 +97,7 @@ impl OverGraph {
         Ok(())
     }
 
-    /// Whether x is over z. It searches the numbers if x has one, as it has after `add_all`.
+    /// Whether x is over z. It searches the numbers if x has one, as it has after `add_with_named`.
     pub(crate) fn over(
         &self,
         alloc: Global,

@@ -99,7 +99,7 @@ impl<'a, 'b> Overs<'a, 'b> {
         if is_known(&self.known, x, z) {
             return Ok(true);
         }
-        if !finds(alloc, self.vers, &self.known, &mut self.graph, x, z)? {
+        if !find_over(alloc, self.vers, &self.known, &mut self.graph, x, z)? {
             return Ok(false);
         }
         self.known.insert((x, z))?;
@@ -107,12 +107,14 @@ impl<'a, 'b> Overs<'a, 'b> {
     }
 }
 
+// Whether x is known to be over z.
 fn is_known(known: &IndexSet<(Id, Id)>, x: Id, z: Id) -> bool
     ensures { result ≡ is_known known.now.keys x z }
 {
     known.contains(&(x, z))
 }
 
+// Whether one of these ids is known to be over z.
 fn is_one_known(known: &IndexSet<(Id, Id)>, ids: &[Id], z: Id) -> bool
     ensures { result ≡ is_one_known known.now.keys ids.now z }
 {
@@ -133,7 +135,7 @@ fn follows_known(vers: &VerChoice<'_>, known: &IndexSet<(Id, Id)>, x: Id, z: Id)
 }
 
 // Whether x is over z. The graph takes in what x leads to, unless x names z itself or an id that is known to be over z.
-fn finds(
+fn find_over(
     alloc: Global,
     vers: &VerChoice<'_>,
     known: &IndexSet<(Id, Id)>,
@@ -152,6 +154,6 @@ fn finds(
     if follows_known(vers, known, x, z) {
         return Ok(true);
     }
-    graph.add_all(alloc, vers, x)?;
+    graph.add_with_named(alloc, vers, x)?;
     graph.over(alloc, vers, x, z)
 }

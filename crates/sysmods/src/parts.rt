@@ -9,7 +9,7 @@ ghost use Rattle.terms.specs.declared.kinds.HoldKind.TheVariants.{System};
 ghost use Rattle.terms.specs.Lookups.{is_received};
 ghost use Rattle.terms.proofs.GlobalKept.{IsOwned};
 
-use crate::receive::receivable;
+use crate::receive::check_receivable;
 use crate::received::Received;
 use crate::refused::Refused;
 use fields::Attest;
@@ -18,9 +18,9 @@ use std::alloc::{AllocError, Global};
 use sysmods_values::{Hold, Sysmod};
 use terms::HoldKind;
 
-/// These SYSMODs, if they are those of a global zone: they rise by id and carry no holds, there is no
-/// loop, roles fit, and they are not too many.
-pub(crate) fn received_from(
+/// The received SYSMODs made of this list, if a global zone may have just these: they rise by id and carry no holds,
+/// there is no loop, roles fit, and they are not too many.
+pub(crate) fn build_received(
     alloc: Global,
     sysmods: Vec<Sysmod>,
 ) -> Result<Option<Received>, AllocError>
@@ -39,27 +39,28 @@ pub(crate) fn received_from(
     Ok(Some(received))
 }
 
-// Takes in a SYSMOD that comes after all others, if they are those of a global zone with it.
+// Takes in a SYSMOD whose id is after all others, and returns `true`. If no global zone has them all, it returns
+// `false` and takes in nothing.
 fn push_last(alloc: Global, received: &mut Received, sysmod: Sysmod) -> Result<bool, AllocError>
     requires global { IsGlobal (zone_of received.old) }
     requires last { All (λ s. IsTrue (is_lt (slice_cmp nat_cmp s.id sysmod.id))) received.old }
     ensures fits { IfOk result (λ fits. IsTrue fits ↔ IsGlobal (zone_of (received.old ++ sysmod ∷ []))) }
     ensures ok { IfOk result (λ fits. IsTrue fits → received.new ≡ received.old ++ sysmod ∷ []) }
 {
-    if !carries_none(&sysmod) {
+    if !has_no_holds(&sysmod) {
         return Ok(false);
     }
-    match receivable(alloc, received, &sysmod) {
+    match check_receivable(alloc, received, &sysmod) {
         Ok(()) => {}
-        Err(why) => return unfit(why),
+        Err(why) => return refusal_as_false(why),
     }
     sysmod.attest();
     drop(received.insert(sysmod)?);
     Ok(true)
 }
 
-// `false` for a fault of the SYSMOD, and an error if memory ran out.
-fn unfit(why: Refused) -> Result<bool, AllocError>
+// `false` if the SYSMOD has a fault, and an error if memory ran out.
+fn refusal_as_false(why: Refused) -> Result<bool, AllocError>
     ensures { IfOk result (λ fits. (fits ≡ false) × IsTrue (is_some (fault_of why))) }
 {
     match why {
@@ -71,7 +72,8 @@ fn unfit(why: Refused) -> Result<bool, AllocError>
     }
 }
 
-fn carries_none(sysmod: &Sysmod) -> bool
+// Whether no hold came inside the SYSMOD.
+fn has_no_holds(sysmod: &Sysmod) -> bool
     ensures { IsTrue result ↔ (sysmod.now.holds ≡ []) }
 {
     sysmod.holds.is_empty()
@@ -84,12 +86,14 @@ pub(crate) fn are_owned(received: &Received, holds: &[Hold]) -> bool
     holds.iter().all(|hold| is_owned(received, hold))
 }
 
+// Whether the hold is not internal, or is a SYSTEM hold of a received SYSMOD.
 fn is_owned(received: &Received, hold: &Hold) -> bool
     ensures { IsTrue result ↔ IsOwned (zone_of received.now) hold.now }
 {
     !hold.internal || is_system_hold(received, hold)
 }
 
+// Whether it is a SYSTEM hold of a received SYSMOD.
 fn is_system_hold(received: &Received, hold: &Hold) -> bool
     ensures { IsTrue result ↔ (hold.now.kind ≡ System) × IsTrue (is_received (zone_of received.now) hold.now.id) }
 {

@@ -19,9 +19,13 @@ use sysmods_values::Sysmod;
 /// How many SYSMODs may be received.
 const MOST: usize = 65_535;
 
-/// Whether the SYSMOD may be received. The error is the first fault for which RECEIVE refuses it. The caller ensures
-/// that the received SYSMODs have no loop and that their roles fit; a SYSMOD without a fault preserves both.
-pub(crate) fn receivable(alloc: Global, received: &Received, sysmod: &Sysmod) -> Result<(), Refused>
+/// Returns an error if the SYSMOD may not be received: the first fault for which RECEIVE refuses it. The caller ensures
+/// that the received SYSMODs have no loop and that their roles fit. A SYSMOD without a fault preserves both.
+pub(crate) fn check_receivable(
+    alloc: Global,
+    received: &Received,
+    sysmod: &Sysmod,
+) -> Result<(), Refused>
     requires no_loop { ¬ HasLoop (zone_of received.now) }
     requires roles { RolesFit (zone_of received.now) }
     ensures ok { OnOk result (HasNoFault (zone_of received.now) sysmod.now) }

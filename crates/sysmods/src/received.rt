@@ -69,7 +69,7 @@ impl Received {
         self.by_id.get(&id)
     }
 
-    /// Whether there is one of this id.
+    /// Whether a SYSMOD of this id is there.
     pub fn contains(&self, id: Id) -> bool
         ensures { result ≡ is_some (found self.now id) }
     {
@@ -84,7 +84,8 @@ impl Received {
         self.by_id.values()
     }
 
-    /// Takes a SYSMOD in. If there is one of its id already, it returns the SYSMOD instead.
+    /// Takes a SYSMOD in and returns `None`. If one of its id is there already, nothing changes and it returns the
+    /// SYSMOD.
     pub fn insert(&mut self, sysmod: Sysmod) -> Result<Option<Sysmod>, AllocError>
         ensures back { IfOk result (λ back. back ≡ (if is_some (found self.old sysmod.id) then Some sysmod else None)) }
         ensures ok { OnOk result (self.new ≡ (if is_some (found self.old sysmod.id) then self.old else with_item
@@ -102,7 +103,7 @@ impl Received {
         Ok(None)
     }
 
-    /// Takes the SYSMOD of this id out.
+    /// Takes the SYSMOD of this id out and returns it.
     pub fn remove(&mut self, id: Id) -> Option<Sysmod>
         ensures was { result ≡ found self.old id }
         ensures after { self.new ≡ filter (λ s. not (bytes_eq s.id id)) self.old }
@@ -116,7 +117,7 @@ impl Received {
         }
     }
 
-    /// Gives the SYSMOD of this id the source, if there is one.
+    /// Adds the source to the SYSMOD of this id. If none is received, nothing changes.
     pub fn insert_source(&mut self, id: Id, source: Source) -> Result<(), AllocError>
         ensures ok { OnOk result (self.new ≡ map (λ s. if bytes_eq s.id id then with_source source s else s) self.old) }
         ensures err { OnErr result (self.new ≡ self.old) }
@@ -129,27 +130,32 @@ impl Received {
         Ok(())
     }
 
-    fn names_so(&self, namer: Id, way: Way, id: Id) -> bool
+    // Whether the SYSMOD `namer` is received and names the id in this way.
+    fn names_in_way(&self, namer: Id, way: Way, id: Id) -> bool
         ensures { result ≡ option_map_or (names_so way id) (found self.now namer) false }
     {
         match self.get(namer) {
-            Some(sysmod) => way.is_of(sysmod, id),
+            Some(sysmod) => way.is_taken_by(sysmod, id),
             None => false,
         }
     }
 
-    fn any_names_so(&self, namers: &BTreeSet<Id>, way: Way, id: Id) -> bool
+    // Whether one of these SYSMODs is received and names the id in this way.
+    fn any_names_in_way(&self, namers: &BTreeSet<Id>, way: Way, id: Id) -> bool
         ensures { result ≡ list_any (λ y. option_map_or (names_so way id) (found self.now y) false) namers.now.keys }
     {
-        namers.iter().any(|namer| self.names_so(*namer, way, id))
+        namers
+            .iter()
+            .any(|namer| self.names_in_way(*namer, way, id))
     }
 
-    fn some_names_so(&self, way: Way, id: Id) -> bool
+    // Whether a received SYSMOD names the id in this way. It looks only at SYSMODs that name the id in some way.
+    fn is_named_in_way(&self, way: Way, id: Id) -> bool
         ensures { result ≡ list_any (names_so way id) self.now }
     {
         match self.index.sets.get(&id) {
-            Some(IndexEntry::One(namer)) => self.names_so(*namer, way, id),
-            Some(IndexEntry::More(namers)) => self.any_names_so(namers, way, id),
+            Some(IndexEntry::One(namer)) => self.names_in_way(*namer, way, id),
+            Some(IndexEntry::More(namers)) => self.any_names_in_way(namers, way, id),
             None => false,
         }
     }
@@ -159,9 +165,10 @@ impl Received {
     pub fn is_named(&self, id: Id) -> bool
         ensures { result ≡ list_any (λ s. list_any (λ v. is_in (named v) id) s.vers) self.now }
     {
-        self.some_names_so(Way::Named, id)
+        self.is_named_in_way(Way::Named, id)
     }
 
+    // Whether the SYSMOD `namer` is received and names the id in PRE, SUP or FMID of a `++VER` for the SREL.
     fn names_for(&self, namer: Id, srel: Srel, id: Id) -> bool
         ensures { result ≡ is_in (names_for (zone_of self.now) srel namer) id }
     {
@@ -171,7 +178,8 @@ impl Received {
         }
     }
 
-    fn append_one(
+    // Appends the id of the namer, if it names the id in PRE, SUP or FMID of a `++VER` for the SREL.
+    fn append_namer(
         &self,
         namer: Id,
         srel: Srel,
@@ -187,7 +195,8 @@ impl Received {
         Ok(())
     }
 
-    fn append_some(
+    // Appends those of these ids whose SYSMODs name the id in PRE, SUP or FMID of a `++VER` for the SREL.
+    fn append_namers_among(
         &self,
         namers: &BTreeSet<Id>,
         srel: Srel,
@@ -199,7 +208,7 @@ impl Received {
         ensures ordered { IsOrdered (slice_cmp nat_cmp) namers.now }
     {
         for namer in namers.iter() {
-            self.append_one(*namer, srel, id, found)?;
+            self.append_namer(*namer, srel, id, found)?;
         }
         Ok(())
     }
@@ -210,23 +219,30 @@ impl Received {
         ensures { OnOk result (found.new.items ≡ found.old.items ++ namers_for self.now srel id) }
     {
         match self.index.sets.get(&id) {
-            Some(IndexEntry::One(namer)) => self.append_one(*namer, srel, id, found),
-            Some(IndexEntry::More(namers)) => self.append_some(namers, srel, id, found),
+            Some(IndexEntry::One(namer)) => self.append_namer(*namer, srel, id, found),
+            Some(IndexEntry::More(namers)) => self.append_namers_among(namers, srel, id, found),
             None => Ok(()),
         }
     }
 
-    fn append_as_function(&self, namer: Id, id: Id, found: &mut Vec<Id>) -> Result<(), AllocError>
+    // Appends the id of the namer, if it names the id as a function.
+    fn append_function_namer(
+        &self,
+        namer: Id,
+        id: Id,
+        found: &mut Vec<Id>,
+    ) -> Result<(), AllocError>
         ensures { OnOk result (found.new.items ≡ found.old.items
             ++ filter (names_as_function self.now id) (namer ∷ [])) }
     {
-        if self.names_so(namer, Way::AsFunction, id) {
+        if self.names_in_way(namer, Way::AsFunction, id) {
             found.push(namer)?;
         }
         Ok(())
     }
 
-    fn append_some_as_function(
+    // Appends those of these ids whose SYSMODs name the id as a function.
+    fn append_function_namers_among(
         &self,
         namers: &BTreeSet<Id>,
         id: Id,
@@ -237,7 +253,7 @@ impl Received {
         ensures ordered { IsOrdered (slice_cmp nat_cmp) namers.now }
     {
         for namer in namers.iter() {
-            self.append_as_function(*namer, id, found)?;
+            self.append_function_namer(*namer, id, found)?;
         }
         Ok(())
     }
@@ -248,8 +264,8 @@ impl Received {
         ensures { OnOk result (found.new.items ≡ found.old.items ++ function_namers self.now id) }
     {
         match self.index.sets.get(&id) {
-            Some(IndexEntry::One(namer)) => self.append_as_function(*namer, id, found),
-            Some(IndexEntry::More(namers)) => self.append_some_as_function(namers, id, found),
+            Some(IndexEntry::One(namer)) => self.append_function_namer(*namer, id, found),
+            Some(IndexEntry::More(namers)) => self.append_function_namers_among(namers, id, found),
             None => Ok(()),
         }
     }
@@ -258,13 +274,13 @@ impl Received {
     pub fn is_superseded(&self, id: Id) -> bool
         ensures { result ≡ list_any (λ s. list_any (λ v. is_in v.sup id) s.vers) self.now }
     {
-        self.some_names_so(Way::Superseded, id)
+        self.is_named_in_way(Way::Superseded, id)
     }
 
     /// Whether a received SYSMOD names the id as a function: in DELETE, in FMID or in an `++IF`.
     pub fn is_named_as_function(&self, id: Id) -> bool
         ensures { result ≡ list_any (λ s. list_any (λ v. is_in (named_functions v) id) s.vers) self.now }
     {
-        self.some_names_so(Way::AsFunction, id)
+        self.is_named_in_way(Way::AsFunction, id)
     }
 }

@@ -11,12 +11,14 @@ use fields::Id;
 use sysmods_values::{IfReq, Sysmod, Ver};
 use terms::Kind;
 
+// Whether the SYSMOD is a function.
 fn has_function_kind(sysmod: &Sysmod) -> bool
     ensures { result ≡ is_function_kind sysmod.now.kind }
 {
     sysmod.kind == Kind::Function
 }
 
+// Whether the id is a function, among the received SYSMODs and the new one.
 fn is_function(received: &Received, sysmod: &Sysmod, id: Id) -> bool
     ensures { result ≡ is_function (with_sysmod (zone_of received.now) sysmod.now) id }
 {
@@ -29,6 +31,7 @@ fn is_function(received: &Received, sysmod: &Sysmod, id: Id) -> bool
     }
 }
 
+// Whether the id is service, and no function, among the received SYSMODs and the new one.
 fn is_service(received: &Received, sysmod: &Sysmod, id: Id) -> bool
     ensures { result ≡ is_service (with_sysmod (zone_of received.now) sysmod.now) id }
 {
@@ -41,18 +44,21 @@ fn is_service(received: &Received, sysmod: &Sysmod, id: Id) -> bool
     }
 }
 
-fn some_function(received: &Received, sysmod: &Sysmod, ids: &[Id]) -> bool
+// Whether one of these ids is a function, among the received SYSMODs and the new one.
+fn any_is_function(received: &Received, sysmod: &Sysmod, ids: &[Id]) -> bool
     ensures { result ≡ list_any (is_function (with_sysmod (zone_of received.now) sysmod.now)) ids.now }
 {
     ids.iter().any(|id| is_function(received, sysmod, *id))
 }
 
-fn some_service(received: &Received, sysmod: &Sysmod, ids: &[Id]) -> bool
+// Whether one of these ids is service, among the received SYSMODs and the new one.
+fn any_is_service(received: &Received, sysmod: &Sysmod, ids: &[Id]) -> bool
     ensures { result ≡ list_any (is_service (with_sysmod (zone_of received.now) sysmod.now)) ids.now }
 {
     ids.iter().any(|id| is_service(received, sysmod, *id))
 }
 
+// Whether the FMID is service, among the received SYSMODs and the new one.
 fn fmid_is_service(received: &Received, sysmod: &Sysmod, fmid: Option<Id>) -> bool
     ensures { result ≡ list_any (is_service (with_sysmod (zone_of received.now) sysmod.now)) (at_most_one fmid) }
 {
@@ -62,7 +68,8 @@ fn fmid_is_service(received: &Received, sysmod: &Sysmod, fmid: Option<Id>) -> bo
     }
 }
 
-fn condition_is_service(received: &Received, sysmod: &Sysmod, conditions: &[IfReq]) -> bool
+// Whether the function that one of these `++IF`s asks for is service.
+fn some_if_names_service(received: &Received, sysmod: &Sysmod, conditions: &[IfReq]) -> bool
     ensures { result ≡ list_any (is_service (with_sysmod (zone_of received.now) sysmod.now))
         (map (λ i. i.function) conditions.now) }
 {
@@ -72,22 +79,25 @@ fn condition_is_service(received: &Received, sysmod: &Sysmod, conditions: &[IfRe
         .any(|id| is_service(received, sysmod, id))
 }
 
+// Whether the `++VER` names service as a function: in DELETE, in FMID or in an `++IF`.
 #[tactic(auto, using(crate::proofs::Joined::services_in_parts))]
 fn names_service(received: &Received, sysmod: &Sysmod, ver: &Ver) -> bool
     ensures { result ≡ list_any (is_service (with_sysmod (zone_of received.now) sysmod.now)) (named_functions ver.now) }
 {
-    some_service(received, sysmod, ver.del.as_slice())
+    any_is_service(received, sysmod, ver.del.as_slice())
         || fmid_is_service(received, sysmod, ver.fmid)
-        || condition_is_service(received, sysmod, ver.ifs.as_slice())
+        || some_if_names_service(received, sysmod, ver.ifs.as_slice())
 }
 
+// Whether the `++VER` names no function in SUP, and no service as a function.
 fn ver_fits(received: &Received, sysmod: &Sysmod, ver: &Ver) -> bool
     ensures { result ≡ fits_roles (with_sysmod (zone_of received.now) sysmod.now) ver.now }
 {
-    !some_function(received, sysmod, ver.sup.as_slice()) && !names_service(received, sysmod, ver)
+    !any_is_function(received, sysmod, ver.sup.as_slice()) && !names_service(received, sysmod, ver)
 }
 
-fn own_fit(received: &Received, sysmod: &Sysmod) -> bool
+// Whether what the `++VER`s of the new SYSMOD name has the role in which they name it.
+fn own_roles_fit(received: &Received, sysmod: &Sysmod) -> bool
     ensures { IsTrue result ↔ All (λ v. IsTrue (fits_roles (with_sysmod (zone_of received.now) sysmod.now) v))
         sysmod.now.vers }
 {
@@ -97,8 +107,8 @@ fn own_fit(received: &Received, sysmod: &Sysmod) -> bool
         .all(|ver| ver_fits(received, sysmod, ver))
 }
 
-// Whether every received SYSMOD that names it names it in its own role.
-fn others_fit(received: &Received, sysmod: &Sysmod) -> bool
+// Whether each received SYSMOD that names the new one names it in the role that it has.
+fn namers_roles_fit(received: &Received, sysmod: &Sysmod) -> bool
     ensures { result ≡ (if is_function_kind sysmod.now.kind
         then not (list_any (λ s. list_any (λ v. is_in v.sup sysmod.now.id) s.vers) received.now)
         else not (list_any (λ s. list_any (λ v. is_in (named_functions v) sysmod.now.id) s.vers) received.now)) }
@@ -116,5 +126,5 @@ pub(crate) fn roles_fit(received: &Received, sysmod: &Sysmod) -> bool
     requires fit { RolesFit (zone_of received.now) }
     ensures { IsTrue result ↔ RolesFit (with_sysmod (zone_of received.now) sysmod.now) }
 {
-    own_fit(received, sysmod) && others_fit(received, sysmod)
+    own_roles_fit(received, sysmod) && namers_roles_fit(received, sysmod)
 }

@@ -18,7 +18,7 @@ pub trait Names {
         ensures { OnOk result (found.new.items ≡ found.old.items ++ named self.now id) };
 }
 
-// Adds the ids that this one names to those seen. It forgets what `found` had.
+// Adds the ids that this one names to those seen. `found` is working space: what it had is gone.
 fn see_named<N: Names>(
     names: &N,
     id: Id,
@@ -35,8 +35,8 @@ fn see_named<N: Names>(
     Ok(())
 }
 
-// Whether there is an id at which to stop and it has been seen.
-fn is_met(seen: &IndexSet<Id>, stop: Option<&Id>) -> bool
+// Whether the search has an id at which to stop, and has seen it.
+fn is_stop_seen(seen: &IndexSet<Id>, stop: Option<&Id>) -> bool
     ensures { IsTrue result ↔ IsSomeAnd stop.entry (λ z. Contains seen.now.keys z.now) }
 {
     match stop {
@@ -45,8 +45,8 @@ fn is_met(seen: &IndexSet<Id>, stop: Option<&Id>) -> bool
     }
 }
 
-// Goes through one of the ids that have been seen.
-fn go_on<N: Names>(
+// Visits the id at this place among those seen: adds the ids that it names to them.
+fn visit_seen<N: Names>(
     names: &N,
     gone: usize,
     found: &mut Vec<Id>,
@@ -62,7 +62,7 @@ fn go_on<N: Names>(
 
 // The ids that x reaches, each where the search met it first: the list serves both as marks and as a queue. Once the
 // search has seen the id at which to stop, it goes no further.
-fn reached<N: Names>(
+fn search_reachable<N: Names>(
     alloc: Global,
     names: &N,
     x: Id,
@@ -77,10 +77,10 @@ fn reached<N: Names>(
     see_named(names, x, &mut found, &mut seen)?;
     let mut i = 0;
     while i < seen.len() {
-        if is_met(&seen, stop) {
+        if is_stop_seen(&seen, stop) {
             return Ok(seen);
         }
-        go_on(names, i, &mut found, &mut seen)?;
+        visit_seen(names, i, &mut found, &mut seen)?;
         i += 1;
     }
     Ok(seen)
@@ -88,10 +88,10 @@ fn reached<N: Names>(
 
 /// Whether x leads to z: each id on the way names the next, in one step or more. If z is x, this says whether x is on a
 /// loop.
-pub fn leads<N: Names>(alloc: Global, names: &N, x: Id, z: Id) -> Result<bool, AllocError>
+pub fn leads_to<N: Names>(alloc: Global, names: &N, x: Id, z: Id) -> Result<bool, AllocError>
     ensures { IfOk result (λ found. IsTrue found ↔ Reaches (N.named names.now) x z) }
 {
-    let seen = reached(alloc, names, x, Some(&z))?;
+    let seen = search_reachable(alloc, names, x, Some(&z))?;
     Ok(seen.contains(&z))
 }
 
@@ -126,21 +126,21 @@ pub fn leads_from_both_ends<F: Names, B: Names>(
             return Ok(true);
         }
         if ahead.len() <= behind.len() {
-            go_on(names, i, &mut found, &mut ahead)?;
+            visit_seen(names, i, &mut found, &mut ahead)?;
             i += 1;
         } else {
-            go_on(namers, j, &mut found, &mut behind)?;
+            visit_seen(namers, j, &mut found, &mut behind)?;
             j += 1;
         }
     }
     Ok(have_met(&ahead, &behind, x, z))
 }
 
-/// The ids to which x leads in this way.
-pub fn ends<N: Names>(alloc: Global, names: &N, x: Id) -> Result<IdList, AllocError>
+/// The ids to which x leads, in one step or more.
+pub fn reachable_ids<N: Names>(alloc: Global, names: &N, x: Id) -> Result<IdList, AllocError>
     ensures { IfOk result (λ ends. (z : List ℕ) → Contains ends z ↔ Reaches (N.named names.now) x z) }
 {
-    let seen = reached(alloc, names, x, None)?;
+    let seen = search_reachable(alloc, names, x, None)?;
     let ends = Vec::from_slice(alloc, seen.as_slice())?;
     Ok(IdList::from_vec(ends))
 }

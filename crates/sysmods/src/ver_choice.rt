@@ -9,7 +9,7 @@ ghost use Rattle.sysmods.specs.Choices.{has_ver, picked, number_in, choice};
 
 use crate::chain::Chain;
 use crate::global_zone::GlobalZone;
-use crate::search::{Names, ends, leads};
+use crate::search::{Names, leads_to, reachable_ids};
 use fields::{Id, IdList, Srel, VerNumber};
 use sorted::{Keyed, Table};
 use std::alloc::{AllocError, Global};
@@ -76,9 +76,9 @@ impl<'a> VerChoice<'a> {
     pub fn number(&self, id: Id) -> VerNumber
         ensures { result ≡ number_in self.now id }
     {
-        match picked(&self.kept, id) {
+        match picked_number(&self.kept, id) {
             Some(number) => number,
-            None => picked(&self.fitting, id).unwrap_or(VerNumber::FIRST),
+            None => picked_number(&self.fitting, id).unwrap_or(VerNumber::FIRST),
         }
     }
 
@@ -177,17 +177,18 @@ impl<'a> VerChoice<'a> {
     pub fn over(&self, alloc: Global, x: Id, z: Id) -> Result<bool, AllocError>
         ensures { IfOk result (λ over. IsTrue over ↔ IsOver (choice self.now) x z) }
     {
-        leads(alloc, &AllNames { choice: self }, x, z)
+        leads_to(alloc, &AllNames { choice: self }, x, z)
     }
 
     /// The ids that x supersedes, directly or through others.
     pub fn sup_all(&self, alloc: Global, x: Id) -> Result<IdList, AllocError>
         ensures { IfOk result (λ ids. (z : List ℕ) → Contains ids z ↔ Supersedes (choice self.now) x z) }
     {
-        ends(alloc, &Superseded { choice: self }, x)
+        reachable_ids(alloc, &Superseded { choice: self }, x)
     }
 }
 
+// Whether the id is one of these.
 fn is_in(ids: &[Id], id: Id) -> bool
     ensures { result ≡ is_in ids.now id }
 {
@@ -195,7 +196,7 @@ fn is_in(ids: &[Id], id: Id) -> bool
 }
 
 // The number that is picked for the id.
-fn picked(picks: &Table<Pick>, id: Id) -> Option<VerNumber>
+fn picked_number(picks: &Table<Pick>, id: Id) -> Option<VerNumber>
     ensures { result ≡ picked picks.now id }
 {
     let pick = picks.get(id)?;
@@ -214,11 +215,11 @@ pub fn numbered_ver(global: &GlobalZone, srel: Srel, id: Id, number: VerNumber) 
     ensures { option_copied result ≡ slice_get (vers_of global.now srel id) (number - 1) }
 {
     let sysmod = global.get(id)?;
-    of_srel(sysmod.vers.as_slice(), srel, number.get() - 1)
+    nth_for_srel(sysmod.vers.as_slice(), srel, number.get() - 1)
 }
 
-// The one at this place among those for the SREL.
-fn of_srel<'a>(vers: &'a [Ver], srel: Srel, place: usize) -> Option<&'a Ver>
+// The `++VER` at this place among those for the SREL, counted from 0.
+fn nth_for_srel<'a>(vers: &'a [Ver], srel: Srel, place: usize) -> Option<&'a Ver>
     ensures { option_copied result ≡ slice_get (filter (λ v. bytes_eq v.srel srel) vers.now) place }
 {
     vers.iter().filter(|ver| ver.srel == srel).nth(place)

@@ -14,7 +14,8 @@ pub(crate) enum Way {
 }
 
 impl Way {
-    pub(crate) fn is_of(self, sysmod: &Sysmod, id: Id) -> bool
+    /// Whether the SYSMOD names the id in this way.
+    pub(crate) fn is_taken_by(self, sysmod: &Sysmod, id: Id) -> bool
         ensures { result ≡ names_so self id sysmod.now }
     {
         match self {

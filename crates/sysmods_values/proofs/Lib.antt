@@ -1,3 +1,4 @@
 pub mod Naming
 pub mod KeyOrders
 pub mod Places
+mod Words

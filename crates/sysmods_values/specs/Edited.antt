@@ -1,10 +1,10 @@
 -- Edits of the received SYSMODs.
 use Rattle.std.specs.Prelude.{not, List, map, filter, if◌then◌else◌}
 use Rattle.std.specs.Str.{bytes_eq}
-use Rattle.terms.specs.Types.{Text, Id, Sysmod, Global}
+use Rattle.terms.specs.Types.{Source, Id, Sysmod, Global}
 
 -- the SYSMOD of the id has these sources
-abbrev pub with_sources : Id → List Text → Global → Global
+abbrev pub with_sources : Id → List Source → Global → Global
 with_sources id sources global = record global {
   sysmods = map
       (λ (s : Sysmod). if bytes_eq s.id id then record s { sources = sources } else s) global.sysmods;

@@ -37,10 +37,12 @@ impl Sysmod {
         ensures { result ≡ list_any (λ c. (type_number c.elem_type == type_number elem_type) && bytes_eq c.name name)
             self.now.changes }
     {
-        self.changes.iter().any(|change| change.elem_type == elem_type && change.name == name)
+        self.changes
+            .iter()
+            .any(|change| change.is_about(elem_type, name))
     }
 
-    /// Puts the `++VER` after those of its release and of earlier ones, and returns its place.
+    /// Puts the `++VER` after those of its release and of earlier releases, and returns its place.
     pub fn insert_ver(&mut self, ver: Ver) -> Result<usize, AllocError>
         ensures ok { IfOk result (λ n. (n ≡ place_of ver self.old.vers)
             × (self.new ≡ record self.old { vers = with_ver_at n ver self.old.vers })) }
@@ -50,7 +52,7 @@ impl Sysmod {
         Ok(place)
     }
 
-    /// Puts the `++IF` after those of the `++VER` at the place, if there is one.
+    /// Puts the `++IF` after those of the `++VER` at this place. If no `++VER` is there, nothing changes.
     pub fn push_if(&mut self, place: usize, condition: IfReq) -> Result<(), AllocError>
         ensures ok { IfOk result (λ u. self.new
             ≡ record self.old { vers = with_if_at condition self.old.vers place }) }
@@ -87,24 +89,24 @@ impl Sysmod {
     }
 }
 
-// The first `++VER` for a later release.
-fn first_later(vers: &[Ver], srel: Srel) -> Option<usize>
+// The place of the first `++VER` for a later release.
+fn first_later_place(vers: &[Ver], srel: Srel) -> Option<usize>
     ensures { result ≡ position (λ v. is_before srel v.srel) vers.now }
 {
     vers.iter().position(|ver| srel < ver.srel)
 }
 
-// The place after the `++VER`s of its release and of earlier ones.
+// The place after the `++VER`s of its release and of earlier releases.
 fn ver_place(vers: &[Ver], ver: &Ver) -> usize
     ensures { result ≡ place_of ver.now vers.now }
 {
-    match first_later(vers, ver.srel) {
+    match first_later_place(vers, ver.srel) {
         Some(place) => place,
         None => vers.len(),
     }
 }
 
-// The place of the statement for this one's element, or the place where it would come in.
+// The place of the statement for the same element, or as the error the place at which to insert this one.
 fn change_place(changes: &[ElemChange], change: &ElemChange) -> Result<usize, usize>
     requires { Rises change_cmp (λ c. c) changes.now }
     ensures found { IfOk result
@@ -113,5 +115,5 @@ fn change_place(changes: &[ElemChange], change: &ElemChange) -> Result<usize, us
         (λ i. (i ≤ length changes.now) × Splits change_cmp (λ c. c) change.now (take i changes.now)
         (drop i changes.now)) }
 {
-    changes.binary_search_by(|other| other.order(change))
+    changes.binary_search_by(|other| other.cmp_element(change))
 }

@@ -1,11 +1,8 @@
 //! `++HOLD`.
-ghost use Rattle.std.specs.Prelude.{◌≡◌};
-ghost use Rattle.terms.specs.Global.{hold_cmp};
 
 use fields::{Class, HoldDate, Id, Reason};
 use sorted::TryClone;
 use std::alloc::{AllocError, Global};
-use std::cmp::Ordering;
 use std::marker::Model;
 use terms::HoldKind;
 
@@ -43,18 +40,6 @@ impl Model for Hold {
     } };
 
     ghost invariant = { λ a. IsReason a.kind a.reason };
-}
-
-impl Hold {
-    /// How their keys are ordered.
-    pub fn order(&self, other: &Hold) -> Ordering
-        ensures { result ≡ hold_cmp self.now other.now }
-    {
-        self.id
-            .cmp(&other.id)
-            .then(self.kind.cmp(&other.kind))
-            .then(self.reason.cmp(&other.reason))
-    }
 }
 
 impl TryClone for Hold {

@@ -48,7 +48,7 @@ impl Attest for Sysmod {
 }
 
 impl Sysmod {
-    /// Adds a source.
+    /// Adds the source in order, unless it is there already.
     pub fn insert_source(&mut self, source: Source) -> Result<(), AllocError>
         ensures ok { OnOk result (self.new ≡ with_source source self.old) }
         ensures err { OnErr result (self.new ≡ self.old) }
@@ -57,7 +57,7 @@ impl Sysmod {
         Ok(())
     }
 
-    /// Takes its holds out.
+    /// Takes its holds out and returns them.
     pub fn take_holds(&mut self, alloc: Global) -> Vec<Hold>
         ensures holds { result.items ≡ self.old.holds }
         ensures rest { self.new ≡ record self.old { holds = [] } }

@@ -74,19 +74,22 @@ impl Ver {
         Ok(())
     }
 
-    fn has_fmid(&self, id: Id) -> bool
+    // Whether its FMID is this id.
+    fn is_fmid(&self, id: Id) -> bool
         ensures { result ≡ is_in (at_most_one self.now.fmid) id }
     {
         self.fmid == Some(id)
     }
 
-    fn lists(&self, id: Id) -> bool
+    // Whether its PRE or its SUP contains the id.
+    fn is_in_pre_or_sup(&self, id: Id) -> bool
         ensures { result ≡ is_in (self.now.pre ++ self.now.sup) id }
     {
         self.pre.contains(id) || self.sup.contains(id)
     }
 
-    fn has_condition(&self, id: Id) -> bool
+    // Whether one of its `++IF`s asks whether this function is installed.
+    fn is_function_of_if(&self, id: Id) -> bool
         ensures { result ≡ is_in (map (λ i. i.function) self.now.ifs) id }
     {
         self.ifs
@@ -100,7 +103,7 @@ impl Ver {
     pub fn names(&self, id: Id) -> bool
         ensures { result ≡ is_in (named self.now) id }
     {
-        self.lists(id) || self.has_fmid(id)
+        self.is_in_pre_or_sup(id) || self.is_fmid(id)
     }
 
     /// Whether its SUP names the id.
@@ -115,6 +118,6 @@ impl Ver {
     pub fn names_function(&self, id: Id) -> bool
         ensures { result ≡ is_in (named_functions self.now) id }
     {
-        self.del.contains(id) || self.has_fmid(id) || self.has_condition(id)
+        self.del.contains(id) || self.is_fmid(id) || self.is_function_of_if(id)
     }
 }

@@ -5,88 +5,72 @@ use Rattle.terms.specs.declared.codes.StatementCode.{StatementCode}
 use Rattle.terms.specs.declared.codes.StatementCode.TheVariants.{BadStatementForm, UnknownStatementWord}
 use Rattle.terms.specs.declared.codes.StatementCode.TheVariants.{BadStatementOperand}
 use Rattle.terms.specs.declared.codes.StatementCode.TheVariants.{WrongPlace, BadText, OverLimit}
-use Rattle.terms.specs.declared.statement_words.StatementWord.{StatementWord}
-use Rattle.terms.specs.Types.{Text, Lines}
+use Rattle.terms.specs.Types.{Lines}
 use Rattle.terms.specs.Records.{HasRecords, rec_fault_record}
 use Rattle.terms.specs.Groups.{Group, TakesGroup, starts_outside}
-use Rattle.terms.specs.Statement.{Piece}
 use Rattle.terms.specs.Words.{TakesWord}
 use Rattle.terms.specs.Statements.{Statement, statement_text}
-use Rattle.terms.specs.Ptfin.{Begun, SoFar, sysmod_in, nothing, after, IsKnown, IsUnknown, IsWithin, IsFault}
+use Rattle.terms.specs.Ptfin.{Begun, SoFar, sysmod_in, nothing, after, Parts, HasParts, IsUnknown}
+use Rattle.terms.specs.Ptfin.{IsWithin, IsFault}
 use Rattle.terms.specs.Ptfin.{IsGoodStatement, IsStatementFault, BeginsWithStatements, McsFault, IsNextFault}
 use Rattle.terms.specs.Ptfin.{IsPtfinFault}
 use Rattle.terms.proofs.Exact.{statement_only, fault_no_statement}
 use Rattle.terms.proofs.ExactFiles.{records_only, rec_fault_no_records, rec_fault_only, group_only, begins_inside}
 use Rattle.terms.proofs.ExactStatements.{value_only}
-use Rattle.terms.proofs.ExactPtfin.{SameParts, known_only, good_only, same_step, statement_fault_no_good}
+use Rattle.terms.proofs.ExactPtfin.{parts_only, good_only, same_step, statement_fault_no_good}
 
-fault_codes : (current : Option Begun) (later : Lines) (w : StatementWord) (own : Option Text) (rest : List Piece)
-    (inline : Lines) (a b : StatementCode) → IsFault current later w own rest inline a
-    → IsFault current later w own rest inline b → a ≡ b
-fault_codes current later w own rest inline BadStatementForm b f g = absurd f
-fault_codes current later w own rest inline UnknownStatementWord b f g = absurd f
-fault_codes current later w own rest inline BadStatementOperand BadStatementForm f g = absurd g
-fault_codes current later w own rest inline BadStatementOperand UnknownStatementWord f g = absurd g
-fault_codes current later w own rest inline BadStatementOperand BadStatementOperand f g = refl
-fault_codes current later w own rest inline BadStatementOperand WrongPlace f g = absurd (f.0 g.0 g.1)
-fault_codes current later w own rest inline BadStatementOperand BadText f g = absurd (f.1 g.0 g.2)
-fault_codes current later w own rest inline BadStatementOperand OverLimit f g = absurd (f.1 g.0 g.2)
-fault_codes current later w own rest inline WrongPlace BadStatementForm f g = absurd g
-fault_codes current later w own rest inline WrongPlace UnknownStatementWord f g = absurd g
-fault_codes current later w own rest inline WrongPlace BadStatementOperand f g = absurd (g.0 f.0 f.1)
-fault_codes current later w own rest inline WrongPlace WrongPlace f g = refl
-fault_codes current later w own rest inline WrongPlace BadText f g = absurd (g.1 f.0 f.1)
-fault_codes current later w own rest inline WrongPlace OverLimit f g = absurd (g.1 f.0 f.1)
-fault_codes current later w own rest inline BadText BadStatementForm f g = absurd g
-fault_codes current later w own rest inline BadText UnknownStatementWord f g = absurd g
-fault_codes current later w own rest inline BadText BadStatementOperand f g = absurd (g.1 f.0 f.2)
-fault_codes current later w own rest inline BadText WrongPlace f g = absurd (f.1 g.0 g.1)
-fault_codes current later w own rest inline BadText BadText f g = refl
-fault_codes current later w own rest inline BadText OverLimit f g =
-    let same = value_only (sysmod_in current) w own rest inline f.0 g.0 f.2 g.2 in
-    absurd (g.3 (subst (λ t. IsWithin current t inline) same f.3))
-fault_codes current later w own rest inline OverLimit BadStatementForm f g = absurd g
-fault_codes current later w own rest inline OverLimit UnknownStatementWord f g = absurd g
-fault_codes current later w own rest inline OverLimit BadStatementOperand f g = absurd (g.1 f.0 f.2)
-fault_codes current later w own rest inline OverLimit WrongPlace f g = absurd (f.1 g.0 g.1)
-fault_codes current later w own rest inline OverLimit BadText f g =
-    let same = value_only (sysmod_in current) w own rest inline g.0 f.0 g.2 f.2 in
-    absurd (f.3 (subst (λ t. IsWithin current t inline) same g.3))
-fault_codes current later w own rest inline OverLimit OverLimit f g = refl
+fault_codes : (current : Option Begun) (later : Lines) (p : Parts) (a b : StatementCode) → IsFault current later p a
+    → IsFault current later p b → a ≡ b
+fault_codes current later p BadStatementForm b f g = absurd f
+fault_codes current later p UnknownStatementWord b f g = absurd f
+fault_codes current later p BadStatementOperand BadStatementForm f g = absurd g
+fault_codes current later p BadStatementOperand UnknownStatementWord f g = absurd g
+fault_codes current later p BadStatementOperand BadStatementOperand f g = refl
+fault_codes current later p BadStatementOperand WrongPlace f g = absurd (f.0 g.0 g.1)
+fault_codes current later p BadStatementOperand BadText f g = absurd (f.1 g.0 g.2)
+fault_codes current later p BadStatementOperand OverLimit f g = absurd (f.1 g.0 g.2)
+fault_codes current later p WrongPlace BadStatementForm f g = absurd g
+fault_codes current later p WrongPlace UnknownStatementWord f g = absurd g
+fault_codes current later p WrongPlace BadStatementOperand f g = absurd (g.0 f.0 f.1)
+fault_codes current later p WrongPlace WrongPlace f g = refl
+fault_codes current later p WrongPlace BadText f g = absurd (g.1 f.0 f.1)
+fault_codes current later p WrongPlace OverLimit f g = absurd (g.1 f.0 f.1)
+fault_codes current later p BadText BadStatementForm f g = absurd g
+fault_codes current later p BadText UnknownStatementWord f g = absurd g
+fault_codes current later p BadText BadStatementOperand f g = absurd (g.1 f.0 f.2)
+fault_codes current later p BadText WrongPlace f g = absurd (f.1 g.0 g.1)
+fault_codes current later p BadText BadText f g = refl
+fault_codes current later p BadText OverLimit f g =
+    let same = value_only (sysmod_in current) p f.0 g.0 f.2 g.2 in
+    absurd (g.3 (subst (λ t. IsWithin current t p.inline) same f.3))
+fault_codes current later p OverLimit BadStatementForm f g = absurd g
+fault_codes current later p OverLimit UnknownStatementWord f g = absurd g
+fault_codes current later p OverLimit BadStatementOperand f g = absurd (g.1 f.0 f.2)
+fault_codes current later p OverLimit WrongPlace f g = absurd (f.1 g.0 g.1)
+fault_codes current later p OverLimit BadText f g =
+    let same = value_only (sysmod_in current) p g.0 f.0 g.2 f.2 in
+    absurd (f.3 (subst (λ t. IsWithin current t p.inline) same g.3))
+fault_codes current later p OverLimit OverLimit f g = refl
 
 -- a fault behind a known word
 record KnownFault (current : Option Begun) (later records : Lines) (code : StatementCode) : Type 0 where
-  w : StatementWord
-  own : Option Text
-  rest : List Piece
-  inline : Lines
-  known : IsKnown records w own rest inline
-  fault : IsFault current later w own rest inline code
-
-same_fault : (current : Option Begun) (later : Lines) (w v : StatementWord) (own other : Option Text)
-    (rest more : List Piece) (inline text : Lines) (code : StatementCode)
-    → SameParts w v own other rest more inline text
-    → IsFault current later w own rest inline code → IsFault current later v other more text code
-same_fault current later w v own other rest more inline text code p f =
-    subst (λ i. IsFault current later v other more i code) p.inlines
-    (subst (λ r. IsFault current later v other r inline code) p.rests
-    (subst (λ o. IsFault current later v o rest inline code) p.owns
-    (subst (λ x. IsFault current later x own rest inline code) p.words f)))
+  p : Parts
+  known : HasParts records p
+  fault : IsFault current later p code
 
 known_codes : (current : Option Begun) (later records : Lines) (a b : StatementCode)
     → KnownFault current later records a
     → KnownFault current later records b → a ≡ b
 known_codes current later records a b f g =
-    let parts = known_only records f.w g.w f.own g.own f.rest g.rest f.inline g.inline f.known g.known in
-    fault_codes current later g.w g.own g.rest g.inline a b (same_fault current later f.w g.w f.own g.own f.rest g.rest
-    f.inline g.inline a parts f.fault) g.fault
+    fault_codes current later g.p a b
+    (subst (λ p. IsFault current later p a) (parts_only records f.p g.p f.known g.known) f.fault) g.fault
 
 unknown_known : (current : Option Begun) (later records : Lines) (code : StatementCode) → IsUnknown records
     → KnownFault current later records code → ⊥
 unknown_known current later records code u f =
-    let same = statement_only records f.known.pieces u.pieces f.inline u.inline f.known.statement u.statement in
-    u.unknown f.w f.own f.rest (subst (λ p. TakesWord p (record { word = statement_text f.w; list = f.own }) f.rest)
-    same.0 f.known.begins)
+    let same = statement_only records f.known.pieces u.pieces f.p.inline u.inline f.known.statement u.statement in
+    u.unknown f.p.word f.p.own f.p.rest
+    (subst (λ p. TakesWord p (record { word = statement_text f.p.word; list = f.p.own }) f.p.rest) same.0 f.known.begins)
 
 -- whether a fault is of the form, of the word, or behind a known word
 data Judged (current : Option Begun) (later records : Lines) : StatementCode → Type 0 where
@@ -95,17 +79,8 @@ data Judged (current : Option Begun) (later records : Lines) : StatementCode →
   Behind : (code : StatementCode) → KnownFault current later records code → Judged current later records code
 
 behind : (current : Option Begun) (later records : Lines) (code : StatementCode)
-    → (w : StatementWord) × (own : Option Text) × (rest : List Piece) × (inline : Lines)
-    × IsKnown records w own rest inline × IsFault current later w own rest inline code
-    → Judged current later records code
-behind current later records code f = Behind code (record {
-  w = f.0;
-  own = f.1;
-  rest = f.2;
-  inline = f.3;
-  known = f.4;
-  fault = f.5;
-})
+    → (p : Parts) × HasParts records p × IsFault current later p code → Judged current later records code
+behind current later records code f = Behind code (record { p = f.0; known = f.1; fault = f.2 })
 
 judged : (current : Option Begun) (later records : Lines) (code : StatementCode)
     → IsStatementFault current later records code
@@ -123,14 +98,14 @@ judged_codes current later records a b (OfForm f) (OfForm g) = refl
 judged_codes current later records a b (OfForm f) (OfWord g) =
     absurd (fault_no_statement records f.0 g.pieces g.inline f.1 g.statement)
 judged_codes current later records a b (OfForm f) (Behind code g) =
-    absurd (fault_no_statement records f.0 g.known.pieces g.inline f.1 g.known.statement)
+    absurd (fault_no_statement records f.0 g.known.pieces g.p.inline f.1 g.known.statement)
 judged_codes current later records a b (OfWord f) (OfForm g) =
     absurd (fault_no_statement records g.0 f.pieces f.inline g.1 f.statement)
 judged_codes current later records a b (OfWord f) (OfWord g) = refl
 judged_codes current later records a b (OfWord f) (Behind code g) =
     absurd (unknown_known current later records code f g)
 judged_codes current later records a b (Behind code f) (OfForm g) =
-    absurd (fault_no_statement records g.0 f.known.pieces f.inline g.1 f.known.statement)
+    absurd (fault_no_statement records g.0 f.known.pieces f.p.inline g.1 f.known.statement)
 judged_codes current later records a b (Behind code f) (OfWord g) =
     absurd (unknown_known current later records code g f)
 judged_codes current later records a b (Behind code f) (Behind code' g) =

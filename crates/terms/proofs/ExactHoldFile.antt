@@ -12,14 +12,14 @@ use Rattle.terms.specs.Statement.{Piece}
 use Rattle.terms.specs.Words.{TakesWord}
 use Rattle.terms.specs.Statements.{statement_text}
 use Rattle.terms.specs.HoldStatements.{IsHoldOf, IsReleaseOf}
-use Rattle.terms.specs.Ptfin.{McsFault}
+use Rattle.terms.specs.Ptfin.{Parts, McsFault}
 use Rattle.terms.specs.HoldFile.{StandsInHoldFile, HasItem, IsWithin, IsGoodItem, IsItemFault, BeginsWithItems}
 use Rattle.terms.specs.HoldFile.{IsHoldFile}
 use Rattle.terms.specs.HoldFile.{IsNextItemFault, IsHoldFileFault}
 use Rattle.terms.proofs.Exact.{statement_only, fault_no_statement}
 use Rattle.terms.proofs.ExactFiles.{records_only, rec_fault_no_records, group_only, no_group, begins_inside}
 use Rattle.terms.proofs.ExactHolds.{hold_only, release_only}
-use Rattle.terms.proofs.ExactPtfin.{SameParts, known_only}
+use Rattle.terms.proofs.ExactPtfin.{parts_only}
 use Rattle.terms.proofs.ExactWords.{words_only}
 
 -- A statement says one item at most.
@@ -34,42 +34,33 @@ item_only w own rest (ARelease a) (ARelease b) h k =
     let words = words_only rest h.0 k.0 h.1 k.1 in
     ap (λ x. ARelease x) (release_only own k.0 a b (subst (λ l. IsReleaseOf own l a) words h.2.1) k.2.1)
 
-same_item : (w v : StatementWord) (own other : Option Text) (rest more : List Piece) (inline text : Lines)
-    (item : HoldItem) → SameParts w v own other rest more inline text → HasItem w own rest item
-    → HasItem v other more item
-same_item w v own other rest more inline text item p h =
-    subst (λ r. HasItem v other r item) p.rests (subst (λ o. HasItem v o rest item) p.owns
-    (subst (λ x. HasItem x own rest item) p.words h))
-
-same_place : (w v : StatementWord) (own other : Option Text) (rest more : List Piece) (inline text : Lines)
-    → SameParts w v own other rest more inline text → StandsInHoldFile w inline → StandsInHoldFile v text
-same_place w v own other rest more inline text p h = subst (λ i. StandsInHoldFile v i) p.inlines
-    (subst (λ x. StandsInHoldFile x inline) p.words h)
+-- what the parts of a statement say
+abbrev HasItemIn : Parts → HoldItem → Type 0
+HasItemIn p item = HasItem p.word p.own p.rest item
 
 good_item_only : (records : Lines) (a b : HoldItem) → IsGoodItem records a → IsGoodItem records b → a ≡ b
 good_item_only records a b h k =
-    let parts = known_only records h.0 k.0 h.1 k.1 h.2 k.2 h.3 k.3 h.4 k.4 in
-    item_only k.0 k.1 k.2 a b (same_item h.0 k.0 h.1 k.1 h.2 k.2 h.3 k.3 a parts h.6) k.6
+    let parts = parts_only records h.0 k.0 h.1 k.1 in
+    item_only k.0.word k.0.own k.0.rest a b (subst (λ p. HasItemIn p a) parts h.3) k.3
 
 -- No statement is both good and at fault.
 pub item_fault_no_good : (records : Lines) (code : StatementCode) (item : HoldItem) → IsItemFault records code
     → IsGoodItem records item → ⊥
-item_fault_no_good records BadStatementForm item f g = fault_no_statement records f.0 g.4.pieces g.3 f.1 g.4.statement
+item_fault_no_good records BadStatementForm item f g =
+    fault_no_statement records f.0 g.1.pieces g.0.inline f.1 g.1.statement
 item_fault_no_good records UnknownStatementWord item f g =
-    let same = statement_only records g.4.pieces f.pieces g.3 f.inline g.4.statement f.statement in
-    f.unknown g.0 g.1 g.2 (subst (λ p. TakesWord p (record { word = statement_text g.0; list = g.1 }) g.2) same.0
-    g.4.begins)
+    let same = statement_only records g.1.pieces f.pieces g.0.inline f.inline g.1.statement f.statement in
+    f.unknown g.0.word g.0.own g.0.rest
+    (subst (λ p. TakesWord p (record { word = statement_text g.0.word; list = g.0.own }) g.0.rest) same.0 g.1.begins)
 item_fault_no_good records BadStatementOperand item f g =
-    let parts = known_only records g.0 f.0 g.1 f.1 g.2 f.2 g.3 f.3 g.4 f.4 in
-    f.6 item (same_item g.0 f.0 g.1 f.1 g.2 f.2 g.3 f.3 item parts g.6)
+    f.3 item (subst (λ p. HasItemIn p item) (parts_only records g.0 f.0 g.1 f.1) g.3)
 item_fault_no_good records WrongPlace item f g =
-    let parts = known_only records g.0 f.0 g.1 f.1 g.2 f.2 g.3 f.3 g.4 f.4 in
-    f.5 (same_place g.0 f.0 g.1 f.1 g.2 f.2 g.3 f.3 parts g.5)
+    f.2 (subst (λ p. StandsInHoldFile p.word p.inline) (parts_only records g.0 f.0 g.1 f.1) g.2)
 item_fault_no_good records BadText item f g = f
 item_fault_no_good records OverLimit item f g =
-    let parts = known_only records g.0 f.0 g.1 f.1 g.2 f.2 g.3 f.3 g.4 f.5 in
-    let same = item_only f.0 f.1 f.2 item f.4 (same_item g.0 f.0 g.1 f.1 g.2 f.2 g.3 f.3 item parts g.6) f.7 in
-    f.8 (subst IsWithin same g.7)
+    let parts = parts_only records g.0 f.0 g.1 f.2 in
+    let same = item_only f.0.word f.0.own f.0.rest item f.1 (subst (λ p. HasItemIn p item) parts g.3) f.4 in
+    f.5 (subst IsWithin same g.4)
 
 no_next : (n : ℕ) (records : Lines) (fault : McsFault) → records ≡ [] → IsNextItemFault n records fault → ⊥
 no_next n records fault none f = no_group n f.1 f.2 f.0 (subst (λ r. TakesGroup n r f.0 f.1 f.2) none f.3)

@@ -1,88 +1,74 @@
 -- No file is both a PTFIN and at fault, and its items are determined.
-use Rattle.std.proofs.Common.{◌≡◌, ℕ, false, List, [], ◌∷◌, Option, sym, ◌∙◌, ap, subst, inl, inr}
+use Rattle.std.proofs.Common.{◌≡◌, ℕ, false, List, [], ◌∷◌, Option, sym, refl, ◌∙◌, ap, subst, inl, inr}
 use Rattle.std.proofs.lemmas.Bool.{true≢false}
 use Rattle.terms.specs.declared.codes.StatementCode.{StatementCode}
 use Rattle.terms.specs.declared.codes.StatementCode.TheVariants.{BadStatementForm, UnknownStatementWord}
 use Rattle.terms.specs.declared.codes.StatementCode.TheVariants.{BadStatementOperand}
 use Rattle.terms.specs.declared.codes.StatementCode.TheVariants.{WrongPlace, BadText, OverLimit}
-use Rattle.terms.specs.declared.statement_words.StatementWord.{StatementWord}
-use Rattle.terms.specs.Types.{Text, Lines, Item}
+use Rattle.terms.specs.Types.{Lines, Item}
 use Rattle.terms.specs.Groups.{Group, TakesGroup, starts_outside}
-use Rattle.terms.specs.Statement.{Piece}
 use Rattle.terms.specs.Words.{TakesWord}
 use Rattle.terms.specs.Statements.{Statement, statement_text}
-use Rattle.terms.specs.Ptfin.{Begun, SoFar, sysmod_in, nothing, items_of, after, IsKnown, IsGood, IsWithin, HasGoodText}
+use Rattle.terms.specs.Ptfin.{Begun, SoFar, sysmod_in, nothing, items_of, after, Parts, HasParts, IsGood, IsWithin, these_parts}
+use Rattle.terms.specs.Ptfin.{HasValue, HasGoodText}
 use Rattle.terms.specs.Ptfin.{IsFault, IsGoodStatement, IsStatementFault, BeginsWithStatements, IsPtfin, McsFault}
 use Rattle.terms.specs.Ptfin.{IsNextFault, IsPtfinFault}
 use Rattle.terms.proofs.Exact.{statement_only, fault_no_statement}
 use Rattle.terms.proofs.ExactFiles.{records_only, rec_fault_no_records, group_only, no_group, begins_inside}
 use Rattle.terms.proofs.ExactStatements.{spelled_only, takes_only, value_only}
 
--- the parts of a statement that begins with a known word are the same
-pub record SameParts (w v : StatementWord) (own other : Option Text) (rest more : List Piece) (inline later : Lines) :
-    Type 0 where
-  pub words : w ≡ v
-  pub owns : own ≡ other
-  pub rests : rest ≡ more
-  pub inlines : inline ≡ later
+same_parts : (p q : Parts) → p.word ≡ q.word → p.own ≡ q.own → p.rest ≡ q.rest → p.inline ≡ q.inline → p ≡ q
+same_parts p q words owns rests inlines =
+    subst (λ i. p ≡ these_parts q.word q.own q.rest i) inlines
+    (subst (λ r. p ≡ these_parts q.word q.own r p.inline) rests
+    (subst (λ o. p ≡ these_parts q.word o p.rest p.inline) owns
+    (subst (λ w. p ≡ these_parts w p.own p.rest p.inline) words refl)))
 
-pub known_only : (records : Lines) (w v : StatementWord) (own other : Option Text) (rest more : List Piece)
-    (inline later : Lines) → IsKnown records w own rest inline → IsKnown records v other more later
-    → SameParts w v own other rest more inline later
-known_only records w v own other rest more inline later h k =
-    let same = statement_only records h.pieces k.pieces inline later h.statement k.statement in
-    let begins = subst (λ p. TakesWord p (record { word = statement_text w; list = own }) rest) same.0 h.begins in
-    let takes = takes_only k.pieces (statement_text w) (statement_text v) own other rest more begins k.begins in
-    record { words = spelled_only w v takes.0; owns = takes.1; rests = takes.2; inlines = same.1 }
-
-same_good : (current : Option Begun) (later : Lines) (w v : StatementWord) (own other : Option Text)
-    (rest more : List Piece) (inline text : Lines) (s : Statement) → SameParts w v own other rest more inline text
-    → IsGood current later w own rest inline s → IsGood current later v other more text s
-same_good current later w v own other rest more inline text s p g =
-    subst (λ i. IsGood current later v other more i s) p.inlines
-    (subst (λ r. IsGood current later v other r inline s) p.rests
-    (subst (λ o. IsGood current later v o rest inline s) p.owns
-    (subst (λ x. IsGood current later x own rest inline s) p.words g)))
+-- the parts of a statement that begins with a known word are determined
+pub parts_only : (records : Lines) (p q : Parts) → HasParts records p → HasParts records q → p ≡ q
+parts_only records p q h k =
+    let same = statement_only records h.pieces k.pieces p.inline q.inline h.statement k.statement in
+    let begins = subst (λ ps. TakesWord ps (record { word = statement_text p.word; list = p.own }) p.rest) same.0
+    h.begins in
+    let takes = takes_only k.pieces (statement_text p.word) (statement_text q.word) p.own q.own p.rest q.rest begins
+    k.begins in
+    same_parts p q (spelled_only p.word q.word takes.0) takes.1 takes.2 same.1
 
 pub good_only : (current : Option Begun) (later records : Lines) (s t : Statement)
     → IsGoodStatement current later records s → IsGoodStatement current later records t → s ≡ t
 good_only current later records s t h k =
-    let parts = known_only records h.0 k.0 h.1 k.1 h.2 k.2 h.3 k.3 h.4 k.4 in
-    let good = same_good current later h.0 k.0 h.1 k.1 h.2 k.2 h.3 k.3 s parts h.5 in
-    value_only (sysmod_in current) k.0 k.1 k.2 k.3 s t good.value k.5.value
+    let parts = parts_only records h.0 k.0 h.1 k.1 in
+    value_only (sysmod_in current) k.0 s t (subst (λ p. HasValue (sysmod_in current) p s) parts h.2.value) k.2.value
 
-fault_excludes : (current : Option Begun) (later : Lines) (w : StatementWord) (own : Option Text) (rest : List Piece)
-    (inline : Lines) (code : StatementCode) (s : Statement) → IsFault current later w own rest inline code
-    → IsGood current later w own rest inline s → ⊥
-fault_excludes current later w own rest inline BadStatementForm s f g = f
-fault_excludes current later w own rest inline UnknownStatementWord s f g = f
-fault_excludes current later w own rest inline BadStatementOperand s f g = f.1 s g.value
-fault_excludes current later w own rest inline WrongPlace s f g = g.placed f.0 f.1
-fault_excludes current later w own rest inline BadText s f g =
-    let same = value_only (sysmod_in current) w own rest inline s f.0 g.value f.2 in
+fault_excludes : (current : Option Begun) (later : Lines) (p : Parts) (code : StatementCode) (s : Statement)
+    → IsFault current later p code → IsGood current later p s → ⊥
+fault_excludes current later p BadStatementForm s f g = f
+fault_excludes current later p UnknownStatementWord s f g = f
+fault_excludes current later p BadStatementOperand s f g = f.1 s g.value
+fault_excludes current later p WrongPlace s f g = g.placed f.0 f.1
+fault_excludes current later p BadText s f g =
+    let same = value_only (sysmod_in current) p s f.0 g.value f.2 in
     f.4 (subst HasGoodText same g.text)
-fault_excludes current later w own rest inline OverLimit s f g =
-    let same = value_only (sysmod_in current) w own rest inline s f.0 g.value f.2 in
-    f.3 (subst (λ t. IsWithin current t inline) same g.within)
+fault_excludes current later p OverLimit s f g =
+    let same = value_only (sysmod_in current) p s f.0 g.value f.2 in
+    f.3 (subst (λ t. IsWithin current t p.inline) same g.within)
 
 known_excludes : (current : Option Begun) (later records : Lines) (code : StatementCode) (s : Statement)
-    → ((w : StatementWord) × (own : Option Text) × (rest : List Piece) × (inline : Lines)
-    × IsKnown records w own rest inline × IsFault current later w own rest inline code)
+    → ((p : Parts) × HasParts records p × IsFault current later p code)
     → IsGoodStatement current later records s → ⊥
 known_excludes current later records code s f g =
-    let parts = known_only records g.0 f.0 g.1 f.1 g.2 f.2 g.3 f.3 g.4 f.4 in
-    fault_excludes current later f.0 f.1 f.2 f.3 code s f.5 (same_good current later g.0 f.0 g.1 f.1 g.2 f.2 g.3 f.3 s
-    parts g.5)
+    fault_excludes current later f.0 code s f.2
+    (subst (λ p. IsGood current later p s) (parts_only records g.0 f.0 g.1 f.1) g.2)
 
 -- No statement is both good and at fault.
 pub statement_fault_no_good : (current : Option Begun) (later records : Lines) (code : StatementCode) (s : Statement)
     → IsStatementFault current later records code → IsGoodStatement current later records s → ⊥
-statement_fault_no_good current later records BadStatementForm s f g = fault_no_statement records f.0 g.4.pieces g.3 f.1
-    g.4.statement
+statement_fault_no_good current later records BadStatementForm s f g =
+    fault_no_statement records f.0 g.1.pieces g.0.inline f.1 g.1.statement
 statement_fault_no_good current later records UnknownStatementWord s f g =
-    let same = statement_only records g.4.pieces f.pieces g.3 f.inline g.4.statement f.statement in
-    f.unknown g.0 g.1 g.2 (subst (λ p. TakesWord p (record { word = statement_text g.0; list = g.1 }) g.2) same.0
-    g.4.begins)
+    let same = statement_only records g.1.pieces f.pieces g.0.inline f.inline g.1.statement f.statement in
+    f.unknown g.0.word g.0.own g.0.rest
+    (subst (λ p. TakesWord p (record { word = statement_text g.0.word; list = g.0.own }) g.0.rest) same.0 g.1.begins)
 statement_fault_no_good current later records BadStatementOperand s f g =
     known_excludes current later records BadStatementOperand s f g
 statement_fault_no_good current later records WrongPlace s f g = known_excludes current later records WrongPlace s f g

@@ -16,7 +16,7 @@ use Rattle.terms.specs.Words.{Word, list_pieces, TakesWord, BeginsNoList}
 use Rattle.terms.specs.Statements.{statement_text, changed_type, Statement, SaysHeader, SaysVer, SaysIf, SaysHold}
 use Rattle.terms.specs.Statements.{SaysAssign, SaysChange, IsVerOf, IsIfOf, IsOwnHoldOf, IsAssignOf, HasAction}
 use Rattle.terms.specs.Statements.{IsChangeOf, Says}
-use Rattle.terms.specs.Ptfin.{HasValue}
+use Rattle.terms.specs.Ptfin.{Parts, HasValue}
 use Rattle.terms.proofs.ExactWords.{words_only}
 use Rattle.terms.proofs.ExactOperands.{own_only, one_value, has_sorted_only, listed_some_only, required_only}
 use Rattle.terms.proofs.ExactOperands.{optional_only, texts_only}
@@ -213,8 +213,9 @@ says_only current w own ws inline s t h g =
     ∙ sym (says_spoken current w own ws inline t g)) h g
 
 -- What a statement says is determined.
-pub value_only : (current : Option Sysmod) (w : StatementWord) (own : Option Text) (rest : List Piece) (inline : Lines)
-    (s t : Statement) → HasValue current w own rest inline s → HasValue current w own rest inline t → s ≡ t
-value_only current w own rest inline s t h k =
-    let words = words_only rest h.0 k.0 h.1 k.1 in
-    says_only current w own k.0 inline s t (subst (λ l. Says current w own l inline s) words h.2) k.2
+pub value_only : (current : Option Sysmod) (p : Parts) (s t : Statement) → HasValue current p s → HasValue current p t
+    → s ≡ t
+value_only current p s t h k =
+    let words = words_only p.rest h.0 k.0 h.1 k.1 in
+    says_only current p.word p.own k.0 p.inline s t
+    (subst (λ l. Says current p.word p.own l p.inline s) words h.2) k.2

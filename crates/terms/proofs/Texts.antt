@@ -7,8 +7,10 @@ use Rattle.std.proofs.lemmas.List.{append-nil, length-append, take_at, drop_at}
 use Rattle.std.proofs.lemmas.List.Elements.{All-nil, All-head, All-tail, All-push}
 use Rattle.std.proofs.lemmas.Grind.{flat_map-append}
 use Rattle.std.proofs.lemmas.Bool.{cases_eq, cases_order, eq-eqb, ne_eqb}
+use Rattle.terms.specs.declared.kinds.ElemType.{ElemType}
+use Rattle.terms.specs.declared.kinds.ElemType.TheVariants.{Mac, Src}
 use Rattle.terms.specs.Types.{Lines}
-use Rattle.terms.specs.Texts.{HasLines, number_of, IsNumbered, line_at}
+use Rattle.terms.specs.Texts.{HasLines, number_of, IsNumbered, line_at, TakesUpdates, HasForm}
 
 -- records of bytes
 
@@ -48,6 +50,23 @@ same_joined (x ∷ xs) (y ∷ ys) h k e =
 -- The bytes determine their records.
 pub same_lines : (bytes : List ℕ) (a b : Lines) → HasLines bytes a → HasLines bytes b → a ≡ b
 same_lines bytes a b h k = same_joined a b h.each k.each (sym h.bytes_are ∙ k.bytes_are)
+
+-- the texts of a type
+
+pub numbered_form : (type : ElemType) (text : Lines) → TakesUpdates type → IsNumbered text → HasForm type text
+numbered_form Mac text takes numbered = numbered
+numbered_form Src text takes numbered = numbered
+numbered_form type text takes numbered = tt
+
+pub free_form : (type : ElemType) (text : Lines) → ¬ TakesUpdates type → HasForm type text
+free_form Mac text free = absurd (free tt)
+free_form Src text free = absurd (free tt)
+free_form type text free = tt
+
+pub form_numbered : (type : ElemType) (text : Lines) → TakesUpdates type → HasForm type text → IsNumbered text
+form_numbered Mac text takes form = form
+form_numbered Src text takes form = form
+form_numbered type text takes form = absurd takes
 
 -- numbers that rise, from a least one on
 

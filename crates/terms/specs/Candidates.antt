@@ -10,7 +10,7 @@ use Rattle.terms.specs.declared.kinds.Kind.TheVariants.{Function, Ptf, Apar, Use
 use Rattle.terms.specs.declared.kinds.HoldKind.TheVariants.{Error}
 use Rattle.terms.specs.declared.not_chosen.NotChosen.{NotChosen}
 use Rattle.terms.specs.declared.not_chosen.NotChosen.TheVariants.{Already, Deleted, Missing, NoVer}
-use Rattle.terms.specs.Types.{Text, Id, Ver, Sysmod, Global, Zone, Selection}
+use Rattle.terms.specs.Types.{Srel, Id, Ver, Sysmod, Global, Zone, Selection}
 use Rattle.terms.specs.Lookups.{IsRising, is_nil, at_most_one, is_in, meets, sysmod_of, is_received, is_function}
 use Rattle.terms.specs.Lookups.{holds_of, applied_ids, is_applied, is_supplied, delby_of}
 use Rattle.terms.specs.Choice.{vers_of, fits, counting}
@@ -34,7 +34,7 @@ takes_kind sel Apar = sel.apars
 takes_kind sel Usermod = sel.usermods
 
 -- the FMIDs of its ++VERs for the zone's SREL
-abbrev pub fmids_for : Global → Text → Id → List Id
+abbrev pub fmids_for : Global → Srel → Id → List Id
 fmids_for g srel x = flat_map (λ v. at_most_one v.fmid) (vers_of g srel x)
 
 -- what FORFMID compares: the FMIDs for the zone's SREL, and a function's own id
@@ -88,7 +88,7 @@ abbrev pub open_reasons : Global → Zone → Id → List Id
 open_reasons g zone x = filter (λ z. not (is_supplied zone z)) (map (λ h. h.reason) (holds_of g Error x))
 
 -- what its ++VERs for an SREL supersede directly
-abbrev pub sups_for : Global → Text → Id → List Id
+abbrev pub sups_for : Global → Srel → Id → List Id
 sups_for g srel x = flat_map (λ v. v.sup) (vers_of g srel x)
 
 -- y is a needed id of x or the reason of an ERROR hold on x, or y supersedes such an id

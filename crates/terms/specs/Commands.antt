@@ -8,6 +8,7 @@ use Rattle.terms.specs.declared.codes.CommandCode.{CommandCode}
 use Rattle.terms.specs.declared.codes.CommandCode.TheVariants.{UnknownCommand, BadCommandOperand, OperandTwice}
 use Rattle.terms.specs.declared.codes.CommandCode.TheVariants.{NoSingleList}
 use Rattle.terms.specs.declared.codes.CommandCode.TheVariants.{BadCommandForm}
+use Rattle.terms.specs.Bytes.{paren_open, paren_close}
 use Rattle.terms.specs.Types.{Text, Command}
 use Rattle.terms.specs.Spelling.{word_text}
 use Rattle.terms.specs.Forms.{is_word_byte}
@@ -37,9 +38,9 @@ IsCommandFile bytes cs = (records rest : List (List ℕ)) × (m : ℕ)
 -- The runs of word characters outside inner lists, empty ones included. The first one continues `run`.
 abbrev pub runs_from : Bool → Text → Text → List Text
 runs_from inner run [] = run ∷ []
-runs_from true run (b ∷ bs) = runs_from (not (b == 41)) run bs
+runs_from true run (b ∷ bs) = runs_from (not (b == paren_close)) run bs
 runs_from false run (b ∷ bs) =
-    if is_word_byte b then runs_from false (run ++ b ∷ []) bs else run ∷ runs_from (b == 40) [] bs
+    if is_word_byte b then runs_from false (run ++ b ∷ []) bs else run ∷ runs_from (b == paren_open) [] bs
 
 -- the members in a list of BYPASS, whatever separates them
 abbrev pub runs_in : Option Text → List Text

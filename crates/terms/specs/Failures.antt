@@ -1,12 +1,12 @@
--- Why some candidates are not kept: the needs that stay open, and the causers. APPLY and ACCEPT, and RESTORE, each have
--- their own eligible ids, needs and rule for what serves a need. (Causers are this project's; SMP/E's CAUSER SYSMOD
--- report is their model.)
+-- Why some candidates are not kept: the needs that stay open, and the causers. (Causers are this project's; SMP/E's
+-- CAUSER SYSMOD report is their model.)
 use Rattle.std.specs.Prelude.{◌≡◌, ◌⊎◌, List, [], ◌∷◌, Contains}
 use Rattle.terms.specs.declared.codes.Test.{Test}
 use Rattle.terms.specs.declared.codes.Test.TheVariants as test
 use Rattle.terms.specs.declared.codes.NeedKind.{NeedKind}
 use Rattle.terms.specs.declared.codes.NeedKind.TheVariants as need
 use Rattle.terms.specs.Types.{Id}
+use Rattle.terms.specs.Judging.{Judging}
 
 -- the tests by their numbers, and the kinds of needs, in the order of reports
 abbrev pub all_tests : List Test
@@ -19,23 +19,22 @@ all_tests =
 abbrev pub all_needs : List NeedKind
 all_needs = need.Fmid ∷ need.Pre ∷ need.Req ∷ need.Ifreq ∷ need.HoldError ∷ need.Orphan ∷ need.Elem ∷ need.Dep ∷ []
 
-module _ (cands kept : List Id) (Eligible : Id → Type 0) (Needs : Id → NeedKind → Id → Type 0)
-    (Serves : NeedKind → Id → Id → Type 0) where
+module _ (judging : Judging) (kept : List Id) where
   -- x is a candidate and not kept
   pub record HasFailed (x : Id) : Type 0 where
-    pub cand : Contains cands x
+    pub cand : Contains judging.cands x
     pub not_kept : ¬ Contains kept x
 
   -- x needs z, and no kept candidate serves that need
   pub record IsOpenNeed (x : Id) (kind : NeedKind) (z : Id) : Type 0 where
-    pub needs : Needs x kind z
-    pub unserved : (y : Id) → Contains kept y → ¬ Serves kind y z
+    pub needs : judging.needs x kind z
+    pub unserved : (y : Id) → Contains kept y → ¬ judging.serves kind y z
 
   -- x has failed, and the candidate y serves an open need of it
   pub record LeadsTo (x y : Id) : Type 0 where
     pub failed : HasFailed x
-    pub cand : Contains cands y
-    pub serves : (kind : NeedKind) × (z : Id) × IsOpenNeed x kind z × Serves kind y z
+    pub cand : Contains judging.cands y
+    pub serves : (kind : NeedKind) × (z : Id) × IsOpenNeed x kind z × judging.serves kind y z
 
   -- the steps lead from x to y
   abbrev pub LeadsThrough : Id → List Id → Id → Type 0
@@ -44,12 +43,13 @@ module _ (cands kept : List Id) (Eligible : Id → Type 0) (Needs : Id → NeedK
 
   -- x has a need that no candidate serves
   abbrev pub HasBareNeed : Id → Type 0
-  HasBareNeed x = (kind : NeedKind) × (z : Id) × Needs x kind z × ((y : Id) → Contains cands y → ¬ Serves kind y z)
+  HasBareNeed x = (kind : NeedKind) × (z : Id) × judging.needs x kind z
+      × ((y : Id) → Contains judging.cands y → ¬ judging.serves kind y z)
 
   -- A root has failed for a reason of its own: it is not eligible, or no candidate serves one of its needs.
   pub record IsRoot (x : Id) : Type 0 where
     pub failed : HasFailed x
-    pub why : (¬ Eligible x) ⊎ HasBareNeed x
+    pub why : (¬ judging.eligible x) ⊎ HasBareNeed x
 
   -- y is a root that steps from x reach, or is x itself
   pub record IsCauser (x y : Id) : Type 0 where

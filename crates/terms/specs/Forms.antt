@@ -4,6 +4,7 @@ use Rattle.std.specs.Prelude.{All, slice_index, IsTrue, nat_le, ◌&&◌, ◌||�
 use Rattle.std.specs.Str.Parse.{digits_value}
 use Rattle.terms.specs.declared.kinds.HoldKind.{HoldKind}
 use Rattle.terms.specs.declared.kinds.HoldKind.TheVariants.{Error, System, User}
+use Rattle.terms.specs.Bytes.{blank, number_sign, dollar, plus, period, digit_zero, at_sign}
 use Rattle.terms.specs.Types.{Text}
 
 -- A to Z and 0 to 9; the characters of ids and names are these and $ # @
@@ -14,11 +15,11 @@ abbrev pub is_digit : ℕ → Bool
 is_digit b = nat_le 48 b && nat_le b 57
 
 abbrev pub is_id_byte : ℕ → Bool
-is_id_byte b = is_letter b || is_digit b || b == 36 || b == 35 || b == 64
+is_id_byte b = is_letter b || is_digit b || b == dollar || b == number_sign || b == at_sign
 
 -- a character of a word: one of these or +
 abbrev pub is_word_byte : ℕ → Bool
-is_word_byte b = is_id_byte b || b == 43
+is_word_byte b = is_id_byte b || b == plus
 
 -- so many characters, each of which passes the test
 abbrev pub IsRun : (ℕ → Bool) → ℕ → ℕ → Text → Type 0
@@ -61,24 +62,25 @@ IsDate text = IsRun is_digit 2 2 (take 2 text) × IsDayOfYear (drop 2 text)
 
 -- yy.ddd, the date of APPLY or ACCEPT
 abbrev pub IsDottedDate : Text → Type 0
-IsDottedDate text = IsRun is_digit 2 2 (take 2 text) × (slice_index text 2 ≡ 46) × IsDayOfYear (drop 3 text)
+IsDottedDate text = IsRun is_digit 2 2 (take 2 text) × (slice_index text 2 ≡ period) × IsDayOfYear (drop 3 text)
 
 -- the last digit of a number
 abbrev pub last_digit : ℕ → ℕ
-last_digit n = 48 + n % 10
+last_digit n = digit_zero + n % 10
 
 -- the last two digits of a year, a period, and the day of the year in three digits
 abbrev pub dotted_date : ℕ → ℕ → Text
 dotted_date year day =
-    last_digit (year / 10) ∷ last_digit year ∷ 46 ∷ last_digit (day / 100) ∷ last_digit (day / 10) ∷ last_digit day ∷ []
+    last_digit (year / 10) ∷ last_digit year ∷ period
+    ∷ last_digit (day / 100) ∷ last_digit (day / 10) ∷ last_digit day ∷ []
 
 abbrev pub AreBlanks : Text → Type 0
-AreBlanks text = All (λ b. b ≡ 32) text
+AreBlanks text = All (λ b. b ≡ blank) text
 
 -- there is a first byte, and it is not a blank
 abbrev pub BeginsDark : Text → Type 0
 BeginsDark [] = ⊥
-BeginsDark (b ∷ bs) = b ≢ 32
+BeginsDark (b ∷ bs) = b ≢ blank
 
 -- the text without the blanks at both ends, if anything is left
 abbrev pub IsTrimmed : Text → Text → Type 0

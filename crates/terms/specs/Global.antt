@@ -10,7 +10,8 @@ use Rattle.std.specs.Cmp.Lexicographic.{slice_cmp}
 use Rattle.std.specs.Str.{bytes_eq}
 use Rattle.terms.specs.declared.kinds.HoldKind.{HoldKind}
 use Rattle.terms.specs.declared.kinds.HoldKind.TheVariants.{System}
-use Rattle.terms.specs.Types.{Text, Id, hold_number, type_number, Ver, Hold, Change, Sysmod, Global, Release, NamedZone}
+use Rattle.terms.specs.Types.{Srel, Reason, Source, Id, hold_number, type_number, Ver, Hold, Change, Sysmod, Global}
+use Rattle.terms.specs.Types.{Release, NamedZone}
 use Rattle.terms.specs.Rising.{Rises, with_item}
 use Rattle.terms.specs.Lookups.{at_most_one, is_received, is_function, is_applied}
 use Rattle.terms.specs.Choice.{vers_of}
@@ -21,12 +22,12 @@ abbrev pub named : Ver → List Id
 named v = v.pre ++ v.sup ++ at_most_one v.fmid
 
 -- what all its ++VERs for one SREL name in these operands
-abbrev pub names_for : Global → Text → Id → List Id
+abbrev pub names_for : Global → Srel → Id → List Id
 names_for g srel x = flat_map named (vers_of g srel x)
 
 -- By the ++VERs of some SREL, a SYSMOD leads to itself. REQ makes no such loop.
 abbrev pub HasLoop : Global → Type 0
-HasLoop g = (srel : Text) × (x : Id) × Reaches (names_for g srel) x x
+HasLoop g = (srel : Srel) × (x : Id) × Reaches (names_for g srel) x x
 
 -- whether it is received and is not a function
 abbrev pub is_service : Global → Id → Bool
@@ -45,7 +46,7 @@ abbrev pub RolesFit : Global → Type 0
 RolesFit g = All (λ s. All (λ v. IsTrue (fits_roles g v)) s.vers) g.sysmods
 
 -- the key of a hold: id, kind and reason
-abbrev pub has_key : Id → HoldKind → Text → Hold → Bool
+abbrev pub has_key : Id → HoldKind → Reason → Hold → Bool
 has_key x kind reason h = bytes_eq h.id x && (hold_number h.kind == hold_number kind) && bytes_eq h.reason reason
 
 -- Holds are ordered by their keys: by id, then kind, then reason.
@@ -78,7 +79,7 @@ pub record IsGlobal (g : Global) : Type 0 where
   pub none_carried : All (λ s. s.holds ≡ []) g.sysmods
   pub size : length g.sysmods < 2 ^ 16
 
-abbrev pub hold_of : Global → Id → HoldKind → Text → Option Hold
+abbrev pub hold_of : Global → Id → HoldKind → Reason → Option Hold
 hold_of g x kind reason = find (has_key x kind reason) g.holds
 
 -- whether there is a hold of the key already, so that a new one is REPLACED and not HELD
@@ -99,7 +100,7 @@ pub data ReleaseFault : Type 0 where
   Internal : ReleaseFault
 
 -- the global zone without the hold of this key
-abbrev pub without_hold : Id → HoldKind → Text → Global → Global
+abbrev pub without_hold : Id → HoldKind → Reason → Global → Global
 without_hold x kind reason g = record g { holds = filter (λ h. not (has_key x kind reason h)) g.holds }
 
 abbrev pub release_found : Global → Release → Option Hold → Result Global ReleaseFault
@@ -111,11 +112,11 @@ abbrev pub release : Global → Release → Result Global ReleaseFault
 release g r = release_found g r (hold_of g r.id r.kind r.reason)
 
 -- a SYSMOD gains a source
-abbrev pub with_source : Text → Sysmod → Sysmod
+abbrev pub with_source : Source → Sysmod → Sysmod
 with_source source s = record s { sources = with_item (slice_cmp nat_cmp) (λ t. t) s.sources source }
 
 -- ++ASSIGN gives a received SYSMOD the source. For an id that is not received it changes nothing.
-abbrev pub assign : Global → Text → Id → Global
+abbrev pub assign : Global → Source → Id → Global
 assign g source x =
     record g { sysmods = map (λ s. if bytes_eq s.id x then with_source source s else s) g.sysmods }
 

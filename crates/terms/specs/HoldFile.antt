@@ -13,7 +13,7 @@ use Rattle.terms.specs.Groups.{Group, TakesGroup}
 use Rattle.terms.specs.Statement.{Piece, StFault, IsStFault}
 use Rattle.terms.specs.Words.{Word, HasWords}
 use Rattle.terms.specs.HoldStatements.{IsHoldOf, IsReleaseOf, HasShortComment}
-use Rattle.terms.specs.Ptfin.{IsKnown, IsUnknown, McsFault, IsFileFault}
+use Rattle.terms.specs.Ptfin.{Parts, HasParts, IsUnknown, McsFault, IsFileFault}
 
 -- A hold file contains only ++HOLD and ++RELEASE, and no text follows them.
 abbrev pub StandsInHoldFile : StatementWord → Lines → Type 0
@@ -36,22 +36,19 @@ IsWithin (ARelease r) = Unit {0}
 
 -- The records are this item, and have no fault.
 abbrev pub IsGoodItem : Lines → HoldItem → Type 0
-IsGoodItem records item = (w : StatementWord) × (own : Option Text) × (rest : List Piece) × (inline : Lines)
-    × IsKnown records w own rest inline × StandsInHoldFile w inline × HasItem w own rest item × IsWithin item
+IsGoodItem records item = (p : Parts) × HasParts records p
+    × StandsInHoldFile p.word p.inline × HasItem p.word p.own p.rest item × IsWithin item
 
 -- What is wrong with a statement. The answer is the first that applies of BadStatementForm, UnknownStatementWord,
 -- WrongPlace, BadStatementOperand and OverLimit.
 abbrev pub IsItemFault : Lines → StatementCode → Type 0
 IsItemFault records BadStatementForm = (why : StFault) × IsStFault records why
 IsItemFault records UnknownStatementWord = IsUnknown records
-IsItemFault records WrongPlace = (w : StatementWord) × (own : Option Text) × (rest : List Piece) × (inline : Lines)
-    × IsKnown records w own rest inline × (¬ StandsInHoldFile w inline)
-IsItemFault records BadStatementOperand = (w : StatementWord) × (own : Option Text) × (rest : List Piece)
-    × (inline : Lines)
-    × IsKnown records w own rest inline × StandsInHoldFile w inline × ((item : HoldItem) → ¬ HasItem w own rest item)
-IsItemFault records OverLimit = (w : StatementWord) × (own : Option Text) × (rest : List Piece) × (inline : Lines)
-    × (item : HoldItem)
-    × IsKnown records w own rest inline × StandsInHoldFile w inline × HasItem w own rest item × (¬ IsWithin item)
+IsItemFault records WrongPlace = (p : Parts) × HasParts records p × (¬ StandsInHoldFile p.word p.inline)
+IsItemFault records BadStatementOperand = (p : Parts) × HasParts records p
+    × StandsInHoldFile p.word p.inline × ((item : HoldItem) → ¬ HasItem p.word p.own p.rest item)
+IsItemFault records OverLimit = (p : Parts) × (item : HoldItem) × HasParts records p
+    × StandsInHoldFile p.word p.inline × HasItem p.word p.own p.rest item × (¬ IsWithin item)
 IsItemFault records _ = ⊥
 
 -- The records that count from n begin with these items, and the rest follows, which counts from m.

@@ -4,7 +4,8 @@
 use Rattle.std.specs.Prelude.{◌≡◌, ◌≢◌, ◌⊎◌, ◌↔◌, ◌&&◌, ℕ, List, [], Option, None, Some, filter, is_some, IsTrue}
 use Rattle.std.specs.Prelude.{IsFalse, IfSome, Contains, slice_get, if◌then◌else◌}
 use Rattle.terms.specs.declared.kinds.ElemType.{ElemType}
-use Rattle.terms.specs.Types.{Text, Id, Lines, Change, Replaces, Updates, Global, Applied, an_applied, Element, Zone}
+use Rattle.terms.specs.Types.{Name, Library, Date, Id, Lines, Change, Replaces, Updates, Global, Applied, an_applied}
+use Rattle.terms.specs.Types.{Element, Zone}
 use Rattle.terms.specs.Lookups.{IsRising, IsZone, is_in, change_of, has_change, element_of, applied_of, supby_of}
 use Rattle.terms.specs.Lookups.{delby_of, waived_of, is_supplied, is_function}
 use Rattle.terms.specs.Choice.{Choice, del_of}
@@ -22,7 +23,7 @@ pub record Installation : Type 0 where
   pub zone : Zone
   pub kept : List Id
   pub bypassed : List (Id × Id)
-  pub date : Text
+  pub date : Date
 
 -- x is kept, and no other kept SYSMOD supersedes it: it becomes APPLIED or ACCEPTED. The other kept ones are
 -- SUPERSEDED.
@@ -51,7 +52,7 @@ unfoldable pub delby_after : Installation → Id → Option Id
 delby_after i x = if is_some (delby_of i.zone x) then delby_of i.zone x else slice_get (deleters i x) 0
 
 -- what a replacement makes of the element
-abbrev pub replaced : Installation → Id → ElemType → Text → Text → Text → Lines → Element
+abbrev pub replaced : Installation → Id → ElemType → Name → Library → Library → Lines → Element
 replaced i r type name distlib syslib lines = record {
   elem_type = type;
   name = name;
@@ -64,7 +65,7 @@ replaced i r type name distlib syslib lines = record {
 }
 
 -- One element, given by its type and name.
-module _ (i : Installation) (type : ElemType) (name : Text) where
+module _ (i : Installation) (type : ElemType) (name : Name) where
   -- r is installed, replaces the element, and is over all other installed SYSMODs that replace it
   pub record IsReplacer (r : Id) : Type 0 where
     pub installed : TakesEffect i r
@@ -75,7 +76,7 @@ module _ (i : Installation) (type : ElemType) (name : Text) where
   abbrev pub HasBase : Option Id → Element → Type 0
   HasBase (Some r) base =
       IsReplacer r
-      × ((h : Change) × (distlib syslib : Text) × (lines : Lines) × (change_of i.global r type name ≡ Some h)
+      × ((h : Change) × (distlib syslib : Library) × (lines : Lines) × (change_of i.global r type name ≡ Some h)
       × (h.action ≡ Replaces distlib syslib lines) × (base ≡ replaced i r type name distlib syslib lines))
   HasBase None base =
       ((y : Id) → TakesEffect i y → IsFalse (has_replacement i.global y type name))
@@ -124,8 +125,8 @@ pub record HasInstalled (i : Installation) (new : Zone) : Type 0 where
   pub waived : (x z : Id) → TakesEffect i x → Contains (waived_of new x) z ↔
       (Contains i.bypassed (x, z) × IsFalse (is_supplied new z))
   pub not_waived : (x : Id) → (¬ TakesEffect i x) → waived_of new x ≡ waived_of (cleared i) x
-  pub changed : (type : ElemType) (name : Text) (x : Id) → TakesEffect i x → IsTrue (has_change i.global x type name) →
+  pub changed : (type : ElemType) (name : Name) (x : Id) → TakesEffect i x → IsTrue (has_change i.global x type name) →
       (e : Element) × (element_of new type name ≡ Some e) × HasElementAfter i type name e
-  pub unchanged : (type : ElemType) (name : Text) → ((x : Id) → TakesEffect i x
+  pub unchanged : (type : ElemType) (name : Name) → ((x : Id) → TakesEffect i x
       → IsFalse (has_change i.global x type name)) →
       element_of new type name ≡ element_of (cleared i) type name

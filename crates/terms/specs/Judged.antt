@@ -3,8 +3,9 @@ use Rattle.std.specs.Prelude.{List, Option, Contains, ◌↔◌}
 use Rattle.terms.specs.Types.{Id, Global, Zone, Bypass}
 use Rattle.terms.specs.Lookups.{IsRising}
 use Rattle.terms.specs.Choice.{counting}
-use Rattle.terms.specs.Tests.{Setting, IsEligible, AreSurvivors}
+use Rattle.terms.specs.Tests.{Setting, Fails, IsEligible, AreSurvivors}
 use Rattle.terms.specs.Needs.{Needs, Serves}
+use Rattle.terms.specs.Judging.{Judging}
 use Rattle.terms.specs.Kept.{StaysKept}
 
 -- the setting of a command with these candidates
@@ -18,9 +19,19 @@ setting g zone related cands bypass = record {
   bypass = bypass;
 }
 
+-- what its candidates are judged by, given the survivors
+abbrev pub install_judging : Setting → List Id → Judging
+install_judging s survivors = record {
+  cands = s.cands;
+  fails = Fails s;
+  eligible = IsEligible s;
+  needs = Needs s survivors;
+  serves = Serves s.choice;
+}
+
 -- x stays: some set of eligible candidates that supports itself contains x
 abbrev pub Stays : Setting → List Id → Id → Type 0
-Stays s survivors x = StaysKept (IsEligible s) (Needs s survivors) (Serves s.choice) x
+Stays s survivors x = StaysKept (install_judging s survivors) x
 
 -- the kept set, rising
 pub record IsKeptSet (s : Setting) (kept : List Id) : Type 0 where

@@ -1,3 +1,4 @@
+pub mod Bytes
 pub mod Types
 pub mod Rising
 pub mod Spelling
@@ -25,6 +26,7 @@ pub mod Conditions
 pub mod Candidates
 pub mod Tests
 pub mod Needs
+pub mod Judging
 pub mod Kept
 pub mod Judged
 pub mod Install

@@ -10,7 +10,7 @@ use Rattle.std.specs.Str.{bytes_eq}
 use Rattle.terms.specs.declared.kinds.ElemType.{ElemType}
 use Rattle.terms.specs.declared.kinds.HoldKind.{HoldKind}
 use Rattle.terms.specs.Rising.{Rises}
-use Rattle.terms.specs.Types.{Text, Id, type_number, hold_number, Hold, Change, Sysmod}
+use Rattle.terms.specs.Types.{Name, Date, Id, type_number, hold_number, Hold, Change, Sysmod}
 use Rattle.terms.specs.Types.{Global, Applied, Entry, Element, Zone, is_function_kind, is_target}
 
 abbrev pub is_nil : {X : Type 0} → List X → Bool
@@ -54,12 +54,12 @@ abbrev pub changes_of : Global → Id → List Change
 changes_of g x = option_map_or (λ s. s.changes) (sysmod_of g x) []
 
 -- what it does to the element of this type and name
-abbrev pub change_of : Global → Id → ElemType → Text → Option Change
+abbrev pub change_of : Global → Id → ElemType → Name → Option Change
 change_of g x type name = find (λ h. (type_number h.elem_type == type_number type) && bytes_eq h.name name)
     (changes_of g x)
 
 -- whether it replaces or updates the element
-abbrev pub has_change : Global → Id → ElemType → Text → Bool
+abbrev pub has_change : Global → Id → ElemType → Name → Bool
 has_change g x type name = is_some (change_of g x type name)
 
 -- the holds of one kind on an id, which need not be received
@@ -75,19 +75,19 @@ abbrev pub waives_applied : Entry → Bool
 waives_applied e = is_some e.applied || is_nil e.waived
 
 -- the type and the name of an element
-abbrev pub element_key : Element → ElemType × Text
+abbrev pub element_key : Element → ElemType × Name
 element_key e = (e.elem_type, e.name)
 
 -- the type and name of the element that a statement changes
-abbrev pub change_key : Change → ElemType × Text
+abbrev pub change_key : Change → ElemType × Name
 change_key h = (h.elem_type, h.name)
 
 -- the order of elements: by type, and then by name
-abbrev pub element_cmp : ElemType × Text → ElemType × Text → Ordering
+abbrev pub element_cmp : ElemType × Name → ElemType × Name → Ordering
 element_cmp a b = ordering_then (nat_cmp (type_number a.0) (type_number b.0)) (slice_cmp nat_cmp a.1 b.1)
 
 -- whether both have one type and one name
-abbrev pub element_eq : ElemType × Text → ElemType × Text → Bool
+abbrev pub element_eq : ElemType × Name → ElemType × Name → Bool
 element_eq a b = (type_number a.0 == type_number b.0) && bytes_eq a.1 b.1
 
 -- Entries and elements are in order, none twice. No entry is empty. Only a target zone names a related zone.
@@ -103,7 +103,7 @@ abbrev pub entry_of : Zone → Id → Option Entry
 entry_of zone x = find (λ e. bytes_eq e.id x) zone.entries
 
 -- the element entry of this type and name
-abbrev pub element_of : Zone → ElemType → Text → Option Element
+abbrev pub element_of : Zone → ElemType → Name → Option Element
 element_of zone type name = find (λ e. (type_number e.elem_type == type_number type) && bytes_eq e.name name)
     zone.elements
 
@@ -112,7 +112,7 @@ abbrev pub is_applied : Zone → Id → Bool
 is_applied zone x = option_map_or (λ e. is_some e.applied) (entry_of zone x) false
 
 -- the date of an entry that is applied
-abbrev pub date_of : Entry → Option Text
+abbrev pub date_of : Entry → Option Date
 date_of e = option_map (λ a. a.date) e.applied
 
 -- when it was applied, and by which ++VER

@@ -149,22 +149,30 @@ pub data Disorder : Type 0 where
   Second : Disorder
   UpdateInFunction : Disorder
 
--- After the statements so far, a statement that `later` records follow is out of order.
-abbrev pub IsMisplaced : Option Sysmod → Lines → StatementWord → Option Text → List Piece → Lines → Disorder → Type 0
-IsMisplaced current later w own rest inline CannotStand = ¬ MayStand current w
-IsMisplaced current later w own rest inline LastHeader = IsHeader w × (later ≡ [])
-IsMisplaced current later w own rest inline TextBehind = (changed_type w ≡ None) × (inline ≢ [])
-IsMisplaced current later w own rest inline Second = IsSomeAnd current (λ s. IsSecond s w own rest)
-IsMisplaced current later w own rest inline UpdateInFunction = IsUpdateWord w
-    × IsSomeAnd current (λ s. s.kind ≡ Function)
+-- The parts of a statement as it was read: its word, the word's own list, the pieces after that, and its inline text.
+pub record Parts : Type 0 where
+  pub word : StatementWord
+  pub own : Option Text
+  pub rest : List Piece
+  pub inline : Lines
 
-abbrev pub IsPlaced : Option Sysmod → Lines → StatementWord → Option Text → List Piece → Lines → Type 0
-IsPlaced current later w own rest inline = (why : Disorder) → ¬ IsMisplaced current later w own rest inline why
+abbrev pub these_parts : StatementWord → Option Text → List Piece → Lines → Parts
+these_parts w own rest inline = record { word = w; own = own; rest = rest; inline = inline }
+
+-- After the statements so far, a statement of these parts that `later` records follow is out of order.
+abbrev pub IsMisplaced : Option Sysmod → Lines → Parts → Disorder → Type 0
+IsMisplaced current later p CannotStand = ¬ MayStand current p.word
+IsMisplaced current later p LastHeader = IsHeader p.word × (later ≡ [])
+IsMisplaced current later p TextBehind = (changed_type p.word ≡ None) × (p.inline ≢ [])
+IsMisplaced current later p Second = IsSomeAnd current (λ s. IsSecond s p.word p.own p.rest)
+IsMisplaced current later p UpdateInFunction = IsUpdateWord p.word × IsSomeAnd current (λ s. s.kind ≡ Function)
+
+abbrev pub IsPlaced : Option Sysmod → Lines → Parts → Type 0
+IsPlaced current later p = (why : Disorder) → ¬ IsMisplaced current later p why
 
 -- the statement's words, and what they say
-abbrev pub HasValue : Option Sysmod → StatementWord → Option Text → List Piece → Lines → Statement → Type 0
-HasValue current w own rest inline s = (operands : List Word) × HasWords rest operands
-    × Says current w own operands inline s
+abbrev pub HasValue : Option Sysmod → Parts → Statement → Type 0
+HasValue current p s = (operands : List Word) × HasWords p.rest operands × Says current p.word p.own operands p.inline s
 
 -- the limits of a statement after those before it
 abbrev pub IsWithin : Option Begun → Statement → Lines → Type 0
@@ -180,36 +188,31 @@ abbrev pub HasGoodText : Statement → Type 0
 HasGoodText (SaysChange c) = IsActionOf c.elem_type c.name c.action
 HasGoodText _ = Unit {0}
 
--- The statement of this word, its own list and its rest says so, and has no fault.
-pub record IsGood (current : Option Begun) (later : Lines) (w : StatementWord) (own : Option Text) (rest : List Piece)
-    (inline : Lines) (s : Statement) : Type 0 where
-  pub placed : IsPlaced (sysmod_in current) later w own rest inline
-  pub value : HasValue (sysmod_in current) w own rest inline s
-  pub within : IsWithin current s inline
+-- The statement of these parts says so, and has no fault.
+pub record IsGood (current : Option Begun) (later : Lines) (p : Parts) (s : Statement) : Type 0 where
+  pub placed : IsPlaced (sysmod_in current) later p
+  pub value : HasValue (sysmod_in current) p s
+  pub within : IsWithin current s p.inline
   pub text : HasGoodText s
 
 -- What is wrong with a statement of a known word. The answer is the first that applies of WrongPlace,
 -- BadStatementOperand, OverLimit and BadText.
-abbrev pub IsFault : Option Begun → Lines → StatementWord → Option Text → List Piece → Lines → StatementCode → Type 0
-IsFault current later w own rest inline WrongPlace = (why : Disorder) × IsMisplaced
-    (sysmod_in current) later w own rest inline why
-IsFault current later w own rest inline BadStatementOperand =
-    IsPlaced (sysmod_in current) later w own rest inline × ((s : Statement)
-    → ¬ HasValue (sysmod_in current) w own rest inline s)
-IsFault current later w own rest inline OverLimit = (s : Statement)
-    × IsPlaced (sysmod_in current) later w own rest inline × HasValue (sysmod_in current) w own rest inline s
-    × (¬ IsWithin current s inline)
-IsFault current later w own rest inline BadText = (s : Statement)
-    × IsPlaced (sysmod_in current) later w own rest inline × HasValue (sysmod_in current) w own rest inline s
-    × IsWithin current s inline × (¬ HasGoodText s)
-IsFault current later w own rest inline _ = ⊥
+abbrev pub IsFault : Option Begun → Lines → Parts → StatementCode → Type 0
+IsFault current later p WrongPlace = (why : Disorder) × IsMisplaced (sysmod_in current) later p why
+IsFault current later p BadStatementOperand =
+    IsPlaced (sysmod_in current) later p × ((s : Statement) → ¬ HasValue (sysmod_in current) p s)
+IsFault current later p OverLimit = (s : Statement)
+    × IsPlaced (sysmod_in current) later p × HasValue (sysmod_in current) p s × (¬ IsWithin current s p.inline)
+IsFault current later p BadText = (s : Statement)
+    × IsPlaced (sysmod_in current) later p × HasValue (sysmod_in current) p s × IsWithin current s p.inline
+    × (¬ HasGoodText s)
+IsFault current later p _ = ⊥
 
--- the records are a statement that begins with this word and its own list
-pub record IsKnown (records : Lines) (w : StatementWord) (own : Option Text) (rest : List Piece) (inline : Lines) :
-    Type 0 where
+-- The records are a statement of these parts. It begins with the word and its own list.
+pub record HasParts (records : Lines) (p : Parts) : Type 0 where
   pub pieces : List Piece
-  pub statement : IsStatement records pieces inline
-  pub begins : TakesWord pieces (record { word = statement_text w; list = own }) rest
+  pub statement : IsStatement records pieces p.inline
+  pub begins : TakesWord pieces (record { word = statement_text p.word; list = p.own }) p.rest
 
 -- the records are a statement that begins with an unknown word
 pub record IsUnknown (records : Lines) : Type 0 where
@@ -221,17 +224,13 @@ pub record IsUnknown (records : Lines) : Type 0 where
 
 -- The records are this statement, and have no fault.
 abbrev pub IsGoodStatement : Option Begun → Lines → Lines → Statement → Type 0
-IsGoodStatement current later records s = (w : StatementWord) × (own : Option Text) × (rest : List Piece)
-    × (inline : Lines)
-    × IsKnown records w own rest inline × IsGood current later w own rest inline s
+IsGoodStatement current later records s = (p : Parts) × HasParts records p × IsGood current later p s
 
 -- What is wrong with a statement. Its form (BadStatementForm) and its word (UnknownStatementWord) come first.
 abbrev pub IsStatementFault : Option Begun → Lines → Lines → StatementCode → Type 0
 IsStatementFault current later records BadStatementForm = (why : StFault) × IsStFault records why
 IsStatementFault current later records UnknownStatementWord = IsUnknown records
-IsStatementFault current later records code = (w : StatementWord) × (own : Option Text) × (rest : List Piece)
-    × (inline : Lines)
-    × IsKnown records w own rest inline × IsFault current later w own rest inline code
+IsStatementFault current later records code = (p : Parts) × HasParts records p × IsFault current later p code
 
 -- After c, the records that count from n begin with these statements. The statements make d, and the rest follows,
 -- which counts from m.

@@ -16,6 +16,7 @@ use Rattle.terms.specs.Lookups.{applied_of, supplies, applied_ids}
 use Rattle.terms.specs.Choice.{Choice, fmid_of, del_of}
 use Rattle.terms.specs.Deleted.{entries_less}
 use Rattle.terms.specs.Needs.{Serves, binding_ids}
+use Rattle.terms.specs.Judging.{Judging}
 use Rattle.terms.specs.Kept.{StaysKept}
 
 -- the target zone, and its related distribution zone
@@ -114,9 +115,19 @@ pub record MayBeRestored (r : Restoring) (ids : List Id) (x : Id) : Type 0 where
   pub cand : Contains (restore_candidates r ids) x
   pub passes : (test : Test) → ¬ FailsRestore r x test
 
+-- what the candidates of a list are judged by
+abbrev pub restore_judging : Restoring → List Id → Judging
+restore_judging r ids = record {
+  cands = restore_candidates r ids;
+  fails = FailsRestore r;
+  eligible = MayBeRestored r ids;
+  needs = NeedsInRestore r (is_in ids);
+  serves = Serves r.choice;
+}
+
 -- x is taken off: some set of such candidates that supports itself contains it
 abbrev pub IsRestored : Restoring → List Id → Id → Type 0
-IsRestored r ids x = StaysKept (MayBeRestored r ids) (NeedsInRestore r (is_in ids)) (Serves r.choice) x
+IsRestored r ids x = StaysKept (restore_judging r ids) x
 
 -- The target zone afterwards. A kept SYSMOD is no longer applied, waives nothing and leaves every SUPBY. The elements
 -- that the removed SYSMODs change become those of the distribution zone, or go if it has none.

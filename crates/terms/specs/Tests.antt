@@ -12,7 +12,8 @@ use Rattle.terms.specs.declared.codes.Test.{Test}
 use Rattle.terms.specs.declared.codes.Test.TheVariants.{HeldBySystem, HeldByUser, ForbiddenByNpre, OwnedByAnother}
 use Rattle.terms.specs.declared.codes.Test.TheVariants.{Regression, NothingToUpdate, NotInTarget, ChainDeleted}
 use Rattle.terms.specs.declared.codes.Test.TheVariants.{InClash, SeveralFit}
-use Rattle.terms.specs.Types.{Text, Id, Hold, Global, Element, Zone, Reasons, NoReason, AnyReason, TheseReasons, Bypass}
+use Rattle.terms.specs.Types.{Reason, Name, Id, Hold, Global, Element, Zone, Reasons, NoReason, AnyReason, TheseReasons}
+use Rattle.terms.specs.Types.{Bypass}
 use Rattle.terms.specs.Lookups.{IsRising, is_in, has_change, holds_of, element_of, is_applied, is_function}
 use Rattle.terms.specs.Choice.{Choice, vers_of, fits, fmid_of, npre_of, del_of}
 use Rattle.terms.specs.Over.{IsOver, owner}
@@ -35,7 +36,7 @@ view_of s x = view s.global s.choice s.cands s.zone x
 abbrev pub owner_of : Setting → Id → Id
 owner_of s x = owner s.global s.choice x
 
-abbrev pub covers : Reasons → Text → Bool
+abbrev pub covers : Reasons → Reason → Bool
 covers NoReason reason = false
 covers AnyReason reason = true
 covers (TheseReasons reasons) reason = is_in reasons reason
@@ -70,7 +71,7 @@ IsForbiddenByNpre s x = (y : Id) × IsTrue (is_applied (view_of s x) y)
 
 -- x replaces or updates this element of its view
 abbrev pub ChangesInView : Setting → Id → Element → Type 0
-ChangesInView s x e = (type : ElemType) × (name : Text)
+ChangesInView s x e = (type : ElemType) × (name : Name)
     × IsTrue (has_change s.global x type name) × (element_of (view_of s x) type name ≡ Some e)
 
 -- OwnedByAnother: an element that it changes has another owner in its view
@@ -84,14 +85,14 @@ Regresses s x = IsFalse s.bypass.same_id
     × ((e : Element) × (z : Id) × ChangesInView s x e × Contains (e.rmid ∷ e.umids) z × ¬ IsOver s.choice x z)
 
 -- whether its FMID is a candidate that replaces the element
-abbrev pub has_candidate_base : Setting → Id → ElemType → Text → Bool
+abbrev pub has_candidate_base : Setting → Id → ElemType → Name → Bool
 has_candidate_base s x type name =
     option_map_or (λ f. is_in s.cands f && has_replacement s.global f type name) (fmid_of s.choice x) false
 
 -- NothingToUpdate: it updates an element that its view lacks, and no replacement of the element comes with its FMID as
 -- a candidate
 abbrev pub HasNothingToUpdate : Setting → Id → Type 0
-HasNothingToUpdate s x = (type : ElemType) × (name : Text) × IsTrue (has_update s.global x type name)
+HasNothingToUpdate s x = (type : ElemType) × (name : Name) × IsTrue (has_update s.global x type name)
     × (element_of (view_of s x) type name ≡ None) × IsFalse (has_candidate_base s x type name)
 
 -- NotInTarget, for ACCEPT: no related target zone has applied it. BYPASS(APPLYCHECK) leaves this test out.
@@ -137,7 +138,7 @@ pub record AreSurvivors (s : Setting) (ids : List Id) : Type 0 where
 
 -- both change one element
 abbrev pub ShareElement : Global → Id → Id → Type 0
-ShareElement g x y = (type : ElemType) × (name : Text) × IsTrue (has_change g x type name)
+ShareElement g x y = (type : ElemType) × (name : Name) × IsTrue (has_change g x type name)
     × IsTrue (has_change g y type name)
 
 -- they have two owners, or neither is over the other

@@ -18,6 +18,32 @@ Text = List ℕ
 abbrev pub Id : Type 0
 Id = List ℕ
 
+-- what a text is: the level of a zone, the reason and the class of a hold, a source, a name of an element, a library
+-- or a zone, and a date
+abbrev pub Srel : Type 0
+Srel = Text
+
+abbrev pub Reason : Type 0
+Reason = Text
+
+abbrev pub Class : Type 0
+Class = Text
+
+abbrev pub Source : Type 0
+Source = Text
+
+abbrev pub Name : Type 0
+Name = Text
+
+abbrev pub Library : Type 0
+Library = Text
+
+abbrev pub ZoneName : Type 0
+ZoneName = Text
+
+abbrev pub Date : Type 0
+Date = Text
+
 -- the 80-byte records of an element or of an update
 abbrev pub Lines : Type 0
 Lines = List (List ℕ)
@@ -74,7 +100,7 @@ pub record IfReq : Type 0 where
 
 -- ++VER with its ++IFs: FMID, PRE, REQ, SUP, NPRE and DELETE (`delete` is `del`)
 pub record Ver : Type 0 where
-  pub srel : Text
+  pub srel : Srel
   pub fmid : Option Id
   pub pre : List Id
   pub req : List Id
@@ -87,29 +113,29 @@ pub record Ver : Type 0 where
 pub record Hold : Type 0 where
   pub id : Id
   pub kind : HoldKind
-  pub reason : Text
+  pub reason : Reason
   pub fmid : Id
-  pub class : Option Text
-  pub date : Option Text
+  pub class : Option Class
+  pub date : Option Date
   pub comment : Option Text
   pub internal : Bool
 
 -- what an element statement does: ++MAC (DISTLIB, SYSLIB and the records), or ++MACUPD (all its records)
 pub data Action : Type 0 where
-  Replaces : Text → Text → Lines → Action
+  Replaces : Library → Library → Lines → Action
   Updates : Lines → Action
 
 -- an element statement of a SYSMOD (`type` is `elem_type`)
 pub record Change : Type 0 where
   pub elem_type : ElemType
-  pub name : Text
+  pub name : Name
   pub action : Action
 
 -- A SYSMOD. While it is read its internal holds are here; in the global zone they are among the holds.
 pub record Sysmod : Type 0 where
   pub id : Id
   pub kind : Kind
-  pub sources : List Text
+  pub sources : List Source
   pub vers : List Ver
   pub changes : List Change
   pub holds : List Hold
@@ -125,10 +151,10 @@ a_global sysmods holds = record { sysmods = sysmods; holds = holds }
 -- A zone has applied a SYSMOD: the date of APPLY or ACCEPT, and the number of the ++VER that counted, among those of
 -- the SYSMOD for the zone's SREL.
 pub record Applied : Type 0 where
-  pub date : Text
+  pub date : Date
   pub number : ℕ
 
-abbrev pub an_applied : Text → ℕ → Applied
+abbrev pub an_applied : Date → ℕ → Applied
 an_applied date number = record { date = date; number = number }
 
 -- a zone's SYSMOD entry: whether it is applied, SUPBY, DELBY, and the requisites that were bypassed
@@ -142,41 +168,41 @@ pub record Entry : Type 0 where
 -- a zone's element entry: FMID, RMID, UMIDs, DISTLIB, SYSLIB and its records
 pub record Element : Type 0 where
   pub elem_type : ElemType
-  pub name : Text
+  pub name : Name
   pub fmid : Id
   pub rmid : Id
   pub umids : List Id
-  pub distlib : Text
-  pub syslib : Text
+  pub distlib : Library
+  pub syslib : Library
   pub text : Lines
 
 -- a target or distribution zone: entries rising by id, elements by type and name
 pub record Zone : Type 0 where
   pub kind : ZoneKind
-  pub srel : Text
-  pub related : Option Text
+  pub srel : Srel
+  pub related : Option ZoneName
   pub entries : List Entry
   pub elements : List Element
 
-abbrev pub a_zone : ZoneKind → Text → Option Text → List Entry → List Element → Zone
+abbrev pub a_zone : ZoneKind → Srel → Option ZoneName → List Entry → List Element → Zone
 a_zone kind srel related entries elements =
     record { kind = kind; srel = srel; related = related; entries = entries; elements = elements }
 
 -- a zone and its name
 pub record NamedZone : Type 0 where
-  pub name : Text
+  pub name : ZoneName
   pub zone : Zone
 
 -- ++ASSIGN: the ids in the order of the statement
 pub record Assign : Type 0 where
-  pub source : Text
+  pub source : Source
   pub to : List Id
 
 -- ++RELEASE: the key of a hold, and an FMID that is not compared
 pub record Release : Type 0 where
   pub id : Id
   pub kind : HoldKind
-  pub reason : Text
+  pub reason : Reason
   pub fmid : Id
 
 -- an item of PTFIN (`Sysmod` and `Assign` are the records)
@@ -193,7 +219,7 @@ pub data HoldItem : Type 0 where
 pub data Reasons : Type 0 where
   NoReason : Reasons
   AnyReason : Reasons
-  TheseReasons : List Text → Reasons
+  TheseReasons : List Reason → Reasons
 
 -- BYPASS, which is empty if the command has none (`ID` is `same_id`)
 pub record Bypass : Type 0 where
@@ -205,7 +231,7 @@ pub record Bypass : Type 0 where
   pub holderror : Reasons
   pub holdsystem : Reasons
   pub holduser : Reasons
-  pub holdclass : List Text
+  pub holdclass : List Class
 
 -- what APPLY and ACCEPT choose: an absent operand is an empty list
 pub record Selection : Type 0 where
@@ -215,7 +241,7 @@ pub record Selection : Type 0 where
   pub usermods : Bool
   pub select : List Id
   pub exclude : List Id
-  pub sourceid : List Text
+  pub sourceid : List Source
   pub forfmid : List Id
   pub group : List Id
   pub groupextend : Bool
@@ -235,11 +261,11 @@ pub data RestoreList : Type 0 where
 pub record ReceiveWhat : Type 0 where
   pub sysmods : Bool
   pub holddata : Bool
-  pub source : Option Text
+  pub source : Option Source
 
 -- SET BDY, RECEIVE, REJECT, APPLY, ACCEPT, RESTORE (with CHECK), LIST (with TEXT; `List` is the type) and REPORT
 pub data Command : Type 0 where
-  Set : Text → Command
+  Set : ZoneName → Command
   Receive : ReceiveWhat → Command
   Reject : List Id → Command
   Apply : Install → Command

@@ -2,6 +2,7 @@
 use Rattle.std.specs.Prelude.{◌≡◌, ◌≤◌, ◌≢◌, ◌<◌, ℕ, Bool, true, false, not, ◌==◌, ◌||◌, List, [], ◌∷◌, ◌++◌, length}
 use Rattle.std.specs.Prelude.{map, All, AllPairs, ◌⊎◌, Option, Some, None}
 use Rattle.std.specs.List.{flat_map}
+use Rattle.terms.specs.Bytes.{blank, paren_open, paren_close, comma}
 use Rattle.terms.specs.Types.{Text}
 use Rattle.terms.specs.Statement.{Piece, TheWord, TheList}
 use Rattle.terms.specs.Forms.{AreBlanks}
@@ -42,10 +43,10 @@ BeginsNoWords (_ ∷ ps) = Unit {0}
 
 -- a character of a list's member, and one of a member's own list
 abbrev pub is_member_byte : ℕ → Bool
-is_member_byte b = not (b == 32 || b == 44 || b == 40 || b == 41)
+is_member_byte b = not (b == blank || b == comma || b == paren_open || b == paren_close)
 
 abbrev pub is_inner_byte : ℕ → Bool
-is_inner_byte b = not (b == 40 || b == 41)
+is_inner_byte b = not (b == paren_open || b == paren_close)
 
 -- nothing follows, or a character that fails the test
 abbrev pub Stops : (ℕ → Bool) → Text → Type 0
@@ -61,13 +62,14 @@ pub record TakesRun (text word after : Text) : Type 0 where
 
 -- A list follows, perhaps after blanks.
 abbrev pub BeginsInner : Text → Type 0
-BeginsInner text = (gap rest : Text) × AreBlanks gap × (text ≡ gap ++ 40 ∷ rest)
+BeginsInner text = (gap rest : Text) × AreBlanks gap × (text ≡ gap ++ paren_open ∷ rest)
 
 -- a member's own list, if it has one
 abbrev pub TakesInner : Text → Option Text → Text → Type 0
 TakesInner text None after = (text ≡ after) × (BeginsInner text → ⊥)
 TakesInner text (Some list) after =
-    (gap : Text) × AreBlanks gap × All (λ b. is_inner_byte b ≡ true) list × (text ≡ gap ++ (40 ∷ list ++ 41 ∷ after))
+    (gap : Text) × AreBlanks gap × All (λ b. is_inner_byte b ≡ true) list
+    × (text ≡ gap ++ (paren_open ∷ list ++ paren_close ∷ after))
 
 -- a member with its own list, which only BYPASS has
 abbrev pub TakesMember : Text → Word → Text → Type 0
@@ -76,7 +78,7 @@ TakesMember text m after = (behind : Text) × TakesRun text m.word behind × Tak
 -- blanks, or one comma with blanks around it
 abbrev pub IsSeparator : Text → Type 0
 IsSeparator text = ((0 < length text) × AreBlanks text)
-    ⊎ ((left right : Text) × (text ≡ left ++ 44 ∷ right) × AreBlanks left × AreBlanks right)
+    ⊎ ((left right : Text) × (text ≡ left ++ comma ∷ right) × AreBlanks left × AreBlanks right)
 
 -- what precedes the first member, and what precedes a later one
 abbrev pub IsBefore : Bool → Text → Type 0

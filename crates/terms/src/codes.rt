@@ -1,4 +1,6 @@
 //! The codes that reports name: tests, needs, commands, and the faults of files.
+ghost use Rattle.std.specs.Prelude.{◌≡◌};
+ghost use Rattle.terms.specs.Needs.{takes_superseder};
 
 /// The words with which commands begin.
 #[derive(Clone, Copy, Debug, PartialEq, Eq, PartialOrd, Ord, Hash)]
@@ -75,6 +77,15 @@ pub enum NeedKind {
     Orphan,
     Elem,
     Dep,
+}
+
+impl NeedKind {
+    /// Whether a SYSMOD that supersedes an id serves a need of this kind for it.
+    pub fn takes_superseder(self) -> bool
+        ensures { result ≡ takes_superseder self }
+    {
+        !matches!(self, NeedKind::Fmid | NeedKind::Elem | NeedKind::Dep)
+    }
 }
 
 /// Why one id was refused: by RECEIVE (`Rc2` to `Rc4`), by `++RELEASE` (`Rl1`, `Rl2`) or by REJECT (`Rj1`, `Rj2`).

@@ -1,4 +1,6 @@
 //! The kinds by which the manual sorts SYSMODs, holds, elements and zones, each in its printed order.
+ghost use Rattle.std.specs.Prelude.{◌↔◌, IsTrue};
+ghost use Rattle.terms.specs.Texts.{TakesUpdates};
 
 /// A SYSMOD's type, by its header: `++FUNCTION`, `++PTF`, `++APAR` or `++USERMOD`.
 #[derive(Clone, Copy, Debug, PartialEq, Eq, PartialOrd, Ord, Hash)]
@@ -27,6 +29,15 @@ pub enum ElemType {
     Exec,
     Parm,
     Proc,
+}
+
+impl ElemType {
+    /// Whether elements of this type have numbered texts. These are the types that have updates.
+    pub fn is_numbered(self) -> bool
+        ensures { IsTrue result ↔ TakesUpdates self }
+    {
+        matches!(self, ElemType::Mac | ElemType::Src)
+    }
 }
 
 /// APPLY works on a target zone, the running system. ACCEPT works on a distribution zone, the level to which RESTORE

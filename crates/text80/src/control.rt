@@ -12,8 +12,8 @@ pub struct Range {
     pub high: u32,
 }
 
-// The text after the prefix.
-fn behind<'a>(text: &'a [u8], prefix: &[u8]) -> Option<&'a [u8]>
+// The text after the prefix, if it begins with that.
+fn text_after<'a>(text: &'a [u8], prefix: &[u8]) -> Option<&'a [u8]>
     ensures some { IfSome result (λ rest. text.now ≡ prefix.now ++ rest.now) }
     ensures none { IfNone result ((rest : List ℕ) → text.now ≢ prefix.now ++ rest) }
 {
@@ -38,13 +38,14 @@ fn split_solid(text: &[u8]) -> (&[u8], &[u8])
     text.split_at(solid)
 }
 
-// The word and the operand of a control record.
-fn control(line: &Line) -> Option<(&[u8], &[u8])>
+// The word and the operand of a control record, if the record is one: `./`, a word and an operand, with blanks between
+// them and nothing after them.
+fn control_parts(line: &Line) -> Option<(&[u8], &[u8])>
     ensures some { IfSome result (λ found. IsControl found.0.now found.1.now line.now) }
     ensures none { IfNone result ((word operand : List ℕ) → ¬ IsControl word operand line.now) }
 {
     let (front, _) = line.bytes().split_at(FRONT);
-    let text = behind(front, b"./")?;
+    let text = text_after(front, b"./")?;
     let (gap, text) = split_blanks(text);
     let (word, text) = split_solid(text);
     let (gap2, text) = split_blanks(text);
@@ -61,29 +62,29 @@ fn control(line: &Line) -> Option<(&[u8], &[u8])>
     Some((word, operand))
 }
 
-/// The name in a CHANGE record.
-pub(crate) fn changed(line: &Line) -> Option<&[u8]>
+/// The name in the record, if it is a CHANGE record.
+pub(crate) fn changed_name(line: &Line) -> Option<&[u8]>
     ensures some { IfSome result (λ name. IsChange name.now line.now) }
     ensures none { IfNone result ((name : List ℕ) → ¬ IsChange name line.now) }
 {
-    let (word, operand) = control(line)?;
+    let (word, operand) = control_parts(line)?;
     if word != b"CHANGE".as_slice() {
         return None;
     }
-    behind(operand, b"NAME=")
+    text_after(operand, b"NAME=")
 }
 
-// The range in the operand of a DELETE record.
+// The range in the operand of a DELETE record, if it has the form `SEQ1=..,SEQ2=..` and does not end before it begins.
 fn range_in(operand: &[u8]) -> Option<Range>
     ensures some { IfSome result (λ range. IsRange operand.now range.low range.high) }
     ensures none { IfNone result ((low high : ℕ) → ¬ IsRange operand.now low high) }
 {
-    let text = behind(operand, b"SEQ1=")?;
+    let text = text_after(operand, b"SEQ1=")?;
     if text.len() < 8 {
         return None;
     }
     let (from, text) = text.split_at(8);
-    let to = behind(text, b",SEQ2=")?;
+    let to = text_after(text, b",SEQ2=")?;
     let low = number_in(from)?;
     let high = number_in(to)?;
     if low > high {
@@ -92,12 +93,12 @@ fn range_in(operand: &[u8]) -> Option<Range>
     Some(Range { low, high })
 }
 
-/// The range that a DELETE record deletes.
-pub(crate) fn deleted(line: &Line) -> Option<Range>
+/// The range that the record deletes, if it is a DELETE record.
+pub(crate) fn deleted_range(line: &Line) -> Option<Range>
     ensures some { IfSome result (λ range. IsDelete range.low range.high line.now) }
     ensures none { IfNone result (¬ IsSomeDelete line.now) }
 {
-    let (word, operand) = control(line)?;
+    let (word, operand) = control_parts(line)?;
     if word != b"DELETE".as_slice() {
         return None;
     }

@@ -68,7 +68,7 @@ impl Line {
     }
 }
 
-/// The number that eight digits spell.
+/// The number that the text spells, if it is eight digits.
 pub(crate) fn number_in(text: &[u8]) -> Option<u32>
     ensures some { IfSome result (λ n. IsNumber text.now × (n ≡ digits_value 10 text.now)) }
     ensures bound { IfSome result (λ n. n < 100000000) }

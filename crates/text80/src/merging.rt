@@ -16,7 +16,7 @@ pub fn merge(alloc: Global, old: &Numbered, update: &Update) -> Result<Numbered,
     ensures { IfOk result (IsMerge old.now update.now) }
 {
     let mut merged = Vec::new(alloc);
-    let all_given = update.given(alloc)?;
+    let all_given = update.given_records(alloc)?;
     let mut given = all_given.lines();
     let mut ranges = update.ranges();
     let mut reach = 0;
@@ -64,8 +64,8 @@ fn split_number(lines: &[Line], number: u32) -> (Option<&Line>, &[Line])
     }
 }
 
-// The ranges that begin above the number, and the reach of those before them: of the numbers from this one on, the
-// deleted ones are those below `reach` and those in a range that is left.
+// Passes the ranges that begin at or below the number. Returns those that are left, and the new reach: a number from
+// this one on is deleted if it is below the reach or in a range that is left.
 fn sweep(ranges: &[Range], reach: u64, number: u32) -> (&[Range], u64)
     ensures swept { (all : List DeletedRange) → IsSwept all number ranges.now reach
         → IsSwept all number result.0.now result.1 }

@@ -5,7 +5,7 @@ ghost use Rattle.terms.specs.Texts.{given as given_of, IsUpdate, IsUpdateFault};
 ghost use Rattle.text80.specs.Ranges.{AreRangesOf};
 ghost use Rattle.text80.specs.Updates.{AreGood, IsUpdateError, IsRestError, StandsBefore};
 
-use crate::control::{Range, changed, deleted};
+use crate::control::{Range, changed_name, deleted_range};
 use crate::error::TextError;
 use crate::line::Line;
 use crate::numbered::{Numbered, rising_number};
@@ -41,7 +41,7 @@ impl Update {
         ensures update { IfOk result (λ update. (update ≡ records.items) × IsUpdate name.now records.items) }
         ensures fault { IfErr result (IsUpdateError name.now records.items) }
     {
-        let rest = behind_change(&records, name)?;
+        let rest = records_after_change(&records, name)?;
         let ranges = ranges_of(alloc, rest)?;
         Ok(Update { records, ranges })
     }
@@ -55,7 +55,7 @@ impl Update {
     }
 
     /// A copy of the records that the update gives.
-    pub fn given(&self, alloc: Global) -> Result<Numbered, AllocError>
+    pub fn given_records(&self, alloc: Global) -> Result<Numbered, AllocError>
         ensures { IfOk result (λ given. given ≡ given_of self.now) }
     {
         let mut given = Vec::new(alloc);
@@ -86,8 +86,8 @@ impl Clone for Update {
     }
 }
 
-// The records after a CHANGE record of this name.
-fn behind_change<'a>(records: &'a [Line], name: &[u8]) -> Result<&'a [Line], TextFault>
+// The records after the first, which must be a CHANGE record of this name.
+fn records_after_change<'a>(records: &'a [Line], name: &[u8]) -> Result<&'a [Line], TextFault>
     ensures rest { IfOk result (λ rest. StandsBefore name.now records.now rest.now) }
     ensures fault { IfErr result (IsUpdateFault name.now records.now) }
 {
@@ -97,7 +97,7 @@ fn behind_change<'a>(records: &'a [Line], name: &[u8]) -> Result<&'a [Line], Tex
             code: TextCode::NoChangeRecord,
         });
     };
-    match changed(first) {
+    match changed_name(first) {
         None => Err(TextFault {
             number: 1,
             code: TextCode::NoChangeRecord,
@@ -120,7 +120,7 @@ fn ranges_of(alloc: Global, lines: &[Line]) -> Result<Vec<Range>, TextError>
     for (i, line) in lines.iter().enumerate() {
         let number = i + 2;
         if line.is_control() {
-            match deleted(line) {
+            match deleted_range(line) {
                 Some(range) => ranges.push(range)?,
                 None => {
                     let code = TextCode::BadDelete;

@@ -7,8 +7,7 @@ ghost use Rattle.undo.specs.Candidates.{HasCandidates};
 ghost use Rattle.undo.specs.Scopes.{restoring_from};
 
 use crate::listing::restore_list;
-use crate::scope::applied_among;
-use fields::{Attest, Id, IdList, RestoreList};
+use fields::{Id, IdList, RestoreList};
 use std::alloc::{AllocError, Global};
 use sysmods::GlobalZone;
 use terms::NotChosen;
@@ -28,16 +27,19 @@ pub fn restore_candidates(
 {
     let listed = restore_list(alloc, global, zone, accepted, list)?;
     let all = listed.as_slice();
-    let ids = IdList::from_vec(applied_among(alloc, zone, all)?);
-    ids.attest();
+    let ids = IdList::from_vec(zone.applied_among(alloc, all)?);
     Ok(Candidates {
         ids,
-        left_out: left_out(alloc, zone, all)?,
+        left_out: ids_not_applied(alloc, zone, all)?,
     })
 }
 
-// Those that are not applied, each with this as the reason.
-fn left_out(alloc: Global, zone: &Zone, ids: &[Id]) -> Result<Vec<(Id, NotChosen)>, AllocError>
+// The ids that the zone has not applied, each with NOTAPPLIED as the reason.
+fn ids_not_applied(
+    alloc: Global,
+    zone: &Zone,
+    ids: &[Id],
+) -> Result<Vec<(Id, NotChosen)>, AllocError>
     ensures { IfOk result (λ left. left.items
         ≡ map (λ x. (x, NotApplied)) (filter (λ x. not (is_applied zone.now x)) ids.now)) }
 {

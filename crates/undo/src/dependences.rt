@@ -6,10 +6,10 @@ ghost use Rattle.undo.specs.Scopes.{restoring_of};
 ghost use Rattle.undo.specs.Dependences.{suppliers, dependences_of};
 ghost use Rattle.undo.specs.Needed.{HaveDep};
 
-use crate::scope::{RestoreScope, applied_among};
+use crate::scope::RestoreScope;
 use fields::{Id, IdList};
 use std::alloc::{AllocError, Global};
-use zones::{Zone, requisites_held};
+use zones::{Zone, binding_requisites};
 
 // The SYSMODs that supersede the id in the zone.
 fn superseders(zone: &Zone, id: Id) -> &[Id]
@@ -27,11 +27,11 @@ pub fn suppliers(alloc: Global, zone: &Zone, id: Id) -> Result<Vec<Id>, AllocErr
 {
     let mut ids = vec![in alloc; id]?;
     ids.extend_from_slice(superseders(zone, id))?;
-    applied_among(alloc, zone, ids.as_slice())
+    zone.applied_among(alloc, ids.as_slice())
 }
 
-/// The groups of applied SYSMODs on which it depends: it has to go as soon as all members of one group go, if the group
-/// has any.
+/// The groups of applied SYSMODs on which the SYSMOD depends. It has to go as soon as all members of one group go,
+/// unless the group is empty.
 pub(crate) fn dependences_of(
     alloc: Global,
     scope: &RestoreScope<'_, '_>,
@@ -40,25 +40,30 @@ pub(crate) fn dependences_of(
     ensures { IfOk result (λ groups. map (λ group. group.items) groups.items
         ≡ dependences_of (restoring_of scope.now) id) }
 {
-    let requisites = requisites_held(alloc, scope.vers, scope.zone, id)?;
+    let requisites = binding_requisites(alloc, scope.vers, scope.zone, id)?;
     let mut groups = Vec::new(alloc);
     for requisite in requisites.as_slice() {
         groups.push(suppliers(alloc, scope.zone, *requisite)?)?;
     }
     if let Some(function) = scope.vers.fmid(id) {
-        groups.push(applied_among(alloc, scope.zone, &[function])?)?;
+        groups.push(scope.zone.applied_among(alloc, &[function])?)?;
     }
     Ok(groups)
 }
 
+// Whether the list contains all of the ids.
 fn are_listed(list: &IdList, ids: &[Id]) -> bool
     ensures { result ≡ list_all (is_in list.now) ids.now }
 {
     ids.iter().all(|id| list.contains(*id))
 }
 
-// The members of those groups all of whose members are in the list.
-fn all_within(alloc: Global, list: &IdList, groups: &[Vec<Id>]) -> Result<Vec<Id>, AllocError>
+// The members of the groups that lie in the list as a whole.
+fn members_of_listed_groups(
+    alloc: Global,
+    list: &IdList,
+    groups: &[Vec<Id>],
+) -> Result<Vec<Id>, AllocError>
     ensures { IfOk result (λ ids. ids.items
         ≡ flat_map (λ group. group.items) (filter (λ group. list_all (is_in list.now) group.items) groups.now)) }
 {
@@ -70,7 +75,7 @@ fn all_within(alloc: Global, list: &IdList, groups: &[Vec<Id>]) -> Result<Vec<Id
         .collect(alloc)
 }
 
-/// The candidates, which are applied, with those that depend on them: on a group whose members are all candidates.
+/// Pairs of a candidate and an applied SYSMOD that depends on it, that is, on a group whose members are all candidates.
 pub(crate) fn dep_pairs(
     alloc: Global,
     scope: &RestoreScope<'_, '_>,
@@ -82,7 +87,7 @@ pub(crate) fn dep_pairs(
     let mut pairs = Vec::new(alloc);
     for by in scope.applied {
         let groups = dependences_of(alloc, scope, *by)?;
-        let ids = all_within(alloc, cands, groups.as_slice())?;
+        let ids = members_of_listed_groups(alloc, cands, groups.as_slice())?;
         for id in ids.as_slice() {
             pairs.push((*id, *by))?;
         }

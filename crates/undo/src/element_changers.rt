@@ -5,7 +5,7 @@ ghost use Rattle.undo.specs.Elements.{AreChangers, changed_keys, sharers};
 ghost use Rattle.undo.specs.Needed.{HaveElem};
 ghost use Rattle.undo.specs.Scopes.{restoring_of};
 
-use crate::scope::{RestoreScope, unaccepted};
+use crate::scope::{RestoreScope, unaccepted_among};
 use fields::{Id, IdList, Name};
 use sorted::lists::{Lists, add_to_all, listed};
 use std::alloc::{AllocError, Global};
@@ -31,8 +31,8 @@ fn changed_keys(
         .collect(alloc)
 }
 
-// What these SYSMODs change.
-fn changers(alloc: Global, global: &GlobalZone, ids: &[Id]) -> Result<Changers, AllocError>
+// Lists for each element those of the SYSMODs that change it.
+fn index_changers(alloc: Global, global: &GlobalZone, ids: &[Id]) -> Result<Changers, AllocError>
     ensures { IfOk result (AreChangers global.now ids.now) }
 {
     let mut changers = BTreeMap::new(alloc);
@@ -43,8 +43,8 @@ fn changers(alloc: Global, global: &GlobalZone, ids: &[Id]) -> Result<Changers, 
     Ok(changers)
 }
 
-// Those that change an element that the SYSMOD changes too.
-fn sharers(
+// The SYSMODs that change an element that this one changes too.
+fn sharers_of(
     alloc: Global,
     global: &GlobalZone,
     changers: &Changers,
@@ -60,7 +60,7 @@ fn sharers(
         .collect(alloc)
 }
 
-/// The candidates with those that share an element with them.
+/// Pairs of a candidate and an applied, unaccepted SYSMOD that changes an element of it. The two may be the same.
 pub(crate) fn elem_pairs(
     alloc: Global,
     scope: &RestoreScope<'_, '_>,
@@ -69,11 +69,11 @@ pub(crate) fn elem_pairs(
     ensures { IfOk result (λ pairs. HaveElem (restoring_of scope.now) cands.now pairs.items) }
 {
     let global = scope.vers.global();
-    let others = unaccepted(alloc, scope.accepted, scope.applied)?;
-    let changers = changers(alloc, global, others.as_slice())?;
+    let others = unaccepted_among(alloc, scope.accepted, scope.applied)?;
+    let changers = index_changers(alloc, global, others.as_slice())?;
     let mut pairs = Vec::new(alloc);
     for id in cands.as_slice() {
-        let sharers = sharers(alloc, global, &changers, *id)?;
+        let sharers = sharers_of(alloc, global, &changers, *id)?;
         for sharer in sharers.as_slice() {
             pairs.push((*id, *sharer))?;
         }

@@ -5,7 +5,7 @@ ghost use Rattle.terms.specs.Restore.{IsListed};
 ghost use Rattle.fields.specs.Choices.{restore_list_of};
 ghost use Rattle.undo.specs.Scopes.{restoring_from};
 
-use crate::numbered::reached;
+use crate::numbered::reached_ids;
 use crate::scope::{RestoreScope, applied_ids};
 use crate::steps::all_steps;
 use fields::{IdList, RestoreList};
@@ -51,5 +51,5 @@ fn group_list(
         applied: applied.as_slice(),
     };
     let steps = all_steps(alloc, &scope)?;
-    reached(alloc, ids, steps.as_slice())
+    reached_ids(alloc, ids, steps.as_slice())
 }

@@ -28,21 +28,21 @@ pub(crate) struct Step {
     pub(crate) that: Node,
 }
 
-/// These SYSMODs.
-pub(crate) fn sysmods(alloc: Global, ids: &[Id]) -> Result<Vec<Node>, AllocError>
+/// The ids as nodes.
+pub(crate) fn sysmod_nodes(alloc: Global, ids: &[Id]) -> Result<Vec<Node>, AllocError>
     ensures { IfOk result (λ nodes. nodes.items ≡ map Sysmod ids.now) }
 {
     ids.iter().map(|id| Node::Sysmod(*id)).collect(alloc)
 }
 
-/// The element of the statement.
-pub(crate) fn element_at(change: &ElemChange) -> Node
+/// The element of the statement as a node.
+pub(crate) fn element_node(change: &ElemChange) -> Node
     ensures { result ≡ element_at change.now }
 {
     Node::Element(change.elem_type, change.name)
 }
 
-/// Adds a step.
+/// Adds the step that leads from all of `these` to `that`.
 pub(crate) fn push_step(
     steps: &mut Vec<Step>,
     these: Vec<Node>,

@@ -5,7 +5,7 @@ ghost use Rattle.undo.specs.declared.nodes.Node.TheVariants.{Sysmod};
 ghost use Rattle.undo.specs.Steps.{as_steps, is_start};
 ghost use Rattle.undo.specs.ByNumbers.{AreFlagged, AreReached, Covers, IsGrowth, nodes_in};
 
-use crate::nodes::{Node, Step, sysmods};
+use crate::nodes::{Node, Step, sysmod_nodes};
 use crate::numbers::rule_of;
 use fields::{Id, IdList, Rising};
 use solve::{Rules, least};
@@ -15,7 +15,7 @@ use std::alloc::{AllocError, Global};
 fn all_nodes(alloc: Global, ids: &IdList, steps: &[Step]) -> Result<Vec<Node>, AllocError>
     ensures { IfOk result (λ nodes. nodes.items ≡ map Sysmod ids.now ++ flat_map nodes_in steps.now) }
 {
-    let mut nodes = sysmods(alloc, ids.as_slice())?;
+    let mut nodes = sysmod_nodes(alloc, ids.as_slice())?;
     for step in steps {
         nodes.extend_from_slice(step.these.as_slice())?;
         nodes.push(step.that)?;
@@ -23,7 +23,7 @@ fn all_nodes(alloc: Global, ids: &IdList, steps: &[Step]) -> Result<Vec<Node>, A
     Ok(nodes)
 }
 
-// Whether it is one of GROUP's ids.
+// Whether the node is one of GROUP's ids. An element is none.
 fn is_start(ids: &IdList, node: &Node) -> bool
     ensures { result ≡ is_start ids.now node.now }
 {
@@ -33,14 +33,15 @@ fn is_start(ids: &IdList, node: &Node) -> bool
     }
 }
 
-fn starts(alloc: Global, ids: &IdList, table: &[Node]) -> Result<Vec<bool>, AllocError>
+// For each node of the table, whether it is one of GROUP's ids.
+fn start_flags(alloc: Global, ids: &IdList, table: &[Node]) -> Result<Vec<bool>, AllocError>
     ensures { IfOk result (λ flags. flags.items ≡ map (is_start ids.now) table.now) }
 {
     table.iter().map(|node| is_start(ids, node)).collect(alloc)
 }
 
-// The numbered system.
-fn growth(
+// The steps as rules between the places of the table, which start at GROUP's ids.
+fn rules_of_steps(
     alloc: Global,
     table: &Rising<Node>,
     ids: &IdList,
@@ -49,7 +50,7 @@ fn growth(
     requires { All (λ s. Covers table.now s) steps.now }
     ensures { IfOk result (λ rules. IsGrowth table.now ids.now (as_steps steps.now) rules) }
 {
-    let start = starts(alloc, ids, table.as_slice())?;
+    let start = start_flags(alloc, ids, table.as_slice())?;
     let mut rules = Rules::new(alloc, start.as_slice())?;
     // So the places in the table are numbers.
     let _ = rules.size();
@@ -59,8 +60,8 @@ fn growth(
     Ok(rules)
 }
 
-// The ids of the flagged SYSMODs.
-fn flagged(alloc: Global, table: &[Node], flags: &[bool]) -> Result<Vec<Id>, AllocError>
+// The ids of those SYSMODs of the table that have a flag.
+fn flagged_ids(alloc: Global, table: &[Node], flags: &[bool]) -> Result<Vec<Id>, AllocError>
     requires { length flags.now ≡ length table.now }
     ensures { IfOk result (λ found. AreFlagged table.now flags.now (length table.now) found.items) }
 {
@@ -78,13 +79,13 @@ fn flagged(alloc: Global, table: &[Node], flags: &[bool]) -> Result<Vec<Id>, All
     Ok(found)
 }
 
-/// The ids of SYSMODs that the steps reach from these.
-pub(crate) fn reached(alloc: Global, ids: &IdList, steps: &[Step]) -> Result<IdList, AllocError>
+/// The ids of the SYSMODs that the steps reach from GROUP's ids, with these ids.
+pub(crate) fn reached_ids(alloc: Global, ids: &IdList, steps: &[Step]) -> Result<IdList, AllocError>
     ensures { IfOk result (λ found. AreReached ids.now (as_steps steps.now) found) }
 {
     let table = Rising::from_vec(all_nodes(alloc, ids, steps)?);
-    let rules = growth(alloc, &table, ids, steps)?;
+    let rules = rules_of_steps(alloc, &table, ids, steps)?;
     let set = least(alloc, &rules)?;
-    let ids = flagged(alloc, table.as_slice(), set.as_slice())?;
+    let ids = flagged_ids(alloc, table.as_slice(), set.as_slice())?;
     Ok(IdList::from_vec(ids))
 }

@@ -10,8 +10,8 @@ use fields::{Field, Rising};
 use solve::Rule;
 use std::alloc::{AllocError, Global};
 
-// The place of an item that is in the list is its number.
-fn number<T: Field>(table: &Rising<T>, item: T) -> u32
+// The number of an item that is in the table: its place there.
+fn place_number<T: Field>(table: &Rising<T>, item: T) -> u32
     requires there { Contains table.now item }
     requires few { length table.now < 2 ^ 32 }
     ensures { slice_get table.now result ≡ Some item }
@@ -19,7 +19,7 @@ fn number<T: Field>(table: &Rising<T>, item: T) -> u32
     table.as_slice().binary_search(&item).unwrap() as u32
 }
 
-/// The step as a rule.
+/// The step as a rule: the numbers of its nodes, each once and in order.
 pub(crate) fn rule_of(alloc: Global, table: &Rising<Node>, step: &Step) -> Result<Rule, AllocError>
     requires covers { Covers table.now step.now }
     requires few { length table.now < 2 ^ 32 }
@@ -28,10 +28,10 @@ pub(crate) fn rule_of(alloc: Global, table: &Rising<Node>, step: &Step) -> Resul
 {
     let mut these = Vec::new(alloc);
     for node in step.these.as_slice() {
-        these.push(number(table, *node))?;
+        these.push(place_number(table, *node))?;
     }
     these.sort_unstable();
     these.dedup();
-    let that = number(table, step.that);
+    let that = place_number(table, step.that);
     Ok(Rule { these, that })
 }

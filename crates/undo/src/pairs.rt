@@ -3,8 +3,8 @@ ghost use Rattle.undo.specs.Pairs.{AreOwn};
 
 use fields::{Id, IdList};
 
-/// The pairs of a member of the list and another id, each once.
-pub(crate) fn own_pairs(ids: &IdList, mut pairs: Vec<(Id, Id)>) -> Vec<(Id, Id)>
+/// Keeps the pairs of a member of the list and another id, each once and in order.
+pub(crate) fn member_pairs(ids: &IdList, mut pairs: Vec<(Id, Id)>) -> Vec<(Id, Id)>
     ensures { AreOwn ids.now pairs.items result.items }
 {
     pairs.retain(|pair| ids.contains(pair.0) && pair.0 != pair.1);

@@ -1,6 +1,6 @@
 //! What RESTORE looks at.
 ghost use Rattle.std.specs.Prelude.{◌≡◌, ◌++◌, [], ◌∷◌, not, filter, map, is_some, IfOk, OnOk};
-ghost use Rattle.terms.specs.Lookups.{IsZone, is_applied, is_supplied, applied_ids};
+ghost use Rattle.terms.specs.Lookups.{IsZone, is_supplied, applied_ids};
 
 use fields::Id;
 use std::alloc::{AllocError, Global};
@@ -19,7 +19,8 @@ pub(crate) struct RestoreScope<'a, 'b> {
     pub(crate) ghost form: { IsZone zone.now },
 }
 
-fn push_if_applied(entry: &Entry, found: &mut Vec<Id>) -> Result<(), AllocError>
+// Pushes the id of the entry, if the zone has applied it.
+fn push_applied_id(entry: &Entry, found: &mut Vec<Id>) -> Result<(), AllocError>
     ensures { OnOk result (found.new.items ≡ found.old.items
         ++ map (λ e. e.id) (filter (λ e. is_some e.applied) (entry.now ∷ []))) }
 {
@@ -29,30 +30,24 @@ fn push_if_applied(entry: &Entry, found: &mut Vec<Id>) -> Result<(), AllocError>
     Ok(())
 }
 
-/// The ids that are applied. An error comes where memory runs out.
+/// The ids of the SYSMODs that the zone has applied.
 pub fn applied_ids(alloc: Global, zone: &Zone) -> Result<Vec<Id>, AllocError>
     ensures ids { IfOk result (λ found. found.items ≡ applied_ids zone.now) }
     ensures form { IsZone zone.now }
 {
     let mut found = Vec::new(alloc);
     for entry in zone.entries() {
-        push_if_applied(entry, &mut found)?;
+        push_applied_id(entry, &mut found)?;
     }
     Ok(found)
 }
 
-/// Those of these ids that are applied in the zone.
-pub(crate) fn applied_among(alloc: Global, zone: &Zone, ids: &[Id]) -> Result<Vec<Id>, AllocError>
-    ensures { IfOk result (λ found. found.items ≡ filter (is_applied zone.now) ids.now) }
-{
-    ids.iter()
-        .filter(|id| zone.is_applied(**id))
-        .copied()
-        .collect(alloc)
-}
-
-/// Those of these ids that the distribution zone does not supply.
-pub(crate) fn unaccepted(alloc: Global, accepted: &Zone, ids: &[Id]) -> Result<Vec<Id>, AllocError>
+/// The ids among these that the distribution zone does not supply.
+pub(crate) fn unaccepted_among(
+    alloc: Global,
+    accepted: &Zone,
+    ids: &[Id],
+) -> Result<Vec<Id>, AllocError>
     ensures { IfOk result (λ found. found.items ≡ filter (λ y. not (is_supplied accepted.now y)) ids.now) }
 {
     ids.iter()

@@ -4,24 +4,29 @@ ghost use Rattle.undo.specs.Steps.{as_steps, all_steps, from_all};
 ghost use Rattle.undo.specs.Scopes.{restoring_of};
 
 use crate::dependences::dependences_of;
-use crate::nodes::{Node, Step, element_at, push_step, sysmods};
-use crate::scope::{RestoreScope, unaccepted};
+use crate::nodes::{Node, Step, element_node, push_step, sysmod_nodes};
+use crate::scope::{RestoreScope, unaccepted_among};
 use fields::Id;
 use std::alloc::{AllocError, Global};
 
-// From all of these together to the SYSMOD that depends on them, if there are any.
-fn push_from_all(alloc: Global, ids: &[Id], by: Id, steps: &mut Vec<Step>) -> Result<(), AllocError>
+// Adds the step from a group to the SYSMOD that depends on it, unless the group is empty.
+fn push_step_from_group(
+    alloc: Global,
+    ids: &[Id],
+    by: Id,
+    steps: &mut Vec<Step>,
+) -> Result<(), AllocError>
     ensures { OnOk result (as_steps steps.new.items ≡ as_steps steps.old.items ++ from_all by ids.now) }
 {
     if !ids.is_empty() {
-        let these = sysmods(alloc, ids)?;
+        let these = sysmod_nodes(alloc, ids)?;
         push_step(steps, these, Node::Sysmod(by))?;
     }
     Ok(())
 }
 
-/// From each applied SYSMOD to the elements that it changes, from these to the SYSMODs that the distribution zone does
-/// not supply, and from what a SYSMOD depends on to it.
+/// All steps of a RESTORE: from each applied SYSMOD to the elements that it changes, from these to the SYSMODs that the
+/// distribution zone does not supply, and from each group to the SYSMOD that depends on it.
 pub(crate) fn all_steps(
     alloc: Global,
     scope: &RestoreScope<'_, '_>,
@@ -34,21 +39,21 @@ pub(crate) fn all_steps(
         let changes = global.changes_of(*id);
         for change in changes {
             let these = vec![in alloc; Node::Sysmod(*id)]?;
-            push_step(&mut steps, these, element_at(change))?;
+            push_step(&mut steps, these, element_node(change))?;
         }
     }
-    let others = unaccepted(alloc, scope.accepted, scope.applied)?;
+    let others = unaccepted_among(alloc, scope.accepted, scope.applied)?;
     for other in others.as_slice() {
         let shared = global.changes_of(*other);
         for change in shared {
-            let these = vec![in alloc; element_at(change)]?;
+            let these = vec![in alloc; element_node(change)]?;
             push_step(&mut steps, these, Node::Sysmod(*other))?;
         }
     }
     for by in scope.applied {
         let groups = dependences_of(alloc, scope, *by)?;
         for group in groups.as_slice() {
-            push_from_all(alloc, group.as_slice(), *by, &mut steps)?;
+            push_step_from_group(alloc, group.as_slice(), *by, &mut steps)?;
         }
     }
     Ok(steps)

@@ -12,7 +12,7 @@ use std::alloc::{AllocError, Global};
 use sysmods_values::ElemChange;
 use zones::{Element, Zone};
 
-// Whether both zones have it applied, by the `++VER` of one number.
+// Whether both zones have applied the SYSMOD, by the `++VER` of one number.
 fn is_alike(zone: &Zone, other: &Zone, id: Id) -> bool
     ensures { result ≡ is_alike zone.now other.now id }
 {
@@ -25,6 +25,7 @@ fn is_alike(zone: &Zone, other: &Zone, id: Id) -> bool
     }
 }
 
+// Whether one of the SYSMODs is not alike in the two zones.
 fn any_unlike(zone: &Zone, other: &Zone, ids: &[Id]) -> bool
     ensures { result ≡ list_any (λ y. not (is_alike zone.now other.now y)) ids.now }
 {
@@ -48,7 +49,7 @@ fn may_return(scope: &RestoreScope<'_, '_>, element: &Element) -> bool
 }
 
 // Whether the distribution zone has the element of the statement, and the target zone cannot take it in.
-fn is_behind(scope: &RestoreScope<'_, '_>, change: &ElemChange) -> bool
+fn is_at_other_level(scope: &RestoreScope<'_, '_>, change: &ElemChange) -> bool
     ensures { result ≡ is_behind (restoring_of scope.now) change.now }
 {
     match scope.accepted.element(change.elem_type, change.name) {
@@ -57,11 +58,13 @@ fn is_behind(scope: &RestoreScope<'_, '_>, change: &ElemChange) -> bool
     }
 }
 
-// Whether one of these elements is behind.
-fn any_behind(scope: &RestoreScope<'_, '_>, changes: &[ElemChange]) -> bool
+// Whether the target zone cannot take in one of the elements.
+fn is_any_at_other_level(scope: &RestoreScope<'_, '_>, changes: &[ElemChange]) -> bool
     ensures { result ≡ list_any (is_behind (restoring_of scope.now)) changes.now }
 {
-    changes.iter().any(|change| is_behind(scope, change))
+    changes
+        .iter()
+        .any(|change| is_at_other_level(scope, change))
 }
 
 // The tests that a candidate fails.
@@ -71,7 +74,7 @@ fn failed_tests(scope: &RestoreScope<'_, '_>, id: Id) -> TestSet
     TestSet {
         already_accepted: scope.accepted.supplies(id),
         has_delete: !scope.vers.del(id).is_empty(),
-        other_level: any_behind(scope, scope.vers.global().changes_of(id)),
+        other_level: is_any_at_other_level(scope, scope.vers.global().changes_of(id)),
         ..TestSet::none()
     }
 }

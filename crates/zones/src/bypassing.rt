@@ -9,7 +9,7 @@ use fields::{Bypass, Class, Reason, Reasons};
 use sysmods_values::Hold;
 use terms::HoldKind;
 
-// HOLDERROR, HOLDSYSTEM or HOLDUSER.
+// What BYPASS says about holds of this kind: its HOLDERROR, HOLDSYSTEM or HOLDUSER.
 fn reasons_of(bypass: &Bypass, kind: HoldKind) -> &Reasons
     ensures { reasons_in result.now ≡ reasons_of bypass.now kind }
 {
@@ -20,7 +20,8 @@ fn reasons_of(bypass: &Bypass, kind: HoldKind) -> &Reasons
     }
 }
 
-fn covers(reasons: &Reasons, reason: Reason) -> bool
+// Whether the reason ID is one of these.
+fn covers_reason(reasons: &Reasons, reason: Reason) -> bool
     ensures { result ≡ covers (reasons_in reasons.now) reason }
 {
     match reasons {
@@ -44,5 +45,5 @@ fn has_class(bypass: &Bypass, class: Option<Class>) -> bool
 pub fn is_bypassed_hold(bypass: &Bypass, hold: &Hold) -> bool
     ensures { result ≡ is_bypassed_hold bypass.now hold.now }
 {
-    covers(reasons_of(bypass, hold.kind), hold.reason) || has_class(bypass, hold.class)
+    covers_reason(reasons_of(bypass, hold.kind), hold.reason) || has_class(bypass, hold.class)
 }

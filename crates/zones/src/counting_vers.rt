@@ -33,7 +33,7 @@ pub fn choose<'a>(
     Ok(VerChoice::new(global, zone.srel(), kept, fitting))
 }
 
-// The table of items that rise.
+// A table of items that already rise by their keys.
 fn table_of<T: Keyed + Drop>(items: Vec<T>) -> Table<T>
     requires { Rises T.Key.cmp T.key_of items.items }
     ensures { result ≡ items.items }
@@ -51,8 +51,8 @@ pub fn fits(zone: &Zone, cands: &IdList, ver: &Ver) -> bool
     }
 }
 
-// Adds the number if it is not that of the first.
-fn push_further(pick: Pick, picks: &mut Vec<Pick>) -> Result<(), AllocError>
+// Adds the pick, unless its number is 1. A SYSMOD without a pick has the number 1.
+fn push_if_not_first(pick: Pick, picks: &mut Vec<Pick>) -> Result<(), AllocError>
     ensures { OnOk result (picks.new.items ≡ picks.old.items ++ filter is_further (pick ∷ [])) }
 {
     if pick.number.get() > 1 {
@@ -61,7 +61,7 @@ fn push_further(pick: Pick, picks: &mut Vec<Pick>) -> Result<(), AllocError>
     Ok(())
 }
 
-// The number by which it was installed, if it was installed.
+// The number by which the entry's SYSMOD was installed, or 1 if it is not applied.
 fn kept_pick(entry: &Entry) -> Pick
     ensures { result ≡ kept_pick entry.now }
 {
@@ -74,19 +74,19 @@ fn kept_pick(entry: &Entry) -> Pick
     }
 }
 
-// Those of the applied SYSMODs.
+// The picks of the applied SYSMODs.
 fn kept_picks(alloc: Global, zone: &Zone) -> Result<Vec<Pick>, AllocError>
     ensures form { IsZone zone.now }
     ensures picks { IfOk result (λ picks. picks.items ≡ filter is_further (map kept_pick zone.now.entries)) }
 {
     let mut picks = Vec::new(alloc);
     for entry in zone.entries() {
-        push_further(kept_pick(entry), &mut picks)?;
+        push_if_not_first(kept_pick(entry), &mut picks)?;
     }
     Ok(picks)
 }
 
-// The place of the first one that fits, among those for the zone's SREL.
+// The place of the first `++VER` that fits, among those for the zone's SREL.
 fn first_fitting(zone: &Zone, cands: &IdList, vers: &[Ver]) -> Option<usize>
     ensures { result ≡ position (fits zone.now (is_in cands.now))
         (filter (λ v. bytes_eq v.srel zone.now.srel) vers.now) }
@@ -97,7 +97,7 @@ fn first_fitting(zone: &Zone, cands: &IdList, vers: &[Ver]) -> Option<usize>
         .position(|ver| fits(zone, cands, ver))
 }
 
-// The number of that one, or otherwise of the first.
+// The number of the first `++VER` that fits, or 1 if none fits.
 fn fitting_number(zone: &Zone, cands: &IdList, vers: &[Ver]) -> VerNumber
     ensures { result ≡ unwrap_or (position (fits zone.now (is_in cands.now))
         (filter (λ v. bytes_eq v.srel zone.now.srel) vers.now)) 0 + 1 }
@@ -106,12 +106,12 @@ fn fitting_number(zone: &Zone, cands: &IdList, vers: &[Ver]) -> VerNumber
         return VerNumber::FIRST;
     }
     match first_fitting(zone, cands, vers) {
-        Some(place) => VerNumber::behind(place),
+        Some(place) => VerNumber::at_place(place),
         None => VerNumber::FIRST,
     }
 }
 
-// The number for a SYSMOD that is not applied.
+// The pick of a received SYSMOD. It has the number 1 if the SYSMOD is applied, because `kept_pick` says its number.
 fn fitting_pick(zone: &Zone, cands: &IdList, sysmod: &Sysmod) -> Pick
     ensures { result ≡ fitting_pick zone.now cands.now sysmod.now }
 {
@@ -126,7 +126,7 @@ fn fitting_pick(zone: &Zone, cands: &IdList, sysmod: &Sysmod) -> Pick
     }
 }
 
-// Those of the received SYSMODs that are not applied.
+// The picks of the received SYSMODs that are not applied.
 fn fitting_picks(
     alloc: Global,
     global: &GlobalZone,
@@ -138,7 +138,7 @@ fn fitting_picks(
 {
     let mut picks = Vec::new(alloc);
     for sysmod in global.sysmods() {
-        push_further(fitting_pick(zone, cands, sysmod), &mut picks)?;
+        push_if_not_first(fitting_pick(zone, cands, sysmod), &mut picks)?;
     }
     Ok(picks)
 }

@@ -19,7 +19,7 @@ pub fn deletions(alloc: Global, vers: &VerChoice<'_>, ids: &[Id]) -> Result<Vec<
         .collect(alloc)
 }
 
-// What the candidates in the chain of this one name there.
+// What the candidates in the chain of this SYSMOD name in DELETE.
 pub(crate) fn chain_deletions(
     alloc: Global,
     vers: &VerChoice<'_>,
@@ -31,13 +31,13 @@ pub(crate) fn chain_deletions(
 {
     let mut dels = Vec::new(alloc);
     for above in vers.chain(id) {
-        append_of_candidate(vers, cands, above, &mut dels)?;
+        append_candidate_deletions(vers, cands, above, &mut dels)?;
     }
     Ok(dels)
 }
 
 // Adds what it names in DELETE, if it is a candidate.
-fn append_of_candidate(
+fn append_candidate_deletions(
     vers: &VerChoice<'_>,
     cands: &IdList,
     id: Id,

@@ -4,7 +4,7 @@ ghost use Rattle.terms.specs.Types.{Id as AnId};
 ghost use Rattle.terms.specs.Lookups.{is_in};
 ghost use Rattle.terms.specs.Deleted.{entry_less};
 
-use fields::{Attest, Id, IdList};
+use fields::{Id, IdList};
 use sorted::TryClone;
 use std::alloc::{AllocError, Global};
 use zones_maps::Entry;
@@ -31,8 +31,8 @@ impl TakesOut for IdList {
     }
 }
 
-// Adds the id if it stays.
-fn push_left<T: TakesOut>(taking: &T, id: Id, left: &mut Vec<Id>) -> Result<(), AllocError>
+// Adds the id if it is not taken out.
+fn push_if_stays<T: TakesOut>(taking: &T, id: Id, left: &mut Vec<Id>) -> Result<(), AllocError>
     ensures { OnOk result (left.new.items ≡ left.old.items ++ filter (λ y. not (T.is_gone taking.now y)) (id ∷ [])) }
 {
     if !taking.takes_out(id) {
@@ -41,25 +41,30 @@ fn push_left<T: TakesOut>(taking: &T, id: Id, left: &mut Vec<Id>) -> Result<(), 
     Ok(())
 }
 
-fn ids_left<T: TakesOut>(alloc: Global, taking: &T, ids: &[Id]) -> Result<Vec<Id>, AllocError>
+// The ids that are not taken out.
+fn remaining_ids<T: TakesOut>(alloc: Global, taking: &T, ids: &[Id]) -> Result<Vec<Id>, AllocError>
     ensures { IfOk result (λ left. left.items ≡ filter (λ y. not (T.is_gone taking.now y)) ids.now) }
 {
     let mut left = Vec::new(alloc);
     for id in ids {
-        push_left(taking, *id, &mut left)?;
+        push_if_stays(taking, *id, &mut left)?;
     }
     Ok(left)
 }
 
-fn list_left<T: TakesOut>(alloc: Global, taking: &T, ids: &IdList) -> Result<IdList, AllocError>
+// The same as a list that rises.
+fn remaining_list<T: TakesOut>(
+    alloc: Global,
+    taking: &T,
+    ids: &IdList,
+) -> Result<IdList, AllocError>
     ensures { IfOk result (λ left. left ≡ filter (λ y. not (T.is_gone taking.now y)) ids.now) }
 {
-    let left = IdList::from_vec(ids_left(alloc, taking, ids.as_slice())?);
-    left.attest();
-    Ok(left)
+    Ok(IdList::from_vec(remaining_ids(alloc, taking, ids.as_slice())?))
 }
 
-/// The entry after the SYSMODs that are taken out are gone.
+/// The entry after the SYSMODs are taken out: they leave SUPBY, and if it is the entry of one of them, it is no longer
+/// applied and waives nothing.
 pub fn entry_less<T: TakesOut>(
     alloc: Global,
     taking: &T,
@@ -67,7 +72,7 @@ pub fn entry_less<T: TakesOut>(
 ) -> Result<Entry, AllocError>
     ensures { IfOk result (λ less. less ≡ entry_less (T.is_gone taking.now) entry.now) }
 {
-    let supby = list_left(alloc, taking, &entry.supby)?;
+    let supby = remaining_list(alloc, taking, &entry.supby)?;
     if taking.takes_out(entry.id) {
         Ok(Entry {
             id: entry.id,

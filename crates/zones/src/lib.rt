@@ -18,7 +18,7 @@ mod orphaned;
 mod scope;
 mod zone_less;
 
-pub use binding::requisites_held;
+pub use binding::binding_requisites;
 pub use bypassing::is_bypassed_hold;
 pub use candidates::Candidates;
 pub use counting_vers::{choose, fits};
@@ -30,6 +30,6 @@ pub use sysmods::{Chain, VerChoice};
 pub use terms::ZoneKind;
 pub use zone_less::ZoneLess;
 pub use zones_maps::{
-    Applied, Element, Entry, PreparedZone, Zone, ZoneDelta, ZoneEdits, are_same, is_element,
-    is_same_entry,
+    Applied, Element, Entry, PreparedZone, Zone, ZoneDelta, ZoneEdits, are_same_elements,
+    is_same_as_existing, is_same_entry,
 };

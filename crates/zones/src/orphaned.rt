@@ -27,21 +27,22 @@ pub fn orphans(
     if dels.is_empty() {
         return Ok(Vec::new(alloc));
     }
-    lost_ids(alloc, &ZoneLess { vers, dels, zone })
+    all_lost_requisites(alloc, &ZoneLess { vers, dels, zone })
 }
 
-fn lost_ids(alloc: Global, left: &ZoneLess) -> Result<Vec<Id>, AllocError>
+// The requisites that the SYSMODs that stay applied lose.
+fn all_lost_requisites(alloc: Global, left: &ZoneLess) -> Result<Vec<Id>, AllocError>
     ensures { IfOk result (λ found. found.items ≡ lost_by left.now left.now.zone.now.entries) }
 {
     let mut found = Vec::new(alloc);
     for entry in left.zone.entries() {
-        push_lost_of(alloc, left, entry, &mut found)?;
+        push_lost_requisites(alloc, left, entry, &mut found)?;
     }
     Ok(found)
 }
 
 // Adds what the entry's SYSMOD loses, if it stays applied.
-fn push_lost_of(
+fn push_lost_requisites(
     alloc: Global,
     left: &ZoneLess,
     entry: &Entry,
@@ -52,14 +53,14 @@ fn push_lost_of(
         then filter (loses left.now) (binding_of left.now entry.now.id) else [])) }
 {
     if entry.applied.is_some() && !left.takes_out(entry.id) {
-        let lost = lost_of(alloc, left, entry.id)?;
+        let lost = lost_requisites(alloc, left, entry.id)?;
         found.extend_from_slice(lost.as_slice())?;
     }
     Ok(())
 }
 
 // The requisites that the SYSMOD loses.
-fn lost_of(alloc: Global, left: &ZoneLess, id: Id) -> Result<Vec<Id>, AllocError>
+fn lost_requisites(alloc: Global, left: &ZoneLess, id: Id) -> Result<Vec<Id>, AllocError>
     ensures { IfOk result (λ lost. lost.items ≡ filter (loses left.now) (binding_of left.now id)) }
 {
     let mut ids = binding_ids(alloc, left, id)?;

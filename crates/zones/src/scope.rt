@@ -42,7 +42,7 @@ impl<'a, 'b> Scope<'a, 'b> {
         self.vers.fmid(id)
     }
 
-    /// Its PRE.
+    /// The PRE of a SYSMOD.
     pub fn pre(&self, id: Id) -> &'b [Id]
         ensures items { result.now ≡ pre_of (choice self.now.vers.now) id }
         ensures rising { IsRising result.now }
@@ -53,7 +53,7 @@ impl<'a, 'b> Scope<'a, 'b> {
         }
     }
 
-    /// Its REQ.
+    /// The REQ of a SYSMOD.
     pub fn req(&self, id: Id) -> &'b [Id]
         ensures items { result.now ≡ req_of (choice self.now.vers.now) id }
         ensures rising { IsRising result.now }
@@ -64,7 +64,7 @@ impl<'a, 'b> Scope<'a, 'b> {
         }
     }
 
-    /// Its `++IF`s.
+    /// The `++IF`s of a SYSMOD.
     pub fn ifs(&self, id: Id) -> &'b [IfReq]
         ensures { result.now ≡ ifs_of (choice self.now.vers.now) id }
     {
@@ -74,8 +74,8 @@ impl<'a, 'b> Scope<'a, 'b> {
         }
     }
 
-    /// What the candidates in the chain of this one name in DELETE. Its view is the zone less these. Usually no candidate
-    /// names anything there, and then it walks no chain.
+    /// What the candidates in the chain of this SYSMOD name in DELETE. Its view is the zone less these. Usually no
+    /// candidate names anything in DELETE, and then the call walks no chain.
     pub fn view_deletions(&self, alloc: Global, id: Id) -> Result<Vec<Id>, AllocError>
         ensures { IfOk result (λ dels. dels.items ≡ deletions (choice self.now.vers.now)
             (filter (is_in self.now.ids.now) (chain self.now.vers.now.global.now (choice self.now.vers.now) id))) }
@@ -90,16 +90,10 @@ impl<'a, 'b> Scope<'a, 'b> {
     pub fn is_bypassed(&self, kind: NeedKind) -> bool
         ensures { result ≡ is_bypassed self.now.bypass.now kind }
     {
-        let bypass = self.bypass;
-        match kind {
-            NeedKind::Pre => bypass.pre,
-            NeedKind::Req => bypass.req,
-            NeedKind::Ifreq => bypass.ifreq,
-            _ => false,
-        }
+        self.bypass.covers(kind)
     }
 
-    /// Whether it covers any requisites at all.
+    /// Whether BYPASS covers any requisites at all.
     pub fn bypasses_requisites(&self) -> bool
         ensures { result ≡ (is_bypassed self.now.bypass.now Pre || is_bypassed self.now.bypass.now Req
             || is_bypassed self.now.bypass.now Ifreq) }

@@ -79,12 +79,14 @@ impl<'a, 'b> ZoneLess<'a, 'b> {
         }
     }
 
+    // Whether one of the ids is not taken out.
     fn any_stays(&self, ids: &[Id]) -> bool
         ensures { result ≡ list_any (λ y. not (is_gone self.now y)) ids.now }
     {
         ids.iter().any(|id| !self.takes_out(*id))
     }
 
+    // Whether one of the SYSMODs that supersede it is taken out.
     fn takes_superseder(&self, id: Id) -> bool
         ensures { result ≡ list_any (is_gone self.now) (supby_of self.now.zone.now id) }
     {
@@ -94,6 +96,7 @@ impl<'a, 'b> ZoneLess<'a, 'b> {
         }
     }
 
+    // Whether one of the ids is taken out.
     fn takes_any(&self, ids: &[Id]) -> bool
         ensures { result ≡ list_any (is_gone self.now) ids.now }
     {

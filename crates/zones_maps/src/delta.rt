@@ -42,12 +42,12 @@ impl Attest for ZoneDelta {
 }
 
 impl ZoneDelta {
-    /// These edits of this zone. It looks up each key in the zone once.
-    pub fn of(alloc: Global, edits: ZoneEdits, zone: &Zone) -> Result<ZoneDelta, AllocError>
+    /// These edits, with what the zone has at the key of each. It looks up each key in the zone once.
+    pub fn from_edits(alloc: Global, edits: ZoneEdits, zone: &Zone) -> Result<ZoneDelta, AllocError>
         ensures { IfOk result (λ d. (d.edits ≡ edits) × KnowsStood zone.now d) }
     {
-        let entries_stood = entries_stood(alloc, edits.entries(), zone)?;
-        let elements_stood = elements_stood(alloc, edits.elements(), zone)?;
+        let entries_stood = old_numbers(alloc, edits.entries(), zone)?;
+        let elements_stood = old_elements_exist(alloc, edits.elements(), zone)?;
         Ok(ZoneDelta {
             edits,
             entries_stood,
@@ -88,9 +88,10 @@ impl ZoneDelta {
     pub fn apply(&self, alloc: Global, zone: &Zone) -> Result<Zone, AllocError>
         ensures { IfOk result (λ new. IsChanged self.now zone.now new) }
     {
-        zone.edited(alloc, &self.edits)
+        zone.with_edits(alloc, &self.edits)
     }
 
+    // The edits by themselves.
     pub(crate) fn edits(&self) -> &ZoneEdits
         ensures { result.now ≡ self.now.edits }
     {
@@ -98,8 +99,8 @@ impl ZoneDelta {
     }
 }
 
-// What the zone has at the key of each of these edits.
-fn entries_stood(
+// For each edit, the number of the `++VER` by which the zone has the entry, if it has one.
+fn old_numbers(
     alloc: Global,
     edits: &[Edit<Entry, Id>],
     zone: &Zone,
@@ -108,17 +109,19 @@ fn entries_stood(
 {
     edits
         .iter()
-        .map(|edit| entry_stood(edit, zone))
+        .map(|edit| old_number(edit, zone))
         .collect(alloc)
 }
 
-fn entry_stood(edit: &Edit<Entry, Id>, zone: &Zone) -> Option<VerNumber>
+// The number of the `++VER` by which the zone has the entry of this edit's id.
+fn old_number(edit: &Edit<Entry, Id>, zone: &Zone) -> Option<VerNumber>
     ensures { result ≡ entry_stood zone.now edit.now }
 {
     Some(zone.entry(edit.key())?.number())
 }
 
-fn elements_stood(
+// For each edit, whether the zone has the element.
+fn old_elements_exist(
     alloc: Global,
     edits: &[Edit<Element, (ElemType, Name)>],
     zone: &Zone,
@@ -127,11 +130,12 @@ fn elements_stood(
 {
     edits
         .iter()
-        .map(|edit| element_stood(edit, zone))
+        .map(|edit| old_element_exists(edit, zone))
         .collect(alloc)
 }
 
-fn element_stood(edit: &Edit<Element, (ElemType, Name)>, zone: &Zone) -> bool
+// Whether the zone has the element of this edit's type and name.
+fn old_element_exists(edit: &Edit<Element, (ElemType, Name)>, zone: &Zone) -> bool
     ensures { result ≡ element_stood zone.now edit.now }
 {
     let (elem_type, name) = edit.key();

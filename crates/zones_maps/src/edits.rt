@@ -38,6 +38,7 @@ impl Attest for ZoneEdits {
     ghost form = { AreEdits };
 
     fn attest(&self) {
+        // Reading any field is enough: the checker then has the invariant of all edits.
         let _ = &self.entries;
     }
 }
@@ -68,6 +69,7 @@ impl ZoneEdits {
         self.elements.as_slice()
     }
 
+    // The same as a table, with the form of all edits.
     pub(crate) fn entry_edits(&self) -> &Table<Edit<Entry, Id>>
         ensures same { result.now ≡ self.now.entries }
         ensures form { AreEdits self.now }
@@ -75,6 +77,7 @@ impl ZoneEdits {
         &self.entries
     }
 
+    // The same as a table.
     pub(crate) fn element_edits(&self) -> &Table<Edit<Element, (ElemType, Name)>>
         ensures { result.now ≡ self.now.elements }
     {

@@ -1,10 +1,10 @@
-//! Whether two entries or two elements are the same.
+//! Whether two entries or two elements are equal in each field.
 ghost use Rattle.std.specs.Prelude.{◌≡◌, ◌↔◌, IsTrue, Some, option_copied};
 
 use crate::entries::{Element, Entry};
 use fields::IdList;
 
-/// Whether the two entries are the same.
+/// Whether two entries are equal in each field.
 pub fn is_same_entry(a: &Entry, b: &Entry) -> bool
     ensures { IsTrue result ↔ (a.now ≡ b.now) }
 {
@@ -21,27 +21,27 @@ fn has_same_state(a: &Entry, b: &Entry) -> bool
 fn has_same_lists(a: &Entry, b: &Entry) -> bool
     ensures { IsTrue result ↔ (a.now.supby ≡ b.now.supby) × (a.now.waived ≡ b.now.waived) }
 {
-    same_ids(&a.supby, &b.supby) && same_ids(&a.waived, &b.waived)
+    have_same_ids(&a.supby, &b.supby) && have_same_ids(&a.waived, &b.waived)
 }
 
-fn same_ids(a: &IdList, b: &IdList) -> bool
+fn have_same_ids(a: &IdList, b: &IdList) -> bool
     ensures { IsTrue result ↔ (a.now ≡ b.now) }
 {
     a.as_slice() == b.as_slice()
 }
 
-/// Whether both are the same element, or neither exists.
-pub fn are_same(a: Option<&Element>, b: Option<&Element>) -> bool
+/// Whether both elements exist and are the same, or neither exists.
+pub fn are_same_elements(a: Option<&Element>, b: Option<&Element>) -> bool
     ensures { IsTrue result ↔ (option_copied a.entry ≡ option_copied b.entry) }
 {
     match a {
-        Some(element) => is_element(element, b),
+        Some(element) => is_same_as_existing(element, b),
         None => b.is_none(),
     }
 }
 
-/// Whether the element exists, and is the same.
-pub fn is_element(a: &Element, b: Option<&Element>) -> bool
+/// Whether the second element exists and is the same as the first.
+pub fn is_same_as_existing(a: &Element, b: Option<&Element>) -> bool
     ensures { IsTrue result ↔ (Some a.now ≡ option_copied b.entry) }
 {
     match b {
@@ -66,7 +66,7 @@ fn has_same_names(a: &Element, b: &Element) -> bool
 fn has_same_owner(a: &Element, b: &Element) -> bool
     ensures { IsTrue result ↔ (a.now.fmid ≡ b.now.fmid) × (a.now.rmid ≡ b.now.rmid) × (a.now.umids ≡ b.now.umids) }
 {
-    a.fmid == b.fmid && a.rmid == b.rmid && same_ids(&a.umids, &b.umids)
+    a.fmid == b.fmid && a.rmid == b.rmid && have_same_ids(&a.umids, &b.umids)
 }
 
 fn has_same_text(a: &Element, b: &Element) -> bool

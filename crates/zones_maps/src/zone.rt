@@ -1,10 +1,10 @@
 //! A zone: a map from ids to entries, and one from types and names to elements.
-ghost use Rattle.std.specs.Prelude.{◌≡◌, ◌↔◌, [], All, IsTrue, IsSome, IfSome, IfOk, is_some, option_copied};
+ghost use Rattle.std.specs.Prelude.{◌≡◌, ◌↔◌, [], All, IsTrue, IsSome, IfSome, IfOk, is_some, option_copied, filter};
 ghost use Rattle.zones_maps.specs.Changed.{HasRoom, IsReady, delta_of};
 ghost use Rattle.zones_maps.specs.Delta.{IsEdited};
 ghost use Rattle.terms.specs.Types.{a_zone, is_target};
 ghost use Rattle.terms.specs.Lookups.{IsRising, IsZone, entry_of, element_of, applied_of, is_applied, is_supplied};
-ghost use Rattle.terms.specs.Lookups.{has_content, waives_applied};
+ghost use Rattle.terms.specs.Lookups.{delby_of, has_content, waives_applied};
 
 use crate::delta::ZoneDelta;
 use crate::edits::ZoneEdits;
@@ -60,6 +60,7 @@ impl Attest for Zone {
     ghost form = { IsZone };
 
     fn attest(&self) {
+        // Reading any field is enough: the checker then has the invariant of the whole zone.
         let _ = &self.kind;
     }
 }
@@ -92,10 +93,10 @@ impl Zone {
             × (is_some related ≡ is_target kind)) }
         ensures same { IfSome result (λ zone. zone ≡ a_zone kind srel related entries elements) }
     {
-        if related.is_some() != (kind == ZoneKind::Target) || !may_stand(entries.as_slice()) {
+        if related.is_some() != (kind == ZoneKind::Target) || !may_be_in_zone(entries.as_slice()) {
             return None;
         }
-        // So the elements rise.
+        // The call adds the fact that the elements rise, which the new zone's invariant needs.
         let _ = elements.as_slice();
         Some(Zone {
             kind,
@@ -127,8 +128,8 @@ impl Zone {
         self.related
     }
 
-    /// Facts about each entry's lists. The call only goes over the entries.
-    pub fn known_lists(&self)
+    /// States that the lists of each entry rise, for a caller's proof. It goes over the entries and changes nothing.
+    pub fn attest_lists(&self)
         ensures lists { All (λ e. IsRising e.supby × IsRising e.waived) self.now.entries }
         ensures form { IsZone self.now }
     {
@@ -196,8 +197,28 @@ impl Zone {
         }
     }
 
-    /// The zone as the edits leave it, beside this one.
-    pub(crate) fn edited(&self, alloc: Global, edits: &ZoneEdits) -> Result<Zone, AllocError>
+    /// Whether a function that was applied deleted it.
+    pub fn is_deleted(&self, id: Id) -> bool
+        ensures { result ≡ is_some (delby_of self.now id) }
+    {
+        match self.entry(id) {
+            Some(entry) => entry.delby.is_some(),
+            None => false,
+        }
+    }
+
+    /// The ids among these that are applied, in the same order.
+    pub fn applied_among(&self, alloc: Global, ids: &[Id]) -> Result<Vec<Id>, AllocError>
+        ensures { IfOk result (λ found. found.items ≡ filter (is_applied self.now) ids.now) }
+    {
+        ids.iter()
+            .filter(|id| self.is_applied(**id))
+            .copied()
+            .collect(alloc)
+    }
+
+    // A new zone as the edits leave it. This one stays as it is.
+    pub(crate) fn with_edits(&self, alloc: Global, edits: &ZoneEdits) -> Result<Zone, AllocError>
         ensures { IfOk result (IsEdited edits.now self.now) }
     {
         Ok(Zone {
@@ -232,7 +253,7 @@ impl Zone {
 }
 
 // Whether each entry has a date, SUPBY or DELBY, and waives requisites only if it is applied.
-fn may_stand(entries: &[Entry]) -> bool
+fn may_be_in_zone(entries: &[Entry]) -> bool
     ensures { IsTrue result
         ↔ (All (λ e. IsTrue (has_content e)) entries.now
         × All (λ e. IsTrue (waives_applied e)) entries.now) }

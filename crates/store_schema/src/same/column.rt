@@ -18,6 +18,7 @@ fn is_null(value: &Value) -> bool
     }
 }
 
+// Whether the two columns are the same, and have no default.
 fn same_column(a: &Column, b: &Column) -> bool
     ensures { IsTrue result ↔ (a.now ≡ b.now) × HasNoDefault a.now }
 {
@@ -30,6 +31,7 @@ fn same_column(a: &Column, b: &Column) -> bool
         && a.collation == b.collation
 }
 
+/// Whether the columns are the same in the same order, and none has a default.
 pub(crate) fn same_columns(a: &[Column], b: &[Column]) -> bool
     ensures same { IsTrue result → a.now ≡ b.now }
     ensures found { AllByRecursion HasNoDefault a.now → a.now ≡ b.now → IsTrue result }

@@ -7,18 +7,21 @@ use sqlite_schema::schema::Reference;
 use sqlite_value::keys::Order;
 use sqlite_value::value::Bytes;
 
+/// Whether the names are the same, byte by byte.
 pub(crate) fn same_name(a: &Bytes, b: &Bytes) -> bool
     ensures { IsTrue result ↔ (a.now ≡ b.now) }
 {
     a.as_slice() == b.as_slice()
 }
 
+/// Whether the places, as of columns, are the same in the same order.
 pub(crate) fn same_places(a: &Items<usize>, b: &Items<usize>) -> bool
     ensures { IsTrue result ↔ (a.now ≡ b.now) }
 {
     a.as_slice() == b.as_slice()
 }
 
+// Whether the names are the same in the same order.
 fn same_names(a: &[Bytes], b: &[Bytes]) -> bool
     ensures { IsTrue result ↔ (a.now ≡ b.now) }
 {
@@ -33,6 +36,7 @@ fn same_names(a: &[Bytes], b: &[Bytes]) -> bool
     true
 }
 
+/// Whether the keys, each as the places of its columns, are the same in the same order.
 pub(crate) fn same_keys(a: &[Items<usize>], b: &[Items<usize>]) -> bool
     ensures { IsTrue result ↔ (a.now ≡ b.now) }
 {
@@ -47,7 +51,7 @@ pub(crate) fn same_keys(a: &[Items<usize>], b: &[Items<usize>]) -> bool
     true
 }
 
-/// The column that is the rowid, if there is one.
+/// Whether the same column is the rowid of both tables, or no column of either is.
 pub(crate) fn same_rowid(a: &Option<usize>, b: &Option<usize>) -> bool
     ensures { IsTrue result ↔ (a.now ≡ b.now) }
 {
@@ -58,12 +62,14 @@ pub(crate) fn same_rowid(a: &Option<usize>, b: &Option<usize>) -> bool
     }
 }
 
+/// Whether the two orders sort rows in the same way.
 pub(crate) fn same_order(a: &Order, b: &Order) -> bool
     ensures { IsTrue result ↔ (a.now ≡ b.now) }
 {
     a.digits == b.digits
 }
 
+/// Whether the orders are the same, one after the other.
 pub(crate) fn same_orders(a: &[Order], b: &[Order]) -> bool
     ensures { IsTrue result ↔ (a.now ≡ b.now) }
 {
@@ -78,6 +84,7 @@ pub(crate) fn same_orders(a: &[Order], b: &[Order]) -> bool
     true
 }
 
+// Whether the two foreign keys have the same columns, parents and actions.
 fn same_reference(a: &Reference, b: &Reference) -> bool
     ensures { IsTrue result ↔ (a.now ≡ b.now) }
 {
@@ -89,6 +96,7 @@ fn same_reference(a: &Reference, b: &Reference) -> bool
         && a.is_deferred == b.is_deferred
 }
 
+/// Whether the foreign keys are the same in the same order.
 pub(crate) fn same_references(a: &[Reference], b: &[Reference]) -> bool
     ensures { IsTrue result ↔ (a.now ≡ b.now) }
 {

@@ -11,25 +11,28 @@ use crate::same::key::{
 use sqlite_schema::code::Terms;
 use sqlite_schema::schema::{Index, Stamps, Table};
 
-fn are_none(terms: &Terms) -> bool
+// Whether there is no expression.
+fn has_no_terms(terms: &Terms) -> bool
     ensures { IsTrue result ↔ (terms.now ≡ []) }
 {
     terms.roots.is_empty()
 }
 
-// Whether no default reads the time.
+// Whether no default of the table reads the time.
 fn is_timeless(stamps: &Stamps) -> bool
     ensures { IsTrue result ↔ (stamps.now ≡ no_stamps) }
 {
-    stamps.places.is_empty() && are_none(&stamps.terms) && stamps.formats.is_empty()
+    stamps.places.is_empty() && has_no_terms(&stamps.terms) && stamps.formats.is_empty()
 }
 
+// Whether the table has no CHECK, and no default that reads the time.
 fn has_no_expression(table: &Table) -> bool
     ensures { IsTrue result ↔ (table.now.checks ≡ []) × (table.now.stamps ≡ no_stamps) }
 {
-    are_none(&table.checks) && is_timeless(&table.stamps)
+    has_no_terms(&table.checks) && is_timeless(&table.stamps)
 }
 
+// Whether computed columns and foreign keys are the same.
 fn same_rules(a: &Table, b: &Table) -> bool
     ensures { IsTrue result ↔ (a.now.computed ≡ b.now.computed) × (a.now.references ≡ b.now.references) }
 {
@@ -37,6 +40,7 @@ fn same_rules(a: &Table, b: &Table) -> bool
         && same_references(a.references.as_slice(), b.references.as_slice())
 }
 
+// Whether names, trees and columns are the same, and no column has a default.
 fn same_heading(a: &Table, b: &Table) -> bool
     ensures same { IsTrue result → (a.now.name ≡ b.now.name) × (a.now.tree ≡ b.now.tree)
         × (a.now.columns ≡ b.now.columns) × (a.now.is_counted ≡ b.now.is_counted) }
@@ -48,6 +52,7 @@ fn same_heading(a: &Table, b: &Table) -> bool
         && a.is_counted == b.is_counted
 }
 
+// Whether rowids, primary keys, unique keys and their orders are the same.
 fn same_uniques(a: &Table, b: &Table) -> bool
     ensures { IsTrue result ↔ (a.now.key ≡ b.now.key) × (a.now.primary ≡ b.now.primary)
         × (a.now.uniques ≡ b.now.uniques) × (a.now.orders ≡ b.now.orders) }
@@ -58,6 +63,7 @@ fn same_uniques(a: &Table, b: &Table) -> bool
         && same_orders(a.orders.as_slice(), b.orders.as_slice())
 }
 
+// Whether the two tables are the same, and have neither an expression nor a default.
 fn same_table(a: &Table, b: &Table) -> bool
     ensures same { IsTrue result → a.now ≡ b.now }
     ensures found { IsPlainTable a.now → a.now ≡ b.now → IsTrue result }
@@ -69,6 +75,7 @@ fn same_table(a: &Table, b: &Table) -> bool
         && same_rules(a, b)
 }
 
+/// Whether the tables are the same in the same order, and none has an expression or a default.
 pub(crate) fn same_tables(a: &[Table], b: &[Table]) -> bool
     ensures same { IsTrue result → a.now ≡ b.now }
     ensures found { AllByRecursion IsPlainTable a.now → a.now ≡ b.now → IsTrue result }
@@ -84,6 +91,7 @@ pub(crate) fn same_tables(a: &[Table], b: &[Table]) -> bool
     true
 }
 
+// Whether the two indexes are the same.
 fn same_index(a: &Index, b: &Index) -> bool
     ensures { IsTrue result ↔ (a.now ≡ b.now) }
 {
@@ -95,6 +103,7 @@ fn same_index(a: &Index, b: &Index) -> bool
         && a.is_unique == b.is_unique
 }
 
+/// Whether the indexes are the same in the same order.
 pub(crate) fn same_indexes(a: &[Index], b: &[Index]) -> bool
     ensures { IsTrue result ↔ (a.now ≡ b.now) }
 {

@@ -54,8 +54,8 @@ in_order_are : (c : After-deref-in-loop-element)
 in_order_are c =
     subst (IsPermutation c.deref.result.now) (sym c.deref-in-loop-element.ensures.value) c.in_ok-ordered.ensures.same
 
-pub in_order-requires : goal.in_order-requires
-in_order-requires c =
+pub sort_by_over-requires : goal.sort_by_over-requires
+sort_by_over-requires c =
     let k = c.in-Some.element.now in
     subst (λ v. AllPairs (λ x y. IsOver (choice v) x y ⊎ IsOver (choice v) y x) c.deref.result.now)
     (sym c.loop-element.invariant.overs)

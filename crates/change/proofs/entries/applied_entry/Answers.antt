@@ -17,5 +17,6 @@ returns c =
     (sym c.old.view_is))
     (applied_from d p x c.in_ok-old.old applied delby waived c.in_ok-old.ensures.entry
     (ap (λ n. Some (an_applied p.date n)) c.number.ensures) c.delby-delby.ensures
-    (waived_from d p x c.listed-bypassed.result.now c.in_ok-unsupplied.field-0.items waived
-    c.in_ok-unsupplied.ensures c.listed-bypassed.ensures c.from_vec-waived.ensures c.attest.ensures))
+    (waived_from d p x c.listed-bypassed.result.now c.in_ok-unsupplied_among.field-0.items waived
+    c.in_ok-unsupplied_among.ensures c.listed-bypassed.ensures c.from_vec-waived.ensures.members
+    c.from_vec-waived.ensures.rising))

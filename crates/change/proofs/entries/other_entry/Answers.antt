@@ -18,5 +18,5 @@ returns-clause-entry c =
     (subst (λ ids. (x : Id) → Contains supby x ↔ Contains ids x)
     (c.in_ok-extend_from_slice.ensures.items ∙ ap (λ xs. xs ++ more)
     (c.in_ok-supby.ensures.items ∙ c.as_slice.ensures.items ∙ ap (λ (e : Entry). e.supby) c.old.view_is))
-    c.from_vec-supby.ensures)
+    c.from_vec-supby.ensures.members)
     c.delby-delby.ensures)

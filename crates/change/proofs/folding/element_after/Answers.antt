@@ -20,20 +20,20 @@ use Rattle.change.proofs.folding.element_after.Goals as goal
 behind : (p : ℕ) (xs : List Id) → take (length xs - p) (drop p xs) ≡ drop p xs
 behind p xs = take_all (length xs - p) (drop p xs) (omega (arith, length-drop p xs))
 
-pub folded-requires-clause-changers : goal.folded-requires-clause-changers
-folded-requires-clause-changers c =
+pub fold_changes-requires-clause-changers : goal.fold_changes-requires-clause-changers
+fold_changes-requires-clause-changers c =
     let P : Id → Type 0 = λ x. IsTrue (has_change c.args.vers.now.global.now x c.args.elem_type c.args.name) in
     subst (All P) (sym (behind c.in-Some.place c.args.changers.now))
     (All-drop P c.in-Some.place c.args.changers.now c.requires.changers)
 
-pub folded-requires-clause-order : goal.folded-requires-clause-order
-folded-requires-clause-order c =
+pub fold_changes-requires-clause-order : goal.fold_changes-requires-clause-order
+fold_changes-requires-clause-order c =
     let R : Id → Id → Type 0 = λ x y. IsOver (choice c.args.vers.now) y x in
     subst (AllPairs R) (sym (behind c.in-Some.place c.args.changers.now))
     (pairs_drop R c.in-Some.place c.args.changers.now c.requires.order)
 
-pub folded-requires-clause-some : goal.folded-requires-clause-some
-folded-requires-clause-some c =
+pub fold_changes-requires-clause-some : goal.fold_changes-requires-clause-some
+fold_changes-requires-clause-some c =
     inr (subst (Any (λ x. IsTrue (has_replacement c.args.vers.now.global.now x c.args.elem_type c.args.name)))
     (sym (behind c.in-Some.place c.args.changers.now)) (rw c.global-2.ensures at c.in-Some.ensures.replaces))
 
@@ -43,13 +43,13 @@ returns-in-Some-clause-element c =
     let chosen = choice c.args.vers.now in
     let xs = c.args.changers.now in
     let base = option_copied c.args.base in
-    IfOk-weaker c.folded.result _ _
+    IfOk-weaker c.fold_changes.result _ _
     (λ e fold. λ i are. folded_after g chosen c.args.elem_type c.args.name xs base e c.requires.order
     (not_over_itself c.args.vers.now (rw c.global.ensures at c.attest.ensures))
     (folded_behind g chosen c.args.elem_type c.args.name xs c.in-Some.place base e
     (subst (λ l. IsFolded g chosen c.args.elem_type c.args.name l None (Some e))
     (behind c.in-Some.place xs) fold)) i are)
-    c.folded.ensures.folded
+    c.fold_changes.ensures.folded
 
 pub returns-in_ok-copy-in-None-clause-element : goal.returns-in_ok-copy-in-None-clause-element
 returns-in_ok-copy-in-None-clause-element c =
@@ -57,10 +57,10 @@ returns-in_ok-copy-in-None-clause-element c =
     let chosen = choice c.args.vers.now in
     let xs = c.args.changers.now in
     let base = option_copied c.args.base in
-    IfOk-weaker c.folded-in-None.result _ _
+    IfOk-weaker c.fold_changes-in-None.result _ _
     (λ e fold. λ i are. folded_after g chosen c.args.elem_type c.args.name xs base e c.requires.order
     (not_over_itself c.args.vers.now (rw c.global.ensures at c.attest.ensures))
     (subst (λ o. IsFolded g chosen c.args.elem_type c.args.name xs o (Some e))
     (ap (λ (e : Element). Some e) c.in_ok-copy-in-None.ensures ∙ sym (ap option_copied c.unwrap-base.ensures))
     fold) i are)
-    c.folded-in-None.ensures.folded
+    c.fold_changes-in-None.ensures.folded

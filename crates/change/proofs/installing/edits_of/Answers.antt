@@ -75,7 +75,7 @@ returns-clause-installs c =
     (subst (λ ids. (new : Zone) → IsEdited c.edit_elements.new.zone_edits zone new → HasInstalled (i ids) new)
     c.as_slice-kept.ensures.items
     (installs d is.bypassed.now is.date (rw c.global.ensures at c.attest.ensures)
-    c.known_lists.ensures.form c.known_lists.ensures.lists dels_are plan c.new-zone_edits.result
+    c.attest_lists.ensures.form c.attest_lists.ensures.lists dels_are plan c.new-zone_edits.result
     c.put_entries.new.zone_edits
     c.edit_elements.new.zone_edits c.in_ok-edits.edits made.elements planned c.in_ok-put_entries.ensures
     (made.after (i d.kept.now) (record {

@@ -8,7 +8,7 @@ returns c = record {
   after = c.in_ok-elements.ensures;
   edits_are = c.in_ok-put_elements.ensures
       ∙ ap (λ edits. with_elements edits c.in_ok-elements.elements.items)
-      (c.in_ok-remove_elements.ensures
+      (c.in_ok-remove_deleted_elements.ensures
       ∙ ap (λ none. less_elements c.args.deleting.now none c.args.deleting.now.left.zone.now.elements)
       c.new-edits.ensures);
 }

@@ -21,11 +21,11 @@ pub returns-clause-installs : goal.returns-clause-installs
 returns-clause-installs c =
     let is = c.args.installing in
     subst (λ edits. (new : Zone) → IsEdited edits is.zone.now new → HasInstalled (installation_of is) new)
-    (sym c.in_ok-of.ensures.0) c.in_ok-zone_edits.ensures.installs
+    (sym c.in_ok-from_edits.ensures.0) c.in_ok-zone_edits.ensures.installs
 
 pub returns-clause-differs : goal.returns-clause-differs
 returns-clause-differs c =
-    subst (EachChanges c.args.installing.zone.now) (sym c.in_ok-of.ensures.0) c.in_ok-zone_edits.ensures.differs
+    subst (EachChanges c.args.installing.zone.now) (sym c.in_ok-from_edits.ensures.0) c.in_ok-zone_edits.ensures.differs
 
 pub returns-clause-effective : goal.returns-clause-effective
 returns-clause-effective c = c.in_ok-plan.ensures.effective

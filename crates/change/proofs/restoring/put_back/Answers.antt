@@ -8,18 +8,19 @@ use Rattle.zones_maps.specs.Delta.{ZoneEdits}
 use Rattle.change.proofs.Reverted.{key_found, puts_none, puts_one}
 use Rattle.change.proofs.restoring.put_back.Goals as goal
 
-pub returns-then-are_same : goal.returns-then-are_same
-returns-then-are_same c =
+pub returns-then-are_same_elements : goal.returns-then-are_same_elements
+returns-then-are_same_elements c =
     puts_none c.args.zone.now c.args.accepted.now c.args.key c.args.zone_edits.now (option_copied c.element.result)
     (option_copied c.element-wanted.result) c.element.ensures.found c.element-wanted.ensures.found
-    (c.are_same.ensures.0 c.if-are_same.true)
+    (c.are_same_elements.ensures.0 c.if-are_same_elements.true)
 
 pub returns-in_ok-try_clone-in-Some : goal.returns-in_ok-try_clone-in-Some
 returns-in_ok-try_clone-in-Some c =
     let k = c.args.key in
     let here = option_copied c.element.result in
     let there = option_copied c.element-wanted.result in
-    let other : here ≢ there = λ same. true≢false (sym (c.are_same.ensures.1 same) ∙ c.if-are_same.false) in
+    let other : here ≢ there =
+    λ same. true≢false (sym (c.are_same_elements.ensures.1 same) ∙ c.if-are_same_elements.false) in
     let copy = c.in_ok-try_clone-in-Some.ensures in
     let found : there ≡ Some c.in-Some.element.now = ap option_copied c.in-Some.is in
     let key : element_key c.in-Some.element.now ≡ (k.0, k.1) =
@@ -39,7 +40,8 @@ pub returns-in-None : goal.returns-in-None
 returns-in-None c =
     let here = option_copied c.element.result in
     let there = option_copied c.element-wanted.result in
-    let other : here ≢ there = λ same. true≢false (sym (c.are_same.ensures.1 same) ∙ c.if-are_same.false) in
+    let other : here ≢ there =
+    λ same. true≢false (sym (c.are_same_elements.ensures.1 same) ∙ c.if-are_same_elements.false) in
     on_ok_weaker c.remove_element.result (λ is.
     puts_one c.args.zone.now c.args.accepted.now c.args.key c.args.zone_edits.now c.remove_element.new.self here there
     c.element.ensures.found c.element-wanted.ensures.found other (record {

@@ -37,19 +37,19 @@ returns-clause-restores c =
     let at = (goal.at.returns-clause-restores c).In_ok-put_all_back in
     let g = c.args.global.now in
     let kept = c.args.kept.now in
-    IfOk-weaker c.of.result _ (λ delta. (r : Restoring) → IsRestoringOf r g c.args.zone.now c.args.accepted.now
+    IfOk-weaker c.from_edits.result _ (λ delta. (r : Restoring) → IsRestoringOf r g c.args.zone.now c.args.accepted.now
     → (new : Zone) → IsChanged delta c.args.zone.now new → Restores r kept new)
     (λ delta made r of. subst (λ edits. (new : Zone) → IsEdited edits c.args.zone.now new → Restores r kept new)
     (sym made.0)
     (restored g c.args.zone.now c.args.accepted.now kept c.entries.ensures.form _ _ _
     c.new-zone_edits.ensures.entries (taken_off at) _ c.in_ok-changed.ensures (put_back at) r of))
-    c.of.ensures
+    c.from_edits.ensures
 
 pub returns-clause-differs : goal.returns-clause-differs
 returns-clause-differs c =
     let at = (goal.at.returns-clause-differs c).In_ok-put_all_back in
-    IfOk-weaker c.of.result _ (λ delta. EachChanges c.args.zone.now delta.edits)
+    IfOk-weaker c.from_edits.result _ (λ delta. EachChanges c.args.zone.now delta.edits)
     (λ delta made. subst (EachChanges c.args.zone.now) (sym made.0)
     (each_changes c.args.global.now c.args.zone.now c.args.accepted.now c.args.kept.now c.entries.ensures.form _ _ _
     c.new-zone_edits.ensures.entries (taken_off at) _ c.in_ok-changed.ensures (put_back at)))
-    c.of.ensures
+    c.from_edits.ensures

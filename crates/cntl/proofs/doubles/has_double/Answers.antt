@@ -24,7 +24,7 @@ returns-in-Some c = λ pieces h.
     let names = any_named (is_often 2 (words_in pieces)) (λ name. name.now) c.operands_of.result.now
     (operands_of w) c.operands_of.ensures in
     let runs = runs_from false [] (text_of c.in-Some.list) in
-    let is = rw c.in-Some.is at c.list_behind.ensures pieces h in
+    let is = rw c.in-Some.is at c.list_after.ensures pieces h in
     let some = All_unmap (λ t. 0 < length t) (λ name. name.now) c.members_of.result.now
     (subst (All (λ t. 0 < length t)) (sym c.members_of.ensures) (names_some w)) in
     c.any_run_twice.ensures some
@@ -38,7 +38,7 @@ returns-in-None c = λ pieces h.
     let w = c.args.word in
     let names = any_named (is_often 2 (words_in pieces)) (λ name. name.now) c.operands_of.result.now
     (operands_of w) c.operands_of.ensures in
-    let none = rw c.in-None.is at c.list_behind.ensures pieces h in
+    let none = rw c.in-None.is at c.list_after.ensures pieces h in
     sym (ap (λ l. list_any (is_often 2 (runs_in l)) (members_of w)) (sym none) ∙ none_single (members_of w))
     ∙ sym (ap (λ b. b || list_any (is_often 2 (runs_in (list_behind (codes "BYPASS") pieces))) (members_of w))
     (sym names ∙ sym (c.has_twice.ensures pieces h) ∙ c.if-has_twice.false))

@@ -7,8 +7,8 @@ use Rattle.intake_asked.proofs.bypasses.says_bypass.Goals as goal
 
 pub returns : goal.returns
 returns c = λ t.
-    let flags = c.are_flags.ensures in
-    let seen = c.said.view_is in
+    let flags = c.says_flags.ensures in
+    let seen = c.bypass.view_is in
     let asked = c.args.bypassed.now in
     record {
       pre = flags.pre t;
@@ -18,7 +18,8 @@ returns c = λ t.
       applycheck = flags.applycheck t;
       holderror = subst (λ (b : Bypass). SaysReasons (codes "HOLDERROR" ∷ codes "HOLDERR" ∷ []) asked b.holderror) seen
           (c.in_ok-errors.ensures c.if-not-errors.false);
-      holdsystem = subst (λ (b : Bypass). SaysReasons (codes "HOLDSYSTEM" ∷ codes "HOLDSYS" ∷ []) asked b.holdsystem) seen
+      holdsystem = subst (λ (b : Bypass). SaysReasons (codes "HOLDSYSTEM" ∷ codes "HOLDSYS" ∷ []) asked
+          b.holdsystem) seen
           (c.in_ok-systems.ensures c.if-not-systems.false);
       holduser = subst (λ (b : Bypass). SaysReasons (codes "HOLDUSER" ∷ []) asked b.holduser) seen
           (c.in_ok-users.ensures c.if-not-users.false);

@@ -1,19 +1,20 @@
-use Rattle.std.proofs.Common.{◌∙◌, ap, map, subst, sym, arith}
+use Rattle.std.proofs.Common.{◌∙◌, IsTrue, ap, map, subst, sym, arith}
 use Rattle.std.proofs.lemmas.List.{drop_all, nil_from_length}
 use Rattle.cntl.specs.Views.{command_of}
-use Rattle.intake_asked.specs.Said.{AreSaid}
+use Rattle.intake_asked.specs.Said.{AreSaid, is_no_decision}
 use Rattle.intake_asked.proofs.InOrder.{passed_over, one_said}
 use Rattle.intake_asked.proofs.commands.are_said.Goals as goal
 
 pub loop-command-init : goal.loop-command-init
 loop-command-init c = λ said. said
 
-pub loop-command-preserved-then-decides_nothing : goal.loop-command-preserved-then-decides_nothing
-loop-command-preserved-then-decides_nothing c = λ rest.
+pub loop-command-preserved-then-changes_no_decision : goal.loop-command-preserved-then-changes_no_decision
+loop-command-preserved-then-changes_no_decision c = λ rest.
     let l = c.loop-command in
     l.invariant (passed_over c.args.known.now c.args.wide.now l.command-index c.command-item.result
     (map command_of l.left.now) (omega arith) c.command-item.is
-    (sym c.decides_nothing.ensures ∙ c.if-decides_nothing.true) rest)
+    (subst (λ n. IsTrue (is_no_decision n)) c.as_slice.ensures.value
+    (sym c.changes_no_decision.ensures ∙ c.if-changes_no_decision.true)) rest)
 
 pub loop-command-preserved : goal.loop-command-preserved
 loop-command-preserved c = λ rest.

@@ -6,4 +6,4 @@ use Rattle.intake_asked.proofs.commands.are_said.Given as goal
 -- If what is left is said, all is.
 abbrev pub invariant-loop-command : goal.invariant-loop-command
 invariant-loop-command l = AreSaid l.known (drop l.command-index l.wide) (map command_of l.left)
-    → AreSaid l.known l.wide (map command_of l.said)
+    → AreSaid l.known l.wide (map command_of l.commands)

@@ -8,17 +8,17 @@ use Rattle.intake_asked.proofs.selections.says_selection.Goals as goal
 
 pub returns : goal.returns
 returns c = λ t.
-    let types = c.are_types.ensures in
-    let seen = c.said.view_is in
+    let types = c.says_types.ensures in
+    let seen = c.selection.view_is in
     let ops = c.args.operands.now in
-    let list = c.known_in-list.ensures in
+    let list = c.known_or_none-list.ensures in
     let given = known_in c.args.known.now in
     record {
       functions = types.functions t;
       ptfs = types.ptfs t;
       apars = types.apars t;
       usermods = types.usermods t;
-      lists = subst (λ k. SaysLists k ops c.args.said.now) list (c.in_ok-named.ensures c.if-not-named.false);
+      lists = subst (λ k. SaysLists k ops c.args.selection.now) list (c.in_ok-lists.ensures c.if-not-lists.false);
       sourceid = subst (λ (s : Selection). AreThese s.sourceid (sources given ops)) seen
           (subst (λ l. AreThese l (sources given ops)) c.as_slice.ensures.items
           (subst (λ k. AreThese c.as_slice.result.now (sources k ops)) list

@@ -14,6 +14,8 @@ loop-member-preserved c =
       found = more_found (λ p. p.now) c.append.new.self.items l.all.items c.in_ok-more.more.items _ _ _
           c.in_ok-append.ensures.items l.invariant.found c.in_ok-more.ensures
           (found_at (sources_of known) (λ p. p.now) c.args.members.now l.member-index _ (omega arith));
-      some = all_at (λ (m : List ℕ). sources_of known m ≢ []) (λ p. p.now) c.args.members.now l.member-index _ (omega arith)
-          l.invariant.some (some_found (λ p. p.now) c.in_ok-more.more.items _ c.in_ok-more.ensures (λ zero. absurd (let none = zero in grind arith)));
+      some = all_at (λ (m : List ℕ). sources_of known m ≢ []) (λ p. p.now) c.args.members.now l.member-index _
+          (omega arith)
+          l.invariant.some (some_found (λ p. p.now) c.in_ok-more.more.items _ c.in_ok-more.ensures
+          (λ zero. absurd (let none = zero in grind arith)));
     }

@@ -5,6 +5,7 @@ use Rattle.intake_asked.proofs.sources.sources.Given as goal
 
 abbrev pub invariant-loop-member : goal.invariant-loop-member
 invariant-loop-member l = record {
-  found : map (λ p. p.now) l.all.items ≡ flat_map (sources_of l.known) (map (λ p. p.now) (take l.member-index l.members));
+  found : map (λ p. p.now) l.all.items ≡ flat_map (sources_of l.known) (map (λ p. p.now)
+      (take l.member-index l.members));
   some : All (λ m. sources_of l.known m ≢ []) (map (λ p. p.now) (take l.member-index l.members));
 }

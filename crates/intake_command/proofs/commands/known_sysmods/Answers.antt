@@ -12,9 +12,9 @@ returns-in_err-list-clause-err g c = on_err _ (quiet_did g.H.IntakeHost _ _ _ c.
 pub returns-clause-ok : goal.returns-clause-ok
 returns-clause-ok g c =
     let bytes = c.in_ok-bytes.bytes.items in
-    let read = subst (λ t. g.H.IntakeHost.does c.args.host.now (Gives t bytes) c.read.new.host) c.as_str.ensures.value
-    c.in_ok-bytes.ensures.ok in
+    let read = subst (λ t. g.H.IntakeHost.does c.args.host.now (Gives t bytes) c.read_input.new.host)
+    c.as_str.ensures.value c.in_ok-bytes.ensures.ok in
     subst (λ n. HasDone g.H.IntakeHost (IsKnownList (option_map string_bytes n) (Some c.in_ok-list.list))
-    c.args.host.now c.read.new.host) (sym c.in-Some.is)
-    (did g.H.IntakeHost c.args.host.now (Gives (string_bytes c.in-Some.name) bytes) c.read.new.host read
+    c.args.host.now c.read_input.new.host) (sym c.in-Some.is)
+    (did g.H.IntakeHost c.args.host.now (Gives (string_bytes c.in-Some.name) bytes) c.read_input.new.host read
     (c.in_ok-list.list, bytes, refl, refl))

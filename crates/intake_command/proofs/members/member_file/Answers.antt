@@ -8,4 +8,4 @@ pub returns-in_err-shared : goal.returns-in_err-shared
 returns-in_err-shared g c = quiet_idle g.H.IntakeHost _
 
 pub returns : goal.returns
-returns g c = quiet g.H.IntakeHost c.in_ok-file.ensures c.file_at-2.ensures
+returns g c = quiet g.H.IntakeHost c.in_ok-file.ensures c.read_member-2.ensures

@@ -6,5 +6,5 @@ use Rattle.intake_command.proofs.program.command.Goals as goal
 
 pub returns-in-Err : goal.returns-in-Err
 returns-in-Err g c =
-    did g.H.IntakeHost _ Speaks _ c.told.ensures.says
-    (EndsQuietly (inr c.told.ensures.status) (one IsQuiet Speaks tt))
+    did g.H.IntakeHost _ Speaks _ c.tell_fault.ensures.says
+    (EndsQuietly (inr c.tell_fault.ensures.status) (one IsQuiet Speaks tt))

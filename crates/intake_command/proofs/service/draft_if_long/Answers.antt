@@ -4,8 +4,8 @@ use Rattle.intake_command.proofs.Doing.{idle}
 use Rattle.intake_command.proofs.Within.{drafted, draft_lost}
 use Rattle.intake_command.proofs.service.draft_if_long.Goals as goal
 
-pub returns-then-len-lt-DRAFTED-clause-ok : goal.returns-then-len-lt-DRAFTED-clause-ok
-returns-then-len-lt-DRAFTED-clause-ok g c = idle g.H.IntakeHost _ (All-nil (DraftsRemarks c.args.folder.now))
+pub returns-then-len-lt-DRAFT_SIZE-clause-ok : goal.returns-then-len-lt-DRAFT_SIZE-clause-ok
+returns-then-len-lt-DRAFT_SIZE-clause-ok g c = idle g.H.IntakeHost _ (All-nil (DraftsRemarks c.args.folder.now))
 
 pub returns-in-Ok-clause-ok : goal.returns-in-Ok-clause-ok
 returns-in-Ok-clause-ok g c = drafted g.H.IntakeHost c.args.folder.now _ c.in-Ok.ensures.ok

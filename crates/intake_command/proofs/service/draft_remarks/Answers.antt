@@ -11,8 +11,8 @@ pub loop-place-preserved : goal.loop-place-preserved
 loop-place-preserved g c =
     drafts_more g.H.IntakeHost c.args.folder.now c.loop-place.invariant c.in_ok-lines.ensures.ok
 
-pub returns-in_err-put_line-clause-err : goal.returns-in_err-put_line-clause-err
-returns-in_err-put_line-clause-err g c =
+pub returns-in_err-append_remark_line-clause-err : goal.returns-in_err-append_remark_line-clause-err
+returns-in_err-append_remark_line-clause-err g c =
     on_err _ (drafts_within g.H.IntakeHost c.args.folder.now c.loop-place.invariant)
 
 pub returns-in_err-lines-clause-err : goal.returns-in_err-lines-clause-err

@@ -2,8 +2,8 @@ use Rattle.std.proofs.Common.{subst, rules}
 use Rattle.intake_elements.specs.Elements.{IsLacked}
 use Rattle.intake_elements.proofs.changes.change_of.Goals as goal
 
-pub lacked_change-requires : goal.lacked_change-requires
-lacked_change-requires c = record {
+pub change_by_stand_in-requires : goal.change_by_stand_in-requires
+change_by_stand_in-requires c = record {
   lacked = subst IsLacked c.as_slice.ensures.value c.in-None.ensures.none;
-  level_free = c.in_ok-may_be_asked.ensures c.if-not-branch.false;
+  level_free = c.in_ok-check_levels_and_modules.ensures c.if-not-branch.false;
 }

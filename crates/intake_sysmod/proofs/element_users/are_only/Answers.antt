@@ -7,5 +7,6 @@ use Rattle.intake_sysmod.proofs.element_users.are_only.Goals as goal
 
 pub loop-key-preserved : goal.loop-key-preserved
 loop-key-preserved c =
-    all_more (λ key. get nat_cmp c.args.users.now key ≡ Some (Only c.args.id.now)) c.args.keys.now c.loop-key.key-index 0
+    all_more (λ key. get nat_cmp c.args.users.now key ≡ Some (Only c.args.id.now)) c.args.keys.now
+    c.loop-key.key-index 0
     c.loop-key-test.true (c.is_only.ensures c.if-not-is_only.false) c.loop-key.invariant

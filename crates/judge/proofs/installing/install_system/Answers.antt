@@ -27,8 +27,8 @@ returns-clause-judged c =
     subst (λ s. IsInstallJudged s j)
     (same_setting zone related ids c.args.bypass.now c.args.global.now c.in_ok-vers.vers.global.now
     (choice c.in_ok-vers.vers) c.in_ok-vers.ensures.global c.in_ok-vers.ensures.counting)
-    (install_numbered _ c.in_ok-said.field-0.said c.in_ok-said.ensures.said (rw c.as_slice.ensures.items at c.as_slice.ensures.rising) j
-    c.in_ok-judged.ensures.numbered)
+    (install_numbered _ c.in_ok-said.field-0.said c.in_ok-said.ensures.said
+    (rw c.as_slice.ensures.items at c.as_slice.ensures.rising) j c.in_ok-judged.ensures.numbered)
 
 pub returns-clause-numbers : goal.returns-clause-numbers
 returns-clause-numbers c = ap number_in c.in_ok-judged.ensures.vers ∙ c.in_ok-vers.ensures.numbers

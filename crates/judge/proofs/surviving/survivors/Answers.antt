@@ -13,12 +13,12 @@ loop-i-preserved c =
     let ids = c.args.ids.now in
     let sets = c.args.sets.now in
     let i = c.loop-i.i in
-    survivors_next ids (map tests_of sets) i c.index-as_slice-i.result (tests_of c.set_at.result)
-    c.loop-i.found.items c.add_if_surviving.new.found.items
+    survivors_next ids (map tests_of sets) i c.index-as_slice-i.result (tests_of c.test_set_at.result)
+    c.loop-i.found.items c.add_survivor.new.found.items
     (slice_get_read ids (length ids) i c.index-as_slice-i.result refl (omega arith)
     (rw c.as_slice.ensures.items at c.index-as_slice-i.is))
-    (slice_get-map tests_of sets i ∙ ap (option_map tests_of) c.set_at.ensures)
-    c.in_ok-add_if_surviving.ensures c.loop-i.invariant
+    (slice_get-map tests_of sets i ∙ ap (option_map tests_of) c.test_set_at.ensures)
+    c.in_ok-add_survivor.ensures c.loop-i.invariant
 
 pub loop-i-init : goal.loop-i-init
 loop-i-init c =
@@ -30,6 +30,6 @@ returns-clause-members c x =
     let done : c.loop-i.i ≡ length c.args.ids.now = omega arith in
     let all = subst (λ n. Contains c.loop-i.found.items x
     ↔ SurvivesIn c.args.ids.now (map tests_of c.args.sets.now) n x) done (c.loop-i.invariant x) in (
-      λ h. all.0 ((c.from_vec-survivors.ensures x).0 h),
-      λ h. (c.from_vec-survivors.ensures x).1 (all.1 h),
+      λ h. all.0 ((c.from_vec.ensures.members x).0 h),
+      λ h. (c.from_vec.ensures.members x).1 (all.1 h),
     )

@@ -11,7 +11,8 @@ loop-i-init c = passing_start c.args.ids.now c.args.faults.now c.new-passing.res
 
 pub loop-i-preserved-then-not-passes_alone : goal.loop-i-preserved-then-not-passes_alone
 loop-i-preserved-then-not-passes_alone c =
-    passing_skip c.args.ids.now c.args.faults.now c.loop-i.i c.own_at.result c.loop-i.passing.items c.own_at.ensures
+    passing_skip c.args.ids.now c.args.faults.now c.loop-i.i c.own_faults_at.result
+    c.loop-i.passing.items c.own_faults_at.ensures
     (sym c.passes_alone.ensures ∙ c.if-not-passes_alone.true) c.loop-i.invariant
 
 pub loop-i-preserved : goal.loop-i-preserved
@@ -21,8 +22,8 @@ loop-i-preserved c =
     let i = c.loop-i.i in
     let id = c.index-ids-i.result in
     subst (ArePassing ids faults (i + 1)) (sym c.in_ok-push.ensures.items)
-    (passing_more ids faults i id c.own_at.result c.loop-i.passing.items
-    (slice_get_read ids (length ids) i id refl (omega arith) c.index-ids-i.is) c.own_at.ensures
+    (passing_more ids faults i id c.own_faults_at.result c.loop-i.passing.items
+    (slice_get_read ids (length ids) i id refl (omega arith) c.index-ids-i.is) c.own_faults_at.ensures
     (sym c.passes_alone.ensures ∙ c.if-not-passes_alone.false) c.loop-i.invariant)
 
 pub returns : goal.returns
@@ -34,5 +35,5 @@ returns c =
     let named = are_deletions ids faults (choice c.args.vers.now) c.loop-i.passing.items
     c.in_ok-deletions.field-0.items dels
     (subst (λ n. ArePassing ids faults n c.loop-i.passing.items) done c.loop-i.invariant)
-    (rw c.as_slice.ensures.value at c.in_ok-deletions.ensures) c.from_vec-dels.ensures in
-    IfOk-weaker c.all_with.result _ _ (λ all told. (dels, named, told)) c.all_with.ensures
+    (rw c.as_slice.ensures.value at c.in_ok-deletions.ensures) c.from_vec-dels.ensures.members in
+    IfOk-weaker c.all_with_deletions.result _ _ (λ all told. (dels, named, told)) c.all_with_deletions.ensures

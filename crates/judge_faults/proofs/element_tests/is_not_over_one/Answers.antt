@@ -9,7 +9,8 @@ loop-other-preserved c = record {
   same = c.in_ok-over.ensures.same ∙ c.loop-other.invariant.same;
   all = all_next (λ z. IsOver (choice c.args.overs.now) c.args.id z) c.args.others.now c.loop-other.other-index
       c.other-item.result
-      (omega arith) c.other-item.is ((rw c.loop-other.invariant.same at c.in_ok-over.ensures.over).0 search) c.loop-other.invariant.all;
+      (omega arith) c.other-item.is ((rw c.loop-other.invariant.same at c.in_ok-over.ensures.over).0 search)
+      c.loop-other.invariant.all;
 }
 
 pub returns-clause-lower : goal.returns-clause-lower

@@ -7,7 +7,7 @@ use Rattle.judge_faults.proofs.forbidding.clashing_places.Goals as goal
 pub loop-i-preserved : goal.loop-i-preserved
 loop-i-preserved c =
     before_next c.args.ids.now c.args.faults.now (choice c.vers-vers.result.now) c.loop-i.i c.in_ok-marked.marked.keys
-    c.loop-i.marked.keys c.mark_by.new.marked.keys c.loop-i.invariant c.in_ok-mark_by.ensures
+    c.loop-i.marked.keys c.mark_by_npre.new.marked.keys c.loop-i.invariant c.in_ok-mark_by_npre.ensures
 
 pub returns-clause-clashing : goal.returns-clause-clashing
 returns-clause-clashing c =

@@ -12,14 +12,14 @@ loop-claim-preserved c =
     let i = c.loop-claim.claim-index in
     let claim = c.claim-item.result in
     let old = c.args.shared.now.keys in
-    let new = c.take_in.new in
+    let new = c.add_claim.new in
     let same = c.loop-claim.invariant.same in
     record {
-      same = c.in_ok-take_in.ensures.same ∙ same;
+      same = c.in_ok-add_claim.ensures.same ∙ same;
       marked = subst (λ l. AreMarked g choices l new.claimants.chain.items new.claimants.others.items old
           new.shared.keys)
           (sym (take_more claims i claim (omega arith) ∙ ap (λ v. take i claims ++ v ∷ []) (sym c.claim-item.is)))
-          ((rw same at c.in_ok-take_in.ensures.taken) (take i claims) old c.loop-claim.invariant.marked);
+          ((rw same at c.in_ok-add_claim.ensures.taken) (take i claims) old c.loop-claim.invariant.marked);
     }
 
 pub returns-clause-marks : goal.returns-clause-marks

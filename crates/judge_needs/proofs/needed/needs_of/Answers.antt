@@ -12,8 +12,8 @@ loop-id-preserved c =
     needs_next (setting_of scope) c.args.survivors.now
     (zone_less (global_of scope) (choice_of scope) c.as_slice-dels.result.now scope.zone.now)
     c.as_slice-id-items.result.now c.loop-id.id-index c.id-item.result c.loop-id.needs.items
-    c.add_open.new.needs.items c.as_slice-id-items.ensures.rising (omega arith) c.id-item.is
-    c.in_ok-add_open.ensures c.loop-id.invariant
+    c.add_needs_of_candidate.new.needs.items c.as_slice-id-items.ensures.rising (omega arith) c.id-item.is
+    c.in_ok-add_needs_of_candidate.ensures c.loop-id.invariant
 
 pub returns : goal.returns
 returns c =

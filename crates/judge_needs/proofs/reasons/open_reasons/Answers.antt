@@ -50,4 +50,4 @@ returns c =
     subst (λ l. (z : Id) → Contains c.from_vec.result z ↔ Contains l z)
     (sym (append-nil found)
     ∙ ap (λ l. found ++ map (λ h. h.reason) (filter (λ h. not (is_bypassed_hold c.args.scope.now.bypass.now h)) l))
-    (sym c.in-None.ensures.steps.0) ∙ c.loop-hold.invariant.found) c.from_vec.ensures
+    (sym c.in-None.ensures.steps.0) ∙ c.loop-hold.invariant.found) c.from_vec.ensures.members

@@ -10,12 +10,13 @@ use Rattle.judge_needs.proofs.superseded.superseded_pairs.Goals as goal
 
 pub returns-then-is_empty : goal.returns-then-is_empty
 returns-then-is_empty c =
-    none_needed c.args.needs.now c.from_vec-needed.result (rw c.in_ok-needed_ids.ensures at c.from_vec-needed.ensures)
+    none_needed c.args.needs.now c.from_vec-needed.result
+    (rw c.in_ok-needed_ids.ensures at c.from_vec-needed.ensures.members)
     (choice c.args.vers.now) c.args.ids.now c.new.result.items (c.is_empty.ensures.0 c.if-is_empty.true)
     c.new.ensures.items
 
-pub superseded-requires : goal.superseded-requires
-superseded-requires c =
+pub needed_superseded-requires : goal.needed_superseded-requires
+needed_superseded-requires c =
     subst (λ needed. All (IsClosure (choice c.args.vers.now) needed) c.loop-id.known) c.needed.view_is
     c.loop-id.invariant.known
 
@@ -45,7 +46,7 @@ returns c =
     let needed = c.from_vec-needed.result in
     let pairs = c.loop-id.pairs.items in
     let whole : length c.as_slice-id-items.result.now ≤ c.loop-id.id-index = omega arith in
-    pairs_needed c.args.needs.now needed (rw c.in_ok-needed_ids.ensures at c.from_vec-needed.ensures) ch
+    pairs_needed c.args.needs.now needed (rw c.in_ok-needed_ids.ensures at c.from_vec-needed.ensures.members) ch
     c.args.ids.now pairs
     (subst (λ xs. ArePairs (SupersedesOne ch needed) xs pairs)
     (take_all c.loop-id.id-index c.as_slice-id-items.result.now whole ∙ c.as_slice-id-items.ensures.items)

@@ -6,15 +6,15 @@ use Rattle.judge_system.proofs.kept.kept_ids.Goals as goal
 pub loop-i-preserved : goal.loop-i-preserved
 loop-i-preserved c =
     flagged_next c.args.ids.now c.args.flags.now c.loop-i.i c.index-ids-i.result _ c.loop-i.kept.items
-    c.add_if.new.ids.items
+    c.add_if_kept.new.ids.items
     (slice_get_read c.args.ids.now (length c.args.ids.now) c.loop-i.i c.index-ids-i.result refl (omega arith)
     c.index-ids-i.is)
-    refl c.in_ok-add_if.ensures c.loop-i.invariant
+    refl c.in_ok-add_if_kept.ensures c.loop-i.invariant
 
 pub returns : goal.returns
 returns c x =
     let kept = c.loop-i.invariant x in
-    let list = c.from_vec.ensures x in (
+    let list = c.from_vec.ensures.members x in (
       λ there. let w = kept.0 (list.0 there) in (w.0, w.2, w.3),
       λ w. list.1 (kept.1 (
         w.0,

@@ -17,7 +17,7 @@ loop-i-preserved c =
     let i = c.loop-i.i in
     let n = c.index-needs-i.result in
     let rows = c.loop-i.rows.items in
-    let new = c.add_open.new.rows in
+    let new = c.add_if_open.new.rows in
     let own = c.needs-needs.ensures.needs in
     let many : length given ≡ length stated = omega (
       arith,
@@ -33,10 +33,10 @@ loop-i-preserved c =
     ∙ ap (option_map numbered) at_need in
     let at_meant = slice_get-map need_of stated i ∙ ap (option_map need_of) c.need_at-need.ensures in
     rw whole (record {
-      size = omega (arith, c.add_open.auto.rows, c.deref_mut.ensures.len, c.loop-i.invariant.size);
+      size = omega (arith, c.add_if_open.auto.rows, c.deref_mut.ensures.len, c.loop-i.invariant.size);
       unserved = open_next c.args.kept.now needs (map need_of stated) i (numbered n)
           (need_of c.need_at-need.result) rows new at_d at_meant
-          (rw c.deref_mut.ensures.value at c.in_ok-add_open.ensures) c.loop-i.invariant.unserved;
+          (rw c.deref_mut.ensures.value at c.in_ok-add_if_open.ensures) c.loop-i.invariant.unserved;
     })
 
 pub returns-clause-unserved : goal.returns-clause-unserved

@@ -1,8 +1,8 @@
-use Rattle.std.proofs.Common.{◌∙◌, sym, ap, refl}
+use Rattle.std.proofs.Common.{◌∙◌, Some, sym, ap, refl}
 use Rattle.std.proofs.lemmas.Bool.{true≢false}
 use Rattle.terms.specs.Statements.{changed_type, SaysChange}
 use Rattle.terms.specs.Ptfin.{sysmod_in}
-use Rattle.mcs.specs.Files.{begun_in}
+use Rattle.mcs.specs.Files.{begun_of}
 use Rattle.mcs.specs.KnownWords.{own_list}
 use Rattle.mcs.proofs.Saying.{change_excludes}
 use Rattle.mcs.proofs.Changing.{a_change, change_value, names_excluded, text_fault, replacement_fits}
@@ -10,8 +10,8 @@ use Rattle.mcs.proofs.change.change_statement.Goals as goal
 
 pub returns-in_default-clause-fault : goal.returns-in_default-clause-fault
 returns-in_default-clause-fault c = λ rest h.
-    change_excludes (sysmod_in (begun_in c.args.current.now)) c.args.known.now.word (own_list c.args.known.now) rest
-    c.args.known.now.inline.now c.args.elem_type (ap changed_type c.requires)
+    change_excludes (sysmod_in (Some (begun_of c.args.begun.now))) c.args.known.now.word (own_list c.args.known.now)
+    rest c.args.known.now.inline.now c.args.elem_type (ap changed_type c.requires)
     (λ ws ch hw r. names_excluded c.args.known.now.word (own_list c.args.known.now) ws c.args.known.now.inline.now
     c.args.elem_type ch c.requires
     (λ name distlib syslib n. c.in_default.ensures.none rest h ws name distlib syslib hw n) r)
@@ -21,7 +21,7 @@ returns-then-not-is_within-clause-fault c = λ rest h.
     let n = c.in-Some.ensures.some rest h in
     let inline = c.args.known.now.inline.now in (
       SaysChange (a_change c.args.elem_type c.in-Some.names.name c.in-Some.names.distlib c.in-Some.names.syslib inline),
-      change_value (sysmod_in (begun_in c.args.current.now)) c.args.known.now.word (own_list c.args.known.now) rest
+      change_value (sysmod_in (Some (begun_of c.args.begun.now))) c.args.known.now.word (own_list c.args.known.now) rest
           inline inline c.args.elem_type n.0 c.in-Some.names.name c.in-Some.names.distlib c.in-Some.names.syslib
           c.requires n.1 n.2 refl,
       λ within. true≢false (sym (c.is_within.ensures.1 within) ∙ c.if-not-is_within.true),
@@ -31,10 +31,10 @@ pub returns-in-Err-clause-fault : goal.returns-in-Err-clause-fault
 returns-in-Err-clause-fault c = λ rest h.
     let n = c.in-Some.ensures.some rest h in
     let inline = c.args.known.now.inline.now in
-    let value = change_value (sysmod_in (begun_in c.args.current.now)) c.args.known.now.word (own_list c.args.known.now)
-    rest inline inline c.args.elem_type n.0 c.in-Some.names.name c.in-Some.names.distlib c.in-Some.names.syslib
-    c.requires n.1 n.2 refl in
-    text_fault (begun_in c.args.current.now) c.args.known.now.word (own_list c.args.known.now) rest inline
+    let value = change_value (sysmod_in (Some (begun_of c.args.begun.now))) c.args.known.now.word
+    (own_list c.args.known.now) rest inline inline c.args.elem_type n.0 c.in-Some.names.name c.in-Some.names.distlib
+    c.in-Some.names.syslib c.requires n.1 n.2 refl in
+    text_fault (Some (begun_of c.args.begun.now)) c.args.known.now.word (own_list c.args.known.now) rest inline
     c.args.elem_type c.in-Some.names.name c.in-Some.names.distlib c.in-Some.names.syslib c.in-Err.error
     c.in-Err.ensures.bad value (c.is_within.ensures.0 c.if-not-is_within.false)
 
@@ -42,9 +42,9 @@ pub returns-clause-said : goal.returns-clause-said
 returns-clause-said c = λ rest h.
     let n = c.in-Some.ensures.some rest h in
     let inline = c.args.known.now.inline.now in record {
-      value = change_value (sysmod_in (begun_in c.args.current.now)) c.args.known.now.word (own_list c.args.known.now)
-          rest inline c.in-Ok.lines.items c.args.elem_type n.0 c.in-Some.names.name c.in-Some.names.distlib
-          c.in-Some.names.syslib c.requires n.1 n.2 c.in-Ok.ensures.text;
+      value = change_value (sysmod_in (Some (begun_of c.args.begun.now))) c.args.known.now.word
+          (own_list c.args.known.now) rest inline c.in-Ok.lines.items c.args.elem_type n.0 c.in-Some.names.name
+          c.in-Some.names.distlib c.in-Some.names.syslib c.requires n.1 n.2 c.in-Ok.ensures.text;
       within = c.is_within.ensures.0 c.if-not-is_within.false;
       text = rw c.in-Ok.ensures.text ((replacement_fits c.args.elem_type c.in-Some.names.name
           c.in-Some.names.distlib c.in-Some.names.syslib inline).1 c.in-Ok.ensures.good);

@@ -7,8 +7,8 @@ use Rattle.mcs.proofs.hold_item.hold_item.Goals as goal
 
 pub returns-in-Err-clause-fault : goal.returns-in-Err-clause-fault
 returns-in-Err-clause-fault c = λ rest h printable.
-    rw c.no_value.ensures (hold_error c.args.known.now.word (own_list c.args.known.now) rest c.in-Err.error c.requires
-    (c.in-Err.ensures.bad rest h printable))
+    rw c.statement_error.ensures (hold_error c.args.known.now.word (own_list c.args.known.now) rest c.in-Err.error
+    c.requires (c.in-Err.ensures.bad rest h printable))
 
 pub returns-then-not-has_short_comment-clause-fault : goal.returns-then-not-has_short_comment-clause-fault
 returns-then-not-has_short_comment-clause-fault c = λ rest h printable. (

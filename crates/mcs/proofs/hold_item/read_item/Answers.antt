@@ -1,6 +1,6 @@
 use Rattle.std.proofs.Common.{◌≡◌, length, rules, ap}
 use Rattle.std.proofs.lemmas.List.{nil_from_length}
-use Rattle.mcs.specs.KnownWords.{own_list}
+use Rattle.mcs.specs.KnownWords.{parts_of}
 use Rattle.mcs.proofs.Printables.{known_printable}
 use Rattle.mcs.proofs.HoldJudging.{good_item, bad_item, form_error, may_hold, may_release, text_behind, misplaced}
 use Rattle.mcs.proofs.hold_item.read_item.Goals as goal
@@ -9,16 +9,14 @@ pub returns-then-not-is_empty-clause-fault : goal.returns-then-not-is_empty-clau
 returns-then-not-is_empty-clause-fault c = λ printable.
     let k = c.in-Ok.ensures.ok in
     let some : length c.in-Ok.known.inline.now ≡ 0 → ⊥ = search rules in
-    misplaced c.args.group.now.records.now c.in-Ok.known.word (own_list c.in-Ok.known) k.0 c.in-Ok.known.inline.now
-    k.1
+    misplaced c.args.group.now.records.now (parts_of c.in-Ok.known k.0) k.1
     (text_behind c.in-Ok.known.word c.in-Ok.known.inline.now (λ e. some (ap length e)))
 
 pub returns-in-Hold-clause-good : goal.returns-in-Hold-clause-good
 returns-in-Hold-clause-good c =
     let k = c.in-Ok.ensures.ok in
     let none : length c.in-Ok.known.inline.now ≡ 0 = search rules in
-    good_item c.args.group.now.records.now c.in-Ok.known.word (own_list c.in-Ok.known) k.0 c.in-Ok.known.inline.now
-    c.hold_item.result k.1
+    good_item c.args.group.now.records.now (parts_of c.in-Ok.known k.0) c.hold_item.result k.1
     (may_hold c.in-Ok.known.word c.in-Ok.known.inline.now c.in-Hold.is
     (nil_from_length c.in-Ok.known.inline.now none)) (c.hold_item.ensures.said k.0 k.2)
 
@@ -26,19 +24,17 @@ pub returns-in-Hold-clause-fault : goal.returns-in-Hold-clause-fault
 returns-in-Hold-clause-fault c = λ printable.
     let k = c.in-Ok.ensures.ok in
     let none : length c.in-Ok.known.inline.now ≡ 0 = search rules in
-    bad_item c.args.group.now.records.now c.in-Ok.known.word (own_list c.in-Ok.known) k.0 c.in-Ok.known.inline.now
-    c.hold_item.result k.1
+    bad_item c.args.group.now.records.now (parts_of c.in-Ok.known k.0) c.hold_item.result k.1
     (may_hold c.in-Ok.known.word c.in-Ok.known.inline.now c.in-Hold.is
     (nil_from_length c.in-Ok.known.inline.now none))
-    (c.hold_item.ensures.fault k.0 k.2 (known_printable c.args.group.now.records.now c.in-Ok.known.word
-    (own_list c.in-Ok.known) k.0 c.in-Ok.known.inline.now printable k.1))
+    (c.hold_item.ensures.fault k.0 k.2
+    (known_printable c.args.group.now.records.now (parts_of c.in-Ok.known k.0) printable k.1))
 
 pub returns-in-Release-clause-good : goal.returns-in-Release-clause-good
 returns-in-Release-clause-good c =
     let k = c.in-Ok.ensures.ok in
     let none : length c.in-Ok.known.inline.now ≡ 0 = search rules in
-    good_item c.args.group.now.records.now c.in-Ok.known.word (own_list c.in-Ok.known) k.0 c.in-Ok.known.inline.now
-    c.release_item.result k.1
+    good_item c.args.group.now.records.now (parts_of c.in-Ok.known k.0) c.release_item.result k.1
     (may_release c.in-Ok.known.word c.in-Ok.known.inline.now c.in-Release.is
     (nil_from_length c.in-Ok.known.inline.now none)) (c.release_item.ensures.said k.0 k.2)
 
@@ -46,8 +42,7 @@ pub returns-in-Release-clause-fault : goal.returns-in-Release-clause-fault
 returns-in-Release-clause-fault c = λ printable.
     let k = c.in-Ok.ensures.ok in
     let none : length c.in-Ok.known.inline.now ≡ 0 = search rules in
-    bad_item c.args.group.now.records.now c.in-Ok.known.word (own_list c.in-Ok.known) k.0 c.in-Ok.known.inline.now
-    c.release_item.result k.1
+    bad_item c.args.group.now.records.now (parts_of c.in-Ok.known k.0) c.release_item.result k.1
     (may_release c.in-Ok.known.word c.in-Ok.known.inline.now c.in-Release.is
     (nil_from_length c.in-Ok.known.inline.now none)) (c.release_item.ensures.fault k.0 k.2)
 

@@ -9,13 +9,13 @@ pub returns-in_default-required_reason-clause-none : goal.returns-in_default-req
 returns-in_default-required_reason-clause-none c = λ r k.
     let ws = words_of c.args.words.now in
     c.in_default-required_reason.ensures.none r.reason
-    (reason_of (own_list c.args.known.now) ws (operand (codes "REASON") ws) c.in-Some-kind_word.kind r
-    c.in-Some-kind_word.ensures.some k.kind k.reason)
+    (reason_of (own_list c.args.known.now) ws (operand (codes "REASON") ws) c.in-Some-read_hold_kind.kind r
+    c.in-Some-read_hold_kind.ensures.some k.kind k.reason)
 
 pub returns-clause-some : goal.returns-clause-some
 returns-clause-some c = record {
   id = c.in-Some.ensures.one;
-  kind = c.in-Some-kind_word.ensures.some;
+  kind = c.in-Some-read_hold_kind.ensures.some;
   fmid = c.in-Some-required.ensures.some;
   reason = c.in-Some-required_reason.ensures.some;
 }

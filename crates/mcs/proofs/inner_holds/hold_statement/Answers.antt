@@ -1,32 +1,29 @@
-use Rattle.std.proofs.Common.{◌∙◌, sym, ap}
+use Rattle.std.proofs.Common.{◌∙◌, Some, sym, refl}
 use Rattle.std.proofs.lemmas.Bool.{true≢false}
 use Rattle.terms.specs.Statements.{SaysHold}
 use Rattle.mcs.specs.KnownWords.{own_list}
-use Rattle.mcs.specs.Files.{begun_of, begun_in}
-use Rattle.mcs.proofs.Holding.{hold_value, hold_error, hold_said, hold_outside}
+use Rattle.mcs.specs.Files.{begun_of}
+use Rattle.mcs.proofs.Holding.{hold_value, hold_error, hold_said}
 use Rattle.mcs.proofs.inner_holds.hold_statement.Goals as goal
-
-pub returns-in_default-clause-fault : goal.returns-in_default-clause-fault
-returns-in_default-clause-fault c = λ rest h printable. hold_outside (begun_in c.args.current.now) c.args.known.now.word
-    (own_list c.args.known.now) rest c.args.known.now.inline.now (ap begun_in c.in_default.is) c.requires
 
 pub returns-in-Err-clause-fault : goal.returns-in-Err-clause-fault
 returns-in-Err-clause-fault c = λ rest h printable.
-    rw c.no_value.ensures (hold_error (begun_in c.args.current.now) (begun_of c.in-Some.begun) c.args.known.now.word
-    (own_list c.args.known.now) rest c.args.known.now.inline.now c.in-Err.error (ap begun_in c.in-Some.is)
-    c.requires (c.in-Err.ensures.bad rest h printable))
+    let b = begun_of c.args.begun.now in
+    rw c.statement_error.ensures (hold_error (Some b) b c.args.known.now.word (own_list c.args.known.now) rest
+    c.args.known.now.inline.now c.in-Err.error refl c.requires (c.in-Err.ensures.bad rest h printable))
 
 pub returns-then-not-has_short_comment-clause-fault : goal.returns-then-not-has_short_comment-clause-fault
-returns-then-not-has_short_comment-clause-fault c = λ rest h printable. (
-  SaysHold c.in-Ok.hold,
-  hold_value (begun_in c.args.current.now) (begun_of c.in-Some.begun) c.args.known.now.word (own_list c.args.known.now)
-      rest c.args.known.now.inline.now c.in-Ok.hold (ap begun_in c.in-Some.is) c.requires
-      (c.in-Ok.ensures.ok rest h),
-  λ within. true≢false (sym (c.has_short_comment.ensures.1 within) ∙ c.if-not-has_short_comment.true),
-)
+returns-then-not-has_short_comment-clause-fault c = λ rest h printable.
+    let b = begun_of c.args.begun.now in (
+      SaysHold c.in-Ok.hold,
+      hold_value (Some b) b c.args.known.now.word (own_list c.args.known.now) rest c.args.known.now.inline.now
+          c.in-Ok.hold refl c.requires (c.in-Ok.ensures.ok rest h),
+      λ within. true≢false (sym (c.has_short_comment.ensures.1 within) ∙ c.if-not-has_short_comment.true),
+    )
 
 pub returns-clause-said : goal.returns-clause-said
 returns-clause-said c = λ rest h.
-    hold_said (begun_in c.args.current.now) (begun_of c.in-Some.begun) c.args.known.now.word (own_list c.args.known.now)
-    rest c.args.known.now.inline.now c.in-Ok.hold (ap begun_in c.in-Some.is) c.requires
-    (c.in-Ok.ensures.ok rest h) (c.has_short_comment.ensures.0 c.if-not-has_short_comment.false)
+    let b = begun_of c.args.begun.now in
+    hold_said (Some b) b c.args.known.now.word (own_list c.args.known.now) rest c.args.known.now.inline.now
+    c.in-Ok.hold refl c.requires (c.in-Ok.ensures.ok rest h)
+    (c.has_short_comment.ensures.0 c.if-not-has_short_comment.false)

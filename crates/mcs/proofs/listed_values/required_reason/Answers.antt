@@ -11,18 +11,18 @@ pub returns-in_default-clause-none : goal.returns-in_default-clause-none
 returns-in_default-clause-none c = λ v h. c.in_default.ensures.none v
     (reason_class c.args.kind (operand c.args.name.now (words_of c.args.words.now)) v h)
 
-pub returns-then-not-suits_kind-clause-none : goal.returns-then-not-suits_kind-clause-none
-returns-then-not-suits_kind-clause-none c = λ v h.
+pub returns-then-not-suits-clause-none : goal.returns-then-not-suits-clause-none
+returns-then-not-suits-clause-none c = λ v h.
     let found = operand c.args.name.now (words_of c.args.words.now) in
     let same = required_only IsClass found v c.in-Some.reason (reason_class c.args.kind found v h)
     c.in-Some.ensures.some in
-    true≢false (sym (c.suits_kind.ensures.1 (subst (IsReason c.args.kind) same (reason_form c.args.kind found v h)))
-    ∙ c.if-not-suits_kind.true)
+    true≢false (sym (c.suits.ensures.1 (subst (IsReason c.args.kind) same (reason_form c.args.kind found v h)))
+    ∙ c.if-not-suits.true)
 
 pub returns-clause-some : goal.returns-clause-some
 returns-clause-some c =
     class_reason c.args.kind (operand c.args.name.now (words_of c.args.words.now)) c.in-Some.reason
-    c.in-Some.ensures.some (c.suits_kind.ensures.0 c.if-not-suits_kind.false)
+    c.in-Some.ensures.some (c.suits.ensures.0 c.if-not-suits.false)
 
 pub returns-clause-form : goal.returns-clause-form
-returns-clause-form c = c.suits_kind.ensures.0 c.if-not-suits_kind.false
+returns-clause-form c = c.suits.ensures.0 c.if-not-suits.false

@@ -7,8 +7,8 @@ use Rattle.terms.specs.Ptfin.{nothing, BeginsWithStatements}
 use Rattle.rec80.specs.Views.{group_of}
 use Rattle.mcs.specs.FileFaults.{error_at}
 use Rattle.mcs.specs.Statements.{statement_of}
-use Rattle.mcs.specs.Files.{begun_in, so_far, IsPtfinError, IsRestError}
-use Rattle.mcs.proofs.Filing.{begins_more, rest_error, good_suits, first_error, file_error, error_is}
+use Rattle.mcs.specs.Files.{so_far, IsPtfinError, IsRestError}
+use Rattle.mcs.proofs.Filing.{begins_more, rest_error, knows_last, good_suits, first_error, file_error, error_is}
 use Rattle.mcs.proofs.ptfin.read_ptfin.Goals as goal
 use Rattle.mcs.proofs.ptfin.read_ptfin.Goals.{After-error_at}
 
@@ -27,10 +27,13 @@ loop-group-preserved c =
           (subst (All IsRecord) c.in-Some.ensures.group.records_are (c.loop-group.invariant.2 each)),
     )
 
-pub and-requires : goal.and-requires
-and-requires c =
-    good_suits (begun_in c.loop-group.made.current) c.next_group.new.self.rest.now c.in-Some.group.records.now
-    (statement_of c.in-Ok.statement) c.in-Ok.ensures.good
+pub add_statement-requires : goal.add_statement-requires
+add_statement-requires c =
+    let all = c.in_ok-left.left in
+    good_suits c.loop-group.made.current c.next_group.new.self.rest.now c.in-Some.group.records.now
+    (statement_of c.in-Ok.statement)
+    (knows_last nothing all.number all.rest.now c.loop-group.invariant.0 (so_far c.loop-group.made)
+    c.loop-group.left.number c.loop-group.left.rest.now tt c.loop-group.invariant.1) c.in-Ok.ensures.good
 
 pub returns-in_err-left-clause-good : goal.returns-in_err-left-clause-good
 returns-in_err-left-clause-good c = λ found is.

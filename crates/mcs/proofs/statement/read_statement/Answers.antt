@@ -1,50 +1,75 @@
-use Rattle.mcs.specs.KnownWords.{own_list}
+use Rattle.std.proofs.Common.{sym, ap, subst}
+use Rattle.std.specs.Prelude.{IfOk, IfErr}
+use Rattle.mcs.specs.KnownWords.{parts_of}
+use Rattle.mcs.specs.Said.{IsStatementSaid, IsSaidError}
+use Rattle.mcs.specs.Statements.{statement_of}
 use Rattle.mcs.proofs.Printables.{known_printable}
 use Rattle.mcs.specs.Files.{begun_in}
-use Rattle.mcs.proofs.Judging.{Stands, stands, good_statement, bad_statement, form_error, no_release}
+use Rattle.mcs.proofs.Judging.{Stands, stands, good_statement, bad_statement, form_error, no_release, may_begin}
 use Rattle.mcs.proofs.statement.read_statement.Goals as goal
 use Rattle.mcs.proofs.statement.read_statement.Goals.{Else-is_misplaced}
 
+-- the statement is in order
 at : (c : Else-is_misplaced)
-    → Stands (begun_in c.args.current.now) c.args.later.now c.args.group.now.records.now c.in-Ok.known.word
-    (own_list c.in-Ok.known) c.in-Ok.ensures.ok.0 c.in-Ok.known.inline.now
+    → Stands (begun_in c.args.current.now) c.args.later.now c.args.group.now.records.now
+    (parts_of c.in-Ok.known c.in-Ok.ensures.ok.0)
 at c =
-    stands (begun_in c.args.current.now) c.args.later.now c.args.group.now.records.now c.in-Ok.known.word
-    (own_list c.in-Ok.known) c.in-Ok.ensures.ok.0 c.in-Ok.known.inline.now c.is_misplaced.result
-    c.in-Ok.ensures.ok.1 (c.is_misplaced.ensures c.in-Ok.ensures.ok.0 c.in-Ok.ensures.ok.2) c.if-is_misplaced.false
+    let k = c.in-Ok.ensures.ok in
+    stands (begun_in c.args.current.now) c.args.later.now c.args.group.now.records.now (parts_of c.in-Ok.known k.0)
+    c.is_misplaced.result k.1 (c.is_misplaced.ensures k.0 k.2) c.if-is_misplaced.false
 
-pub said_by-requires : goal.said_by-requires
-said_by-requires c =
-    no_release (begun_in c.args.current.now) c.args.later.now c.args.group.now.records.now c.in-Ok.known.word
-    (own_list c.in-Ok.known) c.in-Ok.ensures.ok.0 c.in-Ok.known.inline.now
-    (at (goal.at.said_by-requires c).Else-is_misplaced)
+pub read_inside_sysmod-requires : goal.read_inside_sysmod-requires
+read_inside_sysmod-requires c =
+    no_release (begun_in c.args.current.now) c.args.later.now c.args.group.now.records.now
+    (parts_of c.in-Ok.known c.in-Ok.ensures.ok.0) (at (goal.at.read_inside_sysmod-requires c).Else-is_misplaced)
+
+pub read_outside_sysmod-requires : goal.read_outside_sysmod-requires
+read_outside_sysmod-requires c =
+    may_begin (begun_in c.args.current.now) c.args.later.now c.args.group.now.records.now
+    (parts_of c.in-Ok.known c.in-Ok.ensures.ok.0) (at (goal.at.read_outside_sysmod-requires c).Else-is_misplaced)
+    (ap begun_in c.in-None.is)
+
+pub returns-in-Some-clause-good : goal.returns-in-Some-clause-good
+returns-in-Some-clause-good c =
+    let k = c.in-Ok.ensures.ok in
+    let p = parts_of c.in-Ok.known k.0 in
+    good_statement (begun_in c.args.current.now) c.args.later.now c.args.group.now.records.now p
+    c.read_inside_sysmod.result (at (goal.at.returns-in-Some-clause-good c).Else-is_misplaced)
+    (subst (λ o. IfOk c.read_inside_sysmod.result (λ s. IsStatementSaid (begun_in o) p (statement_of s)))
+    (sym c.in-Some.is) (c.read_inside_sysmod.ensures.said k.0 k.2))
+
+pub returns-in-Some-clause-fault : goal.returns-in-Some-clause-fault
+returns-in-Some-clause-fault c = λ each.
+    let k = c.in-Ok.ensures.ok in
+    let p = parts_of c.in-Ok.known k.0 in
+    let printable = known_printable c.args.group.now.records.now p each k.1 in
+    bad_statement (begun_in c.args.current.now) c.args.later.now c.args.group.now.records.now p
+    c.read_inside_sysmod.result (at (goal.at.returns-in-Some-clause-fault c).Else-is_misplaced)
+    (subst (λ o. IfErr c.read_inside_sysmod.result (IsSaidError (begun_in o) p)) (sym c.in-Some.is)
+    (c.read_inside_sysmod.ensures.fault k.0 k.2 printable))
 
 pub returns-clause-good : goal.returns-clause-good
 returns-clause-good c =
     let k = c.in-Ok.ensures.ok in
-    good_statement (begun_in c.args.current.now) c.args.later.now c.args.group.now.records.now c.in-Ok.known.word
-    (own_list c.in-Ok.known) k.0 c.in-Ok.known.inline.now c.said_by.result
-    (at (goal.at.returns-clause-good c).Else-is_misplaced) (c.said_by.ensures.said k.0 k.2)
+    let p = parts_of c.in-Ok.known k.0 in
+    good_statement (begun_in c.args.current.now) c.args.later.now c.args.group.now.records.now p
+    c.read_outside_sysmod.result (at (goal.at.returns-clause-good c).Else-is_misplaced)
+    (subst (λ o. IfOk c.read_outside_sysmod.result (λ s. IsStatementSaid (begun_in o) p (statement_of s)))
+    (sym c.in-None.is) (c.read_outside_sysmod.ensures.said k.0 k.2))
 
 pub returns-clause-fault : goal.returns-clause-fault
 returns-clause-fault c = λ each.
     let k = c.in-Ok.ensures.ok in
-    let printable = known_printable c.args.group.now.records.now c.in-Ok.known.word (own_list c.in-Ok.known) k.0
-    c.in-Ok.known.inline.now each k.1 in
-    bad_statement (begun_in c.args.current.now) c.args.later.now c.args.group.now.records.now c.in-Ok.known.word
-    (own_list c.in-Ok.known) k.0 c.in-Ok.known.inline.now c.said_by.result
-    (at (goal.at.returns-clause-fault c).Else-is_misplaced) (c.said_by.ensures.fault k.0 k.2 printable)
+    let p = parts_of c.in-Ok.known k.0 in
+    bad_statement (begun_in c.args.current.now) c.args.later.now c.args.group.now.records.now p
+    c.read_outside_sysmod.result (at (goal.at.returns-clause-fault c).Else-is_misplaced)
+    (subst (λ o. IfErr c.read_outside_sysmod.result (IsSaidError (begun_in o) p)) (sym c.in-None.is)
+    (c.read_outside_sysmod.ensures.fault k.0 k.2))
 
 pub returns-then-is_misplaced-clause-fault : goal.returns-then-is_misplaced-clause-fault
 returns-then-is_misplaced-clause-fault c = λ each.
-    let k = c.in-Ok.ensures.ok in (
-      c.in-Ok.known.word,
-      own_list c.in-Ok.known,
-      k.0,
-      c.in-Ok.known.inline.now,
-      k.1,
-      (c.is_misplaced.ensures k.0 k.2).0 c.if-is_misplaced.true,
-    )
+    let k = c.in-Ok.ensures.ok in
+    (parts_of c.in-Ok.known k.0, k.1, (c.is_misplaced.ensures k.0 k.2).0 c.if-is_misplaced.true)
 
 pub returns-in-Err-clause-fault : goal.returns-in-Err-clause-fault
 returns-in-Err-clause-fault c = λ each.

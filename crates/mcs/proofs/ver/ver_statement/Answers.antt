@@ -1,32 +1,41 @@
-use Rattle.std.proofs.Common.{◌∙◌, sym, ap}
+use Rattle.std.proofs.Common.{◌∙◌, Some, sym, refl}
 use Rattle.std.proofs.lemmas.Bool.{true≢false}
 use Rattle.terms.specs.Statements.{SaysVer}
+use Rattle.terms.specs.Ptfin.{sysmod_in}
 use Rattle.rec80.specs.Views.{words_of}
 use Rattle.mcs.specs.KnownWords.{own_list}
-use Rattle.mcs.specs.Files.{begun_of, begun_in}
+use Rattle.mcs.specs.Files.{begun_of}
+use Rattle.mcs.proofs.Saying.{ver_excludes}
 use Rattle.mcs.proofs.Versions.{ver_error, ver_said, ver_value, ver_within}
 use Rattle.mcs.proofs.ver.ver_statement.Goals as goal
 
+pub returns-in_default-clause-fault : goal.returns-in_default-clause-fault
+returns-in_default-clause-fault c = λ rest h.
+    ver_excludes (sysmod_in (Some (begun_of c.args.begun.now))) c.args.known.now.word (own_list c.args.known.now) rest
+    c.args.known.now.inline.now c.requires (λ ws v words i. c.in_default.ensures.none rest h ws words i.are_operands)
+
 pub returns-in-Err-clause-fault : goal.returns-in-Err-clause-fault
 returns-in-Err-clause-fault c = λ rest h.
-    rw c.no_value.ensures (ver_error (begun_in c.args.current.now) (begun_of c.in-Some.begun) c.args.known.now.word
-    (own_list c.args.known.now) rest c.args.known.now.inline.now (words_of c.in-Some-named.words.now) c.in-Err.error
-    (ap begun_in c.in-Some.is) c.requires (c.in-Some-named.ensures.words rest h) c.in-Err.ensures.bad)
+    let b = begun_of c.args.begun.now in
+    rw c.statement_error.ensures (ver_error (Some b) b c.args.known.now.word (own_list c.args.known.now) rest
+    c.args.known.now.inline.now (words_of c.in-Some.words.now) c.in-Err.error refl c.requires
+    (c.in-Some.ensures.words rest h) c.in-Err.ensures.bad)
 
 pub returns-then-not-is_within-clause-fault : goal.returns-then-not-is_within-clause-fault
-returns-then-not-is_within-clause-fault c = λ rest h. (
-  SaysVer c.in-Ok.ver,
-  ver_value (begun_in c.args.current.now) (begun_of c.in-Some.begun) c.args.known.now.word
-      (own_list c.args.known.now) rest c.args.known.now.inline.now (words_of c.in-Some-named.words.now) c.in-Ok.ver
-      (ap begun_in c.in-Some.is) c.requires (c.in-Some-named.ensures.words rest h) c.in-Ok.ensures.ok,
-  λ within. true≢false (sym (c.is_within.ensures.1 (ver_within (begun_in c.args.current.now)
-      (begun_of c.in-Some.begun) c.in-Ok.ver c.args.known.now.inline.now (ap begun_in c.in-Some.is) within))
-      ∙ c.if-not-is_within.true),
-)
+returns-then-not-is_within-clause-fault c = λ rest h.
+    let b = begun_of c.args.begun.now in
+    let inline = c.args.known.now.inline.now in (
+      SaysVer c.in-Ok.ver,
+      ver_value (Some b) b c.args.known.now.word (own_list c.args.known.now) rest inline
+          (words_of c.in-Some.words.now) c.in-Ok.ver refl c.requires (c.in-Some.ensures.words rest h)
+          c.in-Ok.ensures.ok,
+      λ within. true≢false (sym (c.is_within.ensures.1 (ver_within (Some b) b c.in-Ok.ver inline refl within))
+          ∙ c.if-not-is_within.true),
+    )
 
 pub returns-clause-said : goal.returns-clause-said
 returns-clause-said c = λ rest h.
-    ver_said (begun_in c.args.current.now) (begun_of c.in-Some.begun) c.args.known.now.word (own_list c.args.known.now)
-    rest c.args.known.now.inline.now (words_of c.in-Some-named.words.now) c.in-Ok.ver (ap begun_in c.in-Some.is)
-    c.requires (c.in-Some-named.ensures.words rest h) c.in-Ok.ensures.ok
-    (c.is_within.ensures.0 c.if-not-is_within.false)
+    let b = begun_of c.args.begun.now in
+    ver_said (Some b) b c.args.known.now.word (own_list c.args.known.now) rest c.args.known.now.inline.now
+    (words_of c.in-Some.words.now) c.in-Ok.ver refl c.requires (c.in-Some.ensures.words rest h)
+    c.in-Ok.ensures.ok (c.is_within.ensures.0 c.if-not-is_within.false)

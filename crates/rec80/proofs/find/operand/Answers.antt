@@ -8,5 +8,5 @@ use Rattle.rec80.proofs.find.operand.Goals as goal
 pub returns : goal.returns
 returns c =
     let name = c.args.name.now in
-    ap (option_map word_of) (c.copied.ensures ∙ c.first.ensures)
+    ap (option_map word_of) (c.copied.ensures ∙ c.find_word.ensures)
     ∙ sym (find_mapped (λ w. bytes_eq w.word.now name) (λ w. bytes_eq w.word name) word_of (λ w. refl) c.args.words.now)

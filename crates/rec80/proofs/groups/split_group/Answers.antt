@@ -5,11 +5,11 @@ use Rattle.rec80.proofs.GroupCuts.{is_later, IsFirstGroup, first_group}
 use Rattle.rec80.proofs.groups.split_group.Goals as goal
 use Rattle.std.proofs.lemmas.List.Sums.{prefix_len-le-length}
 
-later : (c : goal.After-later_len) → c.later_len.result ≡ prefix_len is_later (drop 1 c.args.records.now)
-later c = c.later_len.ensures ∙ ap (prefix_len is_later) (take_rest c.args.records.now 1)
+later : (c : goal.After-continuing_len) → c.continuing_len.result ≡ prefix_len is_later (drop 1 c.args.records.now)
+later c = c.continuing_len.ensures ∙ ap (prefix_len is_later) (take_rest c.args.records.now 1)
 
-pub overflow_add-later_len : goal.overflow_add-later_len
-overflow_add-later_len c = omega (
+pub overflow_add-continuing_len : goal.overflow_add-continuing_len
+overflow_add-continuing_len c = omega (
   arith,
   later c,
   prefix_len-le-length is_later (drop 1 c.args.records.now),
@@ -25,8 +25,8 @@ split_at-requires c = omega (
 )
 
 cut : (c : goal.After-split_at) → IsFirstGroup c.args.records.now c.split_at.result.0.now c.split_at.result.1.now
-cut c = first_group c.args.records.now _ _ c.later_len.result c.requires.starts c.requires.some
-    (c.later_len.ensures ∙ ap (prefix_len is_later) (take_rest c.args.records.now 1)) c.split_at.ensures.front
+cut c = first_group c.args.records.now _ _ c.continuing_len.result c.requires.starts c.requires.some
+    (c.continuing_len.ensures ∙ ap (prefix_len is_later) (take_rest c.args.records.now 1)) c.split_at.ensures.front
     c.split_at.ensures.back
 
 pub returns-clause-group : goal.returns-clause-group

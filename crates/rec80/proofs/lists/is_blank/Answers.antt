@@ -3,9 +3,9 @@ use Rattle.rec80.proofs.Listing.{blank_end, dark_end}
 use Rattle.rec80.proofs.lists.is_blank.Goals as goal
 
 pub returns-clause-blank : goal.returns-clause-blank
-returns-clause-blank c = λ yes'. blank_end _ (text_of c.behind_blanks.result) c.behind_blanks.ensures
+returns-clause-blank c = λ yes'. blank_end _ (text_of c.skip_blanks.result) c.skip_blanks.ensures
     (c.is_end.ensures.end yes')
 
 pub returns-clause-dark : goal.returns-clause-dark
 returns-clause-dark c = λ no' blanks. c.is_end.ensures.more no'
-    (dark_end _ (text_of c.behind_blanks.result) c.behind_blanks.ensures blanks)
+    (dark_end _ (text_of c.skip_blanks.result) c.skip_blanks.ensures blanks)

@@ -16,7 +16,7 @@ returns-then-as_slice-len-clause-bad g c = λ x.
     let l = some_and c.args.word.now.list text_of c.in-Some.list (λ text. IsListOf g.T.Member.form text x.1.0)
     c.in-Some.is x.1.1 in
     doubles_texts g.T.Ord.cmp g.T.Member.text g.met.T.Member.order (tied_itself g.met.T.Ord.total) items rising rises
-    c.from_vec-rising.ensures
+    c.from_vec-rising.ensures.members
     (λ same. c.if-as_slice-len.true (omega (
       arith,
       ap length c.as_slice.ensures.items,
@@ -46,7 +46,7 @@ returns-clause-sorted g c =
             has_members = c.in_ok-read.ensures.members;
             each = c.in_ok-read.ensures.forms;
             distinct = distinct_texts g.T.Ord.cmp g.T.Member.text g.met.T.Member.order (tied_itself g.met.T.Ord.total)
-                g.met.T.Field.exact items rising rises c.from_vec-rising.ensures len;
+                g.met.T.Field.exact items rising rises c.from_vec-rising.ensures.members len;
           },
-      sorted_texts g.T.Ord.cmp g.T.Member.text g.met.T.Member.order items rising rises c.from_vec-rising.ensures,
+      sorted_texts g.T.Ord.cmp g.T.Member.text g.met.T.Member.order items rising rises c.from_vec-rising.ensures.members,
     )

@@ -6,14 +6,14 @@ use Rattle.rec80.proofs.walk.first_stop.Goals as goal
 
 pub loop-next-smaller : goal.loop-next-smaller
 loop-next-smaller c = walk_shorter (rest_of c.loop-next.at) (rest_of c.in-Ok.next)
-    (rest_of c.behind_gaps-at-in-Ok.result) (piece_of c.in-Ok.field-0-0) c.in-Ok.ensures.piece
-    c.behind_gaps-at-in-Ok.ensures.gaps
+    (rest_of c.skip_gaps-at-in-Ok.result) (piece_of c.in-Ok.field-0-0) c.in-Ok.ensures.piece
+    c.skip_gaps-at-in-Ok.ensures.gaps
 
 pub loop-next-preserved : goal.loop-next-preserved
 loop-next-preserved c = record {
   walks = walks_more _ _ (rest_of c.in-Ok.next) _ (piece_of c.in-Ok.field-0-0) c.loop-next.invariant.walks
-      c.in-Ok.ensures.piece c.behind_gaps-at-in-Ok.ensures.gaps;
-  no_gap = c.behind_gaps-at-in-Ok.ensures.gaps.no_gap;
+      c.in-Ok.ensures.piece c.skip_gaps-at-in-Ok.ensures.gaps;
+  no_gap = c.skip_gaps-at-in-Ok.ensures.gaps.no_gap;
   ahead = ahead_trans _ _ _ c.loop-next.invariant.ahead (ahead_trans _ _ _ c.in-Ok.ensures.ahead
-      c.behind_gaps-at-in-Ok.ensures.ahead);
+      c.skip_gaps-at-in-Ok.ensures.ahead);
 }

@@ -11,4 +11,4 @@ returns c =
     let kept : c.retain.new.self.items ≡ filter test c.in_ok-ids.ids.items =
     filter_same _ _ _ (λ x b q k. search (rules, tests)) _ _ c.retain.ensures.filtered in
     kept_of test (Belongs vers c.args.reason) c.in_ok-ids.ids.items c.retain.new.self.items c.from_vec.result kept
-    c.from_vec.ensures c.in_ok-ids.ensures
+    c.from_vec.ensures.members c.in_ok-ids.ensures

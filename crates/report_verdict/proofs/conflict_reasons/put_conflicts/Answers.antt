@@ -6,7 +6,8 @@ use Rattle.report_verdict.proofs.conflict_reasons.put_conflicts.Goals as goal
 
 pub loop-conflict-preserved : goal.loop-conflict-preserved
 loop-conflict-preserved c =
-    flat_more (conflict_reason c.args.test) c.args.conflicts.now c.loop-conflict.conflict-index c.conflict-item.result c.args.text.now.items
+    flat_more (conflict_reason c.args.test) c.args.conflicts.now c.loop-conflict.conflict-index c.conflict-item.result
+    c.args.text.now.items
     c.loop-conflict.text.items c.put_conflict.new.text.items (omega arith) c.conflict-item.is c.loop-conflict.invariant
     c.in_ok-put_conflict.ensures
 

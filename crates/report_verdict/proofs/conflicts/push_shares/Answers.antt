@@ -12,7 +12,8 @@ loop-change-preserved c =
     c.loop-change.change-index c.change-item.result c.args.found.now.items c.loop-change.found.items
     c.push_share.new.found.items (omega arith) c.change-item.is c.loop-change.invariant
     (c.in_ok-push_share.ensures
-    ∙ ap (λ g. c.loop-change.found.items ++ share_of g c.args.with c.args.apart c.change-item.result) c.global-global.ensures)
+    ∙ ap (λ g. c.loop-change.found.items ++ share_of g c.args.with c.args.apart c.change-item.result)
+    c.global-global.ensures)
 
 pub returns : goal.returns
 returns c =

@@ -19,11 +19,13 @@ pub returns : goal.returns
 returns c =
     let told : Maker → List ℕ = maker_reason c.args.test c.args.elem_type c.args.name.now (codes "UMID") in
     let found = c.args.found.now in
-    let rmid : List ℕ = maker_reason c.args.test c.args.elem_type c.args.name.now (codes "RMID") (maker_view found.rmid) in
+    let rmid : List ℕ = maker_reason c.args.test c.args.elem_type c.args.name.now (codes "RMID")
+    (maker_view found.rmid) in
     let umids : List ℕ = flat_map told (map maker_view found.umids.items) in
     c.loop-umid.invariant
     ∙ ap (λ l. c.put_maker.new.text.items ++ flat_map (λ m. told (maker_view m)) l)
-    (take_all c.loop-umid.umid-index c.as_slice-umid-items.result.now (omega arith) ∙ c.as_slice-umid-items.ensures.value)
+    (take_all c.loop-umid.umid-index c.as_slice-umid-items.result.now (omega arith)
+    ∙ c.as_slice-umid-items.ensures.value)
     ∙ ap (λ l. c.put_maker.new.text.items ++ l) (sym (flat_map-map told maker_view found.umids.items))
     ∙ ap (λ l. l ++ umids) c.in_ok-put_maker.ensures
     ∙ append_assoc c.args.text.now.items rmid umids

@@ -8,7 +8,8 @@ use Rattle.report_verdict.proofs.reasons.put_reasons.Goals as goal
 
 pub loop-fact-preserved : goal.loop-fact-preserved
 loop-fact-preserved c =
-    flat_more (λ f. reason c.args.bypass.now c.args.test (fact_view f)) c.args.facts.now c.loop-fact.fact-index c.fact-item.result c.args.text.now.items
+    flat_more (λ f. reason c.args.bypass.now c.args.test (fact_view f)) c.args.facts.now c.loop-fact.fact-index
+    c.fact-item.result c.args.text.now.items
     c.loop-fact.text.items c.put_reason.new.text.items (omega arith) c.fact-item.is c.loop-fact.invariant
     c.in_ok-put_reason.ensures
 
@@ -17,4 +18,5 @@ returns c =
     c.loop-fact.invariant
     ∙ ap (λ l. c.args.text.now.items ++ flat_map (λ f. reason c.args.bypass.now c.args.test (fact_view f)) l)
     (take_all c.loop-fact.fact-index c.args.facts.now (omega arith))
-    ∙ ap (λ l. c.args.text.now.items ++ l) (sym (flat_map-map (reason c.args.bypass.now c.args.test) fact_view c.args.facts.now))
+    ∙ ap (λ l. c.args.text.now.items ++ l) (sym (flat_map-map (reason c.args.bypass.now c.args.test) fact_view
+    c.args.facts.now))

@@ -6,4 +6,5 @@ use Rattle.report_verdict.proofs.reasons.put_reasons.Given as goal
 
 abbrev pub invariant-loop-fact : goal.invariant-loop-fact
 invariant-loop-fact l =
-    l.text.items ≡ l.initial.text.items ++ flat_map (λ f. reason l.bypass l.test (fact_view f)) (take l.fact-index l.facts)
+    l.text.items ≡ l.initial.text.items ++ flat_map (λ f. reason l.bypass l.test (fact_view f)) (take l.fact-index
+    l.facts)

@@ -13,9 +13,9 @@ returns-then-is_among c =
     let among : true ≡ is_in (ids_where is_chain_deleted lines) id =
     sym c.if-is_among.true ∙ c.is_among.ensures
     ∙ ap (λ l. is_in l id) (c.as_slice.ensures.value ∙ c.in_ok-deleted.ensures) in
-    IfOk-weaker c.others.result _ _ (λ found are.
+    IfOk-weaker c.without_id.result _ _ (λ found are.
     are ∙ ap (others id) (c.as_slice-then-is_among.ensures.value ∙ c.in_ok-passing.ensures)
-    ∙ ap (λ (b : Bool). if b then others id (ids_where passes_alone lines) else []) among) c.others.ensures
+    ∙ ap (λ (b : Bool). if b then others id (ids_where passes_alone lines) else []) among) c.without_id.ensures
 
 pub returns : goal.returns
 returns c =

@@ -6,7 +6,8 @@ use Rattle.report_verdict.proofs.verdict.put_causers.Goals as goal
 
 pub loop-causer-preserved : goal.loop-causer-preserved
 loop-causer-preserved c =
-    flat_more (causer_told c.args.id) c.args.causers.now c.loop-causer.causer-index c.causer-item.result c.args.text.now.items
+    flat_more (causer_told c.args.id) c.args.causers.now c.loop-causer.causer-index c.causer-item.result
+    c.args.text.now.items
     c.loop-causer.text.items c.put_causer.new.text.items (omega arith) c.causer-item.is c.loop-causer.invariant
     c.in_ok-put_causer.ensures
 

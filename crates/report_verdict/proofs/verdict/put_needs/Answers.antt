@@ -9,7 +9,8 @@ use Rattle.report_verdict.proofs.verdict.put_needs.Goals as goal
 
 pub loop-need-preserved : goal.loop-need-preserved
 loop-need-preserved c =
-    flat_more (λ n. need_told (map fact_view c.args.facts.now) (need_view n)) c.args.needs.now c.loop-need.need-index c.need-item.result c.args.text.now.items
+    flat_more (λ n. need_told (map fact_view c.args.facts.now) (need_view n)) c.args.needs.now c.loop-need.need-index
+    c.need-item.result c.args.text.now.items
     c.loop-need.text.items c.put_need.new.text.items (omega arith) c.need-item.is c.loop-need.invariant
     c.in_ok-put_need.ensures
 

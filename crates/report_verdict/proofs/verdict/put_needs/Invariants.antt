@@ -7,4 +7,5 @@ use Rattle.report_verdict.proofs.verdict.put_needs.Given as goal
 
 abbrev pub invariant-loop-need : goal.invariant-loop-need
 invariant-loop-need l =
-    l.text.items ≡ l.initial.text.items ++ flat_map (λ n. need_told (map fact_view l.facts) (need_view n)) (take l.need-index l.needs)
+    l.text.items ≡ l.initial.text.items ++ flat_map (λ n. need_told (map fact_view l.facts) (need_view n)) (take
+    l.need-index l.needs)

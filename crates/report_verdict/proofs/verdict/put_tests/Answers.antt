@@ -15,7 +15,7 @@ loop-failed-preserved c =
     let old = c.loop-failed.text.items in
     let failed = c.in-Some.failed in
     let rest = c.next.new.self in
-    ap (λ t. t ++ flat_map told rest) c.in_ok-put_test.ensures
+    ap (λ t. t ++ flat_map told rest) c.in_ok-put_failed_test.ensures
     ∙ append_assoc old (told failed) (flat_map told rest)
     ∙ ap (λ l. old ++ flat_map told l) (sym c.in-Some.ensures.steps) ∙ c.loop-failed.invariant
 

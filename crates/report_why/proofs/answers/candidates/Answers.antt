@@ -18,9 +18,9 @@ returns c =
     let Serve = λ (y : Id). Serves (choice a.scope.vers.now) c.args.kind y c.args.id in
     let kept : c.retain.new.self.items ≡ filter test c.in_ok-found.found.items =
     filter_same _ _ _ (λ x b q k. search (rules, tests)) _ _ c.retain.ensures.filtered in
-    let are = kept_of test Serve c.in_ok-found.found.items c.retain.new.self.items c.from_vec-ids.result kept
-    c.from_vec-ids.ensures c.in_ok-found.ensures in (
-      c.attest.ensures,
+    let are = kept_of test Serve c.in_ok-found.found.items c.retain.new.self.items c.from_vec.result kept
+    c.from_vec.ensures.members c.in_ok-found.ensures in (
+      c.from_vec.ensures.rising,
       λ y. (
         λ h. let both = (are y).0 h in record { installable = both.0; serves = both.1 },
         λ may. (are y).1 (may.installable, may.serves),

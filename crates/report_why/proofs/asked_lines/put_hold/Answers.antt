@@ -12,11 +12,11 @@ use Rattle.report_why.proofs.asked_lines.put_hold.Goals as goal
 pub returns-in_ok-put_comment-in-Some : goal.returns-in_ok-put_comment-in-Some
 returns-in_ok-put_comment-in-Some c =
     let a = answer_view c.in-Some.answer in
-    rw c.in-Some.is (subst (λ (h : Hold). OnOk c.put_answer.result
-    (c.put_answer.new.text.items ≡ c.args.text.now.items ++ fact_text (HoldFact h (Some a)))) c.hold.view_is
-    (IfOk-equal c.put_answer.result c.put_answer.new.text.items _ _ c.put_answer.ensures
+    rw c.in-Some.is (subst (λ (h : Hold). OnOk c.put_resolution.result
+    (c.put_resolution.new.text.items ≡ c.args.text.now.items ++ fact_text (HoldFact h (Some a)))) c.hold.view_is
+    (IfOk-equal c.put_resolution.result c.put_resolution.new.text.items _ _ c.put_resolution.ensures
     (hold_answered (the_view c.hold.inside) a c.args.text.now.items c.hold_text.ensures c.as_bytes.ensures.same
-    c.class_text.ensures c.date_text.ensures c.answer_word.ensures c.in_ok-append_words-in-Some.ensures
+    c.class_text.ensures c.date_text.ensures c.resolution_word.ensures c.in_ok-append_words-in-Some.ensures
     c.in_ok-put_comment-in-Some.ensures)))
 
 pub returns-in_ok-append_words-in-None : goal.returns-in_ok-append_words-in-None

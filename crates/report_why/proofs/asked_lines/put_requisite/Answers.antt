@@ -11,19 +11,22 @@ pub returns-in_ok-append_words-in-Some : goal.returns-in_ok-append_words-in-Some
 returns-in_ok-append_words-in-Some c =
     let i = c.requisite.inside in
     let a = answer_view c.args.answer.now in
-    subst (λ (r : Requisite). OnOk c.put_answer.result
-    (c.put_answer.new.text.items ≡ c.args.text.now.items ++ fact_text (RequisiteFact r a))) c.requisite.view_is
-    (IfOk-equal c.put_answer.result c.put_answer.new.text.items _ _ c.put_answer.ensures
+    subst (λ (r : Requisite). OnOk c.put_resolution.result
+    (c.put_resolution.new.text.items ≡ c.args.text.now.items ++ fact_text (RequisiteFact r a))) c.requisite.view_is
+    (IfOk-equal c.put_resolution.result c.put_resolution.new.text.items _ _ c.put_resolution.ensures
     (requisite_by_if (a_requisite i.kind i.by i.function i.id) a c.in-Some.function c.args.text.now.items
     c.in-Some.is c.need_text.ensures c.as_bytes.ensures.same c.as_bytes-in-Some.ensures.same c.as_bytes-2.ensures.same
-    c.answer_word.ensures c.in_ok-append_words-in-Some.ensures))
+    c.resolution_word.ensures c.in_ok-append_words-in-Some.ensures))
 
 pub returns-in_ok-append_words-in-None : goal.returns-in_ok-append_words-in-None
 returns-in_ok-append_words-in-None c =
     let i = c.requisite.inside in
     let a = answer_view c.args.answer.now in
-    subst (λ (r : Requisite). OnOk c.put_answer-in-None.result
-    (c.put_answer-in-None.new.text.items ≡ c.args.text.now.items ++ fact_text (RequisiteFact r a))) c.requisite.view_is
-    (IfOk-equal c.put_answer-in-None.result c.put_answer-in-None.new.text.items _ _ c.put_answer-in-None.ensures
+    subst (λ (r : Requisite). OnOk c.put_resolution-in-None.result
+    (c.put_resolution-in-None.new.text.items ≡ c.args.text.now.items ++ fact_text (RequisiteFact r a)))
+    c.requisite.view_is
+    (IfOk-equal c.put_resolution-in-None.result c.put_resolution-in-None.new.text.items _ _
+    c.put_resolution-in-None.ensures
     (requisite_by_itself (a_requisite i.kind i.by i.function i.id) a c.args.text.now.items
-    c.in-None.is c.need_text.ensures c.as_bytes.ensures.same c.answer_word.ensures c.in_ok-append_words-in-None.ensures))
+    c.in-None.is c.need_text.ensures c.as_bytes.ensures.same c.resolution_word.ensures
+    c.in_ok-append_words-in-None.ensures))

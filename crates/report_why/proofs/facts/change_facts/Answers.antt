@@ -7,8 +7,8 @@ use Rattle.report_why.proofs.facts.change_facts.Goals as goal
 pub returns : goal.returns
 returns c =
     let forbids = c.in_ok-forbids.forbids.items in
-    IfOk-weaker c.joined-2.result _ _
+    IfOk-weaker c.join_facts-2.result _ _
     (λ all is. are_of_changes (setting_in c.args.asking.now) c.args.asking.now.id all.items
     c.in_ok-elements.elements.items c.in_ok-deletes.deletes.items forbids
     (is ∙ ap (λ l. l ++ forbids) c.in_ok-facts.ensures) c.in_ok-elements.ensures c.in_ok-deletes.ensures
-    c.in_ok-forbids.ensures) c.joined-2.ensures
+    c.in_ok-forbids.ensures) c.join_facts-2.ensures

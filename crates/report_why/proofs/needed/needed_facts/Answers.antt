@@ -20,8 +20,8 @@ returns c = λ g zone all.
       ids = ids;
       rising = subst (λ l. IsRising l) c.as_slice-by-items.ensures.items c.as_slice-by-items.ensures.rising;
       needed = λ y. (
-        λ h. (all c.args.id y).0 (subst (λ l. Contains l y) found ((c.from_vec-needing.ensures y).0 h)),
-        λ n. (c.from_vec-needing.ensures y).1 (subst (λ l. Contains l y) (sym found) ((all c.args.id y).1 n)),
+        λ h. (all c.args.id y).0 (subst (λ l. Contains l y) found ((c.from_vec-needing.ensures.members y).0 h)),
+        λ n. (c.from_vec-needing.ensures.members y).1 (subst (λ l. Contains l y) (sym found) ((all c.args.id y).1 n)),
       );
       facts_are = c.loop-by.invariant ∙ ap (map NeededFact)
           (take_all c.loop-by.by-index c.as_slice-by-items.result.now (omega arith)

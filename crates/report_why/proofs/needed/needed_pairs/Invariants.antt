@@ -6,7 +6,8 @@ use Rattle.report_why.proofs.needed.needed_pairs.Given as goal
 
 abbrev pub invariant-loop-by : goal.invariant-loop-by
 invariant-loop-by l =
-    l.pairs.items ≡ flat_map (λ y. map (λ x. (x, y)) (soles (restoring l.vers l.zone l.zone) y)) (take l.by-index l.applied)
+    l.pairs.items ≡ flat_map (λ y. map (λ x. (x, y)) (soles (restoring l.vers l.zone l.zone) y)) (take l.by-index
+    l.applied)
 
 abbrev pub invariant-loop-id : goal.invariant-loop-id
 invariant-loop-id l =

@@ -20,13 +20,13 @@ returns c =
       record {
         rising = subst (λ l. IsRising l) c.as_slice-2.ensures.items c.as_slice-2.ensures.rising;
         members = λ z. subst (λ ids. Contains c.from_vec-lost.result z ↔ Contains ids z)
-            (c.in_ok-losses.ensures s refl refl refl ∙ rw (same_itself x) refl) (c.from_vec-lost.ensures z);
+            (c.in_ok-losses.ensures s refl refl refl ∙ rw (same_itself x) refl) (c.from_vec-lost.ensures.members z);
       },
       five_parts c.new-found.ensures.items
-          (c.in_ok-push_all.ensures) (ap (map (a_requisite Fmid x None))
+          (c.in_ok-push_requisites_of_kind.ensures) (ap (map (a_requisite Fmid x None))
           (as_list c.fmid-fmid.result c.as_slice.result.now c.as_slice.ensures ∙ ap at_most_one c.fmid-fmid.ensures))
-          (c.in_ok-push_all-2.ensures) (ap (map (a_requisite Pre x None)) c.pre.ensures.items)
-          (c.in_ok-push_all-3.ensures) (ap (map (a_requisite Req x None)) c.req.ensures.items)
-          (c.in_ok-push_conditions.ensures) refl
-          (c.in_ok-push_all-4.ensures) (ap (map (a_requisite Orphan x None)) c.as_slice-2.ensures.items),
+          (c.in_ok-push_requisites_of_kind-2.ensures) (ap (map (a_requisite Pre x None)) c.pre.ensures.items)
+          (c.in_ok-push_requisites_of_kind-3.ensures) (ap (map (a_requisite Req x None)) c.req.ensures.items)
+          (c.in_ok-push_all_ifreqs.ensures) refl
+          (c.in_ok-push_requisites_of_kind-4.ensures) (ap (map (a_requisite Orphan x None)) c.as_slice-2.ensures.items),
     )

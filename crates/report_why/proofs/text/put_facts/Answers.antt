@@ -9,7 +9,8 @@ use Rattle.report_why.proofs.text.put_facts.Goals as goal
 pub loop-fact-preserved : goal.loop-fact-preserved
 loop-fact-preserved c =
     flat_more (λ f. fact_text (fact_view f)) c.args.facts.now c.loop-fact.fact-index c.fact-item.result
-    c.args.text.now.items c.loop-fact.text.items c.put_fact.new.text.items (omega arith) c.fact-item.is c.loop-fact.invariant
+    c.args.text.now.items c.loop-fact.text.items c.put_fact.new.text.items (omega arith) c.fact-item.is
+    c.loop-fact.invariant
     c.in_ok-put_fact.ensures
 
 pub returns : goal.returns

@@ -6,6 +6,6 @@ use Rattle.select.proofs.filters.meets_fmids.Goals as goal
 pub returns-in-Some : goal.returns-in-Some
 returns-in-Some c =
     let test = has_fmid_for c.args.srel c.args.wanted.now in
-    c.some_ver_among.ensures
+    c.has_ver_with_fmid_among.ensures
     ∙ ap (list_any test) (c.as_slice.ensures.value ∙ ap (λ s. s.vers) c.sysmod.view_is)
     ∙ fmids_there c.args.global.now c.args.srel c.args.id c.args.wanted.now c.in-Some.sysmod.now c.in-Some.ensures

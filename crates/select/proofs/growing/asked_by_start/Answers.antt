@@ -10,5 +10,6 @@ loop-id-init c = subst (AddsAll [] []) (sym c.new-seen.ensures.empty) (adds_none
 
 pub loop-id-preserved : goal.loop-id-preserved
 loop-id-preserved c =
-    adds_flat (asked_first c.args.scope.now) [] c.args.start.now c.loop-id.seen.keys c.see_first.new.seen.keys
-    c.loop-id.id-index c.id-item.result (omega arith) c.id-item.is c.in_ok-see_first.ensures c.loop-id.invariant
+    adds_flat (asked_first c.args.scope.now) [] c.args.start.now c.loop-id.seen.keys c.insert_first_asked.new.seen.keys
+    c.loop-id.id-index c.id-item.result (omega arith) c.id-item.is c.in_ok-insert_first_asked.ensures
+    c.loop-id.invariant

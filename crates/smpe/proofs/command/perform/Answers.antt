@@ -9,32 +9,32 @@ use Rattle.smpe.proofs.command.perform.Goals as goal
 
 pub returns-in-Set-clause-uses : goal.returns-in-Set-clause-uses
 returns-in-Set-clause-uses g c = rw c.in-Set.is
-    (told_uses c.args.date c.args.files.now c.told.ensures c.set.ensures.uses
+    (told_uses c.args.date c.args.files.now c.wrap_outcome.ensures c.set.ensures.uses
     (λ own none. absurd none) (λ s ended is. ended is c.args.date c.args.files.now))
 
 pub returns-in-Receive-clause-uses : goal.returns-in-Receive-clause-uses
 returns-in-Receive-clause-uses g c = rw c.in-Receive.is
-    (told_uses c.args.date c.args.files.now c.told-in-Receive.ensures c.receive.ensures.uses
+    (told_uses c.args.date c.args.files.now c.wrap_outcome-in-Receive.ensures c.receive.ensures.uses
     (λ change own. own) (λ s ended is. ended is c.args.date))
 
 pub returns-in-Reject-clause-uses : goal.returns-in-Reject-clause-uses
 returns-in-Reject-clause-uses g c = rw c.in-Reject.is
-    (told_uses c.args.date c.args.files.now c.told-in-Reject.ensures c.reject.ensures.uses
+    (told_uses c.args.date c.args.files.now c.wrap_outcome-in-Reject.ensures c.reject.ensures.uses
     (λ change own. own) (λ s ended is. ended is c.args.date c.args.files.now))
 
 pub returns-in-Apply-clause-uses : goal.returns-in-Apply-clause-uses
 returns-in-Apply-clause-uses g c = rw c.in-Apply.is
-    (told_uses c.args.date c.args.files.now c.told-in-Apply.ensures c.install.ensures.uses
+    (told_uses c.args.date c.args.files.now c.wrap_outcome-in-Apply.ensures c.install.ensures.uses
     (λ change own. ((own.0, own.1), own.2)) (λ s ended is. ended is c.args.files.now))
 
 pub returns-in-Accept-clause-uses : goal.returns-in-Accept-clause-uses
 returns-in-Accept-clause-uses g c = rw c.in-Accept.is
-    (told_uses c.args.date c.args.files.now c.told-in-Accept.ensures c.install-in-Accept.ensures.uses
+    (told_uses c.args.date c.args.files.now c.wrap_outcome-in-Accept.ensures c.install-in-Accept.ensures.uses
     (λ change own. ((own.0, own.1), own.2)) (λ s ended is. ended is c.args.files.now))
 
 pub returns-in-Restore-clause-uses : goal.returns-in-Restore-clause-uses
 returns-in-Restore-clause-uses g c = rw c.in-Restore.is
-    (told_uses c.args.date c.args.files.now c.told-in-Restore.ensures c.restore.ensures.uses
+    (told_uses c.args.date c.args.files.now c.wrap_outcome-in-Restore.ensures c.restore.ensures.uses
     (λ change own. ((own.0, own.1), own.2)) (λ s ended is. ended is c.args.date c.args.files.now))
 
 pub returns-in-List-clause-uses : goal.returns-in-List-clause-uses
@@ -54,27 +54,31 @@ returns-in_ok-report-in-Report-clause-uses g c = rw c.in-Report.is (answered not
 -- ---- the header
 
 pub returns-in-Set-clause-header : goal.returns-in-Set-clause-header
-returns-in-Set-clause-header g c = rw c.in-Set.is (told_of (Set c.in-Set.name) c.set.result _ c.told.ensures c.set.ensures.header)
+returns-in-Set-clause-header g c = rw c.in-Set.is
+    (told_of (Set c.in-Set.name) c.set.result _ c.wrap_outcome.ensures c.set.ensures.header)
 
 pub returns-in-Receive-clause-header : goal.returns-in-Receive-clause-header
 returns-in-Receive-clause-header g c = rw c.in-Receive.is
-    (told_of (Receive c.in-Receive.what) c.receive.result _ c.told-in-Receive.ensures c.receive.ensures.header)
+    (told_of (Receive c.in-Receive.operands) c.receive.result _ c.wrap_outcome-in-Receive.ensures
+    c.receive.ensures.header)
 
 pub returns-in-Reject-clause-header : goal.returns-in-Reject-clause-header
 returns-in-Reject-clause-header g c = rw c.in-Reject.is
-    (told_of (Reject c.in-Reject.ids) c.reject.result _ c.told-in-Reject.ensures c.reject.ensures.header)
+    (told_of (Reject c.in-Reject.ids) c.reject.result _ c.wrap_outcome-in-Reject.ensures c.reject.ensures.header)
 
 pub returns-in-Apply-clause-header : goal.returns-in-Apply-clause-header
 returns-in-Apply-clause-header g c = rw c.in-Apply.is
-    (told_of (Apply c.in-Apply.operands) c.install.result _ c.told-in-Apply.ensures c.install.ensures.header)
+    (told_of (Apply c.in-Apply.operands) c.install.result _ c.wrap_outcome-in-Apply.ensures c.install.ensures.header)
 
 pub returns-in-Accept-clause-header : goal.returns-in-Accept-clause-header
 returns-in-Accept-clause-header g c = rw c.in-Accept.is
-    (told_of (Accept c.in-Accept.operands) c.install-in-Accept.result _ c.told-in-Accept.ensures c.install-in-Accept.ensures.header)
+    (told_of (Accept c.in-Accept.operands) c.install-in-Accept.result _ c.wrap_outcome-in-Accept.ensures
+    c.install-in-Accept.ensures.header)
 
 pub returns-in-Restore-clause-header : goal.returns-in-Restore-clause-header
 returns-in-Restore-clause-header g c = rw c.in-Restore.is
-    (told_of (Restore (restore_list_of c.in-Restore.list) c.in-Restore.check) c.restore.result _ c.told-in-Restore.ensures c.restore.ensures.header)
+    (told_of (Restore (restore_list_of c.in-Restore.list) c.in-Restore.check) c.restore.result _
+    c.wrap_outcome-in-Restore.ensures c.restore.ensures.header)
 
 pub returns-in-List-clause-header : goal.returns-in-List-clause-header
 returns-in-List-clause-header g c = rw c.in-List.is refl

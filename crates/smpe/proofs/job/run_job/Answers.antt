@@ -131,7 +131,8 @@ returns-in-Err-Fault-clause-goes g c =
     let new = g.W.Sink.taken c.write_report.new.w in
     faulty_goes g.S.Store c.args.date c.args.cntl.now (record { ptfin = c.args.ptfin.now; holds = c.args.hold.now })
     c.args.store.now (record { number = c.in-Err-Fault.number; code = c.in-Err-Fault.code }) old new
-    c.in_ok-write_report-in-Err-Fault.field-0 (subst (FailsFile c.args.cntl.now) c.in-Err-Fault.field-0-is c.in-Err-Fault.ensures.fault)
+    c.in_ok-write_report-in-Err-Fault.field-0
+    (subst (FailsFile c.args.cntl.now) c.in-Err-Fault.field-0-is c.in-Err-Fault.ensures.fault)
     (subst (Appends old new) (control_same c.in-Err-Fault.number-is c.in-Err-Fault.code-is)
     (sent_all _ _ _ _ _ c.in_ok-write_report-in-Err-Fault.ensures.sends
     c.in_ok-write_report-in-Err-Fault.ensures.fault)) c.in_ok-write_report-in-Err-Fault.ensures.code

@@ -23,9 +23,9 @@ pub returns-in_err-answer-clause-ends : goal.returns-in_err-answer-clause-ends
 returns-in_err-answer-clause-ends g c clean s keeps =
     let done = map job_of (take c.loop-job.job-index c.args.jobs.now) in
     let rest = map job_of (drop (c.loop-job.job-index + 1) c.args.jobs.now) in
-    let at = c.run_one.new.store in
+    let at = c.answer_job.new.store in
     let old = g.W.Sink.taken c.args.w.now in
-    let new = g.W.Sink.taken c.run_one.new.w in
+    let new = g.W.Sink.taken c.answer_job.new.w in
     let error = c.in_err-answer.field-0.0 in
     jobs_err g.S.Store s c.args.store.now at (map job_of c.args.jobs.now) old new (λ v. map answer_of v.items)
     c.from_residual-in_err-answer.result error c.from_residual-in_err-answer.ensures.1
@@ -35,7 +35,7 @@ returns-in_err-answer-clause-ends g c clean s keeps =
     c.loop-job.w) new
     (map answer_of c.loop-job.answers.items) rest error
     (c.loop-job.invariant.follows.faults, c.loop-job.invariant.follows.limit)
-    (c.loop-job.invariant.ran (c.run_one.ensures.follows.clean clean) s keeps)
+    (c.loop-job.invariant.ran (c.answer_job.ensures.follows.clean clean) s keeps)
     (λ t stands. c.in_err-answer.ensures.ends clean t stands)))
 
 pub loop-job-preserved : goal.loop-job-preserved
@@ -43,13 +43,13 @@ loop-job-preserved g c =
     let pushed = rw c.unwrap.ensures at c.push.ensures.items in
     let counted = rw c.unwrap.ensures at c.push.ensures.len in
     record {
-      follows = follows_on g.S.Store c.args.store.now c.loop-job.store c.run_one.new.store
-          c.loop-job.invariant.follows c.run_one.ensures.follows;
+      follows = follows_on g.S.Store c.args.store.now c.loop-job.store c.answer_job.new.store
+          c.loop-job.invariant.follows c.answer_job.ensures.follows;
       ran = λ clean s keeps.
           let done = map job_of (take c.loop-job.job-index c.args.jobs.now) in
-          let at = c.run_one.new.store in
+          let at = c.answer_job.new.store in
           let old = g.W.Sink.taken c.args.w.now in
-          let new = g.W.Sink.taken c.run_one.new.w in
+          let new = g.W.Sink.taken c.answer_job.new.w in
           let answers = map answer_of c.loop-job.answers.items in
           let answer = answer_of c.in_ok-answer.answer in
           subst (λ told. EndsJobs g.S.Store c.args.store.now at s (map job_of (take (c.loop-job.job-index + 1)
@@ -63,29 +63,29 @@ loop-job-preserved g c =
           (jobs_more g.S.Store s c.args.store.now c.loop-job.store at done (job_of c.job-item.result) old
           (g.W.Sink.taken c.loop-job.w)
           new answers answer
-          (c.loop-job.invariant.ran (c.run_one.ensures.follows.clean clean) s keeps)
+          (c.loop-job.invariant.ran (c.answer_job.ensures.follows.clean clean) s keeps)
           (λ t stands. c.in_ok-answer.ensures.ends clean t stands)));
       goes =
           let done = map job_of (take c.loop-job.job-index c.args.jobs.now) in
           let old = g.W.Sink.taken c.args.w.now in
-          let new = g.W.Sink.taken c.run_one.new.w in
+          let new = g.W.Sink.taken c.answer_job.new.w in
           let answers = map answer_of c.loop-job.answers.items in
           let answer = answer_of c.in_ok-answer.answer in
           subst (λ told. JobsRan g.S.Store c.args.store.now (map job_of (take (c.loop-job.job-index + 1)
-          c.args.jobs.now)) c.run_one.new.store old new told)
+          c.args.jobs.now)) c.answer_job.new.store old new told)
           (sym (ap (map answer_of) pushed ∙ map-append answer_of c.loop-job.answers.items (c.in_ok-answer.answer ∷ [])))
-          (subst (λ jobs. JobsRan g.S.Store c.args.store.now jobs c.run_one.new.store old new
+          (subst (λ jobs. JobsRan g.S.Store c.args.store.now jobs c.answer_job.new.store old new
           (answers ++ answer ∷ []))
           (sym (taken_more job_of c.args.jobs.now c.loop-job.job-index c.job-item.result c.loop-job-test.true
           c.job-item.is))
-          (jobs_one_more g.S.Store c.args.store.now c.loop-job.store c.run_one.new.store done (job_of
+          (jobs_one_more g.S.Store c.args.store.now c.loop-job.store c.answer_job.new.store done (job_of
           c.job-item.result) old
           (g.W.Sink.taken c.loop-job.w) new answers answer c.loop-job.invariant.goes
           c.in_ok-answer.ensures.goes));
       closed = λ clean s keeps closed.
-          let was = c.run_one.ensures.follows.clean clean in
+          let was = c.answer_job.ensures.follows.clean clean in
           let ran = c.loop-job.invariant.ran was s keeps in
-          c.run_one.ensures.closed clean ran.0 ran.3
+          c.answer_job.ensures.closed clean ran.0 ran.3
           (closed_now g.S.Store c.loop-job.store was ran.0 ran.3 (c.loop-job.invariant.closed was s keeps closed));
       count = search rules;
       room = omega (arith, c.push.ensures.capacity, c.loop-job.invariant.room);
@@ -109,9 +109,9 @@ returns-in_err-answers-clause-closed g c clean s keeps closed =
 
 pub returns-in_err-answer-clause-closed : goal.returns-in_err-answer-clause-closed
 returns-in_err-answer-clause-closed g c clean s keeps closed =
-    let was = c.run_one.ensures.follows.clean clean in
+    let was = c.answer_job.ensures.follows.clean clean in
     let ran = c.loop-job.invariant.ran was s keeps in
-    c.run_one.ensures.closed clean ran.0 ran.3
+    c.answer_job.ensures.closed clean ran.0 ran.3
     (closed_now g.S.Store c.loop-job.store was ran.0 ran.3 (c.loop-job.invariant.closed was s keeps closed))
 
 pub returns-in_err-answers-clause-goes : goal.returns-in_err-answers-clause-goes
@@ -125,10 +125,10 @@ pub returns-in_err-answer-clause-goes : goal.returns-in_err-answer-clause-goes
 returns-in_err-answer-clause-goes g c =
     let done = map job_of (take c.loop-job.job-index c.args.jobs.now) in
     let rest = map job_of (drop (c.loop-job.job-index + 1) c.args.jobs.now) in
-    let at = c.run_one.new.store in
+    let at = c.answer_job.new.store in
     let old = g.W.Sink.taken c.args.w.now in
     let mid = g.W.Sink.taken c.loop-job.w in
-    let new = g.W.Sink.taken c.run_one.new.w in
+    let new = g.W.Sink.taken c.answer_job.new.w in
     let job = job_of c.job-item.result in
     let error = c.in_err-answer.field-0.0 in
     jobs_early g.S.Store c.args.store.now at (map job_of c.args.jobs.now) old new (λ v. map answer_of v.items)

@@ -11,14 +11,17 @@ use Rattle.smpe_session.proofs.Stepping.{performs_since, stopped}
 use Rattle.smpe_session.proofs.Using.{after, answered, handed_on, ran_short, weaker}
 use Rattle.smpe.proofs.restore.restore.Goals as goal
 
-pub returns-in_err-accepted-clause-uses : goal.returns-in_err-accepted-clause-uses
-returns-in_err-accepted-clause-uses g c = handed_on c.from_residual.ensures.1 c.in_err-accepted.ensures
+pub returns-in_err-distribution_name-clause-uses : goal.returns-in_err-distribution_name-clause-uses
+returns-in_err-distribution_name-clause-uses g c = handed_on c.from_residual.ensures.1
+    c.in_err-distribution_name.ensures
     (λ s inventory un is date files.
     act_unmoved g.S.Store c.args.store.now c.seek_accepted.new.store s
-    (Perform date files (Restore (restore_list_of c.args.list.now) c.args.check)) c.in_err-accepted.field-0.0 (un is))
+    (Perform date files (Restore (restore_list_of c.args.list.now) c.args.check))
+    c.in_err-distribution_name.field-0.0 (un is))
 
 pub returns-in-Err-clause-uses : goal.returns-in-Err-clause-uses
-returns-in-Err-clause-uses g c = answered c.in_ok-accepted.ensures (λ own none. absurd none) (λ s inventory found is date files.
+returns-in-Err-clause-uses g c = answered c.in_ok-distribution_name.ensures (λ own none. absurd none)
+    (λ s inventory found is date files.
     let command = Restore (restore_list_of c.args.list.now) c.args.check in
     let sought = found is in (
       s,
@@ -31,14 +34,15 @@ returns-in-Err-clause-uses g c = answered c.in_ok-accepted.ensures (λ own none.
     ))
 
 pub returns-in_default-clause-uses : goal.returns-in_default-clause-uses
-returns-in_default-clause-uses g c = answered c.in_ok-accepted.ensures (λ own none. absurd none)
+returns-in_default-clause-uses g c = answered c.in_ok-distribution_name.ensures (λ own none. absurd none)
     (λ s inventory found is date files.
     let has = (found is).0 in
-    absurd (not_none s inventory c.seek_accepted.new.self c.in_ok-accepted.accepted has c.in-Ok.place.name
-    c.in-Ok.place.zone.now (c.in-Ok.ensures.has s has.session inventory) (sym c.in_default.ensures)))
+    absurd (not_none s inventory c.seek_accepted.new.self c.in_ok-distribution_name.distribution_name has
+    c.in-Ok.place.name c.in-Ok.place.zone.now (c.in-Ok.ensures.has s has.session inventory) (sym c.in_default.ensures)))
 
 pub returns-in_err-delta-clause-uses : goal.returns-in_err-delta-clause-uses
-returns-in_err-delta-clause-uses g c = ran_short c.from_residual-in_err-delta.ensures.1 c.in_ok-accepted.ensures
+returns-in_err-delta-clause-uses g c = ran_short c.from_residual-in_err-delta.ensures.1
+    c.in_ok-distribution_name.ensures
     (λ s inventory sought is date files. stopped g.S.Store c.seek_accepted.new.store s
     (Perform date files (Restore (restore_list_of c.args.list.now) c.args.check)) (sought is).1)
 
@@ -49,20 +53,22 @@ pub carry_out-requires-clause-knows : goal.carry_out-requires-clause-knows
 carry_out-requires-clause-knows g c = (c.in-Ok.place.zone.now, c.in_ok-delta.ensures.knows)
 
 pub returns-clause-uses : goal.returns-clause-uses
-returns-clause-uses g c = weaker (after c.in_ok-accepted.ensures c.carry_out.ensures.uses) (λ change own. own)
+returns-clause-uses g c = weaker (after c.in_ok-distribution_name.ensures c.carry_out.ensures.uses) (λ change own. own)
     (λ s inventory both is date files.
     let at = c.seek_accepted.new.self in
     let what = restore_list_of c.args.list.now in
     let command = Restore what c.args.check in
     let place = c.in-Ok.place in
-    let accepted = c.in-Some.accepted.now in
+    let accepted = c.in-Some.distribution.now in
     let p = c.in_ok-delta.field-0 in
     let sought = both.0 is in
     let there = c.in-Ok.ensures.has s sought.0.session inventory in
-    let related = sym (beside s inventory at c.in_ok-accepted.accepted sought.0 place.name place.zone.now there)
+    let related = sym (beside s inventory at c.in_ok-distribution_name.distribution_name sought.0 place.name
+    place.zone.now there)
     ∙ sym c.in-Some.ensures in
     let changes = restore_changes s at place.name place.zone.now accepted what p.delta (map line_view p.lines.items)
-    c.in_ok-delta.ensures.knows sought.0.session there related c.in_ok-delta.ensures.restores date files c.args.check at.boundary
+    c.in_ok-delta.ensures.knows sought.0.session there related c.in_ok-delta.ensures.restores date files c.args.check
+    at.boundary
     sought.0.session.boundary in
     performs_since g.S.Store c.args.store.now c.seek_accepted.new.store c.carry_out.new.store s
     c.seek_accepted.ensures.goes.follows _ date files command c.carry_out.result

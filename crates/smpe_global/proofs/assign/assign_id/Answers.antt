@@ -20,17 +20,17 @@ returns c =
     let o = sysmod_of c.assign.new.self x in
     let at : sysmod_of (assign g source x) x ≡ o = ap (λ n. sysmod_of n x) (sym is) in
     let written = assigned_written source g x c.attest.ensures in
-    let status = c.status_of.result in
+    let status = c.assign_status.result in
     record {
       own = source_edits o;
-      edits_are = c.in_ok-write_sources.ensures;
+      edits_are = c.in_ok-push_source_edit.ensures;
       lines = Status x c.place_of-place.result status ∷ [];
       lines_are = c.in_ok-push.ensures.items;
       prints = (
         is,
         ap (λ l. l ∷ [])
             (ap (λ p. StatusLine x p (status_view status)) c.place_of-place.ensures
-            ∙ ap (StatusLine x (place_of g x)) (c.status_of.ensures
+            ∙ ap (StatusLine x (place_of g x)) (c.assign_status.ensures
             ∙ ap (λ b. if b then Assigned source else Unknown) c.in_ok-received.ensures.received)),
       );
       receives = sources_receive o;

@@ -19,13 +19,13 @@ returns c =
     let answer = c.release-answer.result in
     let new = c.release-answer.new.self in
     let was = c.args.taken.now in
-    let is : Taken = record { edits = c.write_release.new.edits; lines = c.push.new.self } in
+    let is : Taken = record { edits = c.push_release_edit.new.edits; lines = c.push.new.self } in
     let done = release_taken g new r answer c.release-answer.ensures.ok c.release-answer.ensures.refused
     c.release-answer.ensures.err in
     subst (λ r. IsTaken (TakesHoldItem g (ARelease r)) g new was is) c.release.view_is
     (record {
       own = release_edits r.id r.kind r.reason answer;
-      edits_are = c.in_ok-write_release.ensures;
+      edits_are = c.in_ok-push_release_edit.ensures;
       lines = Status r.id (place.Hold r.kind) c.release_status.result ∷ [];
       lines_are = c.in_ok-push.ensures.items;
       prints = (

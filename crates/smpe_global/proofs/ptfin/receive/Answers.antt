@@ -13,7 +13,8 @@ returns-clause-runs c =
 pub returns-clause-receives : goal.returns-clause-receives
 returns-clause-receives c =
     let now = c.take_items.new in
-    all_receive (Runs (TakesItem c.args.source) c.args.global.now (items c.args.found.items)) c.args.global.now now.global
+    all_receive (Runs (TakesItem c.args.source) c.args.global.now (items c.args.found.items)) c.args.global.now
+    now.global
     c.new-taken.result now.taken c.in_ok-take_items.ensures c.new-taken.ensures.edits
 
 pub returns-clause-fits : goal.returns-clause-fits

@@ -23,7 +23,7 @@ appended (Ok x) new old more is = is
 appended (Err e) new old more is = tt
 
 abbrev line : In_ok-push → ReportLine
-line c = Status c.sysmod.inside.id (Kind c.sysmod.inside.kind) c.in_ok-status_of.field-0
+line c = Status c.sysmod.inside.id (Kind c.sysmod.inside.kind) c.in_ok-receive_status.field-0
 
 -- one more source does not change the line
 same_line : (o : Option Text) (s : Sysmod) (status : OutcomeStatus)
@@ -32,9 +32,9 @@ same_line None s status = refl
 same_line (Some source) s status = refl
 
 printed : (c : In_ok-push) → line_view (line c)
-    ≡ StatusLine c.args.sysmod.id (OfKind c.args.sysmod.kind) (status_view c.in_ok-status_of.field-0)
+    ≡ StatusLine c.args.sysmod.id (OfKind c.args.sysmod.kind) (status_view c.in_ok-receive_status.field-0)
 printed c =
-    let status = status_view c.in_ok-status_of.field-0 in
+    let status = status_view c.in_ok-receive_status.field-0 in
     ap (λ (r : Sysmod). StatusLine r.id (OfKind r.kind) status) (c.sysmod.view_is ∙ c.in_ok-sysmod.ensures)
     ∙ same_line c.args.source.now c.args.sysmod status
 
@@ -46,9 +46,10 @@ returns-in-Ok c =
     let g = c.args.global.now in
     let new = c.receive-answer.new.self in
     let sent = sourced c.args.source.now c.args.sysmod in
-    let status = status_view c.in_ok-status_of.field-0 in
+    let status = status_view c.in_ok-receive_status.field-0 in
     let told : Some Received ≡ Some status =
-    subst (λ r. option_map receive_status (answer_of new r) ≡ Some status) c.in-Ok.is (c.in_ok-status_of.ensures new) in
+    subst (λ r. option_map receive_status (answer_of new r) ≡ Some status) c.in-Ok.is (c.in_ok-receive_status.ensures
+    new) in
     let came : Receives g sent (Ok new) =
     subst (λ s. Receives g s (Ok new)) c.in_ok-sysmod.ensures
     (subst (λ r. OnOk r (Receives g c.in_ok-sysmod.sysmod (Ok new))) c.in-Ok.is c.receive-answer.ensures.ok) in
@@ -56,7 +57,8 @@ returns-in-Ok c =
     sysmod_taken c.args.source.now g new c.args.sysmod (line p) c.args.taken.now now c.in_ok-push.ensures.items own
     (subst (λ s. AreEditsOf s own) c.in_ok-sysmod.ensures c.in_ok-edits.ensures) written
     (subst IsSysmod (c.sysmod.view_is ∙ c.in_ok-sysmod.ensures) c.sysmod.invariant)
-    (printed p ∙ ap (StatusLine c.args.sysmod.id (OfKind c.args.sysmod.kind)) (sym (same_Some Received status told))) came)
+    (printed p ∙ ap (StatusLine c.args.sysmod.id (OfKind c.args.sysmod.kind)) (sym (same_Some Received status told)))
+    came)
     (appended c.append.result c.append.new.self.items c.args.taken.now.edits.items own c.append.ensures.items)
 
 pub returns : goal.returns
@@ -67,9 +69,10 @@ returns c =
     let new = c.receive-answer.new.self in
     let sent = sourced c.args.source.now c.args.sysmod in
     let e = c.in-Err.field-0 in
-    let status = status_view c.in_ok-status_of.field-0 in
+    let status = status_view c.in_ok-receive_status.field-0 in
     let told : option_map receive_status (answer_of new (Err e)) ≡ Some status =
-    subst (λ r. option_map receive_status (answer_of new r) ≡ Some status) c.in-Err.is (c.in_ok-status_of.ensures new) in
+    subst (λ r. option_map receive_status (answer_of new r) ≡ Some status) c.in-Err.is (c.in_ok-receive_status.ensures
+    new) in
     let why : IsRefused g sent e =
     subst (λ s. IsRefused g s e) c.in_ok-sysmod.ensures
     (subst (λ r. IfErr r (IsRefused g c.in_ok-sysmod.sysmod)) c.in-Err.is c.receive-answer.ensures.refused) in

@@ -11,12 +11,12 @@ loop-id-preserved c =
     let g = c.args.global.now in
     let all = c.as_slice-all.result.now in
     let x = c.id-item.result in
-    let new = c.reject_one.new in
+    let new = c.reject_id.new in
     subst (λ ids. AreRejected zones g ids new.global new.rejected.edits.items new.rejected.lines.items)
     (ap (λ y. take at.id-index all ++ y ∷ []) c.id-item.is ∙ sym (take_more all at.id-index x c.loop-id-test.true))
     (more_rejected zones g at.global new.global (take at.id-index all) x at.rejected.edits.items
     new.rejected.edits.items at.rejected.lines.items new.rejected.lines.items at.invariant
-    c.in_ok-reject_one.ensures)
+    c.in_ok-reject_id.ensures)
 
 pub returns-clause-fits : goal.returns-clause-fits
 returns-clause-fits c stated =

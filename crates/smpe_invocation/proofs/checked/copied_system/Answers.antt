@@ -1,25 +1,21 @@
-use Rattle.std.proofs.lemmas.Result.{err_from_is_err_and}
 use Rattle.clap.specs.Words.{found_of, rows_of}
-use Rattle.smpe_invocation.proofs.Excluding.{excludes_more, copied_in}
+use Rattle.smpe_invocation.proofs.Excluding.{handed_on, copied_in}
 use Rattle.smpe_invocation.proofs.checked.copied_system.Goals as goal
 
 pub returns-in_err-zone-clause-err : goal.returns-in_err-zone-clause-err
 returns-in_err-zone-clause-err c =
-    let p = err_from_is_err_and c.from_residual.result c.from_residual.ensures.1 in
-    rw (p.1, p.2) (excludes_more c.in_err-zone.field-0.0 _ _
+    handed_on _ _ _ _ c.from_residual.ensures.1
     (λ has. let h = copied_in (rows_of (found_of c.args.found.now)) c.requires has in (h.0.zone, h.1.1))
-    c.in_err-zone.ensures.err)
+    c.in_err-zone.ensures.err
 
 pub returns-in_err-ids-clause-err : goal.returns-in_err-ids-clause-err
 returns-in_err-ids-clause-err c =
-    let p = err_from_is_err_and c.from_residual-in_err-ids.result c.from_residual-in_err-ids.ensures.1 in
-    rw (p.1, p.2) (excludes_more c.in_err-ids.field-0.0 _ _
+    handed_on _ _ _ _ c.from_residual-in_err-ids.ensures.1
     (λ has. let h = copied_in (rows_of (found_of c.args.found.now)) c.requires has in (h.0.ids.items, h.1.2))
-    c.in_err-ids.ensures.err)
+    c.in_err-ids.ensures.err
 
 pub returns-in_err-db-clause-err : goal.returns-in_err-db-clause-err
 returns-in_err-db-clause-err c =
-    let p = err_from_is_err_and c.from_residual-in_err-db.result c.from_residual-in_err-db.ensures.1 in
-    rw (p.1, p.2) (excludes_more c.in_err-db.field-0.0 _ _
+    handed_on _ _ _ _ c.from_residual-in_err-db.ensures.1
     (λ has. let h = copied_in (rows_of (found_of c.args.found.now)) c.requires has in (h.0.db, h.1.0))
-    c.in_err-db.ensures.err)
+    c.in_err-db.ensures.err

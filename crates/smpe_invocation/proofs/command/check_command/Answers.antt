@@ -4,13 +4,21 @@ use Rattle.smpe_invocation.proofs.command.check_command.Goals as goal
 
 pub returns : goal.returns
 returns c =
-    let at1 = one_more _ _ _ _ _ _ c.command.ensures c.in_ok-arg.ensures c.optional.ensures.rule c.optional.ensures.global in
-    let at2 = one_more _ _ _ _ _ _ at1 c.in_ok-arg-2.ensures c.optional-2.ensures.rule c.optional-2.ensures.global in
-    let at3 = one_more _ _ _ _ _ _ at2 c.in_ok-arg-3.ensures c.wait.ensures.rule c.wait.ensures.global in
-    let at4 = one_more _ _ _ _ _ _ at3 c.in_ok-arg-4.ensures c.optional-3.ensures.rule c.optional-3.ensures.global in
-    let at5 = one_more _ _ _ _ _ _ at4 c.in_ok-arg-5.ensures c.several.ensures.rule c.several.ensures.global in
-    let at6 = one_more _ _ _ _ _ _ at5 c.in_ok-arg-6.ensures c.required.ensures.rule c.required.ensures.global in
-    let at7 = one_more _ _ _ _ _ _ at6 c.in_ok-arg-7.ensures c.optional-4.ensures.rule c.optional-4.ensures.global in
-    let at8 = one_more _ _ _ _ _ _ at7 c.in_ok-arg-8.ensures c.optional-5.ensures.rule c.optional-5.ensures.global in
+    let at1 = one_more _ _ _ _ _ _ c.new_command.ensures c.in_ok-arg.ensures
+    c.optional_arg.ensures.rule c.optional_arg.ensures.global in
+    let at2 = one_more _ _ _ _ _ _ at1 c.in_ok-arg-2.ensures
+    c.optional_arg-2.ensures.rule c.optional_arg-2.ensures.global in
+    let at3 = one_more _ _ _ _ _ _ at2 c.in_ok-arg-3.ensures c.wait_arg.ensures.rule c.wait_arg.ensures.global in
+    let at4 = one_more _ _ _ _ _ _ at3 c.in_ok-arg-4.ensures
+    c.optional_arg-3.ensures.rule c.optional_arg-3.ensures.global in
+    let at5 = one_more _ _ _ _ _ _ at4 c.in_ok-arg-5.ensures
+    c.optional_repeated_arg.ensures.rule c.optional_repeated_arg.ensures.global in
+    let at6 = one_more _ _ _ _ _ _ at5 c.in_ok-arg-6.ensures
+    c.required_arg.ensures.rule c.required_arg.ensures.global in
+    let at7 = one_more _ _ _ _ _ _ at6 c.in_ok-arg-7.ensures
+    c.optional_arg-4.ensures.rule c.optional_arg-4.ensures.global in
+    let at8 = one_more _ _ _ _ _ _ at7 c.in_ok-arg-8.ensures
+    c.optional_arg-5.ensures.rule c.optional_arg-5.ensures.global in
     IfOk-weaker c.arg-9.result _ _
-    (λ new added. one_more _ _ _ _ _ _ at8 added c.optional-6.ensures.rule c.optional-6.ensures.global) c.arg-9.ensures
+    (λ new added. one_more _ _ _ _ _ _ at8 added c.optional_arg-6.ensures.rule c.optional_arg-6.ensures.global)
+    c.arg-9.ensures

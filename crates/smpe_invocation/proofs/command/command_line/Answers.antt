@@ -31,7 +31,7 @@ returns c =
         subcommand_required = true;
         disable_help_subcommand = true;
       };
-    }) c.command.ensures.0 in
+    }) c.new_command.ensures.0 in
     let zone = c.in_ok-zone_command.ensures in
     let first = c.in_ok-subcommand.ensures.shape zone.2.1 ∙ ap₂ with_subcommand start (shape_is _ _ zone.2) in
     let run = c.in_ok-run_command.ensures in

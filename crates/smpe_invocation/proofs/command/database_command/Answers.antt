@@ -4,5 +4,8 @@ use Rattle.smpe_invocation.proofs.command.database_command.Goals as goal
 
 pub returns : goal.returns
 returns c =
-    let at1 = one_more _ _ _ _ _ _ c.command.ensures c.in_ok-arg.ensures c.required.ensures.rule c.required.ensures.global in
-    IfOk-weaker c.arg-2.result _ _ (λ new added. one_more _ _ _ _ _ _ at1 added c.wait.ensures.rule c.wait.ensures.global) c.arg-2.ensures
+    let at1 = one_more _ _ _ _ _ _ c.new_command.ensures c.in_ok-arg.ensures
+    c.required_arg.ensures.rule c.required_arg.ensures.global in
+    IfOk-weaker c.arg-2.result _ _
+    (λ new added. one_more _ _ _ _ _ _ at1 added c.wait_arg.ensures.rule c.wait_arg.ensures.global)
+    c.arg-2.ensures

@@ -4,8 +4,14 @@ use Rattle.smpe_invocation.proofs.command.run_command.Goals as goal
 
 pub returns : goal.returns
 returns c =
-    let at1 = one_more _ _ _ _ _ _ c.in_ok-database_command.ensures c.in_ok-arg.ensures c.required.ensures.rule c.required.ensures.global in
-    let at2 = one_more _ _ _ _ _ _ at1 c.in_ok-arg-2.ensures c.required-2.ensures.rule c.required-2.ensures.global in
-    let at3 = one_more _ _ _ _ _ _ at2 c.in_ok-arg-3.ensures c.optional.ensures.rule c.optional.ensures.global in
-    let at4 = one_more _ _ _ _ _ _ at3 c.in_ok-arg-4.ensures c.optional-2.ensures.rule c.optional-2.ensures.global in
-    IfOk-weaker c.arg-5.result _ _ (λ new added. one_more _ _ _ _ _ _ at4 added c.flag.ensures.rule c.flag.ensures.global) c.arg-5.ensures
+    let at1 = one_more _ _ _ _ _ _ c.in_ok-database_command.ensures c.in_ok-arg.ensures
+    c.required_arg.ensures.rule c.required_arg.ensures.global in
+    let at2 = one_more _ _ _ _ _ _ at1 c.in_ok-arg-2.ensures
+    c.required_arg-2.ensures.rule c.required_arg-2.ensures.global in
+    let at3 = one_more _ _ _ _ _ _ at2 c.in_ok-arg-3.ensures
+    c.optional_arg.ensures.rule c.optional_arg.ensures.global in
+    let at4 = one_more _ _ _ _ _ _ at3 c.in_ok-arg-4.ensures
+    c.optional_arg-2.ensures.rule c.optional_arg-2.ensures.global in
+    IfOk-weaker c.arg-5.result _ _
+    (λ new added. one_more _ _ _ _ _ _ at4 added c.flag_arg.ensures.rule c.flag_arg.ensures.global)
+    c.arg-5.ensures

@@ -4,7 +4,15 @@ use Rattle.smpe_invocation.proofs.command.zone_command.Goals as goal
 
 pub returns : goal.returns
 returns c =
-    let at1 = one_more _ _ _ _ _ _ c.in_ok-database_command.ensures c.in_ok-arg.ensures c.required.ensures.rule c.required.ensures.global in
-    let at2 = one_more _ _ _ _ _ _ at1 c.in_ok-arg-2.ensures c.kind.ensures.rule.2 c.kind.ensures.global in
-    let at3 = one_more _ _ _ _ _ _ at2 c.in_ok-arg-3.ensures c.required-2.ensures.rule c.required-2.ensures.global in
-    IfOk-weaker c.arg-4.result _ _ (λ new added. (c.kind.ensures.rule.0, c.kind.ensures.rule.1, one_more _ _ _ _ _ _ at3 added c.optional.ensures.rule c.optional.ensures.global)) c.arg-4.ensures
+    let at1 = one_more _ _ _ _ _ _ c.in_ok-database_command.ensures c.in_ok-arg.ensures
+    c.required_arg.ensures.rule c.required_arg.ensures.global in
+    let at2 = one_more _ _ _ _ _ _ at1 c.in_ok-arg-2.ensures c.kind_arg.ensures.rule.2 c.kind_arg.ensures.global in
+    let at3 = one_more _ _ _ _ _ _ at2 c.in_ok-arg-3.ensures
+    c.required_arg-2.ensures.rule c.required_arg-2.ensures.global in
+    IfOk-weaker c.arg-4.result _ _
+    (λ new added. (
+      c.kind_arg.ensures.rule.0,
+      c.kind_arg.ensures.rule.1,
+      one_more _ _ _ _ _ _ at3 added c.optional_arg.ensures.rule c.optional_arg.ensures.global,
+    ))
+    c.arg-4.ensures

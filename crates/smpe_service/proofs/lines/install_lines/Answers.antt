@@ -8,8 +8,8 @@ use Rattle.smpe_service.proofs.lines.install_lines.Goals as goal
 pub returns : goal.returns
 returns c =
     let failed = map why_failed c.args.decided.failed.items in
-    subst (λ all. IfOk c.lines.result (λ lines. AreById c.args.global.now all (map line_view lines.items)))
+    subst (λ all. IfOk c.lines_by_id.result (λ lines. AreById c.args.global.now all (map line_view lines.items)))
     (c.in_ok-found.ensures
     ∙ ap (λ kept. all_statuses c.args.kind c.args.effective.now kept failed c.args.left_out.now)
     c.as_slice.ensures.items)
-    c.lines.ensures
+    c.lines_by_id.ensures

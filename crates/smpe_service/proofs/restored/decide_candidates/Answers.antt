@@ -2,8 +2,9 @@ use Rattle.std.proofs.Common.{◌≡◌, List, All, IsTrue, subst, sym}
 use Rattle.std.proofs.lemmas.List.Elements.{filter_passes}
 use Rattle.std.proofs.lemmas.Result.{IfOk-weaker}
 use Rattle.terms.specs.Types.{Id}
-use Rattle.terms.specs.Lookups.{is_applied}
-use Rattle.terms.specs.Restore.{restore_candidates}
+use Rattle.terms.specs.Lookups.{is_applied, is_in}
+use Rattle.terms.specs.Needs.{Serves}
+use Rattle.terms.specs.Restore.{FailsRestore, MayBeRestored, NeedsInRestore, restore_candidates}
 use Rattle.judge_system.proofs.Judging.{has_parts, decided_of}
 use Rattle.undo.specs.Scopes.{restoring_from}
 use Rattle.smpe_service.specs.RestoreDecided.{IsRestoreDecided}
@@ -24,6 +25,7 @@ returns c =
     let cands = c.args.candidates.now.ids in
     IfOk-weaker c.decide.result _ (λ d. (list : List Id) → cands ≡ restore_candidates r list
     → IsRestoreDecided r list cands d.kept d.failed.items)
-    (λ d solved list same. decided_of _ _ _ _ cands c.in_ok-judged.judged (c.in_ok-judged.ensures list same)
+    (λ d solved list same. decided_of (FailsRestore r) (MayBeRestored r list) (NeedsInRestore r (is_in list))
+    (Serves r.choice) cands c.in_ok-judged.judged (c.in_ok-judged.ensures list same)
     solved.flags solved.are_kept d.kept d.failed.items solved.decided)
     c.decide.ensures

@@ -10,4 +10,4 @@ returns c = λ x.
     c.loop-id.invariant
     ∙ ap₂ (λ xs ps. xs ++ map (λ p. p.0) ps) (c.in_ok-ids.ensures.items ∙ c.as_slice.ensures.items)
     (take_all c.loop-id.id-index items (omega arith) ∙ c.as_slice-id-items.ensures.value) in
-    subst (λ l. Contains c.from_vec.result x ↔ Contains l x) all (c.from_vec.ensures x)
+    subst (λ l. Contains c.from_vec.result x ↔ Contains l x) all (c.from_vec.ensures.members x)

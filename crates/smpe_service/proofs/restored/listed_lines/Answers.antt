@@ -10,8 +10,8 @@ use Rattle.report.specs.Views.{line_view}
 use Rattle.smpe_service.specs.Lines.{line_in, AreListedLines}
 use Rattle.smpe_service.proofs.restored.listed_lines.Goals as goal
 
-pub lines_of-requires : goal.lines_of-requires
-lines_of-requires c =
+pub restore_lines-requires : goal.restore_lines-requires
+restore_lines-requires c =
     subst (Rises (slice_cmp nat_cmp) (λ (f : Id × Failure). f.0)) (sym c.as_slice-2.ensures.value) c.requires
 
 pub returns : goal.returns
@@ -21,7 +21,7 @@ returns c =
     let kept = c.args.decided.now.kept in
     let failed = c.args.decided.now.failed.items in
     let ids = c.as_slice.result.now in
-    IfOk-weaker c.lines_of.result _ (λ lines. AreListedLines g candidates kept failed (map line_view lines.items))
+    IfOk-weaker c.restore_lines.result _ (λ lines. AreListedLines g candidates kept failed (map line_view lines.items))
     (λ lines are. record {
       ids = ids;
       rising = c.as_slice.ensures.rising;
@@ -29,4 +29,4 @@ returns c =
           ↔ Contains (candidates.ids ++ map (λ p. p.0) candidates.left_out.items) x)
           (sym c.as_slice.ensures.items) (c.in_ok-ids.ensures x);
       lines_are = are ∙ ap (λ fs. map (line_in g kept fs) ids) c.as_slice-2.ensures.value;
-    }) c.lines_of.ensures
+    }) c.restore_lines.ensures

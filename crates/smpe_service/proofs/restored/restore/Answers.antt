@@ -3,7 +3,7 @@ use Rattle.report.specs.Views.{line_view}
 use Rattle.undo.specs.Scopes.{restoring_from}
 use Rattle.smpe_service.specs.Lines.{line_in}
 use Rattle.smpe_service.proofs.Listed.{listed_are}
-use Rattle.smpe_service.proofs.RestoredStatuses.{failed_rises, restore_lines}
+use Rattle.smpe_service.proofs.RestoredStatuses.{failed_rises, kept_restored, restore_lines}
 use Rattle.smpe_service.proofs.restored.restore.Goals as goal
 
 pub decide_candidates-requires : goal.decide_candidates-requires
@@ -38,7 +38,7 @@ returns-clause-restores c = λ new changed.
       listed = has.are_listed;
       kept = kept;
       rising = decided.rising;
-      members = decided.members;
+      members = kept_restored r has.listed cands has.ids kept failed decided;
       restores = c.in_ok-delta.ensures.restores r
           (record { global = refl; zone_is = refl; accepted_is = refl }) new changed;
       status = lines.status;

@@ -8,14 +8,14 @@ pub returns-clause-none : goal.returns-clause-none
 returns-clause-none c =
     let g = c.args.global.now in
     let zone = c.args.zone.now in
-    IfOk-weaker c.breach_of.result _ _
-    (λ breach is. none_if_closed g (counting g zone []) zone c.known_texts.ensures breach is)
-    c.breach_of.ensures
+    IfOk-weaker c.find_breach.result _ _
+    (λ breach is. none_if_closed g (counting g zone []) zone c.attest_texts.ensures breach is)
+    c.find_breach.ensures
 
 pub returns-clause-some : goal.returns-clause-some
 returns-clause-some c =
     let g = c.args.global.now in
     let zone = c.args.zone.now in
-    IfOk-weaker c.breach_of.result _ _
-    (λ breach is. some_breaks g (counting g zone []) zone c.known_texts.ensures breach is)
-    c.breach_of.ensures
+    IfOk-weaker c.find_breach.result _ _
+    (λ breach is. some_breaks g (counting g zone []) zone c.attest_texts.ensures breach is)
+    c.find_breach.ensures

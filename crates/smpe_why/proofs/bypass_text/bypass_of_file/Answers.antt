@@ -7,7 +7,7 @@ use Rattle.smpe_why.proofs.bypass_text.bypass_of_file.Goals as goal
 
 pub returns-in-Ok-clause-none : goal.returns-in-Ok-clause-none
 returns-in-Ok-clause-none c =
-    none_then c.bypass_of_all.result c.bypass_of_all.ensures.none (λ none i file.
+    none_then c.bypass_of_commands.result c.bypass_of_commands.ensures.none (λ none i file.
     none i (file_only c.args.file.now (map command_of c.in-Ok.commands.items) (Accept i ∷ [])
     c.in-Ok.ensures.commands file))
 

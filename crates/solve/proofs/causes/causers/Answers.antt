@@ -5,10 +5,10 @@ use Rattle.solve.specs.Marks.{AreLeads}
 use Rattle.solve.proofs.Leads.{leads_small}
 use Rattle.solve.proofs.CauserRows.{causers_add, causers_skip, causers_all, has_causer}
 use Rattle.solve.proofs.causes.causers.Goals as goal
-use Rattle.solve.proofs.causes.causers.Goals.{then-is_root+in_ok-list+in_ok-add_under, else-is_root}
+use Rattle.solve.proofs.causes.causers.Goals.{then-is_root+in_ok-list+in_ok-add_to_rows, else-is_root}
 
-pub reaching-requires-clause-rows : goal.reaching-requires-clause-rows
-reaching-requires-clause-rows c =
+pub search_backwards-requires-clause-rows : goal.search_backwards-requires-clause-rows
+search_backwards-requires-clause-rows c =
     rw (c.deref-then-is_root.ensures.value) (leads_small c.args.s.now c.args.kept.now c.in_ok-leads.leads.items
     (rw c.flags-flags.ensures at c.in_ok-leads.ensures))
 
@@ -21,21 +21,21 @@ loop-y-preserved c =
     let leads : AreLeads p kept c.in_ok-leads.leads.items = rw c.flags-flags.ensures at c.in_ok-leads.ensures in
     let root_iff = rw c.flags-flags.ensures at c.is_root.ensures in
     elim c.if-is_root.branch [
-      | then-is_root+in_ok-list+in_ok-add_under w ↦
+      | then-is_root+in_ok-list+in_ok-add_to_rows w ↦
           let list = w.in_ok-list.list.items in
-          let new = w.add_under.new.rows in
-          let cleared = w.reaching.new.marks in
+          let new = w.add_to_rows.new.rows in
+          let cleared = w.search_backwards.new.marks in
           let whole_rows : take c.loop-y.rows.len (new ++ drop (length new) rows) ≡ new = grind (arith, common_steps) in
           let whole_marks : take c.loop-y.marks.len (cleared ++ drop (length cleared) marks) ≡ cleared =
           grind (arith, common_steps) in
           let added = rw (w.deref_mut-then-is_root.ensures.value, w.deref-then-is_root-2.ensures.value) at
-          w.in_ok-add_under.ensures in
+          w.in_ok-add_to_rows.ensures in
           let reached = rw w.deref-then-is_root.ensures.value at w.in_ok-list.ensures.exact in
           rw (w.rows-is, w.marks-is, whole_rows, whole_marks) (record {
             rows = causers_add p kept rows new list c.loop-y.y (root_iff.0 w.if-is_root.true)
-                (omega (arith, w.add_under.auto.rows, w.deref_mut-then-is_root.ensures.len))
+                (omega (arith, w.add_to_rows.auto.rows, w.deref_mut-then-is_root.ensures.len))
                 w.in_ok-list.ensures.once (reached p kept leads) added c.loop-y.invariant.rows;
-            size = omega (arith, w.reaching.auto.marks, w.deref_mut.ensures.len, c.loop-y.invariant.size);
+            size = omega (arith, w.search_backwards.auto.marks, w.deref_mut.ensures.len, c.loop-y.invariant.size);
             clear = w.in_ok-list.ensures.clear;
           })
       | else-is_root w ↦ rw (w.rows-is, w.marks-is) (record {

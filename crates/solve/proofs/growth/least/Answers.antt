@@ -11,8 +11,8 @@ returns c =
     let out = c.in_ok-out.out in
     let least : IsLeast (growth_of outside) (map not out) = least_from_kept outside out c.rules.invariant
     c.in_ok-out.ensures in
-    IfOk-weaker c.turned.result (λ turned. turned.items ≡ map not c.flags.result.now)
+    IfOk-weaker c.negate_flags.result (λ turned. turned.items ≡ map not c.flags.result.now)
     (λ set. IsLeast c.args.rules.now set.items)
     (λ set turned. rw (← c.rules.view_is) (subst (IsLeast (growth_of outside))
     (sym (turned ∙ ap (map not) c.flags.ensures)) least))
-    c.turned.ensures
+    c.negate_flags.ensures

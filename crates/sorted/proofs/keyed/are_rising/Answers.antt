@@ -7,14 +7,14 @@ use Rattle.terms.specs.Rising.{Rises}
 use Rattle.terms.proofs.RisingLists.{AllPairs_last}
 use Rattle.sorted.proofs.keyed.are_rising.Goals as goal
 
-pub returns-then-not-stands_last : goal.returns-then-not-stands_last
-returns-then-not-stands_last g c =
+pub returns-then-not-comes_after_all : goal.returns-then-not-comes_after_all
+returns-then-not-comes_after_all g c =
     let xs = c.args.items.now in
     let i = c.loop-i.i in
     let cmp = g.T.Key.Ord.cmp in
     let key = g.T.Keyed.key_of in
     let here : i < length xs = omega (arith, c.loop-i-test.true) in
-    let no : c.stands_last.result ≡ false = c.if-not-stands_last.true in (
+    let no : c.comes_after_all.result ≡ false = c.if-not-comes_after_all.true in (
       λ yes. absurd cc,
       λ rises.
           let low : All (λ x. IsTrue (is_lt (cmp (key x) c.key.result))) (take i xs) = λ k d within.
@@ -25,7 +25,7 @@ returns-then-not-stands_last g c =
           ap (λ a. is_lt (cmp (key a) c.key.result)) at
           ∙ ap (λ k2. is_lt (cmp (key (get_or xs k d)) k2)) (c.key.ensures ∙ ap key (sym last))
           ∙ rises k i d (omega (arith, within, short)) here in
-          let yes : c.stands_last.result ≡ true = c.stands_last.ensures.1 low in
+          let yes : c.comes_after_all.result ≡ true = c.comes_after_all.ensures.1 low in
           absurd cc,
     )
 
@@ -37,7 +37,7 @@ loop-i-preserved g c =
     let cmp = g.T.Key.Ord.cmp in
     let key = g.T.Keyed.key_of in
     let low : All (λ y. is_lt (cmp (key y) (key x)) ≡ true) (take i xs) =
-    rw c.key.ensures at (c.stands_last.ensures.0 c.if-not-stands_last.false) in
+    rw c.key.ensures at (c.comes_after_all.ensures.0 c.if-not-comes_after_all.false) in
     let more : take (i + 1) xs ≡ take i xs ++ x ∷ [] = take_more xs i x (omega (arith, c.loop-i-test.true))
     ∙ ap (λ y. take i xs ++ y ∷ []) (sym c.index-items-i.is) in
     rw more (AllPairs_last g.met.T.Key.Ord.total key (take i xs) x c.loop-i.invariant low)

@@ -18,7 +18,7 @@ returns g c =
     let was = c.get_mut.follows.lender-at-none in
     let same : was ≡ c.args.lists.now = search rules in
     subst (λ m. Adds cmp c.args.key c.args.value m c.insert.new.self) same
-    (adds_update cmp g.met.K.Ord.total was c.insert.new.self c.args.key c.args.value c.in_ok-only.field-0
+    (adds_update cmp g.met.K.Ord.total was c.insert.new.self c.args.key c.args.value c.in_ok-list_of_one.field-0
     c.in_ok-insert.ensures.updates
-    (c.in_ok-only.ensures ∙ ap (λ l. l ++ c.args.value ∷ []) (sym (listed_none cmp was c.args.key
+    (c.in_ok-list_of_one.ensures ∙ ap (λ l. l ++ c.args.value ∷ []) (sym (listed_none cmp was c.args.key
     (ap (λ m. get cmp m c.args.key) same ∙ search rules)))))

@@ -8,14 +8,14 @@ pub loop-head-preserved : goal.loop-head-preserved
 loop-head-preserved g c =
     let old = c.args.tx.now.conn.now in
     let mid = c.loop-head.tx.conn.now in
-    let new = c.move_head.new.tx.conn.now in
+    let new = c.move_sources_of.new.tx.conn.now in
     record {
-      continues = continues_then g.S.Store c.args.tx.now c.loop-head.tx c.move_head.new.tx
+      continues = continues_then g.S.Store c.args.tx.now c.loop-head.tx c.move_sources_of.new.tx
           c.loop-head.invariant.continues
-          c.move_head.ensures.continues;
+          c.move_sources_of.ensures.continues;
       edited = edited_more g.S.Store (with_moved) c.args.heads.now c.loop-head.head-index c.head-item.result old mid new
-          (omega arith) c.head-item.is c.move_head.ensures.continues.inside c.loop-head.invariant.edited
-          c.in_ok-move_head.ensures.ok;
+          (omega arith) c.head-item.is c.move_sources_of.ensures.continues.inside c.loop-head.invariant.edited
+          c.in_ok-move_sources_of.ensures.ok;
     }
 
 pub returns-clause-ok : goal.returns-clause-ok

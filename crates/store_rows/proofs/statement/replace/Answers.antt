@@ -6,6 +6,8 @@ use Rattle.store_rows.proofs.statement.replace.Goals as goal
 
 pub returns-clause-ok : goal.returns-clause-ok
 returns-clause-ok g c =
-    on_ok c.run.result _ _ (λ ran schema at table width text kept clean contents was.
-    put_in_place schema at table width c.args.sql.now (bound c.args.columns.now) (state g.S.Store c.args.tx.now.conn.now)
-    (state g.S.Store c.run.new.tx.conn.now) (ran clean).0 contents text kept was (ran clean).1) c.run.ensures.ran
+    on_ok c.run_statement.result _ _ (λ ran schema at table width text kept clean contents was.
+    put_in_place schema at table width c.args.sql.now (bound c.args.columns.now) (state g.S.Store
+    c.args.tx.now.conn.now)
+    (state g.S.Store c.run_statement.new.tx.conn.now) (ran clean).0 contents text kept was (ran clean).1)
+    c.run_statement.ensures.ran

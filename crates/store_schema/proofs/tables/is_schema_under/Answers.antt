@@ -7,7 +7,8 @@ use Rattle.store_schema.proofs.tables.is_schema_under.Goals as goal
 
 pub returns : goal.returns
 returns c =
-    let made = c.in_ok-create_under.ensures.made (memory_is_clean c.create_under.new.conn) c.in_ok-conn.ensures.empty.2
+    let made = c.in_ok-create_schema.ensures.made (memory_is_clean c.create_schema.new.conn)
+    c.in_ok-conn.ensures.empty.2
     in
     let is : c.schema.result.now ≡ schema_under c.args.schema = c.schema.ensures.value ∙ made.schema_is in (
       λ same. c.same_schema.ensures.same same ∙ is,

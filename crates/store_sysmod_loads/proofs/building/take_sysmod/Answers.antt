@@ -14,4 +14,4 @@ returns-clause-none c bad other vs is es h =
     let changes = c.in_ok-changes.ensures.only other.changes es h.elems_are in
     let same : other ≡ sysmod_from c.args.head c.in_ok-found.found.items c.in_ok-changes.changes.items =
     h.same ∙ ap₂ (sysmod_from c.args.head) vers.0 changes.0 in
-    c.built.ensures.none bad (subst IsBuilt same h.built)
+    c.build_sysmod.ensures.none bad (subst IsBuilt same h.built)

@@ -10,7 +10,7 @@ loop-row-preserved c =
     let x = c.args.id in
     let changes = c.loop-row.changes.items in
     let row = c.in-Some.row in
-    let new = c.pop_of.new.rows.items in
+    let new = c.pop_row_of.new.rows.items in
     let grown : c.push.new.self.items ≡ c.loop-row.changes.items ++ c.in-Some.row.change ∷ [] =
     c.in_ok-push.ensures.items in
     record {

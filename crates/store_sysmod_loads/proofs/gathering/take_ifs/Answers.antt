@@ -17,7 +17,7 @@ returns-then-row-len-clause-none c bad others rest h =
     let there = subst (λ (rows : List IfRow). HasIfs c.args.id c.args.srel c.args.place n rows it.0 rest)
     c.in-Some.ensures.some.0
     it.2 in
-    let step = ifs_step c.args.id c.args.srel c.args.place n c.in-Some.row c.pop_of.new.rows.items it.0 rest
+    let step = ifs_step c.args.id c.args.srel c.args.place n c.in-Some.row c.pop_row_of.new.rows.items it.0 rest
     c.in-Some.ensures.some.1
     there in
     let number : c.in-Some.row.number ≡ length c.loop-row.ifs.items + 1 = step.2 in
@@ -30,7 +30,7 @@ loop-row-preserved c =
     let place = c.args.place in
     let ifs = c.loop-row.ifs.items in
     let row = c.in-Some.row in
-    let new = c.pop_of.new.rows.items in
+    let new = c.pop_row_of.new.rows.items in
     let grown : c.push.new.self.items ≡ c.loop-row.ifs.items ++ c.in-Some.row.ifreq ∷ [] = grind (arith, common_steps)
     in
     let number : c.in-Some.row.number ≡ length c.loop-row.ifs.items + 1 = grind (arith, common_steps) in

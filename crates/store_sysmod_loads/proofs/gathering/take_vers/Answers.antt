@@ -15,7 +15,7 @@ returns-then-not-comes_next-clause-none c bad others rest more small h =
     let it = c.loop-row.invariant.only others rest more h in
     let there = subst (λ (rows : List VerRow). HasVersBehind vers c.args.id rows c.loop-row.ifs.items it.0 rest more)
     c.in-Some.ensures.some.0 it.2 in
-    let step = vers_step vers c.args.id c.in-Some.row c.pop_of.new.rows.items c.loop-row.ifs.items it.0 rest more
+    let step = vers_step vers c.args.id c.in-Some.row c.pop_row_of.new.rows.items c.loop-row.ifs.items it.0 rest more
     c.in-Some.ensures.some.1 there in
     let all = ap length it.1 ∙ length-append vers it.0 in
     let one = ap length step.3 in
@@ -29,16 +29,17 @@ returns-in_err-ver-clause-none c bad others rest more small h =
     let (own, same, has) = c.loop-row.invariant.only others rest more h in
     let there = subst (λ (rows : List VerRow). HasVersBehind c.loop-row.vers.items c.args.id rows c.loop-row.ifs.items
     own rest more) c.in-Some.ensures.some.0 has in
-    let step = vers_step c.loop-row.vers.items c.args.id c.in-Some.row c.pop_of.new.rows.items c.loop-row.ifs.items own
+    let step = vers_step c.loop-row.vers.items c.args.id c.in-Some.row c.pop_row_of.new.rows.items c.loop-row.ifs.items
+    own
     rest more c.in-Some.ensures.some.1 there in
-    c.filled.ensures.none (search rules) step.0 step.1 step.5
+    c.fill_ver.ensures.none (search rules) step.0 step.1 step.5
 
 pub loop-row-preserved : goal.loop-row-preserved
 loop-row-preserved c =
     let x = c.args.id in
     let vers = c.loop-row.vers.items in
     let row = c.in-Some.row in
-    let new = c.pop_of.new.rows.items in
+    let new = c.pop_row_of.new.rows.items in
     let found = c.in_ok-ver.ver.ifs in
     let ver : Ver = record row.ver { ifs = found } in
     let pushed : c.push.new.self.items ≡ c.loop-row.vers.items ++ c.in_ok-ver.ver ∷ [] = grind (arith, common_steps) in
@@ -46,7 +47,7 @@ loop-row-preserved c =
     let bare = subst AreBare c.in-Some.ensures.some.0 c.loop-row.invariant.bare in
     let next = rw c.as_slice.ensures.value at (c.comes_next.ensures.0 c.if-not-comes_next.false) in
     let number : row.number ≡ number_behind vers row.ver = next.1 in
-    let taken = subst (λ n. HasIfs x row.ver.srel n 1 c.loop-row.ifs.items found c.filled.new.ifs.items) number
+    let taken = subst (λ n. HasIfs x row.ver.srel n 1 c.loop-row.ifs.items found c.fill_ver.new.ifs.items) number
     c.in_ok-ver.ensures.taken in
     record {
       bare = bare.1;
@@ -56,9 +57,9 @@ loop-row-preserved c =
       told = subst (λ vs. c.args.rows.now.items ≡ ver_rows x (numbered_behind [] vs) ++ new) (sym grown)
           (vers_told x c.args.rows.now.items vers row c.loop-row.rows.items new found c.loop-row.invariant.told
           c.in-Some.ensures.some.0 c.in-Some.ensures.some.1 number bare.0);
-      told_ifs = subst (λ vs. HasAllIfs x c.args.ifs.now.items (numbered_behind [] vs) c.filled.new.ifs.items)
+      told_ifs = subst (λ vs. HasAllIfs x c.args.ifs.now.items (numbered_behind [] vs) c.fill_ver.new.ifs.items)
           (sym grown)
-          (ver_ifs_more x c.args.ifs.now.items vers ver c.loop-row.ifs.items c.filled.new.ifs.items
+          (ver_ifs_more x c.args.ifs.now.items vers ver c.loop-row.ifs.items c.fill_ver.new.ifs.items
           c.loop-row.invariant.told_ifs taken);
       only = λ others rest more h.
           let it = c.loop-row.invariant.only others rest more h in
@@ -72,7 +73,7 @@ loop-row-preserved c =
             next_left others vers ver it.0 left it.1 (step.3
                 ∙ ap (λ (i : List IfReq). record row.ver { ifs = i } ∷ left) one.0)
                 ∙ ap (λ (xs : List Ver). xs ++ left) (sym grown),
-            subst (λ (f : List Ver). HasVersBehind f x new c.filled.new.ifs.items left rest more) front
+            subst (λ (f : List Ver). HasVersBehind f x new c.fill_ver.new.ifs.items left rest more) front
                 (subst (λ (i : List IfRow). HasVersBehind (vers ++ record row.ver { ifs = step.0 } ∷ []) x new i left
                 rest more) one.1 step.6),
           );

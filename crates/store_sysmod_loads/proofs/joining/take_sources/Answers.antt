@@ -1,4 +1,5 @@
-use Rattle.std.proofs.Common.{◌≡◌, ◌++◌, ◌∷◌, [], List, All, IsTrue, append-nil, true, false, arith, sym, ap, subst, ◌∙◌}
+use Rattle.std.proofs.Common.{◌≡◌, ◌++◌, ◌∷◌, [], List, All, IsTrue, append-nil, true, false, arith, sym, ap, subst}
+use Rattle.std.proofs.Common.{◌∙◌}
 use Rattle.terms.specs.Types.{Text}
 use Rattle.terms.specs.Lookups.{is_before, IsRising}
 use Rattle.terms.proofs.Pairs.{AllPairs_between, AllPairs_parts}
@@ -13,7 +14,7 @@ returns-then-not-branch-clause-none c bad others rest h =
     let row = c.in-Some.row in
     let it = c.loop-row.invariant.only others rest (h.0, h.1) in
     let there = subst (λ (rows : List SourceRow). AreNamed x rows it.0 rest) c.in-Some.ensures.some.0 it.2 in
-    let step = sources_step x row c.pop_of.new.rows.items it.0 rest c.in-Some.ensures.some.1 there in
+    let step = sources_step x row c.pop_row_of.new.rows.items it.0 rest c.in-Some.ensures.some.1 there in
     let rising : IsRising (names ++ row.name ∷ step.0) = subst IsRising (it.1 ∙ ap (λ (xs : List Text). names ++ xs)
     step.1) h.2 in
     let last = (AllPairs_parts (λ y z. IsTrue (is_before y z)) names step.0 row.name rising).0 in
@@ -26,10 +27,11 @@ loop-row-preserved c =
     let x = c.args.id in
     let names = c.loop-row.names in
     let row = c.in-Some.row in
-    let new = c.pop_of.new.rows.items in
+    let new = c.pop_row_of.new.rows.items in
     let grown : c.push_last.new.self ≡ names ++ row.name ∷ [] = rw c.if-not-branch.false at c.in_ok-push_last.ensures.ok
     in
-    let last : All (λ y. IsTrue (is_before y row.name)) names = c.in_ok-push_last.ensures.fits.0 c.if-not-branch.false in
+    let last : All (λ y. IsTrue (is_before y row.name)) names = c.in_ok-push_last.ensures.fits.0 c.if-not-branch.false
+    in
     record {
       told = rw grown (sources_told x c.args.rows.now.items names row c.loop-row.rows.items new
           c.loop-row.invariant.told c.in-Some.ensures.some.0 c.in-Some.ensures.some.1);

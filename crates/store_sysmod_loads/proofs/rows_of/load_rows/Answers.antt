@@ -7,24 +7,27 @@ use Rattle.store_sysmod_loads.proofs.Both.{vers_held, its_vers, vers_formed, ifs
 use Rattle.store_sysmod_loads.proofs.PartLemmas.{part_err, part_more, part_then}
 use Rattle.store_sysmod_loads.proofs.RiseLemmas.{vers_rise, ifs_rise}
 use Rattle.store_sysmod_loads.proofs.rows_of.load_rows.Given.{Over}
-use Rattle.store_sysmod_loads.proofs.rows_of.load_rows.Goals.{After-load_parted, After-load_parted-2}
+use Rattle.store_sysmod_loads.proofs.rows_of.load_rows.Goals.{After-load_firsts_and_furthers}
+use Rattle.store_sysmod_loads.proofs.rows_of.load_rows.Goals.{After-load_firsts_and_furthers-2}
 use Rattle.store_sysmod_loads.proofs.rows_of.load_rows.Goals as goal
 
-vers : (g : Over) (c : After-load_parted g)
+vers : (g : Over) (c : After-load_firsts_and_furthers g)
     → LoadsPart g.S.Store c.args.schema (λ rows contents. HoldVers c.args.schema rows.items contents)
-    (λ rows ss. rows.items ≡ all_vers ss) c.load_heads.new.conn c.load_parted.new.conn c.load_parted.result
+    (λ rows ss. rows.items ≡ all_vers ss) c.load_heads.new.conn c.load_firsts_and_furthers.new.conn
+    c.load_firsts_and_furthers.result
 vers g c =
     let r = c.args.schema in
     part_of all_vers (HoldVers r) (vers_held r) (its_vers r) (λ ss formed. vers_rise ss formed.whole)
-    c.load_parted.ensures.rows
+    c.load_firsts_and_furthers.ensures.rows
 
-ifs : (g : Over) (c : After-load_parted-2 g)
+ifs : (g : Over) (c : After-load_firsts_and_furthers-2 g)
     → LoadsPart g.S.Store c.args.schema (λ rows contents. HoldIfs c.args.schema rows.items contents)
-    (λ rows ss. rows.items ≡ all_ifs ss) c.load_parted.new.conn c.load_parted-2.new.conn c.load_parted-2.result
+    (λ rows ss. rows.items ≡ all_ifs ss) c.load_firsts_and_furthers.new.conn c.load_firsts_and_furthers-2.new.conn
+    c.load_firsts_and_furthers-2.result
 ifs g c =
     let r = c.args.schema in
     part_of all_ifs (HoldIfs r) (ifs_held r) (its_ifs r) (λ ss formed. ifs_rise ss formed.whole)
-    c.load_parted-2.ensures.rows
+    c.load_firsts_and_furthers-2.ensures.rows
 
 pub returns-in_err-heads-clause-part : goal.returns-in_err-heads-clause-part
 returns-in_err-heads-clause-part g c =
@@ -33,29 +36,29 @@ returns-in_err-heads-clause-part g c =
 pub returns-in_err-vers-clause-part : goal.returns-in_err-vers-clause-part
 returns-in_err-vers-clause-part g c =
     let p = goal.at.returns-in_err-vers-clause-part g c in
-    let two = part_then c.in_ok-heads.was c.load_heads.ensures.part (vers g p.After-load_parted) in
+    let two = part_then c.in_ok-heads.was c.load_heads.ensures.part (vers g p.After-load_firsts_and_furthers) in
     part_err (search rules) (λ bad. search rules) (λ failed. search rules) two
 
 pub returns-in_err-ifs-clause-part : goal.returns-in_err-ifs-clause-part
 returns-in_err-ifs-clause-part g c =
     let p = goal.at.returns-in_err-ifs-clause-part g c in
-    let two = part_then c.in_ok-heads.was c.load_heads.ensures.part (vers g p.After-load_parted) in
-    let three = part_then c.in_ok-vers.was two (ifs g p.After-load_parted-2) in
+    let two = part_then c.in_ok-heads.was c.load_heads.ensures.part (vers g p.After-load_firsts_and_furthers) in
+    let three = part_then c.in_ok-vers.was two (ifs g p.After-load_firsts_and_furthers-2) in
     part_err (search rules) (λ bad. search rules) (λ failed. search rules) three
 
 pub returns-in_err-elems-clause-part : goal.returns-in_err-elems-clause-part
 returns-in_err-elems-clause-part g c =
     let p = goal.at.returns-in_err-elems-clause-part g c in
-    let two = part_then c.in_ok-heads.was c.load_heads.ensures.part (vers g p.After-load_parted) in
-    let three = part_then c.in_ok-vers.was two (ifs g p.After-load_parted-2) in
+    let two = part_then c.in_ok-heads.was c.load_heads.ensures.part (vers g p.After-load_firsts_and_furthers) in
+    let three = part_then c.in_ok-vers.was two (ifs g p.After-load_firsts_and_furthers-2) in
     let four = part_then c.in_ok-ifs.was three (c.load_elems.ensures.part c.args.schema) in
     part_err (search rules) (λ bad. search rules) (λ failed. search rules) four
 
 pub returns-clause-part : goal.returns-clause-part
 returns-clause-part g c =
     let p = goal.at.returns-clause-part g c in
-    let two = part_then c.in_ok-heads.was c.load_heads.ensures.part (vers g p.After-load_parted) in
-    let three = part_then c.in_ok-vers.was two (ifs g p.After-load_parted-2) in
+    let two = part_then c.in_ok-heads.was c.load_heads.ensures.part (vers g p.After-load_firsts_and_furthers) in
+    let three = part_then c.in_ok-vers.was two (ifs g p.After-load_firsts_and_furthers-2) in
     let four = part_then c.in_ok-ifs.was three (c.load_elems.ensures.part c.args.schema) in
     part_more (Ok _) c.in_ok-elems.was
     (λ contents h. record {

@@ -17,11 +17,12 @@ use Rattle.store_zones.proofs.entry.put_entry.Given.{Over}
 use Rattle.store_zones.proofs.entry.put_entry.Goals.{After-change_number}
 use Rattle.store_zones.proofs.entry.put_entry.Goals as goal
 
-changed : (g : Over) (c : After-change_number g) → Renumbers g.S.Store c.put_row.new.tx.conn.now
+changed : (g : Over) (c : After-change_number g) → Renumbers g.S.Store c.put_entry_row.new.tx.conn.now
     c.change_number.new.tx.conn.now c.change_number.result c.args.zone c.args.entry.now.id
     (number_before c.args.stood) (number_of c.args.entry.now)
 changed g c =
-    renumbers_as g.S.Store c.put_row.new.tx.conn.now c.change_number.new.tx.conn.now c.change_number.result c.args.zone
+    renumbers_as g.S.Store c.put_entry_row.new.tx.conn.now c.change_number.new.tx.conn.now c.change_number.result
+    c.args.zone
     _ c.args.entry.now.id _ (number_before c.args.stood) _ (number_of c.args.entry.now)
     (ap (λ (x : Entry). x.id) c.entry.view_is) c.number_before.ensures (c.get.ensures.value ∙ c.number.ensures)
     (c.change_number.ensures.calls, c.change_number.ensures.ok)
@@ -32,11 +33,11 @@ returns-clause-ok g c =
     let stood = c.args.stood in
     let e = c.args.entry.now in
     on_ok c.change_number.result _ _
-    (turns_then g.S.Store c.args.tx.now.conn.now c.put_row.new.tx.conn.now c.change_number.new.tx.conn.now
+    (turns_then g.S.Store c.args.tx.now.conn.now c.put_entry_row.new.tx.conn.now c.change_number.new.tx.conn.now
     (HasContents store_schema)
     (in_table entry (rows_with (is_some stood) (entry_key zone e.id) (entry_row zone e)))
     (in_table chosen (numbered zone e.id (number_before stood) (number_of e)))
-    c.change_number.ensures.continues.inside (rw c.is_some.ensures at c.in_ok-put_row.ensures.ok))
+    c.change_number.ensures.continues.inside (rw c.is_some.ensures at c.in_ok-put_entry_row.ensures.ok))
     (changed g (goal.at.returns-clause-ok g c).After-change_number).1
 
 pub returns-clause-stands : goal.returns-clause-stands
@@ -52,18 +53,19 @@ returns-clause-calls g c =
     let e = c.args.entry.now in
     runs_then g.S.Store ((if is_some stood then put_entry else insert_entry, entry_row zone e) ∷ [])
     (number_calls zone e.id (number_before stood) (number_of e)) c.args.tx.now.conn.now
-    c.put_row.new.tx.conn.now c.change_number.new.tx.conn.now c.put_row.result (tt {0}) c.change_number.result
-    c.put_row.ensures.continues.inside c.change_number.ensures.continues.inside c.in_ok-put_row.was
-    (rw c.is_some.ensures at c.put_row.ensures.calls)
+    c.put_entry_row.new.tx.conn.now c.change_number.new.tx.conn.now c.put_entry_row.result (tt {0})
+    c.change_number.result
+    c.put_entry_row.ensures.continues.inside c.change_number.ensures.continues.inside c.in_ok-put_entry_row.was
+    (rw c.is_some.ensures at c.put_entry_row.ensures.calls)
     (changed g (goal.at.returns-clause-calls g c).After-change_number).0
 
-pub returns-in_err-put_row-clause-calls : goal.returns-in_err-put_row-clause-calls
-returns-in_err-put_row-clause-calls g c =
+pub returns-in_err-put_entry_row-clause-calls : goal.returns-in_err-put_entry_row-clause-calls
+returns-in_err-put_entry_row-clause-calls g c =
     let zone = c.args.zone in
     let stood = c.args.stood in
     let e = c.args.entry.now in
     runs_err g.S.Store ((if is_some stood then put_entry else insert_entry, entry_row zone e) ∷ [])
     (number_calls zone e.id (number_before stood) (number_of e)) c.args.tx.now.conn.now
-    c.put_row.new.tx.conn.now c.put_row.result c.from_residual-in_err-put_row.result (search rules)
-    (follows_err c.put_row.result _ _ c.in_err-put_row.was c.from_residual-in_err-put_row.ensures.1)
-    (rw c.is_some.ensures at c.put_row.ensures.calls)
+    c.put_entry_row.new.tx.conn.now c.put_entry_row.result c.from_residual-in_err-put_entry_row.result (search rules)
+    (follows_err c.put_entry_row.result _ _ c.in_err-put_entry_row.was c.from_residual-in_err-put_entry_row.ensures.1)
+    (rw c.is_some.ensures at c.put_entry_row.ensures.calls)

@@ -14,11 +14,11 @@ use Rattle.store_zones.proofs.entry.remove_entry.Given.{Over}
 use Rattle.store_zones.proofs.entry.remove_entry.Goals.{After-change_number}
 use Rattle.store_zones.proofs.entry.remove_entry.Goals as goal
 
-changed : (g : Over) (c : After-change_number g) → Renumbers g.S.Store c.remove_row.new.tx.conn.now
+changed : (g : Over) (c : After-change_number g) → Renumbers g.S.Store c.remove_entry_row.new.tx.conn.now
     c.change_number.new.tx.conn.now c.change_number.result c.args.zone c.args.id
     (number_before c.args.stood) 1
 changed g c =
-    renumbers_as g.S.Store c.remove_row.new.tx.conn.now c.change_number.new.tx.conn.now c.change_number.result
+    renumbers_as g.S.Store c.remove_entry_row.new.tx.conn.now c.change_number.new.tx.conn.now c.change_number.result
     c.args.zone _ c.args.id _ (number_before c.args.stood) _ 1 refl c.number_before.ensures refl
     (c.change_number.ensures.calls, c.change_number.ensures.ok)
 
@@ -27,10 +27,10 @@ returns-clause-ok g c =
     let zone = c.args.zone in
     let id = c.args.id in
     on_ok c.change_number.result _ _
-    (turns_then g.S.Store c.args.tx.now.conn.now c.remove_row.new.tx.conn.now c.change_number.new.tx.conn.now
+    (turns_then g.S.Store c.args.tx.now.conn.now c.remove_entry_row.new.tx.conn.now c.change_number.new.tx.conn.now
     (HasContents store_schema) (in_table entry (without (entry_key zone id)))
     (in_table chosen (numbered zone id (number_before c.args.stood) 1))
-    c.change_number.ensures.continues.inside c.in_ok-remove_row.ensures.ok)
+    c.change_number.ensures.continues.inside c.in_ok-remove_entry_row.ensures.ok)
     (changed g (goal.at.returns-clause-ok g c).After-change_number).1
 
 pub returns-clause-stands : goal.returns-clause-stands
@@ -45,16 +45,18 @@ returns-clause-calls g c =
     let id = c.args.id in
     runs_then g.S.Store ((delete_entry, entry_key zone id) ∷ [])
     (number_calls zone id (number_before c.args.stood) 1) c.args.tx.now.conn.now
-    c.remove_row.new.tx.conn.now c.change_number.new.tx.conn.now c.remove_row.result (tt {0}) c.change_number.result
-    c.remove_row.ensures.continues.inside c.change_number.ensures.continues.inside c.in_ok-remove_row.was
-    c.remove_row.ensures.calls
+    c.remove_entry_row.new.tx.conn.now c.change_number.new.tx.conn.now c.remove_entry_row.result (tt {0})
+    c.change_number.result
+    c.remove_entry_row.ensures.continues.inside c.change_number.ensures.continues.inside c.in_ok-remove_entry_row.was
+    c.remove_entry_row.ensures.calls
     (changed g (goal.at.returns-clause-calls g c).After-change_number).0
 
-pub returns-in_err-remove_row-clause-calls : goal.returns-in_err-remove_row-clause-calls
-returns-in_err-remove_row-clause-calls g c =
+pub returns-in_err-remove_entry_row-clause-calls : goal.returns-in_err-remove_entry_row-clause-calls
+returns-in_err-remove_entry_row-clause-calls g c =
     let zone = c.args.zone in
     let id = c.args.id in
     runs_err g.S.Store ((delete_entry, entry_key zone id) ∷ [])
     (number_calls zone id (number_before c.args.stood) 1) c.args.tx.now.conn.now
-    c.remove_row.new.tx.conn.now c.remove_row.result c.from_residual.result (search rules)
-    (follows_err c.remove_row.result _ _ c.in_err-remove_row.was c.from_residual.ensures.1) c.remove_row.ensures.calls
+    c.remove_entry_row.new.tx.conn.now c.remove_entry_row.result c.from_residual.result (search rules)
+    (follows_err c.remove_entry_row.result _ _ c.in_err-remove_entry_row.was c.from_residual.ensures.1)
+    c.remove_entry_row.ensures.calls

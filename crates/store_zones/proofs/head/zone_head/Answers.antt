@@ -8,18 +8,18 @@ use Rattle.store_zones.proofs.head.zone_head.Goals as goal
 
 pub returns-in_err-heads-clause-none : goal.returns-in_err-heads-clause-none
 returns-in_err-heads-clause-none g c clean bad r contents was head held =
-    let failed : IsErrOf c.load_listed.result BadRow = search rules in
-    c.load_listed.ensures.none clean failed refl r tt contents was (option_to_list head) held.forms
+    let failed : IsErrOf c.load_query.result BadRow = search rules in
+    c.load_query.ensures.none clean failed refl r tt contents was (option_to_list head) held.forms
     (rows_asked contents c.args.name.now c.as_bytes.result.now c.as_bytes.ensures.same head held)
 
 pub returns-clause-found : goal.returns-clause-found
 returns-clause-found g c clean r contents was =
     let heads = c.in_ok-heads.heads.items in
     let rows = c.in_ok-heads.ensures.found clean refl r tt contents was in
-    if_ok c.at_most_one.result _ _ (λ head one.
+    if_ok c.only_head.result _ _ (λ head one.
     let is : heads ≡ option_to_list head = sym c.as_slice.ensures.value ∙ one in
     one_row contents c.args.name.now c.as_bytes.result.now c.as_bytes.ensures.same heads head is rows
-    c.in_ok-heads.ensures.forms) c.at_most_one.ensures.one
+    c.in_ok-heads.ensures.forms) c.only_head.ensures.one
 
 pub returns-clause-none : goal.returns-clause-none
 returns-clause-none g c clean bad r contents was head held =
@@ -31,10 +31,10 @@ returns-clause-none g c clean bad r contents was head held =
 
 pub returns-in_err-heads-clause-reads : goal.returns-in_err-heads-clause-reads
 returns-in_err-heads-clause-reads g c r =
-    reads_err g.S.Store _ _ _ c.args.conn.now c.load_listed.new.conn c.load_listed.result _ (search rules)
-    (λ bad. search rules) (λ failed. search rules) (c.load_listed.ensures.reads refl ((_, refl), tt) r tt)
+    reads_err g.S.Store _ _ _ c.args.conn.now c.load_query.new.conn c.load_query.result _ (search rules)
+    (λ bad. search rules) (λ failed. search rules) (c.load_query.ensures.reads refl ((_, refl), tt) r tt)
 
 pub returns-clause-reads : goal.returns-clause-reads
 returns-clause-reads g c r =
-    reads_more g.S.Store _ _ _ c.args.conn.now c.load_listed.new.conn c.load_listed.result c.in_ok-heads.heads _
-    c.in_ok-heads.was c.at_most_one.ensures.fault (c.load_listed.ensures.reads refl ((_, refl), tt) r tt)
+    reads_more g.S.Store _ _ _ c.args.conn.now c.load_query.new.conn c.load_query.result c.in_ok-heads.heads _
+    c.in_ok-heads.was c.only_head.ensures.fault (c.load_query.ensures.reads refl ((_, refl), tt) r tt)

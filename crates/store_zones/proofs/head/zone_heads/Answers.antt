@@ -15,22 +15,22 @@ use Rattle.store_zones.proofs.head.zone_heads.Goals as goal
 
 pub returns-in_err-heads-clause-no_rows : goal.returns-in_err-heads-clause-no_rows
 returns-in_err-heads-clause-no_rows g c clean bad r contents was heads held =
-    let failed : IsErrOf c.load_listed.result BadRow = search rules in
-    c.load_listed.ensures.none clean failed refl r tt contents was heads held.forms held.rows
+    let failed : IsErrOf c.load_query.result BadRow = search rules in
+    c.load_query.ensures.none clean failed refl r tt contents was heads held.forms held.rows
 
 pub returns-in_err-sorted-clause-no_rows : goal.returns-in_err-sorted-clause-no_rows
 returns-in_err-sorted-clause-no_rows g c clean bad r contents was heads held =
-    let failed : IsErrOf c.table_of.result BadRow = search rules in
+    let failed : IsErrOf c.into_table.result BadRow = search rules in
     let rows = c.in_ok-heads.ensures.only clean refl r tt contents was heads held.forms held.rows in
-    c.table_of.ensures.none failed heads rows held.rise
+    c.into_table.ensures.none failed heads rows held.rise
 
 pub returns-clause-rows : goal.returns-clause-rows
 returns-clause-rows g c clean r contents was =
     let table = c.in_ok-sorted.sorted in
-    if_ok_both c.only_related.result _ _ _ (λ heads same related.
+    if_ok_both c.require_related.result _ _ _ (λ heads same related.
     heads_read contents c.in_ok-heads.heads.items table heads.items (same ∙ c.into_vec.ensures.items)
     (c.in_ok-heads.ensures.found clean refl r tt contents was) c.in_ok-heads.ensures.forms c.in_ok-sorted.ensures.same
-    c.in_ok-sorted.ensures.rise related) c.only_related.ensures.same c.only_related.ensures.related
+    c.in_ok-sorted.ensures.rise related) c.require_related.ensures.same c.require_related.ensures.related
 
 pub returns-clause-no_rows : goal.returns-clause-no_rows
 returns-clause-no_rows g c clean bad r contents was heads held =
@@ -39,7 +39,7 @@ returns-clause-no_rows g c clean bad r contents was heads held =
     let is : table ≡ heads = rising_same nat_list_cmp_total (λ (a : ZoneHead). a.name) table heads
     (IsPermutation-trans table c.in_ok-heads.heads.items heads (IsPermutation-sym c.in_ok-heads.heads.items table
     c.in_ok-sorted.ensures.same) rows) c.in_ok-sorted.ensures.rise held.rise in
-    c.only_related.ensures.none bad (subst AreRelated (sym (c.into_vec.ensures.items ∙ is)) held.related)
+    c.require_related.ensures.none bad (subst AreRelated (sym (c.into_vec.ensures.items ∙ is)) held.related)
 
 pub returns-in_err-heads-clause-none : goal.returns-in_err-heads-clause-none
 returns-in_err-heads-clause-none g c clean bad r i stands =
@@ -53,7 +53,7 @@ returns-in_err-sorted-clause-none g c clean bad r i stands =
 
 pub returns-clause-found : goal.returns-clause-found
 returns-clause-found g c clean r i stands =
-    if_ok c.only_related.result _ _ (λ heads held.
+    if_ok c.require_related.result _ _ (λ heads held.
     one_list (rows_under r i) heads.items (map head_of i.zones) held
     (heads_stand r i (stands_inventory r i _ stands)))
     (returns-clause-rows g c clean r (rows_under r i) (stands_rows r i _ stands))
@@ -65,15 +65,15 @@ returns-clause-none g c clean bad r i stands =
 
 pub returns-in_err-heads-clause-reads : goal.returns-in_err-heads-clause-reads
 returns-in_err-heads-clause-reads g c r =
-    reads_err g.S.Store _ _ _ c.args.conn.now c.load_listed.new.conn c.load_listed.result _ (search rules)
-    (λ bad. search rules) (λ failed. search rules) (c.load_listed.ensures.reads refl tt r tt)
+    reads_err g.S.Store _ _ _ c.args.conn.now c.load_query.new.conn c.load_query.result _ (search rules)
+    (λ bad. search rules) (λ failed. search rules) (c.load_query.ensures.reads refl tt r tt)
 
 pub returns-in_err-sorted-clause-reads : goal.returns-in_err-sorted-clause-reads
 returns-in_err-sorted-clause-reads g c r =
-    reads_more g.S.Store _ _ _ c.args.conn.now c.load_listed.new.conn c.load_listed.result c.in_ok-heads.heads _
-    c.in_ok-heads.was (λ failed. search rules) (c.load_listed.ensures.reads refl tt r tt)
+    reads_more g.S.Store _ _ _ c.args.conn.now c.load_query.new.conn c.load_query.result c.in_ok-heads.heads _
+    c.in_ok-heads.was (λ failed. search rules) (c.load_query.ensures.reads refl tt r tt)
 
 pub returns-clause-reads : goal.returns-clause-reads
 returns-clause-reads g c r =
-    reads_more g.S.Store _ _ _ c.args.conn.now c.load_listed.new.conn c.load_listed.result c.in_ok-heads.heads _
-    c.in_ok-heads.was c.only_related.ensures.fault (c.load_listed.ensures.reads refl tt r tt)
+    reads_more g.S.Store _ _ _ c.args.conn.now c.load_query.new.conn c.load_query.result c.in_ok-heads.heads _
+    c.in_ok-heads.was c.require_related.ensures.fault (c.load_query.ensures.reads refl tt r tt)

@@ -10,22 +10,22 @@ use Rattle.store_zones.proofs.installed_vers.change_number.Goals as goal
 pub returns-then-new-eq1-clause-ok : goal.returns-then-new-eq1-clause-ok
 returns-then-new-eq1-clause-ok g c =
     turns_number c.args.zone.now c.args.id.now c.args.old c.args.new g.S.Store c.args.tx.now.conn.now
-    c.remove_row.new.tx.conn.now c.remove_row.result false true _
-    (search rules) (eq-eqb c.args.new 1 c.if-new-eq1.true) refl c.remove_row.ensures.ok
+    c.remove_number_row.new.tx.conn.now c.remove_number_row.result false true _
+    (search rules) (eq-eqb c.args.new 1 c.if-new-eq1.true) refl c.remove_number_row.ensures.ok
 
 pub returns-then-old-eq1-clause-ok : goal.returns-then-old-eq1-clause-ok
 returns-then-old-eq1-clause-ok g c =
     turns_number c.args.zone.now c.args.id.now c.args.old c.args.new g.S.Store c.args.tx.now.conn.now
-    c.insert_row.new.tx.conn.now c.insert_row.result false false true
-    (search rules) (search rules) (eq-eqb c.args.old 1 c.if-old-eq1.true) c.insert_row.ensures.ok
+    c.insert_number_row.new.tx.conn.now c.insert_number_row.result false false true
+    (search rules) (search rules) (eq-eqb c.args.old 1 c.if-old-eq1.true) c.insert_number_row.ensures.ok
 
 pub returns-clause-ok : goal.returns-clause-ok
 returns-clause-ok g c =
     let zone = c.args.zone.now in
     let id = c.args.id.now in
-    turns_number zone id c.args.old c.args.new g.S.Store c.args.tx.now.conn.now c.put_row.new.tx.conn.now
-    c.put_row.result false false false (search rules)
+    turns_number zone id c.args.old c.args.new g.S.Store c.args.tx.now.conn.now c.put_number_row.new.tx.conn.now
+    c.put_number_row.result false false false (search rules)
     (search rules) (search rules)
-    (on_ok c.put_row.result _ _ (λ put clean contents was.
+    (on_ok c.put_number_row.result _ _ (λ put clean contents was.
     number_rows_with (entry_key zone id) (chosen_row zone id c.args.new) contents _ (put clean contents was))
-    c.put_row.ensures.ok)
+    c.put_number_row.ensures.ok)

@@ -12,12 +12,13 @@ goes : (g : Over) (c : After-insert_rows g)
     → let row = in_zone g.T.Rows.FromRow.row_of c.args.zone.now in
     let all = map row (map (λ x. x.now) c.args.items.now) in
     let more = map row (map (λ x. x.now) (drop (c.loop-done.done + c.min.result) c.args.items.now)) in
-    GoesOn g.S.Store c.args.some.now c.args.one.now (puts c.args.some.now c.args.one.now all) all c.args.tx.now
-    (puts c.args.some.now c.args.one.now more) more c.insert_rows.new.tx c.insert_rows.result
+    GoesOn g.S.Store c.args.many_sql.now c.args.one_sql.now (puts c.args.many_sql.now c.args.one_sql.now all) all
+    c.args.tx.now
+    (puts c.args.many_sql.now c.args.one_sql.now more) more c.insert_rows.new.tx c.insert_rows.result
 goes g c =
     let s = g.S.Store in
-    let some = c.args.some.now in
-    let one = c.args.one.now in
+    let some = c.args.many_sql.now in
+    let one = c.args.one_sql.now in
     let items = c.args.items.now in
     let done = c.loop-done.done in
     let n = c.min.result in
@@ -48,7 +49,8 @@ pub returns-in_err-rows : goal.returns-in_err-rows
 returns-in_err-rows g c =
     let row = in_zone g.T.Rows.FromRow.row_of c.args.zone.now in
     let left = map row (map (λ x. x.now) (drop c.loop-done.done c.args.items.now)) in
-    let it = none_goes g.S.Store c.args.some.now c.args.one.now left c.from_residual.result c.from_residual.ensures.1
+    let it = none_goes g.S.Store c.args.many_sql.now c.args.one_sql.now left c.from_residual.result
+    c.from_residual.ensures.1
     c.loop-done.invariant.leaves in
     record { continues = it.continues; calls = it.runs; ok = it.ok }
 
@@ -62,7 +64,7 @@ pub returns : goal.returns
 returns g c =
     let row = in_zone g.T.Rows.FromRow.row_of c.args.zone.now in
     let left = map row (map (λ x. x.now) (drop c.loop-done.done c.args.items.now)) in
-    let it = all_go g.S.Store c.args.some.now c.args.one.now left
+    let it = all_go g.S.Store c.args.many_sql.now c.args.one_sql.now left
     (none_behind (λ x. x.now) row c.args.items.now c.loop-done.done c.loop-done-test.false)
     c.loop-done.invariant.leaves in
     record { continues = it.continues; calls = it.runs; ok = it.ok }

@@ -12,7 +12,8 @@ invariant-loop-done g l =
     let rest = map row (map (λ x. x.now) (drop l.done l.items)) in
     record {
       within : l.done ≤ length l.items;
-      leaves : Leaves g.S.Store l.some l.one (puts l.some l.one all) all l.fn.tx (puts l.some l.one rest) rest l.tx;
+      leaves : Leaves g.S.Store l.many_sql l.one_sql (puts l.many_sql l.one_sql all) all l.fn.tx (puts l.many_sql
+          l.one_sql rest) rest l.tx;
     }
 
 abbrev pub decreases-loop-done : goal.decreases-loop-done

@@ -5,8 +5,8 @@ use Rattle.sysmods.specs.Graphs.{IsSearchDown, Marks, list_at}
 use Rattle.sysmods.proofs.Descents.{all_within, list_is, mark_read, search_start, search_end}
 use Rattle.sysmods.proofs.descent.leads_down.Goals as goal
 
-pub mark-requires : goal.mark-requires
-mark-requires c =
+pub mark_numbers-requires : goal.mark_numbers-requires
+mark_numbers-requires c =
     let marks = c.in_ok-marks.marks.items in
     let made : marks ≡ replicate c.args.high false = c.in_ok-marks.ensures.items_if_clones_equal search in
     let room : length marks ≡ c.args.high = ap length made ∙ length-replicate c.args.high false in
@@ -19,14 +19,14 @@ loop-next-init c =
     let lists = c.args.lists.now in
     let high = c.args.high in
     let old = c.in_ok-marks.marks.items in
-    let new = c.mark.new.marks.items in
+    let new = c.mark_numbers.new.marks.items in
     let made : old ≡ replicate high false = c.in_ok-marks.ensures.items_if_clones_equal search in
     let same = c.as_slice.ensures.value
     ∙ sym (list_is lists high c.index-lists-high.result c.requires.high c.index-lists-high.is) in
     record {
       search = search_start (list_at lists) high new
           (subst (λ l. Marks l (replicate high false) new) same
-          (subst (λ o. Marks c.as_slice.result.now o new) made c.mark.ensures));
+          (subst (λ o. Marks c.as_slice.result.now o new) made c.mark_numbers.ensures));
       within = omega arith;
     }
 
@@ -35,7 +35,7 @@ loop-next-preserved c =
     let next = c.loop-next.next in
     let same : next ≡ next - 1 + 1 = omega (arith, c.loop-next-test.true) in
     record {
-      search = c.go_down.ensures c.args.high
+      search = c.mark_successors.ensures c.args.high
           (subst (λ n. IsSearchDown (list_at c.args.lists.now) c.args.high n c.loop-next.marks.items) same
           c.loop-next.invariant.search);
       within = omega (arith, c.loop-next.invariant.within);

@@ -11,7 +11,7 @@ pub returns-clause-fits : goal.returns-clause-fits
 returns-clause-fits c =
     let xs = c.args.received.now in
     let s = c.args.sysmod in
-    let none : s.holds ≡ [] = c.carries_none.ensures.0 c.if-not-carries_none.false in (
+    let none : s.holds ≡ [] = c.has_no_holds.ensures.0 c.if-not-has_no_holds.false in (
       λ e. global_last xs s c.requires.last none c.requires.global c.attest.ensures
           c.in-Ok.ensures.ok,
       λ g. refl,
@@ -29,15 +29,16 @@ pub returns-in-Err-clause-fits : goal.returns-in-Err-clause-fits
 returns-in-Err-clause-fits c =
     let xs = c.args.received.now in
     let s = c.args.sysmod in
-    let none : s.holds ≡ [] = c.carries_none.ensures.0 c.if-not-carries_none.false in
-    IfOk-weaker c.unfit.result _ _ (λ fits e. (
+    let none : s.holds ≡ [] = c.has_no_holds.ensures.0 c.if-not-has_no_holds.false in
+    IfOk-weaker c.refusal_as_false.result _ _ (λ fits e. (
       λ fit. absurd (true≢false (sym fit ∙ e.0)),
       λ g. absurd (
           let fault = some_fault (zone_of xs) s c.in-Err.why c.in-Err.ensures.refused e.1 in
           none_refused xs s c.requires.last none g fault.0 fault.1
           ),
-    )) c.unfit.ensures
+    )) c.refusal_as_false.ensures
 
 pub returns-in-Err-clause-ok : goal.returns-in-Err-clause-ok
 returns-in-Err-clause-ok c =
-    IfOk-weaker c.unfit.result _ _ (λ fits e fit. absurd (true≢false (sym fit ∙ e.0))) c.unfit.ensures
+    IfOk-weaker c.refusal_as_false.result _ _ (λ fits e fit. absurd (true≢false (sym fit ∙ e.0)))
+    c.refusal_as_false.ensures

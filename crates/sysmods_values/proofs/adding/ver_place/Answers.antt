@@ -7,4 +7,4 @@ use Rattle.sysmods_values.proofs.adding.ver_place.Goals as goal
 pub returns-in-None : goal.returns-in-None
 returns-in-None c =
     no_place (λ w. is_before c.args.ver.now.srel w.srel) c.args.vers.now
-    (sym (rw (ap (λ (v : Ver). v.srel) c.ver.view_is) at c.first_later.ensures) ∙ c.in-None.is)
+    (sym (rw (ap (λ (v : Ver). v.srel) c.ver.view_is) at c.first_later_place.ensures) ∙ c.in-None.is)

@@ -12,6 +12,6 @@ returns c =
       are_listed = record { rising = rising; members = c.in_ok-listed.ensures };
       ids = applied_are_cands c.args.zone.now c.in_ok-listed.listed c.in_ok-applied_among.field-0.items
           c.from_vec-ids.result (rw c.as_slice-all.ensures.items at c.in_ok-applied_among.ensures)
-          rising c.attest.ensures c.from_vec-ids.ensures;
-      left_out = rw c.as_slice-all.ensures.items at c.in_ok-left_out.ensures;
+          rising c.from_vec-ids.ensures.rising c.from_vec-ids.ensures.members;
+      left_out = rw c.as_slice-all.ensures.items at c.in_ok-ids_not_applied.ensures;
     }

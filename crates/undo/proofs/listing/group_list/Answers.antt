@@ -19,10 +19,10 @@ returns c =
     let ids = c.args.ids.now in
     let vers = c.in_ok-vers.vers in
     let steps = ap as_steps c.as_slice-2.ensures.value ∙ c.in_ok-steps.ensures in
-    IfOk-weaker c.reached.result (AreReached ids (as_steps c.as_slice-2.result.now))
+    IfOk-weaker c.reached_ids.result (AreReached ids (as_steps c.as_slice-2.result.now))
     (λ found. (x : Id) → Contains found x ↔ IsListed (restoring_from g zone accepted) (RestoreGroup ids) x)
     (λ found h. subst (λ r. (x : Id) → Contains found x ↔ IsListed r (RestoreGroup ids) x)
     (restoring_is vers g zone accepted c.in_ok-vers.ensures.global
     (c.in_ok-vers.ensures.counting ∙ ap (counting g zone) c.new-none.ensures))
     (listed_from (restoring vers zone accepted) c.in_ok-applied.ensures.form ids found
-    (subst (λ l. AreReached ids l found) steps h))) c.reached.ensures
+    (subst (λ l. AreReached ids l found) steps h))) c.reached_ids.ensures

@@ -8,8 +8,8 @@ use Rattle.terms.proofs.Each.{All_from_each}
 use Rattle.undo.proofs.RulesOfSteps.{are_places, numbered_rule, unique_members, unique_rising}
 use Rattle.undo.proofs.numbers.rule_of.Goals as goal
 
-pub number-requires-clause-there : goal.number-requires-clause-there
-number-requires-clause-there c =
+pub place_number-requires-clause-there : goal.place_number-requires-clause-there
+place_number-requires-clause-there c =
     let nodes = c.as_slice-node-items in
     subst (Contains c.args.table.now) (sym c.node-item.is)
     (All_from_each (Contains c.args.table.now) nodes.result.now
@@ -30,7 +30,7 @@ returns-clause-numbered c =
       these = are_places table c.args.step.now.these.items found unique
           (c.loop-node.invariant ∙ ap (map (λ n. Some n))
           (take_all c.loop-node.node-index nodes.result.now (omega arith) ∙ nodes.ensures.value)) members;
-      that = c.number-that.ensures;
+      that = c.place_number-that.ensures;
     }
 
 pub returns-clause-valid : goal.returns-clause-valid
@@ -38,7 +38,7 @@ returns-clause-valid c =
     let sorted = c.sort_unstable.new.self.items in
     let unique = c.dedup.new.self.items in
     let numbered : IsNumbered c.args.table.now (as_step c.args.step.now)
-    record { these = unique; that = c.number-that.result } = returns-clause-numbered c in
+    record { these = unique; that = c.place_number-that.result } = returns-clause-numbered c in
     let rising : AllPairs (λ a b. a < b) unique =
     rw (dedup_is nat_eq sorted unique c.dedup.ensures.filtered)
     (unique_rising sorted c.sort_unstable.ensures.sorted) in

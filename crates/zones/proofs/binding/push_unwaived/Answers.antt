@@ -1,16 +1,19 @@
-use Rattle.std.proofs.Common.{◌≡◌, ◌++◌, List, Result, Ok, Err}
-use Rattle.std.specs.Prelude.{OnOk, if◌then◌else◌}
-use Rattle.std.specs.Result.{is_ok}
-use Rattle.zones.proofs.Requisites.{unwaived_none}
+use Rattle.std.proofs.Common.{Bool, ◌++◌, ◌∙◌, ap, not, filter, map, rules, tests}
+use Rattle.std.proofs.lemmas.Iterator.{YieldsList-from_map, YieldsList-from_slice}
+use Rattle.std.proofs.lemmas.Iterator.Adapters.{items_from_extend}
+use Rattle.std.proofs.lemmas.Iterator.Consumers.{YieldsList-at, YieldsList-from_filter}
+use Rattle.std.proofs.lemmas.List.{map-id}
+use Rattle.std.proofs.lemmas.Result.{on_ok_weaker}
+use Rattle.terms.specs.Types.{Id}
+use Rattle.terms.specs.Lookups.{is_in, waived_of}
 use Rattle.zones.proofs.binding.push_unwaived.Goals as goal
 
-on_ok : {T E X : Type 0} (r : Result T E) (new old more : List X) → new ≡ (if is_ok r then old ++ more else old)
-    → OnOk r (new ≡ old ++ more)
-on_ok (Ok x) new old more is = is
-on_ok (Err e) new old more is = tt
-
-pub returns-in-None : goal.returns-in-None
-returns-in-None c =
-    rw (unwaived_none c.args.zone.now c.args.by c.args.ids.now c.in-None.ensures.found)
-    (on_ok c.extend_from_slice.result c.extend_from_slice.new.self.items c.args.found.now.items c.args.ids.now
-    c.extend_from_slice.ensures.items)
+pub returns : goal.returns
+returns c =
+    let stays : Id → Bool = λ z. not (is_in (waived_of c.args.zone.now c.args.by) z) in
+    let left = filter stays c.args.ids.now in
+    on_ok_weaker c.extend.result (λ gives. gives.0 ∙ ap (λ l. c.args.found.now.items ++ l) (map-id left))
+    (items_from_extend {all = map (λ z. z) left} c.extend.result c.extend.ensures.ran
+    (YieldsList-from_map _ (λ z. z) (YieldsList-at c.map.ensures.source (YieldsList-from_filter _ stays
+    (YieldsList-from_slice c.args.ids.now cc) c.filter.ensures.closure (λ x b q k. search (rules, tests))))
+    c.map.ensures.closure (λ x r q k. search rules)))

@@ -14,8 +14,8 @@ returns-then-vers-lt2 c =
     ap (λ n. n + 1) (sym (first_of_one (fits c.args.zone.now (is_in c.args.cands.now))
     (filter (λ v. bytes_eq v.srel c.args.zone.now.srel) c.args.vers.now) (omega (arith, few, fewer))))
 
-pub behind-requires : goal.behind-requires
-behind-requires c =
+pub at_place-requires : goal.at_place-requires
+at_place-requires c =
     let below = place_below (fits c.args.zone.now (is_in c.args.cands.now))
     (λ v. bytes_eq v.srel c.args.zone.now.srel) c.args.vers.now c.in-Some.place (sym c.in-Some.ensures) in
     omega (arith, below)

@@ -13,7 +13,7 @@ loop-above-preserved c =
     let x = c.in-Some.above in
     let ch = choice c.args.vers.now in
     let is_cand = is_in c.args.cands.now in (
-      c.in_ok-append_of_candidate.ensures
+      c.in_ok-append_candidate_deletions.ensures
           ∙ ap (λ ys. ys ++ deletions ch (filter is_cand (x ∷ []))) at.invariant.0
           ∙ sym (ap (deletions ch) (filter-append is_cand at.yielded (x ∷ []))
           ∙ flat_map-append (del_of ch) (filter is_cand at.yielded) (filter is_cand (x ∷ []))),

@@ -15,6 +15,6 @@ returns-then-is_empty c s eg ec ez =
 
 pub returns : goal.returns
 returns c =
-    IfOk-weaker c.lost_ids.result _ _
+    IfOk-weaker c.all_lost_requisites.result _ _
     (λ found same s eg ec ez. same ∙ lost_orphans c.args.vers.now.global.now (choice c.args.vers.now)
-    c.del-dels.result.now c.args.zone.now s c.args.id c.del-dels.ensures eg ec ez) c.lost_ids.ensures
+    c.del-dels.result.now c.args.zone.now s c.args.id c.del-dels.ensures eg ec ez) c.all_lost_requisites.ensures

@@ -13,8 +13,11 @@ invariant_of-result g c =
     (Rises_from_sorted g.T.Ord.cmp _ (IsStrictlySortedBy-dedup g.met.T.Ord.total g.met.T.Ord.matches_eq sorted
     c.sort_unstable.ensures.sorted))
 
-pub returns : goal.returns
-returns g c =
+pub returns-clause-rising : goal.returns-clause-rising
+returns-clause-rising g c = invariant_of-result g c
+
+pub returns-clause-members : goal.returns-clause-members
+returns-clause-members g c =
     let eq = g.T.PartialEq.eq in
     let items = c.args.items.items in
     let sorted = c.sort_unstable.new.self.items in

@@ -32,6 +32,6 @@ returns c =
     ∙ ap (λ l. own ++ cond (is_function g x)
     (map (λ (r : StatedRequisite). r.id) (filter (λ r. is_applied left r.by) l)) [])
     (self.are_stated x)
-    ∙ ap (λ l. own ++ cond (is_function g x) l []) (stated_left g ch dels zone c.attest.ensures x)
+    ∙ ap (λ l. own ++ cond (is_function g x) l []) (stated_left g ch dels zone self.is_zone x)
     ∙ ap (λ ds. if_needed g ch (zone_less g ch ds zone) (is_in ids) x) seen)
-    c.from_vec.ensures
+    c.from_vec.ensures.members

@@ -3,13 +3,13 @@ use Rattle.terms.specs.Types.{Id}
 use Rattle.judge_system.specs.declared.stated.RequisiteOf.{RequisiteOf}
 use Rattle.judge_system.proofs.judged.Judged.new.Goals as goal
 
-pub numbered-requires-clause-by : goal.numbered-requires-clause-by
-numbered-requires-clause-by c =
+pub numbered_system-requires-clause-by : goal.numbered_system-requires-clause-by
+numbered_system-requires-clause-by c =
     subst (λ ids. All (λ (p : Id × Id). Contains ids p.0) c.as_slice-2.result.now) (sym c.in_ok-ids.ensures.ids)
     (subst (All (λ (p : Id × Id). Contains c.args.ids.now p.0)) (sym c.as_slice-2.ensures.value) c.requires.by)
 
-pub numbered-requires-clause-within : goal.numbered-requires-clause-within
-numbered-requires-clause-within c =
+pub numbered_system-requires-clause-within : goal.numbered_system-requires-clause-within
+numbered_system-requires-clause-within c =
     subst (λ ids. All (λ (w : RequisiteOf). Contains ids w.of) c.as_slice-3.result.now) (sym c.in_ok-ids.ensures.ids)
     (subst (All (λ (w : RequisiteOf). Contains c.args.ids.now w.of)) (sym c.as_slice-3.ensures.value) c.requires.of)
 

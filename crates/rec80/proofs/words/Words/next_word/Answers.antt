@@ -11,45 +11,45 @@ use Rattle.rec80.proofs.words.Words.next_word.Goals as goal
 
 pub returns-in_default-clause-end : goal.returns-in_default-clause-end
 returns-in_default-clause-end c = λ pieces h.
-    reads_end _ (rest_of c.behind_gaps-at.result) c.in_default.field-0 pieces c.behind_gaps-at.ensures.gaps
+    reads_end _ (rest_of c.skip_gaps-at.result) c.in_default.field-0 pieces c.skip_gaps-at.ensures.gaps
     c.in_default.ensures.stop h
 
 pub returns-in_default-piece : goal.returns-in_default-piece
 returns-in_default-piece c =
     let bad : (pieces : List grammar.Piece) → HasSolid (left_of c.args.self.now) pieces → BeginsNoWords pieces =
-    λ pieces h. reads_no_word _ (rest_of c.behind_gaps-at.result) (rest_of c.in-Ok.next) c.in-Ok.piece pieces
-    c.behind_gaps-at.ensures.gaps c.in-Ok.ensures.piece c.in_default-piece.not-Word h in
+    λ pieces h. reads_no_word _ (rest_of c.skip_gaps-at.result) (rest_of c.in-Ok.next) c.in-Ok.piece pieces
+    c.skip_gaps-at.ensures.gaps c.in-Ok.ensures.piece c.in_default-piece.not-Word h in
     record { word = λ pieces h. tt; end = λ pieces h. tt; bad = bad; err = refl; inline = refl; shorter = tt }
 
 pub returns-in-Some-clause-word : goal.returns-in-Some-clause-word
 returns-in-Some-clause-word c = λ pieces h.
-    reads_word _ (rest_of c.behind_gaps-at.result) (rest_of c.in-Ok.next) (rest_of c.behind_gaps-behind.result)
-    (rest_of c.in-Some.after) c.in-Word.word.now (text_of c.in-Some.list) pieces c.behind_gaps-at.ensures.gaps
-    (subst (λ p. TakesPiece (rest_of c.behind_gaps-at.result) (piece_of p) (rest_of c.in-Ok.next)) c.in-Word.is
-    c.in-Ok.ensures.piece) c.behind_gaps-behind.ensures.gaps c.in-Some.ensures.list h
+    reads_word _ (rest_of c.skip_gaps-at.result) (rest_of c.in-Ok.next) (rest_of c.skip_gaps-behind.result)
+    (rest_of c.in-Some.after) c.in-Word.word.now (text_of c.in-Some.list) pieces c.skip_gaps-at.ensures.gaps
+    (subst (λ p. TakesPiece (rest_of c.skip_gaps-at.result) (piece_of p) (rest_of c.in-Ok.next)) c.in-Word.is
+    c.in-Ok.ensures.piece) c.skip_gaps-behind.ensures.gaps c.in-Some.ensures.list h
 
 pub returns-clause-word : goal.returns-clause-word
 returns-clause-word c = λ pieces h.
-    reads_plain _ (rest_of c.behind_gaps-at.result) (rest_of c.in-Ok.next) (rest_of c.behind_gaps-behind.result)
-    c.in-Word.word.now pieces c.behind_gaps-at.ensures.gaps
-    (subst (λ p. TakesPiece (rest_of c.behind_gaps-at.result) (piece_of p) (rest_of c.in-Ok.next)) c.in-Word.is
-    c.in-Ok.ensures.piece) c.behind_gaps-behind.ensures.gaps c.in_default-own_list.ensures.none h
+    reads_plain _ (rest_of c.skip_gaps-at.result) (rest_of c.in-Ok.next) (rest_of c.skip_gaps-behind.result)
+    c.in-Word.word.now pieces c.skip_gaps-at.ensures.gaps
+    (subst (λ p. TakesPiece (rest_of c.skip_gaps-at.result) (piece_of p) (rest_of c.in-Ok.next)) c.in-Word.is
+    c.in-Ok.ensures.piece) c.skip_gaps-behind.ensures.gaps c.in_default-list_at.ensures.none h
 
 pub returns-in-Some-clause-shorter : goal.returns-in-Some-clause-shorter
 returns-in-Some-clause-shorter c =
-    let a = behind_shorter _ (rest_of c.behind_gaps-at.result) (rest_of c.in-Ok.next) (piece_of c.in-Ok.piece)
-    c.behind_gaps-at.ensures.gaps c.in-Ok.ensures.piece in
-    let b = behind_shorter (rest_of c.in-Ok.next) (rest_of c.behind_gaps-behind.result) (rest_of c.in-Some.after)
-    (TheList (text_of c.in-Some.list)) c.behind_gaps-behind.ensures.gaps c.in-Some.ensures.list in
+    let a = behind_shorter _ (rest_of c.skip_gaps-at.result) (rest_of c.in-Ok.next) (piece_of c.in-Ok.piece)
+    c.skip_gaps-at.ensures.gaps c.in-Ok.ensures.piece in
+    let b = behind_shorter (rest_of c.in-Ok.next) (rest_of c.skip_gaps-behind.result) (rest_of c.in-Some.after)
+    (TheList (text_of c.in-Some.list)) c.skip_gaps-behind.ensures.gaps c.in-Some.ensures.list in
     omega (arith, a, b)
 
 pub returns-clause-shorter : goal.returns-clause-shorter
 returns-clause-shorter c =
-    let a = behind_shorter _ (rest_of c.behind_gaps-at.result) (rest_of c.in-Ok.next) (piece_of c.in-Ok.piece)
-    c.behind_gaps-at.ensures.gaps c.in-Ok.ensures.piece in
+    let a = behind_shorter _ (rest_of c.skip_gaps-at.result) (rest_of c.in-Ok.next) (piece_of c.in-Ok.piece)
+    c.skip_gaps-at.ensures.gaps c.in-Ok.ensures.piece in
     omega (
       arith,
       a,
-      gaps_shorter (rest_of c.in-Ok.next) (rest_of c.behind_gaps-behind.result)
-          c.behind_gaps-behind.ensures.gaps,
+      gaps_shorter (rest_of c.in-Ok.next) (rest_of c.skip_gaps-behind.result)
+          c.skip_gaps-behind.ensures.gaps,
     )

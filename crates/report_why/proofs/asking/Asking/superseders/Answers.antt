@@ -16,11 +16,11 @@ returns-in-Some c =
     let a = c.args.self.now in
     let l = a.left in
     let x = c.args.id in
-    IfOk-weaker c.kept.result _ _ (λ ids is.
+    IfOk-weaker c.not_deleted.result _ _ (λ ids is.
     is ∙ ap (filter (λ y. not (is_gone l y)))
     (c.as_slice.ensures.items ∙ ap (λ (e : Entry). e.supby) c.found.view_is ∙ ap supby_in c.in-Some.ensures.found)
     ∙ sym (supby_of_less l.vers.now.global.now (choice l.vers.now) l.dels.now l.zone.now c.entry.ensures.form x)
-    ∙ ap (λ (z : Zone). supby_of z x) a.left_is) c.kept.ensures
+    ∙ ap (λ (z : Zone). supby_of z x) a.left_is) c.not_deleted.ensures
 
 pub returns-in-None : goal.returns-in-None
 returns-in-None c =

@@ -1,5 +1,6 @@
 use Rattle.std.proofs.Common.{◌≡◌, ◌∙◌, None, Some, Ok, map, refl, subst, sym, rules}
 use Rattle.std.specs.Prelude.{IsSome}
+use Rattle.std.proofs.lemmas.Result.{IfOk-weaker}
 use Rattle.std.specs.Str.{bytes_eq}
 use Rattle.indexmap.specs.IndexMap.{get}
 use Rattle.machine.specs.Machine.{Perform}
@@ -15,7 +16,7 @@ use Rattle.smpe_session.specs.Writing.{IsAtBoundary, TellsOutcomeOf, TellsRun}
 use Rattle.smpe_session.proofs.CarriedOut.{checks, fails, carries}
 use Rattle.smpe_session.proofs.Installed.{install_session}
 use Rattle.smpe_session.proofs.Stepping.{stopped}
-use Rattle.smpe_session.proofs.Using.{nothing, answered, handed, ran_short, no_answer}
+use Rattle.smpe_session.proofs.Using.{nothing, answered, handed, ran_short, no_answer, weaker}
 use Rattle.smpe_session.proofs.session.Session.carry_out.Goals as goal
 
 pub returns-then-header-clause-uses : goal.returns-then-header-clause-uses
@@ -32,8 +33,16 @@ returns-then-header-clause-uses g c = answered nothing (λ own none. absurd none
 pub returns-in_default-clause-uses : goal.returns-in_default-clause-uses
 returns-in_default-clause-uses g c =
     let none : get bytes_eq c.args.self.now.zones c.args.name ≡ None = search rules in
-    answered nothing (λ own no. absurd no) (λ s inventory keeps is date files command planned.
-    absurd (cc (sym none ∙ planned.has)))
+    weaker c.commit_change.ensures.uses
+    (λ own is. (
+      subst IsOfZone (sym is) (c.requires.knows.0, c.attest.ensures, c.requires.knows.1),
+      c.if-header.false,
+      IfOk-weaker c.commit_change.result (λ given. given ≡ report.Ran c.args.header c.args.lines) (TellsRun own)
+          (λ given same. subst (TellsRun own) (sym same)
+          (subst (λ (change : Change). IsAtBoundary change (header_view c.args.header)) (sym is) c.requires.boundary))
+          c.commit_change.ensures.answer,
+    ))
+    (λ s inventory ended is date files command planned. absurd (cc (sym none ∙ planned.has)))
 
 pub returns-in_err-prepared-clause-uses : goal.returns-in_err-prepared-clause-uses
 returns-in_err-prepared-clause-uses g c = ran_short c.from_residual.ensures.1 nothing
@@ -50,7 +59,7 @@ returns-in_err-outcome-clause-uses g c = handed c.from_residual-in_err-outcome.e
     (λ s inventory ended is date files command planned.
     fails date files command s c.args.self.now c.args.name c.args.delta c.args.header.check
     (Ran (header_view c.args.header) (map line_view c.args.lines.items)) planned inventory c.if-header.false
-    g.S.Store c.args.store.now c.commit_change.new.store
+    g.S.Store c.args.store.now c.commit_change-2.new.store
     (report.Ran c.args.header c.args.lines) refl
     (record c.args.self.now { zones = c.get_mut.follows.lender c.in-Some.zone.now }) c.attest.ensures
     c.in_err-outcome.field-0.0 ended)
@@ -74,7 +83,7 @@ returns-clause-uses g c = answered c.in_ok-outcome.ensures.uses
     (subst (λ (zone : Zone). IsEdited (delta_of c.in_ok-prepared.prepared) zone new) same c.edit.ensures) in
     carries date files command s c.args.self.now name c.args.delta c.args.header.check
     (Ran (header_view c.args.header) (map line_view c.args.lines.items)) planned inventory c.if-header.false
-    g.S.Store c.args.store.now c.commit_change.new.store
+    g.S.Store c.args.store.now c.commit_change-2.new.store
     (report.Ran c.args.header c.args.lines) refl session new changed c.attest.ensures
     (install_session s name planned.zone new inventory planned.is_there c.args.self.now session is refl refl
     ((c.get_mut.follows.holds new).3 (subst IsSome (sym here) refl)))
@@ -86,7 +95,10 @@ pub returns-then-header-clause-header : goal.returns-then-header-clause-header
 returns-then-header-clause-header g c = λ command boundary is. (boundary, is)
 
 pub returns-in_default-clause-header : goal.returns-in_default-clause-header
-returns-in_default-clause-header g c = λ command boundary is. (boundary, is)
+returns-in_default-clause-header g c = λ command boundary is.
+    IfOk-weaker c.commit_change.result (λ given. given ≡ report.Ran c.args.header c.args.lines)
+    (TellsOutcomeOf command) (λ given same. subst (TellsOutcomeOf command) (sym same) (boundary, is))
+    c.commit_change.ensures.answer
 
 pub returns-in_err-prepared-clause-header : goal.returns-in_err-prepared-clause-header
 returns-in_err-prepared-clause-header g c = λ command boundary is.

@@ -38,21 +38,24 @@ returns-in-Err-clause-uses g c = answered nothing (λ own none. absurd none) (λ
   keeps,
 ))
 
-pub take_found-requires : goal.take_found-requires
-take_found-requires g c = each_external c.args.what.now.holddata c.args.files.now.holds
+pub receive_found_items-requires : goal.receive_found_items-requires
+receive_found_items-requires g c = each_external c.args.what.now.holddata c.args.files.now.holds
     (hold_items c.in-Ok.found.holds.items) (rw c.in-Ok.is at c.in_ok-found.ensures).1
 
 pub returns-in_err-edits-clause-uses : goal.returns-in_err-edits-clause-uses
-returns-in_err-edits-clause-uses g c = ran_short c.from_residual-in_err-edits.ensures.1 nothing (λ s inventory keeps is date.
+returns-in_err-edits-clause-uses g c = ran_short c.from_residual-in_err-edits.ensures.1 nothing
+    (λ s inventory keeps is date.
     stopped g.S.Store c.args.store.now s (Perform date c.args.files.now (Receive c.args.what.now)) keeps)
 
 pub returns-in_err-lines-clause-uses : goal.returns-in_err-lines-clause-uses
-returns-in_err-lines-clause-uses g c = ran_short c.from_residual-in_err-lines.ensures.1 nothing (λ s inventory keeps is date.
+returns-in_err-lines-clause-uses g c = ran_short c.from_residual-in_err-lines.ensures.1 nothing
+    (λ s inventory keeps is date.
     stopped g.S.Store c.args.store.now s (Perform date c.args.files.now (Receive c.args.what.now)) keeps)
 
 pub returns-clause-uses : goal.returns-clause-uses
 returns-clause-uses g c =
-    let stays : c.match-this.self ≡ record c.args.self.now { global = c.take_found.new.global } = search rules in
+    let stays : c.match-this.self ≡ record c.args.self.now { global = c.receive_found_items.new.global } =
+    search rules in
     rw stays (weaker c.commit_change.ensures.uses
     (λ change is.
     let own = subst IsReceived (sym is) c.in_ok-edits.ensures.taken.receives in (
@@ -64,14 +67,15 @@ returns-clause-uses g c =
     let files = c.args.files.now in
     let what = c.args.what.now in
     let at = c.args.self.now in
-    let new = c.take_found.new.global in
+    let new = c.receive_found_items.new.global in
     let found = rw c.in-Ok.is at c.in_ok-found.ensures in
     let taken = c.in_ok-edits.field-0 in
     let lines = map line_view c.in_ok-lines.lines.items in
     let leads = received date files what s at.global new c.what.inside.source (items c.in-Ok.found.items.items)
     (hold_items c.in-Ok.found.holds.items) taken.edits.items (map line_view taken.lines.items) lines (sym is.global)
     inventory (sym (c.in_default.ensures.refused s (sym is.boundary) ∙ receive_at s what))
-    (sym (ap (λ w. w.source) c.what.view_is)) c.take_found.ensures.form found.0 found.1 c.in_ok-edits.ensures.taken
+    (sym (ap (λ w. w.source) c.what.view_is)) c.receive_found_items.ensures.form found.0 found.1
+    c.in_ok-edits.ensures.taken
     c.in_ok-lines.ensures in
     led g.S.Store c.args.store.now c.commit_change.new.store date files (Receive what) s at.boundary at
     (record at { global = new }) taken.edits.items lines _ is.boundary is refl refl leads

@@ -24,20 +24,20 @@ returns-in-Some-clause-uses g c = answered nothing (λ own none. absurd none) (�
   keeps,
 ))
 
-pub returns-in_err-load_zones-clause-uses : goal.returns-in_err-load_zones-clause-uses
-returns-in_err-load_zones-clause-uses g c = handed_on c.from_residual.ensures.1 c.in_err-load_zones.ensures
-    (λ s inventory un is date files. act_unmoved g.S.Store c.args.store.now c.load_zones.new.store s
-    (Perform date files (Reject c.args.ids.now)) c.in_err-load_zones.field-0.0 (un is))
+pub returns-in_err-load_all_zones-clause-uses : goal.returns-in_err-load_all_zones-clause-uses
+returns-in_err-load_all_zones-clause-uses g c = handed_on c.from_residual.ensures.1 c.in_err-load_all_zones.ensures
+    (λ s inventory un is date files. act_unmoved g.S.Store c.args.store.now c.load_all_zones.new.store s
+    (Perform date files (Reject c.args.ids.now)) c.in_err-load_all_zones.field-0.0 (un is))
 
 pub returns-in_err-edits-clause-uses : goal.returns-in_err-edits-clause-uses
-returns-in_err-edits-clause-uses g c = ran_short c.from_residual-in_err-edits.ensures.1 c.in_ok-load_zones.ensures
-    (λ s inventory had is date files. stopped g.S.Store c.load_zones.new.store s
+returns-in_err-edits-clause-uses g c = ran_short c.from_residual-in_err-edits.ensures.1 c.in_ok-load_all_zones.ensures
+    (λ s inventory had is date files. stopped g.S.Store c.load_all_zones.new.store s
     (Perform date files (Reject c.args.ids.now)) (had is).1)
 
 pub returns-clause-uses : goal.returns-clause-uses
 returns-clause-uses g c =
-    let stays : c.match-this.self ≡ record c.load_zones.new.self { global = c.reject.new.global } = search rules in
-    rw stays (weaker (after c.in_ok-load_zones.ensures c.commit_change.ensures.uses)
+    let stays : c.match-this.self ≡ record c.load_all_zones.new.self { global = c.reject.new.global } = search rules in
+    rw stays (weaker (after c.in_ok-load_all_zones.ensures c.commit_change.ensures.uses)
     (λ change is.
     let own = subst IsRejected (sym is) c.in_ok-edits.ensures.rejects in (
       own,
@@ -46,7 +46,7 @@ returns-clause-uses g c =
     ))
     (λ s inventory both is date files.
     let had = both.0 is in
-    let at = c.load_zones.new.self in
+    let at = c.load_all_zones.new.self in
     let new = c.reject.new.global in
     let rejects = c.in_ok-edits.field-0 in
     let lines = map line_view rejects.lines.items in
@@ -55,9 +55,9 @@ returns-clause-uses g c =
     (sym (c.in_default.ensures.refused s (sym is.boundary) ∙ reject_at s c.args.ids.now))
     (c.in_ok-edits.ensures.runs s.zones (alike s at inventory c.reject.ensures.names had.0))
     (c.in_ok-edits.ensures.fits new) (c.in_ok-edits.ensures.edits new) in
-    performs_since g.S.Store c.args.store.now c.load_zones.new.store c.commit_change.new.store s
-    c.load_zones.ensures.goes.follows _ date files (Reject c.args.ids.now) c.commit_change.result
-    (led g.S.Store c.load_zones.new.store c.commit_change.new.store date files (Reject c.args.ids.now) s
+    performs_since g.S.Store c.args.store.now c.load_all_zones.new.store c.commit_change.new.store s
+    c.load_all_zones.ensures.goes.follows _ date files (Reject c.args.ids.now) c.commit_change.result
+    (led g.S.Store c.load_all_zones.new.store c.commit_change.new.store date files (Reject c.args.ids.now) s
     c.args.self.now.boundary at (record at { global = new }) rejects.edits.items lines _ is.boundary had.0.session refl
     refl leads (Change.Global (stated_in c.commit_change.ensures.uses) rejects.edits) c.in_ok-edits.ensures.rejects tt
     (leads.fits, leads.makes) c.commit_change.result

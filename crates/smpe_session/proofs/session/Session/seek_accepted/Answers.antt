@@ -9,12 +9,13 @@ returns-in_default g c = answered nothing (λ own none. absurd none) (λ s inven
   keeps,
 ))
 
-pub returns-in_err-seek : goal.returns-in_err-seek
-returns-in_err-seek g c = handed_on c.from_residual.ensures.1 c.in_err-seek.ensures.uses (λ s inventory un is. un is)
+pub returns-in_err-seek_zone : goal.returns-in_err-seek_zone
+returns-in_err-seek_zone g c = handed_on c.from_residual.ensures.1 c.in_err-seek_zone.ensures.uses
+    (λ s inventory un is. un is)
 
 pub returns : goal.returns
-returns g c = answered c.in_ok-seek.ensures.uses (λ own none. absurd none) (λ s inventory sought is. (
-  accepted_some s inventory c.args.self.now c.seek.new.self c.in-Some.accepted c.in_ok-seek.field-0 is
+returns g c = answered c.in_ok-seek_zone.ensures.uses (λ own none. absurd none) (λ s inventory sought is. (
+  accepted_some s inventory c.args.self.now c.seek_zone.new.self c.in-Some.accepted c.in_ok-seek_zone.field-0 is
       (search rules) (sought is).0,
   (sought is).1,
 ))

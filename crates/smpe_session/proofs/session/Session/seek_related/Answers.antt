@@ -37,20 +37,20 @@ returns-in_default-target_name g c =
       loaded.1,
     ))
 
-pub returns-in_err-seek : goal.returns-in_err-seek
-returns-in_err-seek g c = handed_on c.from_residual-in_err-seek.ensures.1
-    (after (load_uses c.in_ok-heads.ensures) c.in_err-seek.ensures.uses)
-    (λ s inventory both is. unmoved_since g.S.Store c.args.store.now c.zone_heads.new.self c.seek.new.store s
-    (load_uses c.zone_heads.ensures).goes.follows c.in_err-seek.field-0.0 (both.1 both.0.1 is))
+pub returns-in_err-seek_zone : goal.returns-in_err-seek_zone
+returns-in_err-seek_zone g c = handed_on c.from_residual-in_err-seek_zone.ensures.1
+    (after (load_uses c.in_ok-heads.ensures) c.in_err-seek_zone.ensures.uses)
+    (λ s inventory both is. unmoved_since g.S.Store c.args.store.now c.zone_heads.new.self c.seek_zone.new.store s
+    (load_uses c.zone_heads.ensures).goes.follows c.in_err-seek_zone.field-0.0 (both.1 both.0.1 is))
 
 pub returns : goal.returns
 returns g c =
     let other : c.args.kind ≢ Target = search rules in
-    answered (after (load_uses c.in_ok-heads.ensures) c.in_ok-seek.ensures.uses) (λ own none. absurd none)
+    answered (after (load_uses c.in_ok-heads.ensures) c.in_ok-seek_zone.ensures.uses) (λ own none. absurd none)
     (λ s inventory both is.
     let sought = both.1 both.0.1 is in (
       not_target c.args.kind other (related_some s c.in-Some.name (sym is.boundary ∙ c.in-Some.is)
-          c.as_slice.result.now (c.as_slice.ensures.value ∙ both.0.0) c.seek.new.self c.in-Some-target_name.target
-          c.in_ok-seek.field-0 inventory c.in-Some-target_name.ensures sought.0),
+          c.as_slice.result.now (c.as_slice.ensures.value ∙ both.0.0) c.seek_zone.new.self c.in-Some-target_name.target
+          c.in_ok-seek_zone.field-0 inventory c.in-Some-target_name.ensures sought.0),
       sought.1,
     ))

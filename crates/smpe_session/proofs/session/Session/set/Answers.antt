@@ -6,28 +6,30 @@ use Rattle.smpe_session.proofs.Seeking.{set_refused, set_ran, set_session}
 use Rattle.smpe_session.proofs.Using.{answered, handed_on}
 use Rattle.smpe_session.proofs.session.Session.set.Goals as goal
 
-pub returns-in_err-seek-clause-uses : goal.returns-in_err-seek-clause-uses
-returns-in_err-seek-clause-uses g c = handed_on c.from_residual.ensures.1 c.in_err-seek.ensures.uses
-    (λ s inventory un is date files. act_unmoved g.S.Store c.args.store.now c.seek.new.store s
-    (Perform date files (Set c.args.name)) c.in_err-seek.field-0.0 (un is))
+pub returns-in_err-seek_zone-clause-uses : goal.returns-in_err-seek_zone-clause-uses
+returns-in_err-seek_zone-clause-uses g c = handed_on c.from_residual.ensures.1 c.in_err-seek_zone.ensures.uses
+    (λ s inventory un is date files. act_unmoved g.S.Store c.args.store.now c.seek_zone.new.store s
+    (Perform date files (Set c.args.name)) c.in_err-seek_zone.field-0.0 (un is))
 
 pub returns-then-not-branch-clause-uses : goal.returns-then-not-branch-clause-uses
-returns-then-not-branch-clause-uses g c = answered c.in_ok-seek.ensures.uses (λ own none. absurd none)
+returns-then-not-branch-clause-uses g c = answered c.in_ok-seek_zone.ensures.uses (λ own none. absurd none)
     (λ s inventory found is date files.
     let sought = found is in (
       s,
-      set_refused s c.seek.new.self c.args.name date files c.in_ok-seek.field-0 sought.0 c.if-not-branch.true,
+      set_refused s c.seek_zone.new.self c.args.name date files c.in_ok-seek_zone.field-0 sought.0 c.if-not-branch.true,
       sought.0.session,
       sought.1,
     ))
 
 pub returns-clause-uses : goal.returns-clause-uses
-returns-clause-uses g c = answered c.in_ok-seek.ensures.uses (λ own none. absurd none) (λ s inventory found is date files.
+returns-clause-uses g c = answered c.in_ok-seek_zone.ensures.uses (λ own none. absurd none)
+    (λ s inventory found is date files.
     let sought = found is in (
       record s { boundary = Some c.args.name },
-      set_ran s c.seek.new.self c.args.name date files _ c.in_ok-seek.field-0 sought.0 c.if-not-branch.false
+      set_ran s c.seek_zone.new.self c.args.name date files _ c.in_ok-seek_zone.field-0 sought.0 c.if-not-branch.false
           (rw c.new.ensures.items refl),
-      set_session s c.seek.new.self _ c.args.name c.in_ok-seek.field-0 sought.0 c.if-not-branch.false refl refl refl,
+      set_session s c.seek_zone.new.self _ c.args.name c.in_ok-seek_zone.field-0 sought.0 c.if-not-branch.false refl
+          refl refl,
       sought.1,
     ))
 

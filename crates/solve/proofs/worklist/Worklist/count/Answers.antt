@@ -5,27 +5,27 @@ use Rattle.solve.proofs.worklist.Worklist.count.Goals as goal
 
 pub returns-clause-kept : goal.returns-clause-kept
 returns-clause-kept c =
-    let b = c.run.new.self in
+    let b = c.follow_drops.new.self in
     let at : List ℕ → Type 0 = λ dropped. IsSearch c.args.s.now [] (λ k. Unit {0}) b.standing.items b.living.items
     dropped b.count.strikes b.dropped.cap in
     rw c.new.ensures (search_kept c.args.s.now b.standing.items b.living.items b.count.strikes b.dropped.cap
-    (subst at c.run.ensures.done c.run.ensures.board))
+    (subst at c.follow_drops.ensures.done c.follow_drops.ensures.board))
 
 pub returns-clause-strikes : goal.returns-clause-strikes
 returns-clause-strikes c =
-    let b = c.run.new.self in
+    let b = c.follow_drops.new.self in
     let at : List ℕ → Type 0 = λ dropped. IsSearch c.args.s.now [] (λ k. Unit {0}) b.standing.items b.living.items
     dropped b.count.strikes b.dropped.cap in
     rw c.new.ensures (search_strikes c.args.s.now b.standing.items b.living.items b.count.strikes b.dropped.cap
-    (subst at c.run.ensures.done c.run.ensures.board))
+    (subst at c.follow_drops.ensures.done c.follow_drops.ensures.board))
 
 pub returns-clause-turns : goal.returns-clause-turns
 returns-clause-turns c =
     let p = c.args.s.now in
     omega (
       arith,
-      c.run.ensures.turns,
-      c.run.ensures.board.struck,
+      c.follow_drops.ensures.turns,
+      c.follow_drops.ensures.board.struck,
       eligible_le_pairs p,
       c.drop_unserved.ensures.board.total,
       c.drop_unserved.ensures.turns,
@@ -35,4 +35,4 @@ returns-clause-turns c =
     )
 
 pub new-requires : goal.new-requires
-new-requires c = omega (arith, c.run.ensures.board.size, c.size.ensures.size)
+new-requires c = omega (arith, c.follow_drops.ensures.board.size, c.size.ensures.size)

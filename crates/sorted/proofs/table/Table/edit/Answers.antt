@@ -16,3 +16,6 @@ pub invariant_of-self : goal.invariant_of-self
 invariant_of-self g c =
     rw (c.make_edits.ensures, c.into_vec.ensures.items) (Rises_edited g.met.T.Key.Ord.total
     g.T.Keyed.key_of c.prepared.inside.edits c.self.inside.items.items c.self.invariant)
+
+pub returns-clause-rising : goal.returns-clause-rising
+returns-clause-rising g c = invariant_of-self g c

@@ -11,3 +11,6 @@ invariant_of-result g c =
     subst (Rises R key) (sym (c.in_ok-items.ensures
     ∙ ap₂ (edited R key) c.as_slice.ensures.value c.as_slice-2.ensures.value))
     (Rises_edited g.met.T.Key.Ord.total key c.edits.inside.items.items c.self.inside.items.items c.self.invariant)
+
+pub returns-clause-rising : goal.returns-clause-rising
+returns-clause-rising g c = invariant_of-result g c

@@ -26,3 +26,9 @@ returns-in_ok-insert-in-Err-clause-ok g c =
     rw (← c.self.view_is) (c.in_ok-insert-in-Err.ensures.items
     ∙ sym (with_item_parted g.met.T.Key.Ord.total g.T.Keyed.key_of c.self.inside.items.items c.in-Err.place
     c.args.item missing.1))
+
+pub returns-in-Ok-clause-rising : goal.returns-in-Ok-clause-rising
+returns-in-Ok-clause-rising g c = invariant_of-self g c
+
+pub returns-in_ok-insert-in-Err-clause-rising : goal.returns-in_ok-insert-in-Err-clause-rising
+returns-in_ok-insert-in-Err-clause-rising g c = invariant_of-self-in-Err g c

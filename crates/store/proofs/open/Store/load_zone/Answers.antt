@@ -8,4 +8,4 @@ returns g c =
     let now = c.load_zone.new.conn in
     loads_by g.S.Store (λ i zone. zone ≡ zone_in i c.args.name) c.self.inside.conn c.args.self.now now c.self.view_is
     (c.if-prove.ensures.settled refl) (g.met.S.Store.settled now.store) c.load_zone.result c.load_zone.ensures.reads
-    c.load_zone.ensures.found c.load_zone.ensures.none c.told.result c.told.ensures
+    c.load_zone.ensures.found c.load_zone.ensures.none c.map_read_error.result c.map_read_error.ensures

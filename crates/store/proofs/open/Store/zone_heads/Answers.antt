@@ -12,7 +12,7 @@ returns g c =
     (c.if-prove.ensures.settled refl) (g.met.S.Store.settled now.store) c.zone_heads.result
     (c.zone_heads.ensures.reads Third)
     (λ clean. c.zone_heads.ensures.found clean Third) (λ clean bad. c.zone_heads.ensures.none clean bad Third)
-    c.told.result c.told.ensures
+    c.map_read_error.result c.map_read_error.ensures
 
 pub invariant_of-self : goal.invariant_of-self
 invariant_of-self g c = (c.zone_heads.ensures.reads Third).mode c.self.invariant

@@ -8,4 +8,4 @@ returns-in-Err-clause-none c bad text rest forms is =
     let read = c.in_ok-lines.ensures.read in
     let same : records c.in_ok-lines.lines.items ≡ records text = let first = read.0 in cc in
     no_text c.args.elem_type c.in_ok-lines.lines.items text c.in-Err.field-0
-    (c.is_updated.ensures.0 c.if-not-is_updated.false) read.1 c.in-Err.ensures.fault forms same
+    (c.is_numbered.ensures.0 c.if-not-is_numbered.false) read.1 c.in-Err.ensures.fault forms same

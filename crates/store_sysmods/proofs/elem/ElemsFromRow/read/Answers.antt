@@ -9,11 +9,11 @@ invariant_of-change c = fits_action c.in_ok-elem_type.elem_type c.in_ok-name.nam
 
 pub returns-in_err-id-clause-none : goal.returns-in_err-id-clause-none
 returns-in_err-id-clause-none c bad item forms same =
-    c.id.ensures.none (search rules) item.id _ forms.0 (c.of-columns.ensures ∙ same)
+    c.id.ensures.none (search rules) item.id _ forms.0 (c.new-columns.ensures ∙ same)
 
 pub returns-clause-read : goal.returns-clause-read
 returns-clause-read c = (
-  sym c.of-columns.ensures ∙ next c.in_ok-id.ensures.read.0 (next c.in_ok-elem_type.ensures.read
+  sym c.new-columns.ensures ∙ next c.in_ok-id.ensures.read.0 (next c.in_ok-elem_type.ensures.read
       (next c.in_ok-name.ensures.read.0 c.in_ok-action.ensures.read.0)),
   (
     c.in_ok-id.ensures.read.1,

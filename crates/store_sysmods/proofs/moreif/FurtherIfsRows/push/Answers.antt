@@ -13,16 +13,16 @@ returns-then-place-eq1 c =
     let v = c.args.ver.now in
     let k = number_behind c.args.front.now v in
     none_pushed c.args.rows.now.items _ (none_further
-    (map (moreif_row c.args.self.now.id v.srel k) (enumerate_from 1 v.ifs)) c.number_behind-place.result k
-    c.number_behind-place.ensures.same c.if-place-eq1.true)
+    (map (moreif_row c.args.self.now.id v.srel k) (enumerate_from 1 v.ifs)) c.number_after-place.result k
+    c.number_after-place.ensures.same c.if-place-eq1.true)
 
 pub returns : goal.returns
 returns c =
     let v = c.args.ver.now in
     let x = c.args.self.now.id in
-    let n = c.number_behind-place.result in
+    let n = c.number_after-place.result in
     let k = number_behind c.args.front.now v in
-    let same = c.number_behind-place.ensures.same in
+    let same = c.number_after-place.ensures.same in
     let rows = ap₂ (λ srel ifs. map (moreif_row x srel n) (enumerate_from 1 ifs))
     (ap (λ (w : Ver). w.srel) c.ver.view_is) (c.as_slice.ensures.value ∙ ap (λ (w : Ver). w.ifs) c.ver.view_is) in
     on_ok c.push_all.result _ _ (pushed_as (map as_bound c.args.rows.now.items)

@@ -5,12 +5,12 @@ use Rattle.store_sysmods.proofs.moreif.MoreIfsFromRow.read.Goals as goal
 
 pub returns-in_err-id-clause-none : goal.returns-in_err-id-clause-none
 returns-in_err-id-clause-none c bad item forms same =
-    c.id.ensures.none (search rules) item.id _ forms.0.0 (c.of-columns.ensures ∙ same)
+    c.id.ensures.none (search rules) item.id _ forms.0.0 (c.new-columns.ensures ∙ same)
 
 pub returns-clause-read : goal.returns-clause-read
 returns-clause-read c =
     let requisites = c.in_ok-req.ensures.read in (
-      sym c.of-columns.ensures ∙ next c.in_ok-id.ensures.read.0 (next c.in_ok-srel.ensures.read.0
+      sym c.new-columns.ensures ∙ next c.in_ok-id.ensures.read.0 (next c.in_ok-srel.ensures.read.0
           (next c.in_ok-place.ensures.read.0 (next c.in_ok-number.ensures.read (next c.in_ok-function.ensures.read.0
           (next requisites.0 c.in_ok-end.ensures.read))))),
       (

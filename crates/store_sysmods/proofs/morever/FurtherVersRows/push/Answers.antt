@@ -9,14 +9,14 @@ returns-then-number-eq1 c =
     let v = c.args.ver.now in
     let k = number_behind c.args.front.now v in
     none_pushed c.args.rows.now.items _ (none_further (morever_row c.args.self.now.id (k, v) ∷ [])
-    c.number_behind-number.result k c.number_behind-number.ensures.same c.if-number-eq1.true)
+    c.number_after-number.result k c.number_after-number.ensures.same c.if-number-eq1.true)
 
 pub returns : goal.returns
 returns c =
     let v = c.args.ver.now in
     let k = number_behind c.args.front.now v in
-    let same = c.number_behind-number.ensures.same in
+    let same = c.number_after-number.ensures.same in
     let x = c.args.self.now.id in
-    one_pushed c.args.rows.now.items _ c.in_ok-row_of.field-0 _ c.in_ok-push.ensures.items
-    (ap (λ (row : Row). row ∷ []) c.in_ok-row_of.ensures ∙ ap (λ m. morever_row x (m, v) ∷ []) same
-    ∙ some_further (morever_row x (k, v) ∷ []) c.number_behind-number.result k same c.if-number-eq1.false)
+    one_pushed c.args.rows.now.items _ c.in_ok-make_further_ver_row.field-0 _ c.in_ok-push.ensures.items
+    (ap (λ (row : Row). row ∷ []) c.in_ok-make_further_ver_row.ensures ∙ ap (λ m. morever_row x (m, v) ∷ []) same
+    ∙ some_further (morever_row x (k, v) ∷ []) c.number_after-number.result k same c.if-number-eq1.false)

@@ -20,8 +20,9 @@ module _ (c : After-push_all-6) (ss : List Sysmod) (are : AreWaitingRows c.args.
 
   own : map as_bound c.push.new.self.items ≡ map sysmod_row all
   own =
-      one_pushed c.args.self.now.sysmods.items c.push.new.self.items c.in_ok-row_of.field-0 _ c.in_ok-push.ensures.items
-      (ap (λ (row : Row). row ∷ []) c.in_ok-row_of.ensures)
+      one_pushed c.args.self.now.sysmods.items c.push.new.self.items c.in_ok-make_head_row.field-0 _
+      c.in_ok-push.ensures.items
+      (ap (λ (row : Row). row ∷ []) c.in_ok-make_head_row.ensures)
       ∙ ap (λ rows. rows ++ sysmod_row c.args.sysmod.now ∷ []) are.sysmods
       ∙ sym (map-append sysmod_row ss (sourced c.args.sysmod.now c.args.sources.now ∷ []))
 

@@ -16,7 +16,7 @@ text_is read same = cc
 pub returns-in_err-text-clause-none : goal.returns-in_err-text-clause-none
 returns-in_err-text-clause-none c bad item forms same =
     let element = item.item in
-    let behind_zone = rest_is c.in_ok-zone.ensures.read.0 (c.of-columns.ensures ∙ same) in
+    let behind_zone = rest_is c.in_ok-zone.ensures.read.0 (c.new-columns.ensures ∙ same) in
     let type = text_is c.in_ok-elem_type.ensures.read behind_zone in
     let behind_type = rest_is c.in_ok-elem_type.ensures.read behind_zone in
     let behind_name = rest_is c.in_ok-name.ensures.read.0 behind_type in

@@ -6,8 +6,8 @@ use Rattle.sysmods.proofs.holds.Holds.exchange.Goals.{In_ok-old}
 made : (c : In_ok-old) → IsExchanged c.self.inside.map.entries c.insert.new.self.entries c.key_of-key.result c.args.hold
 made c =
     exchanged c.self.inside.map.entries c.insert.new.self.entries c.self.invariant c.key_of-key.result
-    c.marked-hold.result c.args.hold (option_copied c.get.result) c.key_of-key.ensures c.marked-hold.ensures
-    c.get.ensures.value c.in_ok-old.ensures.entries c.insert.ensures.ordered
+    c.with_internal_mark-hold.result c.args.hold (option_copied c.get.result) c.key_of-key.ensures
+    c.with_internal_mark-hold.ensures c.get.ensures.value c.in_ok-old.ensures.entries c.insert.ensures.ordered
 
 pub invariant_of-self-in_default : goal.invariant_of-self-in_default
 invariant_of-self-in_default c = (made (goal.at.invariant_of-self-in_default c).In_ok-old).kept

@@ -16,8 +16,8 @@ invariant_of-self c =
     let is : IsEdited edits old (changed_zone edits old) = zone_changes edits old c.prepared.invariant
     c.self.invariant in
     rw (
-      c.edit.ensures,
-      c.edit-2.ensures,
+      c.edit.ensures.items,
+      c.edit-2.ensures.items,
       edited_agree _ element_cmp cmp_keys element_key p.elements.edits z.elements,
     ) is.is_zone
 
@@ -32,7 +32,7 @@ returns c =
     rw (
       ← c.self.view_is,
       ← c.prepared.view_is,
-      c.edit.ensures,
-      c.edit-2.ensures,
+      c.edit.ensures.items,
+      c.edit-2.ensures.items,
       edited_agree _ element_cmp cmp_keys element_key p.elements.edits z.elements,
     ) is

@@ -1,0 +1,11 @@
+use Rattle.std.proofs.Common.{refl}
+use Rattle.std.proofs.lemmas.List.{map-id}
+use Rattle.std.proofs.lemmas.Result.{IfOk-weaker}
+use Rattle.intake_asked.proofs.Alike.{turned}
+use Rattle.intake_asked.proofs.commands.are_only_in.Goals as goal
+
+pub returns : goal.returns
+returns c =
+    IfOk-weaker c.are_wanted_texts.result _ _
+    (λ are these t. (turned (map-id _) refl (these t), c.are_none.ensures c.if-not-are_none.false))
+    c.are_wanted_texts.ensures

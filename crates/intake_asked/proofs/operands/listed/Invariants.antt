@@ -1,7 +1,0 @@
-use Rattle.std.proofs.Common.{◌≡◌, take, map}
-use Rattle.intake_asked.specs.Words.{listed}
-use Rattle.intake_asked.proofs.operands.listed.Given as goal
-
-abbrev pub invariant-loop-operand : goal.invariant-loop-operand
-invariant-loop-operand l = map (λ p. p.now) l.found.items
-    ≡ listed (map (λ n. n.now) l.names) (take l.operand-index l.operands)

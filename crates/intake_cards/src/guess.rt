@@ -1,0 +1,108 @@
+//! The code and the layout of a file, guessed from its bytes.
+use crate::code::{Code, Layout};
+use crate::errors::CardError;
+
+// The code of three bytes, if they begin a statement: two plus signs and a letter.
+fn statement_code(bytes: &[u8]) -> Option<Code> {
+    match bytes {
+        [b'+', b'+', letter, ..] if letter.is_ascii_alphabetic() => Some(Code::Ascii),
+        [0x4E, 0x4E, letter, ..] if *letter >= 0x80 => Some(Code::Ibm1047),
+        _ => None,
+    }
+}
+
+// Whether the byte ends a line in one of the codes.
+fn may_end_line(byte: u8) -> bool {
+    Code::Ascii.ends_line(byte) || Code::Ibm1047.ends_line(byte)
+}
+
+// The code of the first statement, where a card may begin.
+fn first_statement_code(bytes: &[u8]) -> Option<Code> {
+    let mut before = b'\n';
+    for (i, three) in bytes.windows(3).enumerate() {
+        if may_end_line(before) || i % 80 == 0 {
+            let code = statement_code(three);
+            if code.is_some() {
+                return code;
+            }
+        }
+        before = three[0];
+    }
+    None
+}
+
+// Whether most bytes are blanks (X'40') or have codes from X'80' on, as the letters and digits of EBCDIC have.
+fn is_mostly_ebcdic(bytes: &[u8]) -> bool {
+    let high = bytes
+        .iter()
+        .filter(|byte| **byte >= 0x80 || **byte == 0x40)
+        .count();
+    high > bytes.len() / 2
+}
+
+/// The code of the first statement, or of most bytes if there is no statement. EBCDIC is taken for IBM-1047.
+pub(crate) fn guess_code(bytes: &[u8]) -> Code {
+    if let Some(code) = first_statement_code(bytes) {
+        return code;
+    }
+    if is_mostly_ebcdic(bytes) {
+        Code::Ibm1047
+    } else {
+        Code::Ascii
+    }
+}
+
+/// Records, if 80 divides the length, with or without what pads the file, and no line ends within the first 82 bytes;
+/// else text.
+pub(crate) fn guess_layout(bytes: &[u8], code: Code) -> Layout {
+    let is_divided = bytes.len() % 80 == 0 || without_padding(bytes, code).len() % 80 == 0;
+    let has_line = bytes.iter().take(82).any(|byte| code.ends_line(*byte));
+    if is_divided && !has_line {
+        Layout::Records
+    } else {
+        Layout::Text
+    }
+}
+
+/// The bytes up to the last one that does not pad the file.
+pub(crate) fn without_padding(bytes: &[u8], code: Code) -> &[u8] {
+    let mut length = 0;
+    for (place, byte) in bytes.iter().enumerate() {
+        if !code.is_padding(*byte) {
+            length = place + 1;
+        }
+    }
+    match bytes.split_at_checked(length) {
+        Some((front, _)) => front,
+        None => bytes,
+    }
+}
+
+/// Why the bytes cannot be read as lines or records with one byte for each column, if their beginning shows it.
+pub(crate) fn unreadable_format(bytes: &[u8]) -> Option<CardError> {
+    match bytes {
+        [0x1F, 0x8B, ..] => Some(CardError::Compressed),
+        [0xFF, 0xFE, ..] | [0xFE, 0xFF, ..] => Some(CardError::Utf16),
+        [b'+', 0, b'+', 0, ..] | [0, b'+', 0, b'+', ..] => Some(CardError::Utf16),
+        [high, low, 0, 0, ..] if has_record_length(bytes, *high, *low) => Some(
+            CardError::RecordLengths,
+        ),
+        _ => None,
+    }
+}
+
+// Whether the first record has this length, in which the four bytes of the length count, and either the file ends
+// there or the next record begins with a length too.
+fn has_record_length(bytes: &[u8], high: u8, low: u8) -> bool {
+    let length = usize::from(u16::from_be_bytes([high, low]));
+    match bytes.split_at_checked(length) {
+        Some((_, [])) => length > 4,
+        Some((_, [_, _, 0, 0, ..])) => length > 4,
+        _ => false,
+    }
+}
+
+/// Whether lines end with carriage returns, and none with a line feed.
+pub(crate) fn has_bare_returns(bytes: &[u8]) -> bool {
+    bytes.contains(&b'\r') && !bytes.contains(&b'\n')
+}

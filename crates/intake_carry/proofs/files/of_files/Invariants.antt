@@ -1,8 +1,0 @@
-use Rattle.std.proofs.Common.{take}
-use Rattle.intake_carry.specs.Become.{Become}
-use Rattle.intake_carry.specs.Carried.{FileBecomes}
-use Rattle.intake_carry.proofs.files.of_files.Given as goal
-
-abbrev pub invariant-loop-file : goal.invariant-loop-file
-invariant-loop-file l = Become (FileBecomes l.options.decide l.users) (take l.file-index l.files) l.gathered.items.items
-    l.gathered.outside.items

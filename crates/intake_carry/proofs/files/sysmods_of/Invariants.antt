@@ -1,8 +1,0 @@
-use Rattle.std.proofs.Common.{take}
-use Rattle.intake_carry.specs.Become.{Become}
-use Rattle.intake_carry.specs.Carried.{SysmodBecomes}
-use Rattle.intake_carry.proofs.files.sysmods_of.Given as goal
-
-abbrev pub invariant-loop-stated : goal.invariant-loop-stated
-invariant-loop-stated l = Become (SysmodBecomes l.options.decide l.users)
-    (take l.stated-index l.file.sysmods.items) l.gathered.items.items l.gathered.outside.items

@@ -1,0 +1,11 @@
+use Rattle.std.proofs.Common.{◌≡◌, Some, take}
+use Rattle.intake_carry.specs.Become.{Become}
+use Rattle.intake_carry.specs.Holds.{HoldBecomes}
+use Rattle.intake_carry.proofs.sysmods.place_holds.Given as goal
+
+abbrev pub invariant-loop-hold : goal.invariant-loop-hold
+invariant-loop-hold l = record {
+  same : l.sysmod ≡ record l.fn.sysmod { holds = l.sysmod.holds };
+  held : Become (HoldBecomes (Some l.fn.sysmod.id)) (take l.hold-index l.stated.holds.items) l.sysmod.holds
+      l.outside.items;
+}

@@ -1,0 +1,4 @@
+use Rattle.intake_command.proofs.commands.make_commands.Goals as goal
+
+pub returns : goal.returns
+returns c = (c.in_ok-wide.wide.commands.items, c.in_ok-file.ensures)

@@ -1,0 +1,75 @@
+//! Remarks on operands and statements that are dropped, or could not be taken for what they say.
+use crate::items::{OddOperand, OddReason, OtherReason, WideOperand};
+use intake_cards::{Deed, RemarkReason, Remarks, Subject};
+use std::alloc::{AllocError, Global};
+
+/// Remarks on each of the operands that it is dropped because it changes no decision.
+pub fn tell_no_decision(
+    alloc: Global,
+    remarks: &mut Remarks,
+    subject: &Subject<'_>,
+    operands: &[WideOperand],
+) -> Result<(), AllocError> {
+    for operand in operands {
+        let name = operand.name.as_slice();
+        remarks.tell_dropped(
+            alloc,
+            subject,
+            name,
+            RemarkReason::NoDecision,
+            operand.text(),
+        )?;
+    }
+    Ok(())
+}
+
+/// Remarks on each of the odd operands: what is done with it, and why.
+pub fn tell_odd(
+    alloc: Global,
+    remarks: &mut Remarks,
+    subject: &Subject<'_>,
+    odd: &[OddOperand],
+    deed: Deed,
+) -> Result<(), AllocError> {
+    for odd_operand in odd {
+        let operand = &odd_operand.operand;
+        let reason = RemarkReason::from(odd_operand.reason);
+        remarks.tell(
+            alloc,
+            subject,
+            operand.name.as_slice(),
+            deed,
+            reason,
+            operand.text(),
+        )?;
+    }
+    Ok(())
+}
+
+impl From<OddReason> for RemarkReason {
+    fn from(reason: OddReason) -> RemarkReason {
+        match reason {
+            OddReason::Unknown => RemarkReason::UnknownOperand,
+            OddReason::Repeated => RemarkReason::Twice,
+            OddReason::BadValue => RemarkReason::BadValue,
+        }
+    }
+}
+
+impl From<OtherReason> for RemarkReason {
+    fn from(reason: OtherReason) -> RemarkReason {
+        match reason {
+            OtherReason::NoService => RemarkReason::NoService,
+            OtherReason::LoadModules => RemarkReason::OutsideProfile,
+            OtherReason::UnknownWord => RemarkReason::UnknownStatement,
+            OtherReason::NoPeriod => RemarkReason::NoPeriod,
+            OtherReason::OpenParenthesis => RemarkReason::OpenParenthesis,
+            OtherReason::StrayParenthesis => RemarkReason::StrayParenthesis,
+            OtherReason::StrayCharacter => RemarkReason::StrayCharacter,
+            OtherReason::TextBehind => RemarkReason::TextBehind,
+            OtherReason::LongLine => RemarkReason::LongLine,
+            OtherReason::NoName => RemarkReason::Missing,
+            OtherReason::Misplaced => RemarkReason::OutOfPlace,
+        }
+    }
+}

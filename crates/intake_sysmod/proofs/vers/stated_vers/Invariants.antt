@@ -1,6 +1,0 @@
-use Rattle.std.proofs.Common.{take, IsTrue}
-use Rattle.intake_sysmod.specs.NoLooser.{AreVers}
-use Rattle.intake_sysmod.proofs.vers.stated_vers.Given as goal
-
-abbrev pub invariant-loop-stated : goal.invariant-loop-stated
-invariant-loop-stated l = IsTrue l.all → AreVers (take l.stated-index l.sysmod.vers.items) l.vers.items

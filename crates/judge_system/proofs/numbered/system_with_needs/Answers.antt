@@ -1,0 +1,24 @@
+use Rattle.std.proofs.Common.{◌≤◌, length, arith, subst, take_all}
+use Rattle.std.specs.Prelude.{Contains}
+use Rattle.terms.proofs.Places.{All-found}
+use Rattle.judge_system.specs.declared.stated.RequisiteOf.{RequisiteOf}
+use Rattle.judge_system.specs.Numbered.{HasNeeds}
+use Rattle.judge_system.proofs.NumberedNeeds.{needs_next}
+use Rattle.judge_system.proofs.numbered.system_with_needs.Goals as goal
+
+pub loop-i-preserved : goal.loop-i-preserved
+loop-i-preserved c =
+    needs_next c.args.ids.now.keys c.args.served.now.keys c.args.eligible.items c.args.stated.now c.loop-i.i
+    c.need_at-need.result c.loop-i.system c.number_need.new.system c.need_at-need.ensures c.in_ok-number_need.ensures
+    c.loop-i.invariant
+
+pub returns : goal.returns
+returns c =
+    let whole : length c.args.stated.now ≤ c.loop-i.i = omega arith in
+    subst (λ l. HasNeeds c.args.ids.now.keys c.args.served.now.keys c.args.eligible.items l c.loop-i.system)
+    (take_all c.loop-i.i c.args.stated.now whole) c.loop-i.invariant
+
+pub number_need-requires-clause-of : goal.number_need-requires-clause-of
+number_need-requires-clause-of c =
+    All-found (λ (w : RequisiteOf). Contains c.args.ids.now.keys w.of) c.args.stated.now c.loop-i.i
+    c.need_at-need.result c.requires.within c.need_at-need.ensures

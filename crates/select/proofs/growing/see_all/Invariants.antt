@@ -1,6 +1,0 @@
-use Rattle.std.proofs.Common.{take}
-use Rattle.sysmods.specs.Seen.{AddsAll}
-use Rattle.select.proofs.growing.see_all.Given as goal
-
-abbrev pub invariant-loop-id : goal.invariant-loop-id
-invariant-loop-id l = AddsAll l.fn.seen.keys (take l.id-index l.ids) l.seen.keys

@@ -1,0 +1,26 @@
+use Rattle.std.proofs.Common.{◌∙◌, List, inr, refl, subst}
+use Rattle.sqlite_disk.specs.contracts.memory.MemoryDisk.TheImpl.{ghosts as memory_disk}
+use Rattle.smpe_command.specs.Copied.{TriesCopied, copy_jobs}
+use Rattle.smpe_command.proofs.copied.rehearse_in_copy.Goals as goal
+
+pub returns-in-Some : goal.returns-in-Some
+returns-in-Some g c = rw c.in-Some.is (inr (
+  c.in-Some.commands.date,
+  refl,
+  subst (λ (cntl : List _). TriesCopied g.H.Host memory_disk g.O.Sink c.args.host.now c.args.copy.now
+      c.args.out.now (copy_jobs c.in-Some.commands.date cntl
+      (record { ptfin = c.args.files.now.ptfin.items; holds = c.args.files.now.hold.items })) c.rehearse_commands.result
+      c.rehearse_commands.new.host c.rehearse_commands.new.out) c.as_slice-cntl.ensures.value
+      c.rehearse_commands.ensures,
+))
+
+pub returns : goal.returns
+returns g c = rw c.in-None.is (inr (
+  c.new-date.result,
+  tt,
+  subst (λ (cntl : List _). TriesCopied g.H.Host memory_disk g.O.Sink c.args.host.now c.args.copy.now
+      c.args.out.now (copy_jobs c.new-date.result cntl
+      (record { ptfin = c.args.files.now.ptfin.items; holds = c.args.files.now.hold.items }))
+      c.rehearse_commands-in-None.result c.rehearse_commands-in-None.new.host c.rehearse_commands-in-None.new.out)
+      (c.as_slice.ensures.value ∙ c.in_ok-cntl-in-None.ensures) c.rehearse_commands-in-None.ensures,
+))

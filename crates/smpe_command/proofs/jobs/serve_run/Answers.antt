@@ -1,0 +1,89 @@
+use Rattle.std.proofs.Common.{[], ◌∷◌, ◌∙◌, List, Ok, Some, Err, ap, ap₂, inl, inr, refl, subst}
+use Rattle.std.specs.Prelude.{Result, option_map}
+use Rattle.std.specs.String.{string_bytes}
+use Rattle.std.proofs.lemmas.Result.{err_from_is_err_and}
+use Rattle.smpe_jobs.specs.declared.messages.Fault.{Fault}
+use Rattle.smpe_command.specs.Careful.{LooksIf}
+use Rattle.smpe_command.specs.Reading.{ReadsAll}
+use Rattle.smpe_command.proofs.jobs.serve_run.Given.{Over}
+use Rattle.smpe_command.proofs.jobs.serve_run.Goals.{After-look_if_careful}
+use Rattle.smpe_command.proofs.jobs.serve_run.Goals as goal
+
+pub returns-in_err-files : goal.returns-in_err-files
+returns-in_err-files g c =
+    let fault = c.in_err-files.field-0.0 in
+    let p = err_from_is_err_and c.from_residual.result c.from_residual.ensures.1 in
+    inl (
+      fault,
+      subst (λ names. ReadsAll g.H.Host c.args.host.now (Some c.args.cntl.now ∷ names) (Err fault)
+          c.read_files.new.host)
+          (ap₂ (λ ptfin hold. ptfin ∷ hold ∷ []) c.as_deref.ensures.value c.as_deref-2.ensures.value)
+          c.in_err-files.ensures.err,
+      p.1 ∙ ap Err p.2,
+      refl,
+    )
+
+-- the files that were read, and how the job was looked at
+reads : (g : Over) (c : After-look_if_careful g) → ReadsAll g.H.Host c.args.host.now
+    (Some c.args.cntl.now ∷ option_map string_bytes c.args.ptfin.now ∷ option_map string_bytes c.args.hold.now ∷ [])
+    (Ok (c.in_ok-files.files.cntl.items ∷ c.in_ok-files.files.ptfin.items ∷ c.in_ok-files.files.hold.items ∷ []))
+    c.read_files.new.host
+reads g c =
+    let files = c.in_ok-files.files in
+    subst (λ names. ReadsAll g.H.Host c.args.host.now (Some c.args.cntl.now ∷ names)
+    (Ok (files.cntl.items ∷ files.ptfin.items ∷ files.hold.items ∷ [])) c.read_files.new.host)
+    (ap₂ (λ ptfin hold. ptfin ∷ hold ∷ []) c.as_deref.ensures.value c.as_deref-2.ensures.value)
+    c.in_ok-files.ensures.ok
+
+looks : (g : Over) (c : After-look_if_careful g) → LooksIf g.H.Host g.H.Disk.Store c.read_files.new.host
+    (string_bytes c.args.db.now.name) c.in_ok-files.files.cntl.items c.args.is_careful c.look_if_careful.result
+    c.look_if_careful.new.host
+looks g c = subst (λ (cntl : List _). LooksIf g.H.Host g.H.Disk.Store c.read_files.new.host
+    (string_bytes c.args.db.now.name) cntl c.args.is_careful c.look_if_careful.result c.look_if_careful.new.host)
+    c.as_slice.ensures.value
+    c.look_if_careful.ensures
+
+pub returns-in_err-look_if_careful : goal.returns-in_err-look_if_careful
+returns-in_err-look_if_careful g c =
+    let at = (goal.at.returns-in_err-look_if_careful g c).After-look_if_careful in
+    let files = c.in_ok-files.files in
+    let fault = c.in_err-look_if_careful.field-0.0 in
+    let p = err_from_is_err_and c.from_residual-in_err-look_if_careful.result
+    c.from_residual-in_err-look_if_careful.ensures.1 in
+    inr (
+      c.read_files.new.host,
+      files.cntl.items,
+      files.ptfin.items,
+      files.hold.items,
+      reads g at,
+      inl (
+        fault,
+        subst (λ (r : Result _ Fault). LooksIf g.H.Host g.H.Disk.Store c.read_files.new.host
+            (string_bytes c.args.db.now.name) files.cntl.items c.args.is_careful r c.look_if_careful.new.host)
+            c.in_err-look_if_careful.was (looks g at),
+        p.1 ∙ ap Err p.2,
+        refl,
+      ),
+    )
+
+pub returns : goal.returns
+returns g c =
+    let at = (goal.at.returns g c).After-look_if_careful in
+    let files = c.in_ok-files.files in
+    let ran = c.run_files.ensures in
+    inr (
+      c.read_files.new.host,
+      files.cntl.items,
+      files.ptfin.items,
+      files.hold.items,
+      reads g at,
+      inr (
+        c.look_if_careful.new.host,
+        subst (λ (r : Result _ Fault). LooksIf g.H.Host g.H.Disk.Store c.read_files.new.host
+            (string_bytes c.args.db.now.name) files.cntl.items c.args.is_careful r c.look_if_careful.new.host)
+            c.in_ok-look_if_careful.was (looks g at),
+        ran.0,
+        ran.1,
+        c.job_status.ensures ∙ ran.2,
+      ),
+    )

@@ -1,9 +1,0 @@
-use Rattle.std.proofs.Common.{◌-◌, ◌^◌}
-use Rattle.sysmods.specs.Seen.{IsSearch}
-use Rattle.sysmods.proofs.search.reached.Given as goal
-
-abbrev pub invariant-loop-i : goal.invariant-loop-i
-invariant-loop-i g l = IsSearch (g.N.Names.named l.names) l.fn.x l.seen.keys l.i
-
-abbrev pub decreases-loop-i : goal.decreases-loop-i
-decreases-loop-i g l = 2 ^ 63 - l.i

@@ -1,6 +1,0 @@
-use Rattle.std.proofs.Common.{◌≡◌, ◌++◌, take}
-use Rattle.zones.specs.Gone.{by_ifs}
-use Rattle.zones.proofs.binding.push_by_ifs.Given as goal
-
-abbrev pub invariant-loop-condition : goal.invariant-loop-condition
-invariant-loop-condition l = l.asked.items ≡ l.initial.asked.items ++ by_ifs l.left (take l.condition-index l.ifs)
