@@ -12,7 +12,7 @@ use rec80::{BadOperand, Member, OperandError, Word, flag, operand, rising};
 use std::alloc::Global;
 
 /// The most members that a list may have.
-const MOST: usize = 1000;
+const MOST_MEMBERS: usize = 1000;
 
 /// Whether there is an operand of that name, which has no list. Returns an error if it has one.
 pub fn flag_of(words: &[Word<'_>], name: &[u8]) -> Result<bool, BadOperand>
@@ -32,7 +32,7 @@ pub fn short_list<T: Member>(alloc: Global, word: &Word<'_>) -> Result<Rising<T>
         × (HasSorted T.form (word_of word.now) values × IsShort values))) }
 {
     let list: Rising<T> = rising(alloc, word)?;
-    if list.len() > MOST {
+    if list.len() > MOST_MEMBERS {
         return Err(OperandError::Bad);
     }
     Ok(list)

@@ -15,8 +15,9 @@ ghost use Rattle.mcs.specs.KnownWords.{own_list};
 ghost use Rattle.mcs.specs.Said.{Says, Fails};
 
 use crate::begin::Known;
-use crate::fault::{StatementError, statement_error};
+use crate::fault::StatementError;
 use crate::file::Assign;
+use crate::limits::MOST_IDS;
 use crate::said::Statement;
 use fields::{Id, Source};
 use rec80::{OperandError, Word, ids_in_file_order, operand, required};
@@ -57,10 +58,7 @@ fn read_assign(alloc: Global, known: &Known<'_>) -> Result<Assign, OperandError>
     let Some(source) = required::<Source>(words, b"SOURCEID") else {
         return Err(OperandError::Bad);
     };
-    let to = match required_ids(alloc, words, b"TO") {
-        Ok(to) => to,
-        Err(error) => return Err(error),
-    };
+    let to = required_ids(alloc, words, b"TO")?;
     Ok(Assign { source, to })
 }
 
@@ -68,7 +66,7 @@ fn read_assign(alloc: Global, known: &Known<'_>) -> Result<Assign, OperandError>
 fn is_within(assign: &Assign) -> bool
     ensures { IsTrue result ↔ grammar.IsShort assign.now.to }
 {
-    assign.to.len() <= 1000
+    assign.to.len() <= MOST_IDS
 }
 
 /// What an `++ASSIGN` says. Returns `Memory` if memory runs out. `Fault` is `BadStatementOperand` if it has anything
@@ -78,10 +76,7 @@ pub fn assign_statement(alloc: Global, known: &Known<'_>) -> Result<Statement, S
     ensures said { (current : Option Begun) → Says current known.now result }
     ensures fault { (current : Option Begun) → Fails current known.now result }
 {
-    let assign = match read_assign(alloc, known) {
-        Ok(assign) => assign,
-        Err(error) => return Err(statement_error(error)),
-    };
+    let assign = read_assign(alloc, known)?;
     if !is_within(&assign) {
         return Err(StatementError::Fault(StatementCode::OverLimit));
     }

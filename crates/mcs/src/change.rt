@@ -14,6 +14,7 @@ ghost use Rattle.mcs.specs.Said.{Says, Fails};
 use crate::begin::Known;
 use crate::fault::StatementError;
 use crate::file::Begun;
+use crate::limits::{MOST_ELEMENTS, MOST_RECORDS};
 use crate::said::Statement;
 use fields::Name;
 use rec80::{Record, one, required};
@@ -42,18 +43,10 @@ fn read_names(known: &Known<'_>) -> Option<ElementNames>
         → IfNone result ((ws : List grammar.Word) (name distlib syslib : List ℕ) → grammar.HasWords rest ws
         → HasNames (own_list known.now) ws name distlib syslib → ⊥) }
 {
-    let Some(words) = known.operands.words_named(OPERANDS) else {
-        return None;
-    };
-    let Some(name) = one::<Name>(&known.first) else {
-        return None;
-    };
-    let Some(distlib) = required::<Name>(words, b"DISTLIB") else {
-        return None;
-    };
-    let Some(syslib) = required::<Name>(words, b"SYSLIB") else {
-        return None;
-    };
+    let words = known.operands.words_named(OPERANDS)?;
+    let name = one::<Name>(&known.first)?;
+    let distlib = required::<Name>(words, b"DISTLIB")?;
+    let syslib = required::<Name>(words, b"SYSLIB")?;
     Some(ElementNames {
         name,
         distlib,
@@ -116,10 +109,7 @@ pub fn change_statement(
     if !is_within(begun, inline) {
         return Err(StatementError::Fault(StatementCode::OverLimit));
     }
-    let lines = match read_replacement_text(alloc, elem_type, inline) {
-        Ok(lines) => lines,
-        Err(error) => return Err(error),
-    };
+    let lines = read_replacement_text(alloc, elem_type, inline)?;
     let ElementNames {
         name,
         distlib,
@@ -174,10 +164,7 @@ pub fn update_statement(
     if !is_within(begun, inline) {
         return Err(StatementError::Fault(StatementCode::OverLimit));
     }
-    let update = match read_update(alloc, name, inline) {
-        Ok(update) => update,
-        Err(error) => return Err(error),
-    };
+    let update = read_update(alloc, name, inline)?;
     Ok(Statement::Change(ElemChange {
         elem_type,
         name,
@@ -189,5 +176,5 @@ pub fn update_statement(
 fn is_within(begun: &Begun, inline: &[Record]) -> bool
     ensures { IsTrue result ↔ ((length begun.now.sysmod.changes < 999) × (length inline.now ≤ 99999)) }
 {
-    begun.sysmod.changes.len() < 999 && inline.len() <= 99999
+    begun.sysmod.changes.len() < MOST_ELEMENTS && inline.len() <= MOST_RECORDS
 }

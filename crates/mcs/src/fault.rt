@@ -1,6 +1,4 @@
 //! Why one statement has no value.
-ghost use Rattle.std.specs.Prelude.{◌≡◌};
-ghost use Rattle.mcs.specs.Faults.{value_error};
 
 use rec80::OperandError;
 use std::alloc::{AllocError, AllocFailed};
@@ -35,12 +33,16 @@ impl<T: Drop> From<AllocFailed<T>> for StatementError {
     }
 }
 
-/// The error of a statement with a bad operand, which therefore has no value.
-pub fn statement_error(error: OperandError) -> StatementError
-    ensures { result ≡ value_error error }
-{
-    match error {
-        OperandError::Memory => StatementError::Memory,
-        OperandError::Bad => StatementError::Fault(StatementCode::BadStatementOperand),
+impl From<OperandError> for StatementError {
+    ghost use Rattle.std.specs.Prelude.{◌≡◌};
+    ghost use Rattle.mcs.specs.Faults.{value_error};
+
+    ghost from_gives = { λ operand e. e ≡ value_error operand };
+
+    fn from(error: OperandError) -> StatementError {
+        match error {
+            OperandError::Memory => StatementError::Memory,
+            OperandError::Bad => StatementError::Fault(StatementCode::BadStatementOperand),
+        }
     }
 }

@@ -10,7 +10,7 @@ ghost use Rattle.mcs.specs.Holds.{ArePrintable};
 ghost use Rattle.mcs.specs.HoldItems.{item_of, IsItemSaid, IsSaidError, IsItemError};
 
 use crate::begin::{Known, begin_statement};
-use crate::fault::{StatementError, statement_error};
+use crate::fault::StatementError;
 use crate::hold_operands::{Release, has_short_comment, hold_of_operands, release_of_operands};
 use rec80::Group;
 use std::alloc::Global;
@@ -32,10 +32,7 @@ fn hold_item(alloc: Global, known: &Known<'_>) -> Result<HoldItem, StatementErro
     ensures fault { (rest : List Piece) → IsRead rest known.now.operands → ArePrintable rest
         → IfErr result (IsSaidError known.now.word (own_list known.now) rest) }
 {
-    let hold = match hold_of_operands(alloc, known, false) {
-        Ok(hold) => hold,
-        Err(error) => return Err(statement_error(error)),
-    };
+    let hold = hold_of_operands(alloc, known, false)?;
     if !has_short_comment(&hold) {
         return Err(StatementError::Fault(StatementCode::OverLimit));
     }
@@ -64,10 +61,7 @@ pub(crate) fn read_item(alloc: Global, group: &Group<'_>) -> Result<HoldItem, St
     ensures good { IfOk result (λ item. IsGoodItem group.now.records.now (item_of item)) }
     ensures fault { All IsRecord group.now.records.now → IfErr result (IsItemError group.now.records.now) }
 {
-    let known = match begin_statement(alloc, group) {
-        Ok(known) => known,
-        Err(error) => return Err(error),
-    };
+    let known = begin_statement(alloc, group)?;
     if !known.inline.is_empty() {
         return Err(StatementError::Fault(StatementCode::WrongPlace));
     }

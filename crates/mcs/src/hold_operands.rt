@@ -13,6 +13,7 @@ ghost use Rattle.mcs.specs.Holds.{HasKey, ArePrintable};
 use crate::begin::Known;
 use crate::comment::optional_comment;
 use crate::kind::read_hold_kind;
+use crate::limits::LONGEST_COMMENT;
 use crate::listed_values::required_reason;
 use fields::{Class, HoldDate, Id, Reason};
 use rec80::{BadOperand, OperandError, Word, one, optional, required};
@@ -28,9 +29,6 @@ const HOLD_OPERANDS: &[&[u8]] = &[
 
 /// The operands of `++RELEASE`.
 const RELEASE_OPERANDS: &[&[u8]] = &[b"ERROR", b"SYSTEM", b"USER", b"FMID", b"REASON"];
-
-/// The greatest number of characters in a comment.
-const LONGEST_COMMENT: usize = 200;
 
 /// What `++RELEASE` says: the key of a hold, and an FMID that is not compared.
 #[derive(Clone, Copy, Debug)]
@@ -59,18 +57,10 @@ fn read_key(known: &Known<'_>, words: &[Word<'_>]) -> Option<Release>
     ensures some { IfSome result (λ r. HasKey (own_list known.now) (words_of words.now) r) }
     ensures none { IfNone result ((r : AnyRelease) → HasKey (own_list known.now) (words_of words.now) r → ⊥) }
 {
-    let Some(id) = one::<Id>(&known.first) else {
-        return None;
-    };
-    let Some(kind) = read_hold_kind(words) else {
-        return None;
-    };
-    let Some(fmid) = required::<Id>(words, b"FMID") else {
-        return None;
-    };
-    let Some(reason) = required_reason(kind, words, b"REASON") else {
-        return None;
-    };
+    let id = one::<Id>(&known.first)?;
+    let kind = read_hold_kind(words)?;
+    let fmid = required::<Id>(words, b"FMID")?;
+    let reason = required_reason(kind, words, b"REASON")?;
     Some(Release {
         id,
         kind,
@@ -125,10 +115,7 @@ pub fn hold_of_operands(
     let Ok(date) = optional::<HoldDate>(words, b"DATE") else {
         return Err(OperandError::Bad);
     };
-    let comment = match optional_comment(alloc, words, b"COMMENT") {
-        Ok(comment) => comment,
-        Err(error) => return Err(error),
-    };
+    let comment = optional_comment(alloc, words, b"COMMENT")?;
     Ok(Hold {
         id: key.id,
         kind: key.kind,

@@ -13,8 +13,9 @@ ghost use Rattle.mcs.specs.Files.{begun_of};
 ghost use Rattle.mcs.specs.Said.{Says, Fails};
 
 use crate::begin::Known;
-use crate::fault::{StatementError, statement_error};
+use crate::fault::StatementError;
 use crate::file::Begun;
+use crate::limits::{MOST_IDS, MOST_IFS};
 use crate::said::Statement;
 use fields::Id;
 use rec80::{OperandError, Word, ids, one};
@@ -79,10 +80,7 @@ fn read_if(
     let Some(function) = one::<Id>(&lists.fmid) else {
         return Err(OperandError::Bad);
     };
-    let req = match ids(alloc, &lists.req) {
-        Ok(req) => req,
-        Err(error) => return Err(error),
-    };
+    let req = ids(alloc, &lists.req)?;
     if req.contains(sysmod.id) {
         return Err(OperandError::Bad);
     }
@@ -103,10 +101,10 @@ fn is_within(begun: &Begun, condition: &IfReq) -> bool
         × grammar.IsShort condition.now.req) }
 {
     let has_place = match last_ver(begun) {
-        Some(ver) => ver.ifs.len() < 100,
+        Some(ver) => ver.ifs.len() < MOST_IFS,
         None => true,
     };
-    has_place && condition.req.len() <= 1000
+    has_place && condition.req.len() <= MOST_IDS
 }
 
 /// What an `++IF` says. Returns `Memory` if memory runs out. `Fault` is `BadStatementOperand` if it lacks FMID, THEN
@@ -124,10 +122,7 @@ pub fn if_statement(
     let Some(words) = known.operands.only() else {
         return Err(StatementError::Fault(StatementCode::BadStatementOperand));
     };
-    let condition = match read_if(alloc, &begun.sysmod, known, words) {
-        Ok(condition) => condition,
-        Err(error) => return Err(statement_error(error)),
-    };
+    let condition = read_if(alloc, &begun.sysmod, known, words)?;
     if !is_within(begun, &condition) {
         return Err(StatementError::Fault(StatementCode::OverLimit));
     }

@@ -13,7 +13,7 @@ ghost use Rattle.mcs.specs.Holds.{ArePrintable};
 ghost use Rattle.mcs.specs.Said.{Says, FailsPrintable};
 
 use crate::begin::Known;
-use crate::fault::{StatementError, statement_error};
+use crate::fault::StatementError;
 use crate::file::Begun;
 use crate::hold_operands::{has_short_comment, hold_of_operands};
 use crate::said::Statement;
@@ -38,10 +38,7 @@ fn read_inner_hold(alloc: Global, sysmod: &Sysmod, known: &Known<'_>) -> Result<
         → IfErr result (λ e. Excludes e ((h : AnyHold) × ((ws : List grammar.Word) × grammar.HasWords rest ws
         × IsOwnHoldOf sysmod.now (own_list known.now) ws h))) }
 {
-    let hold = match hold_of_operands(alloc, known, true) {
-        Ok(hold) => hold,
-        Err(error) => return Err(error),
-    };
+    let hold = hold_of_operands(alloc, known, true)?;
     if !is_own_system_hold(sysmod, &hold) {
         return Err(OperandError::Bad);
     }
@@ -60,10 +57,7 @@ pub fn hold_statement(
     ensures said { Says (Some begun.now) known.now result }
     ensures fault { FailsPrintable (Some begun.now) known.now result }
 {
-    let hold = match read_inner_hold(alloc, &begun.sysmod, known) {
-        Ok(hold) => hold,
-        Err(error) => return Err(statement_error(error)),
-    };
+    let hold = read_inner_hold(alloc, &begun.sysmod, known)?;
     if !has_short_comment(&hold) {
         return Err(StatementError::Fault(StatementCode::OverLimit));
     }

@@ -21,6 +21,7 @@ mod hold_operands;
 mod ifs;
 mod inner_holds;
 mod kind;
+mod limits;
 mod listed_values;
 mod order;
 mod ptfin;

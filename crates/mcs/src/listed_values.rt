@@ -17,9 +17,7 @@ pub fn required_reason(kind: HoldKind, words: &[Word<'_>], name: &[u8]) -> Optio
     ensures none { IfNone result ((v : List ℕ)
         → HasRequired (IsReason kind) (operand name.now (words_of words.now)) v → ⊥) }
 {
-    let Some(reason) = required::<Reason>(words, name) else {
-        return None;
-    };
+    let reason = required::<Reason>(words, name)?;
     if !reason.suits(kind) {
         return None;
     }

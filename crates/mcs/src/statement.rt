@@ -78,10 +78,7 @@ pub fn read_statement(
     ensures fault { All IsRecord group.now.records.now
         → IfErr result (IsStatementError (begun_in current.now) later.now group.now.records.now) }
 {
-    let known = match begin_statement(alloc, group) {
-        Ok(known) => known,
-        Err(error) => return Err(error),
-    };
+    let known = begin_statement(alloc, group)?;
     if is_misplaced(current, later, &known) {
         return Err(StatementError::Fault(StatementCode::WrongPlace));
     }

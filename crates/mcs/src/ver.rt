@@ -14,8 +14,9 @@ ghost use Rattle.mcs.specs.VerOperands.{HasLists};
 ghost use Rattle.mcs.specs.Said.{Says, Fails};
 
 use crate::begin::Known;
-use crate::fault::{StatementError, statement_error};
+use crate::fault::StatementError;
 use crate::file::Begun;
+use crate::limits::{MOST_IDS, MOST_VERS};
 use crate::listed_values::rising_ids;
 use crate::said::Statement;
 use fields::{Id, IdList, Srel};
@@ -147,10 +148,7 @@ fn read_ver(
         Ok(fmid) => fmid,
         Err(_) => return Err(OperandError::Bad),
     };
-    let lists = match read_lists(alloc, words) {
-        Ok(lists) => lists,
-        Err(error) => return Err(error),
-    };
+    let lists = read_lists(alloc, words)?;
     let ver = ver_of_lists(alloc, srel, fmid, lists);
     if has_fmid(&ver, sysmod.id) {
         return Err(OperandError::Bad);
@@ -165,12 +163,12 @@ fn read_ver(
 fn is_within(sysmod: &Sysmod, ver: &Ver) -> bool
     ensures { IsTrue result ↔ ((length sysmod.now.vers < 8) × All IsShort (lists_of ver.now)) }
 {
-    sysmod.vers.len() < 8
-        && ver.pre.len() <= 1000
-        && ver.req.len() <= 1000
-        && ver.sup.len() <= 1000
-        && ver.npre.len() <= 1000
-        && ver.del.len() <= 1000
+    sysmod.vers.len() < MOST_VERS
+        && ver.pre.len() <= MOST_IDS
+        && ver.req.len() <= MOST_IDS
+        && ver.sup.len() <= MOST_IDS
+        && ver.npre.len() <= MOST_IDS
+        && ver.del.len() <= MOST_IDS
 }
 
 /// What a `++VER` says. Returns `Memory` if memory runs out. `Fault` is `BadStatementOperand` if an operand is unknown,
@@ -188,10 +186,7 @@ pub fn ver_statement(
     let Some(words) = known.operands.words_named(OPERANDS) else {
         return Err(StatementError::Fault(StatementCode::BadStatementOperand));
     };
-    let ver = match read_ver(alloc, &begun.sysmod, known, words) {
-        Ok(ver) => ver,
-        Err(error) => return Err(statement_error(error)),
-    };
+    let ver = read_ver(alloc, &begun.sysmod, known, words)?;
     if !is_within(&begun.sysmod, &ver) {
         return Err(StatementError::Fault(StatementCode::OverLimit));
     }

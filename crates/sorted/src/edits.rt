@@ -59,8 +59,8 @@ pub(crate) fn make_edits<T: Keyed + Drop>(
     for edit in edits {
         let key = edit.key();
         move_before(&mut rest, items, key);
-        drop_at(&mut rest, key);
-        put(items, edit);
+        remove_key(&mut rest, key);
+        move_put_item(items, edit);
     }
     move_all(rest, items);
 }
@@ -98,7 +98,7 @@ fn move_before<T: Keyed + Drop>(rest: &mut VecDeque<T>, new: &mut Vec<T>, key: T
 }
 
 // Removes the item of the key, if there is one. No item comes before the key.
-fn drop_at<T: Keyed + Drop>(rest: &mut VecDeque<T>, key: T::Key)
+fn remove_key<T: Keyed + Drop>(rest: &mut VecDeque<T>, key: T::Key)
     requires rises { Rises T.Key.cmp T.key_of rest.old.items }
     requires none { before T.Key.cmp T.key_of key rest.old.items ≡ [] }
     ensures rest { rest.new.items ≡ behind T.Key.cmp T.key_of key rest.old.items }
@@ -122,8 +122,8 @@ fn move_all<T: Drop>(mut rest: VecDeque<T>, new: &mut Vec<T>)
     }
 }
 
-// Adds the item that the edit puts, if it puts one.
-fn put<T: Keyed + Drop>(new: &mut Vec<T>, edit: Edit<T, T::Key>)
+// Moves the item that the edit puts to the end of `new`, if it puts one.
+fn move_put_item<T: Keyed + Drop>(new: &mut Vec<T>, edit: Edit<T, T::Key>)
     requires { vec_len new.old < vec_capacity new.old }
     ensures items { new.new.items ≡ new.old.items ++ option_to_list (edit_put edit) }
     ensures len { vec_len new.new ≤ vec_len new.old + 1 }

@@ -23,8 +23,8 @@ pub(crate) fn edited_copy<T: Keyed + TryClone>(
     let mut rest = items;
     for edit in edits {
         let key = edit.key();
-        rest = skip_key(copy_before(alloc, rest, key, &mut new)?, key);
-        copy_put(alloc, edit, &mut new)?;
+        rest = after_key(copy_before(alloc, rest, key, &mut new)?, key);
+        copy_put_item(alloc, edit, &mut new)?;
     }
     copy_all(alloc, rest, &mut new)?;
     Ok(new)
@@ -56,7 +56,7 @@ fn copy_before<'a, T: Keyed + TryClone>(
 }
 
 // The items without the one of the key. No item comes before the key.
-fn skip_key<T: Keyed>(items: &[T], key: T::Key) -> &[T]
+fn after_key<T: Keyed>(items: &[T], key: T::Key) -> &[T]
     requires rises { Rises T.Key.cmp T.key_of items.now }
     requires none { before T.Key.cmp T.key_of key items.now ≡ [] }
     ensures { result.now ≡ behind T.Key.cmp T.key_of key items.now }
@@ -68,7 +68,7 @@ fn skip_key<T: Keyed>(items: &[T], key: T::Key) -> &[T]
 }
 
 // Copies the item that the edit puts, if it puts one.
-fn copy_put<T: Keyed + TryClone>(
+fn copy_put_item<T: Keyed + TryClone>(
     alloc: Global,
     edit: &Edit<T, T::Key>,
     new: &mut Vec<T>,

@@ -6,21 +6,21 @@ use Rattle.mcs.specs.Files.{begun_in}
 use Rattle.mcs.proofs.Assigning.{assign_value, assign_error, assign_said}
 use Rattle.mcs.proofs.assign.assign_statement.Goals as goal
 
-pub returns-in-Err-clause-fault : goal.returns-in-Err-clause-fault
-returns-in-Err-clause-fault c = λ current rest h.
+pub returns-in_err-assign-clause-fault : goal.returns-in_err-assign-clause-fault
+returns-in_err-assign-clause-fault c = λ current rest h.
     rw c.statement_error.ensures (assign_error (begun_in current) c.args.known.now.word (own_list c.args.known.now)
-    rest c.args.known.now.inline.now c.in-Err.error c.requires (c.in-Err.ensures.bad rest h))
+    rest c.args.known.now.inline.now c.in_err-assign.field-0 c.requires (c.in_err-assign.ensures.bad rest h))
 
 pub returns-then-not-is_within-clause-fault : goal.returns-then-not-is_within-clause-fault
 returns-then-not-is_within-clause-fault c = λ current rest h. (
-  SaysAssign c.in-Ok.assign,
+  SaysAssign c.in_ok-assign.assign,
   assign_value (begun_in current) c.args.known.now.word (own_list c.args.known.now) rest
-      c.args.known.now.inline.now c.in-Ok.assign c.requires (c.in-Ok.ensures.ok rest h),
+      c.args.known.now.inline.now c.in_ok-assign.assign c.requires (c.in_ok-assign.ensures.ok rest h),
   λ within. true≢false (sym (c.is_within.ensures.1 within) ∙ c.if-not-is_within.true),
 )
 
 pub returns-clause-said : goal.returns-clause-said
 returns-clause-said c = λ current rest h.
     assign_said (begun_in current) c.args.known.now.word (own_list c.args.known.now) rest
-    c.args.known.now.inline.now c.in-Ok.assign c.requires (c.in-Ok.ensures.ok rest h)
+    c.args.known.now.inline.now c.in_ok-assign.assign c.requires (c.in_ok-assign.ensures.ok rest h)
     (c.is_within.ensures.0 c.if-not-is_within.false)

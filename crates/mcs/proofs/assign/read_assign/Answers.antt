@@ -27,14 +27,14 @@ returns-in_default-required-clause-bad c = λ rest h x.
     c.in_default-required.ensures.none x.0.source
     (subst (λ l. HasRequired IsSource (operand (codes "SOURCEID") l) x.0.source) same x.1.2.source)
 
-pub returns-in-Err-clause-bad : goal.returns-in-Err-clause-bad
-returns-in-Err-clause-bad c = λ rest h.
+pub returns-in_err-to-clause-bad : goal.returns-in_err-to-clause-bad
+returns-in_err-to-clause-bad c = λ rest h.
     let ws = words_of c.in-Some.words.now in
     let All : Type 0 = (a : Assign) × AssignOf (own_list c.args.known.now) rest a in
     let One : Type 0 = (ids : List Id) × IsSomeAnd (operand (codes "TO") ws) (λ w. HasListed IsId w ids) in
     let pick : All → One = λ x.
     (x.0.to, rw (words_only rest x.1.0 ws x.1.1 (c.in-Some.ensures.words rest h)) at x.1.2.to) in
-    excludes_more c.in-Err.error One All pick c.in-Err.ensures.bad
+    excludes_more c.in_err-to.field-0 One All pick c.in_err-to.ensures.bad
 
 pub returns-clause-ok : goal.returns-clause-ok
 returns-clause-ok c = λ rest h. (
@@ -44,6 +44,6 @@ returns-clause-ok c = λ rest h. (
     no_list = no_list c.args.known.now.first.list text_of (sym c.is_some.ensures ∙ c.if-is_some.false);
     are_operands = c.in-Some.ensures.operands;
     source = c.in-Some-required.ensures.some;
-    to = c.in-Ok.ensures.ok;
+    to = c.in_ok-to.ensures.ok;
   },
 )

@@ -27,25 +27,25 @@ returns-then-not-is_within-clause-fault c = λ rest h.
       λ within. true≢false (sym (c.is_within.ensures.1 within) ∙ c.if-not-is_within.true),
     )
 
-pub returns-in-Err-clause-fault : goal.returns-in-Err-clause-fault
-returns-in-Err-clause-fault c = λ rest h.
+pub returns-in_err-lines-clause-fault : goal.returns-in_err-lines-clause-fault
+returns-in_err-lines-clause-fault c = λ rest h.
     let n = c.in-Some.ensures.some rest h in
     let inline = c.args.known.now.inline.now in
     let value = change_value (sysmod_in (Some (begun_of c.args.begun.now))) c.args.known.now.word
     (own_list c.args.known.now) rest inline inline c.args.elem_type n.0 c.in-Some.names.name c.in-Some.names.distlib
     c.in-Some.names.syslib c.requires n.1 n.2 refl in
     text_fault (Some (begun_of c.args.begun.now)) c.args.known.now.word (own_list c.args.known.now) rest inline
-    c.args.elem_type c.in-Some.names.name c.in-Some.names.distlib c.in-Some.names.syslib c.in-Err.error
-    c.in-Err.ensures.bad value (c.is_within.ensures.0 c.if-not-is_within.false)
+    c.args.elem_type c.in-Some.names.name c.in-Some.names.distlib c.in-Some.names.syslib c.in_err-lines.field-0
+    c.in_err-lines.ensures.bad value (c.is_within.ensures.0 c.if-not-is_within.false)
 
 pub returns-clause-said : goal.returns-clause-said
 returns-clause-said c = λ rest h.
     let n = c.in-Some.ensures.some rest h in
     let inline = c.args.known.now.inline.now in record {
       value = change_value (sysmod_in (Some (begun_of c.args.begun.now))) c.args.known.now.word
-          (own_list c.args.known.now) rest inline c.in-Ok.lines.items c.args.elem_type n.0 c.in-Some.names.name
-          c.in-Some.names.distlib c.in-Some.names.syslib c.requires n.1 n.2 c.in-Ok.ensures.text;
+          (own_list c.args.known.now) rest inline c.in_ok-lines.lines.items c.args.elem_type n.0 c.in-Some.names.name
+          c.in-Some.names.distlib c.in-Some.names.syslib c.requires n.1 n.2 c.in_ok-lines.ensures.text;
       within = c.is_within.ensures.0 c.if-not-is_within.false;
-      text = rw c.in-Ok.ensures.text ((replacement_fits c.args.elem_type c.in-Some.names.name
-          c.in-Some.names.distlib c.in-Some.names.syslib inline).1 c.in-Ok.ensures.good);
+      text = rw c.in_ok-lines.ensures.text ((replacement_fits c.args.elem_type c.in-Some.names.name
+          c.in-Some.names.distlib c.in-Some.names.syslib inline).1 c.in_ok-lines.ensures.good);
     }

@@ -28,15 +28,15 @@ returns-then-not-is_within-clause-fault c = λ rest h.
       λ within. true≢false (sym (c.is_within.ensures.1 within) ∙ c.if-not-is_within.true),
     )
 
-pub returns-in-Err-clause-fault : goal.returns-in-Err-clause-fault
-returns-in-Err-clause-fault c = λ rest h.
+pub returns-in_err-update-clause-fault : goal.returns-in_err-update-clause-fault
+returns-in_err-update-clause-fault c = λ rest h.
     let inline = c.args.known.now.inline.now in
     let end = (c.is_empty.ensures rest h).0 c.if-not-is_empty.false in
     let value = update_value (sysmod_in (Some (begun_of c.args.begun.now))) c.args.known.now.word
     (own_list c.args.known.now) rest inline inline c.args.elem_type c.in-Some.name c.requires end
     c.in-Some.ensures.one refl in
     update_fault (Some (begun_of c.args.begun.now)) c.args.known.now.word (own_list c.args.known.now) rest inline
-    c.args.elem_type c.in-Some.name c.in-Err.error c.requires c.in-Err.ensures.bad value
+    c.args.elem_type c.in-Some.name c.in_err-update.field-0 c.requires c.in_err-update.ensures.bad value
     (c.is_within.ensures.0 c.if-not-is_within.false)
 
 pub returns-clause-said : goal.returns-clause-said
@@ -44,9 +44,9 @@ returns-clause-said c = λ rest h.
     let inline = c.args.known.now.inline.now in
     let end = (c.is_empty.ensures rest h).0 c.if-not-is_empty.false in record {
       value = update_value (sysmod_in (Some (begun_of c.args.begun.now))) c.args.known.now.word
-          (own_list c.args.known.now) rest inline c.in-Ok.update c.args.elem_type c.in-Some.name c.requires end
-          c.in-Some.ensures.one c.in-Ok.ensures.text;
+          (own_list c.args.known.now) rest inline c.in_ok-update.update c.args.elem_type c.in-Some.name c.requires end
+          c.in-Some.ensures.one c.in_ok-update.ensures.text;
       within = c.is_within.ensures.0 c.if-not-is_within.false;
-      text = rw c.in-Ok.ensures.text (update_from c.args.known.now.word c.args.elem_type c.in-Some.name inline
-          c.requires c.in-Ok.ensures.good);
+      text = rw c.in_ok-update.ensures.text (update_from c.args.known.now.word c.args.elem_type c.in-Some.name inline
+          c.requires c.in_ok-update.ensures.good);
     }

@@ -7,45 +7,45 @@ use Rattle.mcs.proofs.hold_item.read_item.Goals as goal
 
 pub returns-then-not-is_empty-clause-fault : goal.returns-then-not-is_empty-clause-fault
 returns-then-not-is_empty-clause-fault c = λ printable.
-    let k = c.in-Ok.ensures.ok in
-    let some : length c.in-Ok.known.inline.now ≡ 0 → ⊥ = search rules in
-    misplaced c.args.group.now.records.now (parts_of c.in-Ok.known k.0) k.1
-    (text_behind c.in-Ok.known.word c.in-Ok.known.inline.now (λ e. some (ap length e)))
+    let k = c.in_ok-known.ensures.ok in
+    let some : length c.in_ok-known.known.inline.now ≡ 0 → ⊥ = search rules in
+    misplaced c.args.group.now.records.now (parts_of c.in_ok-known.known k.0) k.1
+    (text_behind c.in_ok-known.known.word c.in_ok-known.known.inline.now (λ e. some (ap length e)))
 
 pub returns-in-Hold-clause-good : goal.returns-in-Hold-clause-good
 returns-in-Hold-clause-good c =
-    let k = c.in-Ok.ensures.ok in
-    let none : length c.in-Ok.known.inline.now ≡ 0 = search rules in
-    good_item c.args.group.now.records.now (parts_of c.in-Ok.known k.0) c.hold_item.result k.1
-    (may_hold c.in-Ok.known.word c.in-Ok.known.inline.now c.in-Hold.is
-    (nil_from_length c.in-Ok.known.inline.now none)) (c.hold_item.ensures.said k.0 k.2)
+    let k = c.in_ok-known.ensures.ok in
+    let none : length c.in_ok-known.known.inline.now ≡ 0 = search rules in
+    good_item c.args.group.now.records.now (parts_of c.in_ok-known.known k.0) c.hold_item.result k.1
+    (may_hold c.in_ok-known.known.word c.in_ok-known.known.inline.now c.in-Hold.is
+    (nil_from_length c.in_ok-known.known.inline.now none)) (c.hold_item.ensures.said k.0 k.2)
 
 pub returns-in-Hold-clause-fault : goal.returns-in-Hold-clause-fault
 returns-in-Hold-clause-fault c = λ printable.
-    let k = c.in-Ok.ensures.ok in
-    let none : length c.in-Ok.known.inline.now ≡ 0 = search rules in
-    bad_item c.args.group.now.records.now (parts_of c.in-Ok.known k.0) c.hold_item.result k.1
-    (may_hold c.in-Ok.known.word c.in-Ok.known.inline.now c.in-Hold.is
-    (nil_from_length c.in-Ok.known.inline.now none))
+    let k = c.in_ok-known.ensures.ok in
+    let none : length c.in_ok-known.known.inline.now ≡ 0 = search rules in
+    bad_item c.args.group.now.records.now (parts_of c.in_ok-known.known k.0) c.hold_item.result k.1
+    (may_hold c.in_ok-known.known.word c.in_ok-known.known.inline.now c.in-Hold.is
+    (nil_from_length c.in_ok-known.known.inline.now none))
     (c.hold_item.ensures.fault k.0 k.2
-    (known_printable c.args.group.now.records.now (parts_of c.in-Ok.known k.0) printable k.1))
+    (known_printable c.args.group.now.records.now (parts_of c.in_ok-known.known k.0) printable k.1))
 
 pub returns-in-Release-clause-good : goal.returns-in-Release-clause-good
 returns-in-Release-clause-good c =
-    let k = c.in-Ok.ensures.ok in
-    let none : length c.in-Ok.known.inline.now ≡ 0 = search rules in
-    good_item c.args.group.now.records.now (parts_of c.in-Ok.known k.0) c.release_item.result k.1
-    (may_release c.in-Ok.known.word c.in-Ok.known.inline.now c.in-Release.is
-    (nil_from_length c.in-Ok.known.inline.now none)) (c.release_item.ensures.said k.0 k.2)
+    let k = c.in_ok-known.ensures.ok in
+    let none : length c.in_ok-known.known.inline.now ≡ 0 = search rules in
+    good_item c.args.group.now.records.now (parts_of c.in_ok-known.known k.0) c.release_item.result k.1
+    (may_release c.in_ok-known.known.word c.in_ok-known.known.inline.now c.in-Release.is
+    (nil_from_length c.in_ok-known.known.inline.now none)) (c.release_item.ensures.said k.0 k.2)
 
 pub returns-in-Release-clause-fault : goal.returns-in-Release-clause-fault
 returns-in-Release-clause-fault c = λ printable.
-    let k = c.in-Ok.ensures.ok in
-    let none : length c.in-Ok.known.inline.now ≡ 0 = search rules in
-    bad_item c.args.group.now.records.now (parts_of c.in-Ok.known k.0) c.release_item.result k.1
-    (may_release c.in-Ok.known.word c.in-Ok.known.inline.now c.in-Release.is
-    (nil_from_length c.in-Ok.known.inline.now none)) (c.release_item.ensures.fault k.0 k.2)
+    let k = c.in_ok-known.ensures.ok in
+    let none : length c.in_ok-known.known.inline.now ≡ 0 = search rules in
+    bad_item c.args.group.now.records.now (parts_of c.in_ok-known.known k.0) c.release_item.result k.1
+    (may_release c.in_ok-known.known.word c.in_ok-known.known.inline.now c.in-Release.is
+    (nil_from_length c.in_ok-known.known.inline.now none)) (c.release_item.ensures.fault k.0 k.2)
 
-pub returns-in-Err-clause-fault : goal.returns-in-Err-clause-fault
-returns-in-Err-clause-fault c = λ printable.
-    form_error c.args.group.now.records.now c.in-Err.error c.in-Err.ensures.fault
+pub returns-in_err-known-clause-fault : goal.returns-in_err-known-clause-fault
+returns-in_err-known-clause-fault c = λ printable.
+    form_error c.args.group.now.records.now c.in_err-known.field-0 c.in_err-known.ensures.fault

@@ -37,8 +37,8 @@ returns-in_default-optional-2-clause-bad c = λ rest h printable x.
     c.in_default-optional-2.ensures.bad x.1.date
     (subst (λ l. HasOptional IsDate (operand (codes "DATE") l) x.1.date) same x.3.date)
 
-pub returns-in-Err-clause-bad : goal.returns-in-Err-clause-bad
-returns-in-Err-clause-bad c = λ rest h printable.
+pub returns-in_err-comment-clause-bad : goal.returns-in_err-comment-clause-bad
+returns-in_err-comment-clause-bad c = λ rest h printable.
     let ws = words_of c.in-Some.words.now in
     let words = c.in-Some.ensures.words rest h in
     let One : Type 0 = (comment : Option Text) × HasComment (operand (codes "COMMENT") ws) comment in
@@ -49,8 +49,8 @@ returns-in-Err-clause-bad c = λ rest h printable.
       x.1.comment,
       subst (λ l. HasComment (operand (codes "COMMENT") l) x.1.comment) (words_only rest x.0 ws x.2 words) x.3.comment,
     ) in
-    excludes_more c.in-Err.error One All pick
-    (c.in-Err.ensures.bad (operand_printable rest ws (codes "COMMENT") printable words))
+    excludes_more c.in_err-comment.field-0 One All pick
+    (c.in_err-comment.ensures.bad (operand_printable rest ws (codes "COMMENT") printable words))
 
 pub returns-clause-ok : goal.returns-clause-ok
 returns-clause-ok c = λ rest h.
@@ -66,6 +66,6 @@ returns-clause-ok c = λ rest h.
         reason = k.reason;
         class = optional_text IsClass (operand (codes "CLASS") ws) c.in-Ok.class c.in-Ok.ensures.ok;
         date = optional_text IsDate (operand (codes "DATE") ws) c.in-Ok-optional.date c.in-Ok-optional.ensures.ok;
-        comment = c.in-Ok-optional_comment.ensures.ok;
+        comment = c.in_ok-comment.ensures.ok;
       },
     )

@@ -12,21 +12,21 @@ returns-in_default-clause-fault c = λ rest h.
     if_no_words (Some (begun_of c.args.begun.now)) c.args.known.now.word (own_list c.args.known.now) rest
     c.args.known.now.inline.now c.requires (c.in_default.ensures.none rest h)
 
-pub returns-in-Err-clause-fault : goal.returns-in-Err-clause-fault
-returns-in-Err-clause-fault c = λ rest h.
+pub returns-in_err-condition-clause-fault : goal.returns-in_err-condition-clause-fault
+returns-in_err-condition-clause-fault c = λ rest h.
     let b = begun_of c.args.begun.now in
     rw c.statement_error.ensures (if_error (Some b) b c.args.known.now.word (own_list c.args.known.now) rest
-    c.args.known.now.inline.now (words_of c.in-Some.words.now) c.in-Err.error refl c.requires
-    (c.in-Some.ensures.some rest h) c.in-Err.ensures.bad)
+    c.args.known.now.inline.now (words_of c.in-Some.words.now) c.in_err-condition.field-0 refl c.requires
+    (c.in-Some.ensures.some rest h) c.in_err-condition.ensures.bad)
 
 pub returns-then-not-is_within-clause-fault : goal.returns-then-not-is_within-clause-fault
 returns-then-not-is_within-clause-fault c = λ rest h.
     let b = begun_of c.args.begun.now in
     let inline = c.args.known.now.inline.now in (
-      SaysIf c.in-Ok.condition,
-      if_value (Some b) b c.args.known.now.word (own_list c.args.known.now) rest inline c.in-Ok.condition refl
-          c.requires (words_of c.in-Some.words.now, c.in-Some.ensures.some rest h, c.in-Ok.ensures.ok),
-      λ within. true≢false (sym (c.is_within.ensures.1 (if_within (Some b) b c.in-Ok.condition inline refl within))
+      SaysIf c.in_ok-condition.condition,
+      if_value (Some b) b c.args.known.now.word (own_list c.args.known.now) rest inline c.in_ok-condition.condition refl
+          c.requires (words_of c.in-Some.words.now, c.in-Some.ensures.some rest h, c.in_ok-condition.ensures.ok),
+      λ within. true≢false (sym (c.is_within.ensures.1 (if_within (Some b) b c.in_ok-condition.condition inline refl within))
           ∙ c.if-not-is_within.true),
     )
 
@@ -34,6 +34,6 @@ pub returns-clause-said : goal.returns-clause-said
 returns-clause-said c = λ rest h.
     let b = begun_of c.args.begun.now in
     if_said (Some b) b c.args.known.now.word (own_list c.args.known.now) rest c.args.known.now.inline.now
-    c.in-Ok.condition refl c.requires
-    (words_of c.in-Some.words.now, c.in-Some.ensures.some rest h, c.in-Ok.ensures.ok)
+    c.in_ok-condition.condition refl c.requires
+    (words_of c.in-Some.words.now, c.in-Some.ensures.some rest h, c.in_ok-condition.ensures.ok)
     (c.is_within.ensures.0 c.if-not-is_within.false)

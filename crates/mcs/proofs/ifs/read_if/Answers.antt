@@ -29,8 +29,8 @@ returns-in_default-one-clause-bad c = λ x.
     (words_of c.args.words.now) x.0 (word_of c.in-Some.lists.fmid) (word_of c.in-Some.lists.req) x.1
     c.in-Some.ensures.some.0)
 
-pub returns-in-Err-clause-bad : goal.returns-in-Err-clause-bad
-returns-in-Err-clause-bad c =
+pub returns-in_err-req-clause-bad : goal.returns-in_err-req-clause-bad
+returns-in_err-req-clause-bad c =
     let own = own_list c.args.known.now in
     let ws = words_of c.args.words.now in
     let All : Type 0 = (i : IfReq) × IsIfOf c.args.sysmod.now own ws i in
@@ -40,26 +40,26 @@ returns-in-Err-clause-bad c =
       ids_of c.args.sysmod.now own ws x.0 (word_of c.in-Some.lists.fmid) (word_of c.in-Some.lists.req) x.1
           c.in-Some.ensures.some.0,
     ) in
-    excludes_more c.in-Err.error One All pick c.in-Err.ensures.bad
+    excludes_more c.in_err-req.field-0 One All pick c.in_err-req.ensures.bad
 
 pub returns-then-contains-clause-bad : goal.returns-then-contains-clause-bad
 returns-then-contains-clause-bad c = λ x.
     let same = ids_are c.args.sysmod.now (own_list c.args.known.now) (words_of c.args.words.now) x.0
-    (word_of c.in-Some.lists.fmid) (word_of c.in-Some.lists.req) c.in-Ok.req x.1 c.in-Some.ensures.some.0
-    c.in-Ok.ensures.sorted in
+    (word_of c.in-Some.lists.fmid) (word_of c.in-Some.lists.req) c.in_ok-req.req x.1 c.in-Some.ensures.some.0
+    c.in_ok-req.ensures.sorted in
     let own : c.sysmod.inside.id ≡ c.args.sysmod.now.id = ap (λ (s : Sysmod). s.id) c.sysmod.view_is in
-    let there : is_in c.in-Ok.req c.sysmod.inside.id ≡ true = sym c.contains.ensures ∙ c.if-contains.true in
+    let there : is_in c.in_ok-req.req c.sysmod.inside.id ≡ true = sym c.contains.ensures ∙ c.if-contains.true in
     x.1.others (Contains_from_is_in x.0.req c.args.sysmod.now.id
-    (ap (λ ids. is_in ids c.args.sysmod.now.id) same ∙ ap (is_in c.in-Ok.req) (sym own) ∙ there))
+    (ap (λ ids. is_in ids c.args.sysmod.now.id) same ∙ ap (is_in c.in_ok-req.req) (sym own) ∙ there))
 
 pub returns-clause-ok : goal.returns-clause-ok
 returns-clause-ok c =
     let l = c.in-Some.ensures.some in
     let own : c.sysmod.inside.id ≡ c.args.sysmod.now.id = ap (λ (s : Sysmod). s.id) c.sysmod.view_is in
-    let free : is_in c.in-Ok.req c.sysmod.inside.id ≡ false = sym c.contains.ensures ∙ c.if-contains.false in
+    let free : is_in c.in_ok-req.req c.sysmod.inside.id ≡ false = sym c.contains.ensures ∙ c.if-contains.false in
     if_is c.args.sysmod.now (own_list c.args.known.now) (words_of c.args.words.now) (word_of c.in-Some.lists.fmid)
-    (word_of c.in-Some.lists.req) (record { function = c.in-Some-one.function; req = c.in-Ok.req })
+    (word_of c.in-Some.lists.req) (record { function = c.in-Some-one.function; req = c.in_ok-req.req })
     (no_list c.args.known.now.first.list text_of (sym c.is_some.ensures ∙ c.if-is_some.false)) l.1 l.2 l.0
-    c.in-Some-one.ensures.one c.in-Ok.ensures.sorted
-    (λ there. true≢false (sym (is_in_from_Contains c.in-Ok.req c.args.sysmod.now.id there)
-    ∙ ap (is_in c.in-Ok.req) (sym own) ∙ free))
+    c.in-Some-one.ensures.one c.in_ok-req.ensures.sorted
+    (λ there. true≢false (sym (is_in_from_Contains c.in_ok-req.req c.args.sysmod.now.id there)
+    ∙ ap (is_in c.in_ok-req.req) (sym own) ∙ free))

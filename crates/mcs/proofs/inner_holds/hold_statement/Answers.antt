@@ -6,18 +6,18 @@ use Rattle.mcs.specs.Files.{begun_of}
 use Rattle.mcs.proofs.Holding.{hold_value, hold_error, hold_said}
 use Rattle.mcs.proofs.inner_holds.hold_statement.Goals as goal
 
-pub returns-in-Err-clause-fault : goal.returns-in-Err-clause-fault
-returns-in-Err-clause-fault c = λ rest h printable.
+pub returns-in_err-hold-clause-fault : goal.returns-in_err-hold-clause-fault
+returns-in_err-hold-clause-fault c = λ rest h printable.
     let b = begun_of c.args.begun.now in
     rw c.statement_error.ensures (hold_error (Some b) b c.args.known.now.word (own_list c.args.known.now) rest
-    c.args.known.now.inline.now c.in-Err.error refl c.requires (c.in-Err.ensures.bad rest h printable))
+    c.args.known.now.inline.now c.in_err-hold.field-0 refl c.requires (c.in_err-hold.ensures.bad rest h printable))
 
 pub returns-then-not-has_short_comment-clause-fault : goal.returns-then-not-has_short_comment-clause-fault
 returns-then-not-has_short_comment-clause-fault c = λ rest h printable.
     let b = begun_of c.args.begun.now in (
-      SaysHold c.in-Ok.hold,
+      SaysHold c.in_ok-hold.hold,
       hold_value (Some b) b c.args.known.now.word (own_list c.args.known.now) rest c.args.known.now.inline.now
-          c.in-Ok.hold refl c.requires (c.in-Ok.ensures.ok rest h),
+          c.in_ok-hold.hold refl c.requires (c.in_ok-hold.ensures.ok rest h),
       λ within. true≢false (sym (c.has_short_comment.ensures.1 within) ∙ c.if-not-has_short_comment.true),
     )
 
@@ -25,5 +25,5 @@ pub returns-clause-said : goal.returns-clause-said
 returns-clause-said c = λ rest h.
     let b = begun_of c.args.begun.now in
     hold_said (Some b) b c.args.known.now.word (own_list c.args.known.now) rest c.args.known.now.inline.now
-    c.in-Ok.hold refl c.requires (c.in-Ok.ensures.ok rest h)
+    c.in_ok-hold.hold refl c.requires (c.in_ok-hold.ensures.ok rest h)
     (c.has_short_comment.ensures.0 c.if-not-has_short_comment.false)

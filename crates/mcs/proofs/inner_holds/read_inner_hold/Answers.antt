@@ -8,22 +8,22 @@ use Rattle.rec80.proofs.Failing.{excludes_more}
 use Rattle.mcs.proofs.Holding.{OwnHoldOf, not_own, own_hold}
 use Rattle.mcs.proofs.inner_holds.read_inner_hold.Goals as goal
 
-pub returns-in-Err-clause-bad : goal.returns-in-Err-clause-bad
-returns-in-Err-clause-bad c = λ rest h printable.
+pub returns-in_err-hold-clause-bad : goal.returns-in_err-hold-clause-bad
+returns-in_err-hold-clause-bad c = λ rest h printable.
     let own = own_list c.args.known.now in
     let Own : Type 0 = (x : Hold) × OwnHoldOf c.args.sysmod.now own rest x in
     let Any : Type 0 = (ws : List Word) × (x : Hold) × HasWords rest ws × IsHoldOf own ws x in
     let pick : Own → Any = λ x. (x.1.0, x.0, x.1.1, x.1.2.hold) in
-    excludes_more c.in-Err.error Any Own pick (c.in-Err.ensures.bad rest h printable)
+    excludes_more c.in_err-hold.field-0 Any Own pick (c.in_err-hold.ensures.bad rest h printable)
 
 pub returns-then-not-is_own_system_hold-clause-bad : goal.returns-then-not-is_own_system_hold-clause-bad
 returns-then-not-is_own_system_hold-clause-bad c = λ rest h printable x.
-    let r = c.in-Ok.ensures.ok rest h in
-    not_own c.args.sysmod.now (own_list c.args.known.now) rest r.0 c.in-Ok.hold r.1 r.2
+    let r = c.in_ok-hold.ensures.ok rest h in
+    not_own c.args.sysmod.now (own_list c.args.known.now) rest r.0 c.in_ok-hold.hold r.1 r.2
     (λ at. true≢false (sym (c.is_own_system_hold.ensures.1 at) ∙ c.if-not-is_own_system_hold.true)) x.0 x.1
 
 pub returns-clause-ok : goal.returns-clause-ok
 returns-clause-ok c = λ rest h.
-    let r = c.in-Ok.ensures.ok rest h in
-    own_hold c.args.sysmod.now (own_list c.args.known.now) rest r.0 c.in-Ok.hold r.1 r.2
-    (c.is_own_system_hold.ensures.0 c.if-not-is_own_system_hold.false) c.in-Ok.ensures.internal
+    let r = c.in_ok-hold.ensures.ok rest h in
+    own_hold c.args.sysmod.now (own_list c.args.known.now) rest r.0 c.in_ok-hold.hold r.1 r.2
+    (c.is_own_system_hold.ensures.0 c.if-not-is_own_system_hold.false) c.in_ok-hold.ensures.internal

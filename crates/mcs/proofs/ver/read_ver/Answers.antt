@@ -22,12 +22,12 @@ made : (c : After-ver_of_lists-ver)
 made c = rw c.ver_of_lists-ver.ensures record {
   has_srel = c.in-Some.ensures.one;
   has_fmid = optional_text IsId (operand (codes "FMID") (words_of c.args.words.now)) c.in-Ok.fmid c.in-Ok.ensures.ok;
-  has_lists = c.in-Ok-read_lists.ensures.ok;
+  has_lists = c.in_ok-lists.ensures.ok;
   no_ifs = refl;
 }
 
-pub returns-in-Err-read_lists-clause-bad : goal.returns-in-Err-read_lists-clause-bad
-returns-in-Err-read_lists-clause-bad c =
+pub returns-in_err-lists-clause-bad : goal.returns-in_err-lists-clause-bad
+returns-in_err-lists-clause-bad c =
     let own = own_list c.args.known.now in
     let ws = words_of c.args.words.now in
     let All : Type 0 = (pre req sup npre del : List Id) × HasLists ws pre req sup npre del in
@@ -40,7 +40,7 @@ returns-in-Err-read_lists-clause-bad c =
       x.0.del,
       lists_in c.args.sysmod.now own ws x.0 x.1,
     ) in
-    excludes_more c.in-Err-read_lists.error All One pick c.in-Err-read_lists.ensures.bad
+    excludes_more c.in_err-lists.field-0 All One pick c.in_err-lists.ensures.bad
 
 same_id : (c : After-ver_of_lists-ver) → c.sysmod.inside.id ≡ c.args.sysmod.now.id
 same_id c = ap (λ (s : Sysmod). s.id) c.sysmod.view_is

@@ -14,22 +14,22 @@ returns-in_default-clause-fault c = λ rest h.
     ver_excludes (sysmod_in (Some (begun_of c.args.begun.now))) c.args.known.now.word (own_list c.args.known.now) rest
     c.args.known.now.inline.now c.requires (λ ws v words i. c.in_default.ensures.none rest h ws words i.are_operands)
 
-pub returns-in-Err-clause-fault : goal.returns-in-Err-clause-fault
-returns-in-Err-clause-fault c = λ rest h.
+pub returns-in_err-ver-clause-fault : goal.returns-in_err-ver-clause-fault
+returns-in_err-ver-clause-fault c = λ rest h.
     let b = begun_of c.args.begun.now in
     rw c.statement_error.ensures (ver_error (Some b) b c.args.known.now.word (own_list c.args.known.now) rest
-    c.args.known.now.inline.now (words_of c.in-Some.words.now) c.in-Err.error refl c.requires
-    (c.in-Some.ensures.words rest h) c.in-Err.ensures.bad)
+    c.args.known.now.inline.now (words_of c.in-Some.words.now) c.in_err-ver.field-0 refl c.requires
+    (c.in-Some.ensures.words rest h) c.in_err-ver.ensures.bad)
 
 pub returns-then-not-is_within-clause-fault : goal.returns-then-not-is_within-clause-fault
 returns-then-not-is_within-clause-fault c = λ rest h.
     let b = begun_of c.args.begun.now in
     let inline = c.args.known.now.inline.now in (
-      SaysVer c.in-Ok.ver,
+      SaysVer c.in_ok-ver.ver,
       ver_value (Some b) b c.args.known.now.word (own_list c.args.known.now) rest inline
-          (words_of c.in-Some.words.now) c.in-Ok.ver refl c.requires (c.in-Some.ensures.words rest h)
-          c.in-Ok.ensures.ok,
-      λ within. true≢false (sym (c.is_within.ensures.1 (ver_within (Some b) b c.in-Ok.ver inline refl within))
+          (words_of c.in-Some.words.now) c.in_ok-ver.ver refl c.requires (c.in-Some.ensures.words rest h)
+          c.in_ok-ver.ensures.ok,
+      λ within. true≢false (sym (c.is_within.ensures.1 (ver_within (Some b) b c.in_ok-ver.ver inline refl within))
           ∙ c.if-not-is_within.true),
     )
 
@@ -37,5 +37,5 @@ pub returns-clause-said : goal.returns-clause-said
 returns-clause-said c = λ rest h.
     let b = begun_of c.args.begun.now in
     ver_said (Some b) b c.args.known.now.word (own_list c.args.known.now) rest c.args.known.now.inline.now
-    (words_of c.in-Some.words.now) c.in-Ok.ver refl c.requires (c.in-Some.ensures.words rest h)
-    c.in-Ok.ensures.ok (c.is_within.ensures.0 c.if-not-is_within.false)
+    (words_of c.in-Some.words.now) c.in_ok-ver.ver refl c.requires (c.in-Some.ensures.words rest h)
+    c.in_ok-ver.ensures.ok (c.is_within.ensures.0 c.if-not-is_within.false)

@@ -35,8 +35,8 @@ loop-edit-preserved g c =
       walked = walked;
       count = c.next.new.self.rest.ok.0;
       editing = rw (
-        c.put.ensures.items,
-        c.drop_at.ensures.rest,
+        c.move_put_item.ensures.items,
+        c.remove_key.ensures.rest,
         c.move_before.ensures.moved,
         c.move_before.ensures.kept,
         c.key-key.ensures,
@@ -47,9 +47,9 @@ loop-edit-preserved g c =
       room =
           let gone = c.in-Some.ensures.steps.1 in
           let moved = c.move_before.ensures.len in
-          let less = c.drop_at.ensures.len in
-          let more = c.put.ensures.len in
-          let same = c.put.ensures.capacity ∙ c.move_before.ensures.capacity in
+          let less = c.remove_key.ensures.len in
+          let more = c.move_put_item.ensures.len in
+          let same = c.move_put_item.ensures.capacity ∙ c.move_before.ensures.capacity in
           let room = at.room in
           omega arith;
     }
@@ -59,11 +59,11 @@ move_before-requires-clause-room g c =
     let room = c.loop-edit.invariant.room in
     omega arith
 
-pub put-requires : goal.put-requires
-put-requires g c =
+pub move_put_item-requires : goal.move_put_item-requires
+move_put_item-requires g c =
     let gone = c.in-Some.ensures.steps.1 in
     let moved = c.move_before.ensures.len in
-    let less = c.drop_at.ensures.len in
+    let less = c.remove_key.ensures.len in
     let same = c.move_before.ensures.capacity in
     let room = c.loop-edit.invariant.room in
     omega arith

@@ -15,13 +15,13 @@ loop-edit-preserved g c =
     let edits = c.args.edits.now in
     let rest = at.rest.now in
     let key_is = c.key-key.ensures in
-    let new_is : c.copy_put.new.new.items
+    let new_is : c.copy_put_item.new.new.items
     ≡ (at.new.items ++ before R key (edit_key key e) rest) ++ option_to_list (edit_put e) =
-    c.in_ok-copy_put.ensures
+    c.in_ok-copy_put_item.ensures
     ∙ ap (λ ys. ys ++ option_to_list (edit_put e))
     (c.in_ok-copy_before.ensures.copied ∙ ap (λ k. at.new.items ++ before R key k rest) key_is) in
-    let rest_is : c.skip_key-rest.result.now ≡ behind R key (edit_key key e) rest =
-    c.skip_key-rest.ensures ∙ c.in_ok-copy_before.ensures.kept ∙ ap (λ k. behind R key k rest) key_is in
+    let rest_is : c.after_key-rest.result.now ≡ behind R key (edit_key key e) rest =
+    c.after_key-rest.ensures ∙ c.in_ok-copy_before.ensures.kept ∙ ap (λ k. behind R key k rest) key_is in
     subst₂ (λ new left. IsEditing R key items edits (at.edit-index + 1) new left) (sym new_is) (sym rest_is)
     (editing_goes_on g.met.T.Key.Ord.total key items edits at.edit-index at.new.items rest e c.requires.edits
     c.loop-edit-test.true c.edit-item.is at.invariant)

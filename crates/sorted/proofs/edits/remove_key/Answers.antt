@@ -3,9 +3,9 @@ use Rattle.std.specs.Ordering.{is_eq}
 use Rattle.std.proofs.lemmas.Bool.{true≢false}
 use Rattle.terms.proofs.Orderings.{Equal_from_is_eq}
 use Rattle.sorted.proofs.Moving.{starts, behind_tied, behind_all}
-use Rattle.sorted.proofs.edits.drop_at.Given.{Over}
-use Rattle.sorted.proofs.edits.drop_at.Goals.{After-eq}
-use Rattle.sorted.proofs.edits.drop_at.Goals as goal
+use Rattle.sorted.proofs.edits.remove_key.Given.{Over}
+use Rattle.sorted.proofs.edits.remove_key.Goals.{After-eq}
+use Rattle.sorted.proofs.edits.remove_key.Goals as goal
 
 tested : (g : Over) (c : After-eq g)
     → c.eq.result ≡ is_eq (g.T.Key.Ord.cmp (g.T.Keyed.key_of c.in-Some.first.now) c.args.key)

@@ -4,9 +4,9 @@ use Rattle.std.proofs.lemmas.Bool.{true≢false}
 use Rattle.terms.specs.Rising.{Rises, before, behind}
 use Rattle.terms.proofs.Orderings.{Equal_from_is_eq}
 use Rattle.sorted.proofs.Moving.{behind_tied, behind_all}
-use Rattle.sorted.proofs.merging.skip_key.Given.{Over}
-use Rattle.sorted.proofs.merging.skip_key.Goals.{After-eq}
-use Rattle.sorted.proofs.merging.skip_key.Goals as goal
+use Rattle.sorted.proofs.merging.after_key.Given.{Over}
+use Rattle.sorted.proofs.merging.after_key.Goals.{After-eq}
+use Rattle.sorted.proofs.merging.after_key.Goals as goal
 
 tested : (g : Over) (c : After-eq g)
     → c.eq.result ≡ is_eq (g.T.Key.Ord.cmp (g.T.Keyed.key_of c.in-Some.first.now) c.args.key)
