@@ -109,12 +109,8 @@ pub fn hold_of_operands(
     let Some(key) = read_key(known, words) else {
         return Err(OperandError::Bad);
     };
-    let Ok(class) = optional::<Class>(words, b"CLASS") else {
-        return Err(OperandError::Bad);
-    };
-    let Ok(date) = optional::<HoldDate>(words, b"DATE") else {
-        return Err(OperandError::Bad);
-    };
+    let class = optional::<Class>(words, b"CLASS")?;
+    let date = optional::<HoldDate>(words, b"DATE")?;
     let comment = optional_comment(alloc, words, b"COMMENT")?;
     Ok(Hold {
         id: key.id,

@@ -144,10 +144,7 @@ fn read_ver(
     if !suits_kind(sysmod.kind, words) {
         return Err(OperandError::Bad);
     }
-    let fmid = match optional::<Id>(words, b"FMID") {
-        Ok(fmid) => fmid,
-        Err(_) => return Err(OperandError::Bad),
-    };
+    let fmid = optional::<Id>(words, b"FMID")?;
     let lists = read_lists(alloc, words)?;
     let ver = ver_of_lists(alloc, srel, fmid, lists);
     if has_fmid(&ver, sysmod.id) {

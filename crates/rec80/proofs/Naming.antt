@@ -1,6 +1,6 @@
 -- Words by their names: which are there, and how often.
 use Rattle.std.proofs.Common.{◌≡◌, ◌≢◌, ℕ, Bool, true, false, List, [], ◌∷◌, map, filter, length, Option, Some, None}
-use Rattle.std.proofs.Common.{◌+◌, refl, sym, ◌∙◌, ap, All, arith, get_or}
+use Rattle.std.proofs.Common.{refl, sym, ◌∙◌, ap, All, arith, get_or}
 use Rattle.std.specs.Prelude.{◌↔◌, not, IsTrue, AllPairs, is_some, option_map, nat_le}
 use Rattle.std.specs.List.{list_any}
 use Rattle.std.specs.Str.{bytes_eq}

@@ -60,14 +60,12 @@ fn member_list<'a>(behind: &Text<'a>) -> Option<(Option<Text<'a>>, Text<'a>)>
     ensures none { IfNone result ((list : Option (List ℕ)) (after : List ℕ)
         → TakesInner (text_of behind.now) list after → ⊥) }
 {
-    let dark = skip_blanks(behind);
-    let Some(inside) = skip_byte(&dark, b'(') else {
+    let after_blanks = skip_blanks(behind);
+    let Some(inside) = skip_byte(&after_blanks, b'(') else {
         return Some((None, *behind));
     };
     let (list, close) = split_at_paren(&inside);
-    let Some(after) = skip_byte(&close, b')') else {
-        return None;
-    };
+    let after = skip_byte(&close, b')')?;
     Some((Some(list), after))
 }
 
@@ -77,17 +75,15 @@ fn member_start<'a>(rest: &Text<'a>, first: bool) -> Option<Text<'a>>
     ensures only { (gap next : List ℕ) → text_of rest.now ≡ gap ++ next → IsBefore first gap → BeginsMember next
         → MatchOption result ⊥ (λ t. next ≡ text_of t) }
 {
-    let dark = skip_blanks(rest);
+    let after_blanks = skip_blanks(rest);
     if first {
-        return Some(dark);
+        return Some(after_blanks);
     }
-    if let Some(next) = skip_byte(&dark, b',') {
+    if let Some(next) = skip_byte(&after_blanks, b',') {
         return Some(skip_blanks(&next));
     }
-    let Some(_) = skip_byte(rest, b' ') else {
-        return None;
-    };
-    Some(dark)
+    skip_byte(rest, b' ')?;
+    Some(after_blanks)
 }
 
 // The next member, and the text after it.
@@ -96,22 +92,16 @@ fn split_next_member<'a>(rest: &Text<'a>, first: bool) -> Option<(Word<'a>, Text
     ensures none { IfNone result ((m : grammar.Word) (after : List ℕ) → TakesNext first (text_of rest.now) m after
         → ⊥) }
 {
-    let Some(start) = member_start(rest, first) else {
-        return None;
-    };
-    let Some((word, behind)) = split_member_word(&start) else {
-        return None;
-    };
-    let Some((list, after)) = member_list(&behind) else {
-        return None;
-    };
+    let start = member_start(rest, first)?;
+    let (word, behind) = split_member_word(&start)?;
+    let (list, after) = member_list(&behind)?;
     Some((Word { word, list }, after))
 }
 
 // Whether only blanks are left.
 fn is_blank(rest: &Text) -> bool
     ensures blank { result ≡ true → AreBlanks (text_of rest.now) }
-    ensures dark { result ≡ false → AreBlanks (text_of rest.now) → ⊥ }
+    ensures not_blank { result ≡ false → AreBlanks (text_of rest.now) → ⊥ }
 {
     skip_blanks(rest).is_end()
 }

@@ -68,9 +68,7 @@ impl<'a> Operands<'a> {
         ensures none { IfNone result ((pieces : List Piece) → IsRead pieces self.now → (ws : List grammar.Word)
             → HasWords pieces ws → AreOperands (map (λ name. name.now) names.now) ws → ⊥) }
     {
-        let Some(words) = self.only() else {
-            return None;
-        };
+        let words = self.only()?;
         if !are_operands(words, names) {
             return None;
         }
@@ -97,10 +95,7 @@ impl<'a> Operands<'a> {
         ensures { (pieces : List Piece) → IsRead pieces self.now
             → option_map text_of result ≡ list_behind name.now pieces }
     {
-        let Some(word) = operand(self.words.as_slice(), name) else {
-            return None;
-        };
-        word.list
+        operand(self.words.as_slice(), name)?.list
     }
 }
 

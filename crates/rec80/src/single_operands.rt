@@ -55,10 +55,7 @@ pub fn one<T: Member>(word: &Word<'_>) -> Option<T>
     ensures one { IfSome result (λ value. HasOwn T.form (word_of word.now).list (T.text value)) }
     ensures none { IfNone result ((value : List ℕ) → HasOwn T.form (word_of word.now).list value → ⊥) }
 {
-    let Some(member) = one_member(word) else {
-        return None;
-    };
-    T::read(member)
+    T::read(one_member(word)?)
 }
 
 /// The value of an operand that must be present.
@@ -67,10 +64,7 @@ pub fn required<T: Member>(words: &[Word<'_>], name: &[u8]) -> Option<T>
     ensures none { IfNone result ((value : List ℕ)
         → HasRequired T.form (operand name.now (words_of words.now)) value → ⊥) }
 {
-    let Some(word) = operand(words, name) else {
-        return None;
-    };
-    one::<T>(&word)
+    one::<T>(&operand(words, name)?)
 }
 
 /// The value of an operand that may be absent. Returns an error if it is present and has no list of exactly one such

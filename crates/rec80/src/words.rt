@@ -93,15 +93,10 @@ impl<'a> Words<'a> {
         ensures shorter { IfSome result (λ found. length (left_of self.new) < length (left_of self.old)) }
     {
         let Ok(found) = self.next_word() else {
-            let Some(_) = self.next_piece() else {
-                return None;
-            };
+            self.next_piece()?;
             return Some(Err(NoWord));
         };
-        let Some(word) = found else {
-            return None;
-        };
-        Some(Ok(word))
+        Some(Ok(found?))
     }
 
     /// Takes the next word, list or other character, if there is one.

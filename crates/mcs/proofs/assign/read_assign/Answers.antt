@@ -6,6 +6,7 @@ use Rattle.terms.specs.Operands.{operand, HasListed, HasRequired}
 use Rattle.terms.proofs.ExactWords.{words_only}
 use Rattle.rec80.specs.Cursors.{text_of}
 use Rattle.rec80.specs.Views.{words_of}
+use Rattle.std.proofs.lemmas.Result.{err_from_is_err_and}
 use Rattle.mcs.specs.KnownWords.{own_list}
 use Rattle.rec80.proofs.Failing.{excludes_more}
 use Rattle.mcs.proofs.Ending.{no_list}
@@ -29,12 +30,13 @@ returns-in_default-required-clause-bad c = λ rest h x.
 
 pub returns-in_err-to-clause-bad : goal.returns-in_err-to-clause-bad
 returns-in_err-to-clause-bad c = λ rest h.
+    let p = err_from_is_err_and c.from_residual.result c.from_residual.ensures.1 in
     let ws = words_of c.in-Some.words.now in
     let All : Type 0 = (a : Assign) × AssignOf (own_list c.args.known.now) rest a in
     let One : Type 0 = (ids : List Id) × IsSomeAnd (operand (codes "TO") ws) (λ w. HasListed IsId w ids) in
     let pick : All → One = λ x.
     (x.0.to, rw (words_only rest x.1.0 ws x.1.1 (c.in-Some.ensures.words rest h)) at x.1.2.to) in
-    excludes_more c.in_err-to.field-0 One All pick c.in_err-to.ensures.bad
+    rw (p.1, p.2) (excludes_more c.in_err-to.field-0.0 One All pick c.in_err-to.ensures.bad)
 
 pub returns-clause-ok : goal.returns-clause-ok
 returns-clause-ok c = λ rest h. (

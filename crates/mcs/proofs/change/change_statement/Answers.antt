@@ -2,6 +2,7 @@ use Rattle.std.proofs.Common.{◌∙◌, Some, sym, ap, refl}
 use Rattle.std.proofs.lemmas.Bool.{true≢false}
 use Rattle.terms.specs.Statements.{changed_type, SaysChange}
 use Rattle.terms.specs.Ptfin.{sysmod_in}
+use Rattle.std.proofs.lemmas.Result.{err_from_is_err_and}
 use Rattle.mcs.specs.Files.{begun_of}
 use Rattle.mcs.specs.KnownWords.{own_list}
 use Rattle.mcs.proofs.Saying.{change_excludes}
@@ -29,14 +30,15 @@ returns-then-not-is_within-clause-fault c = λ rest h.
 
 pub returns-in_err-lines-clause-fault : goal.returns-in_err-lines-clause-fault
 returns-in_err-lines-clause-fault c = λ rest h.
+    let p = err_from_is_err_and c.from_residual.result c.from_residual.ensures.1 in
     let n = c.in-Some.ensures.some rest h in
     let inline = c.args.known.now.inline.now in
     let value = change_value (sysmod_in (Some (begun_of c.args.begun.now))) c.args.known.now.word
     (own_list c.args.known.now) rest inline inline c.args.elem_type n.0 c.in-Some.names.name c.in-Some.names.distlib
     c.in-Some.names.syslib c.requires n.1 n.2 refl in
-    text_fault (Some (begun_of c.args.begun.now)) c.args.known.now.word (own_list c.args.known.now) rest inline
-    c.args.elem_type c.in-Some.names.name c.in-Some.names.distlib c.in-Some.names.syslib c.in_err-lines.field-0
-    c.in_err-lines.ensures.bad value (c.is_within.ensures.0 c.if-not-is_within.false)
+    rw (p.1, p.2) (text_fault (Some (begun_of c.args.begun.now)) c.args.known.now.word (own_list c.args.known.now) rest inline
+    c.args.elem_type c.in-Some.names.name c.in-Some.names.distlib c.in-Some.names.syslib c.in_err-lines.field-0.0
+    c.in_err-lines.ensures.bad value (c.is_within.ensures.0 c.if-not-is_within.false))
 
 pub returns-clause-said : goal.returns-clause-said
 returns-clause-said c = λ rest h.

@@ -1,13 +1,15 @@
 use Rattle.std.proofs.Common.{◌∙◌, sym}
 use Rattle.std.proofs.lemmas.Bool.{true≢false}
 use Rattle.terms.specs.Types.{AHold}
+use Rattle.std.proofs.lemmas.Result.{err_from_is_err_and}
 use Rattle.mcs.specs.KnownWords.{own_list}
 use Rattle.mcs.proofs.HoldJudging.{hold_value, hold_error}
 use Rattle.mcs.proofs.hold_item.hold_item.Goals as goal
 
 pub returns-in_err-hold-clause-fault : goal.returns-in_err-hold-clause-fault
 returns-in_err-hold-clause-fault c = λ rest h printable.
-    rw c.statement_error.ensures (hold_error c.args.known.now.word (own_list c.args.known.now) rest c.in_err-hold.field-0
+    let p = err_from_is_err_and c.from_residual.result c.from_residual.ensures.1 in
+    rw (p.1, p.2) (hold_error c.args.known.now.word (own_list c.args.known.now) rest c.in_err-hold.field-0.0
     c.requires (c.in_err-hold.ensures.bad rest h printable))
 
 pub returns-then-not-has_short_comment-clause-fault : goal.returns-then-not-has_short_comment-clause-fault

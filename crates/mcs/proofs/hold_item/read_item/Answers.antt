@@ -1,5 +1,6 @@
 use Rattle.std.proofs.Common.{◌≡◌, length, rules, ap}
 use Rattle.std.proofs.lemmas.List.{nil_from_length}
+use Rattle.std.proofs.lemmas.Result.{err_from_is_err_and}
 use Rattle.mcs.specs.KnownWords.{parts_of}
 use Rattle.mcs.proofs.Printables.{known_printable}
 use Rattle.mcs.proofs.HoldJudging.{good_item, bad_item, form_error, may_hold, may_release, text_behind, misplaced}
@@ -48,4 +49,5 @@ returns-in-Release-clause-fault c = λ printable.
 
 pub returns-in_err-known-clause-fault : goal.returns-in_err-known-clause-fault
 returns-in_err-known-clause-fault c = λ printable.
-    form_error c.args.group.now.records.now c.in_err-known.field-0 c.in_err-known.ensures.fault
+    let p = err_from_is_err_and c.from_residual.result c.from_residual.ensures.1 in
+    rw (p.1, p.2) (form_error c.args.group.now.records.now c.in_err-known.field-0.0 c.in_err-known.ensures.fault)

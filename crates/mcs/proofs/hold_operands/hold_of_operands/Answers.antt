@@ -7,6 +7,7 @@ use Rattle.terms.specs.Operands.{operand, HasOptional}
 use Rattle.terms.specs.HoldStatements.{HasComment, IsHoldOf}
 use Rattle.terms.proofs.ExactWords.{words_only}
 use Rattle.rec80.specs.Views.{words_of}
+use Rattle.std.proofs.lemmas.Result.{err_from_is_err_and}
 use Rattle.mcs.specs.KnownWords.{own_list}
 use Rattle.mcs.specs.Holds.{HasKey}
 use Rattle.rec80.proofs.Failing.{excludes_more}
@@ -25,20 +26,25 @@ returns-in_default-read_key-clause-bad c = λ rest h printable x.
     c.in_default-read_key.ensures.none (key_of x.1)
     (subst (λ l. HasKey own l (key_of x.1)) same (hold_key own x.0 x.1 x.3))
 
-pub returns-in_default-optional-clause-bad : goal.returns-in_default-optional-clause-bad
-returns-in_default-optional-clause-bad c = λ rest h printable x.
+pub returns-in_err-class-clause-bad : goal.returns-in_err-class-clause-bad
+returns-in_err-class-clause-bad c = λ rest h printable.
+    let p = err_from_is_err_and c.from_residual.result c.from_residual.ensures.1 in
+    rw (p.1, p.2) (λ x.
     let same = words_only rest x.0 (words_of c.in-Some.words.now) x.2 (c.in-Some.ensures.words rest h) in
-    c.in_default-optional.ensures.bad x.1.class
-    (subst (λ l. HasOptional IsClass (operand (codes "CLASS") l) x.1.class) same x.3.class)
+    c.in_err-class.ensures.bad x.1.class
+    (subst (λ l. HasOptional IsClass (operand (codes "CLASS") l) x.1.class) same x.3.class))
 
-pub returns-in_default-optional-2-clause-bad : goal.returns-in_default-optional-2-clause-bad
-returns-in_default-optional-2-clause-bad c = λ rest h printable x.
+pub returns-in_err-date-clause-bad : goal.returns-in_err-date-clause-bad
+returns-in_err-date-clause-bad c = λ rest h printable.
+    let p = err_from_is_err_and c.from_residual-in_err-date.result c.from_residual-in_err-date.ensures.1 in
+    rw (p.1, p.2) (λ x.
     let same = words_only rest x.0 (words_of c.in-Some.words.now) x.2 (c.in-Some.ensures.words rest h) in
-    c.in_default-optional-2.ensures.bad x.1.date
-    (subst (λ l. HasOptional IsDate (operand (codes "DATE") l) x.1.date) same x.3.date)
+    c.in_err-date.ensures.bad x.1.date
+    (subst (λ l. HasOptional IsDate (operand (codes "DATE") l) x.1.date) same x.3.date))
 
 pub returns-in_err-comment-clause-bad : goal.returns-in_err-comment-clause-bad
 returns-in_err-comment-clause-bad c = λ rest h printable.
+    let p = err_from_is_err_and c.from_residual-in_err-comment.result c.from_residual-in_err-comment.ensures.1 in
     let ws = words_of c.in-Some.words.now in
     let words = c.in-Some.ensures.words rest h in
     let One : Type 0 = (comment : Option Text) × HasComment (operand (codes "COMMENT") ws) comment in
@@ -49,8 +55,8 @@ returns-in_err-comment-clause-bad c = λ rest h printable.
       x.1.comment,
       subst (λ l. HasComment (operand (codes "COMMENT") l) x.1.comment) (words_only rest x.0 ws x.2 words) x.3.comment,
     ) in
-    excludes_more c.in_err-comment.field-0 One All pick
-    (c.in_err-comment.ensures.bad (operand_printable rest ws (codes "COMMENT") printable words))
+    rw (p.1, p.2) (excludes_more c.in_err-comment.field-0.0 One All pick
+    (c.in_err-comment.ensures.bad (operand_printable rest ws (codes "COMMENT") printable words)))
 
 pub returns-clause-ok : goal.returns-clause-ok
 returns-clause-ok c = λ rest h.
@@ -64,8 +70,8 @@ returns-clause-ok c = λ rest h.
         kind = k.kind;
         fmid = k.fmid;
         reason = k.reason;
-        class = optional_text IsClass (operand (codes "CLASS") ws) c.in-Ok.class c.in-Ok.ensures.ok;
-        date = optional_text IsDate (operand (codes "DATE") ws) c.in-Ok-optional.date c.in-Ok-optional.ensures.ok;
+        class = optional_text IsClass (operand (codes "CLASS") ws) c.in_ok-class.class c.in_ok-class.ensures.ok;
+        date = optional_text IsDate (operand (codes "DATE") ws) c.in_ok-date.date c.in_ok-date.ensures.ok;
         comment = c.in_ok-comment.ensures.ok;
       },
     )

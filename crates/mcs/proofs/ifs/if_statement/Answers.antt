@@ -2,6 +2,7 @@ use Rattle.std.proofs.Common.{◌∙◌, Some, sym, refl}
 use Rattle.std.proofs.lemmas.Bool.{true≢false}
 use Rattle.terms.specs.Statements.{SaysIf}
 use Rattle.rec80.specs.Views.{words_of}
+use Rattle.std.proofs.lemmas.Result.{err_from_is_err_and}
 use Rattle.mcs.specs.KnownWords.{own_list}
 use Rattle.mcs.specs.Files.{begun_of}
 use Rattle.mcs.proofs.Conditions.{if_value, if_error, if_no_words, if_within, if_said}
@@ -14,9 +15,10 @@ returns-in_default-clause-fault c = λ rest h.
 
 pub returns-in_err-condition-clause-fault : goal.returns-in_err-condition-clause-fault
 returns-in_err-condition-clause-fault c = λ rest h.
+    let p = err_from_is_err_and c.from_residual.result c.from_residual.ensures.1 in
     let b = begun_of c.args.begun.now in
-    rw c.statement_error.ensures (if_error (Some b) b c.args.known.now.word (own_list c.args.known.now) rest
-    c.args.known.now.inline.now (words_of c.in-Some.words.now) c.in_err-condition.field-0 refl c.requires
+    rw (p.1, p.2) (if_error (Some b) b c.args.known.now.word (own_list c.args.known.now) rest
+    c.args.known.now.inline.now (words_of c.in-Some.words.now) c.in_err-condition.field-0.0 refl c.requires
     (c.in-Some.ensures.some rest h) c.in_err-condition.ensures.bad)
 
 pub returns-then-not-is_within-clause-fault : goal.returns-then-not-is_within-clause-fault

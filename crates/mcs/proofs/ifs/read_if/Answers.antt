@@ -8,6 +8,7 @@ use Rattle.terms.specs.Statements.{IsIfOf}
 use Rattle.terms.proofs.Ids.{is_in_from_Contains, Contains_from_is_in}
 use Rattle.rec80.specs.Cursors.{text_of}
 use Rattle.rec80.specs.Views.{word_of, words_of}
+use Rattle.std.proofs.lemmas.Result.{err_from_is_err_and}
 use Rattle.mcs.specs.KnownWords.{own_list}
 use Rattle.rec80.proofs.Failing.{excludes_more}
 use Rattle.mcs.proofs.Ending.{no_list}
@@ -31,6 +32,7 @@ returns-in_default-one-clause-bad c = λ x.
 
 pub returns-in_err-req-clause-bad : goal.returns-in_err-req-clause-bad
 returns-in_err-req-clause-bad c =
+    let p = err_from_is_err_and c.from_residual.result c.from_residual.ensures.1 in
     let own = own_list c.args.known.now in
     let ws = words_of c.args.words.now in
     let All : Type 0 = (i : IfReq) × IsIfOf c.args.sysmod.now own ws i in
@@ -40,7 +42,7 @@ returns-in_err-req-clause-bad c =
       ids_of c.args.sysmod.now own ws x.0 (word_of c.in-Some.lists.fmid) (word_of c.in-Some.lists.req) x.1
           c.in-Some.ensures.some.0,
     ) in
-    excludes_more c.in_err-req.field-0 One All pick c.in_err-req.ensures.bad
+    rw (p.1, p.2) (excludes_more c.in_err-req.field-0.0 One All pick c.in_err-req.ensures.bad)
 
 pub returns-then-contains-clause-bad : goal.returns-then-contains-clause-bad
 returns-then-contains-clause-bad c = λ x.

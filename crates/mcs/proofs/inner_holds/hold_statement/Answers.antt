@@ -1,6 +1,7 @@
 use Rattle.std.proofs.Common.{◌∙◌, Some, sym, refl}
 use Rattle.std.proofs.lemmas.Bool.{true≢false}
 use Rattle.terms.specs.Statements.{SaysHold}
+use Rattle.std.proofs.lemmas.Result.{err_from_is_err_and}
 use Rattle.mcs.specs.KnownWords.{own_list}
 use Rattle.mcs.specs.Files.{begun_of}
 use Rattle.mcs.proofs.Holding.{hold_value, hold_error, hold_said}
@@ -8,9 +9,10 @@ use Rattle.mcs.proofs.inner_holds.hold_statement.Goals as goal
 
 pub returns-in_err-hold-clause-fault : goal.returns-in_err-hold-clause-fault
 returns-in_err-hold-clause-fault c = λ rest h printable.
+    let p = err_from_is_err_and c.from_residual.result c.from_residual.ensures.1 in
     let b = begun_of c.args.begun.now in
-    rw c.statement_error.ensures (hold_error (Some b) b c.args.known.now.word (own_list c.args.known.now) rest
-    c.args.known.now.inline.now c.in_err-hold.field-0 refl c.requires (c.in_err-hold.ensures.bad rest h printable))
+    rw (p.1, p.2) (hold_error (Some b) b c.args.known.now.word (own_list c.args.known.now) rest
+    c.args.known.now.inline.now c.in_err-hold.field-0.0 refl c.requires (c.in_err-hold.ensures.bad rest h printable))
 
 pub returns-then-not-has_short_comment-clause-fault : goal.returns-then-not-has_short_comment-clause-fault
 returns-then-not-has_short_comment-clause-fault c = λ rest h printable.

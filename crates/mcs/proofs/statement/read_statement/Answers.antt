@@ -1,5 +1,6 @@
 use Rattle.std.proofs.Common.{sym, ap, subst}
 use Rattle.std.specs.Prelude.{IfOk, IfErr}
+use Rattle.std.proofs.lemmas.Result.{err_from_is_err_and}
 use Rattle.mcs.specs.KnownWords.{parts_of}
 use Rattle.mcs.specs.Said.{IsStatementSaid, IsSaidError}
 use Rattle.mcs.specs.Statements.{statement_of}
@@ -73,5 +74,6 @@ returns-then-is_misplaced-clause-fault c = λ each.
 
 pub returns-in_err-known-clause-fault : goal.returns-in_err-known-clause-fault
 returns-in_err-known-clause-fault c = λ each.
-    form_error (begun_in c.args.current.now) c.args.later.now c.args.group.now.records.now c.in_err-known.field-0
-    c.in_err-known.ensures.fault
+    let p = err_from_is_err_and c.from_residual.result c.from_residual.ensures.1 in
+    rw (p.1, p.2) (form_error (begun_in c.args.current.now) c.args.later.now c.args.group.now.records.now c.in_err-known.field-0.0
+    c.in_err-known.ensures.fault)

@@ -9,6 +9,7 @@ use Rattle.terms.specs.Operands.{operand}
 use Rattle.terms.specs.Statements.{IsVerOf, SuitsKind, lists_of}
 use Rattle.rec80.specs.Views.{words_of}
 use Rattle.rec80.proofs.Owning.{optional_text}
+use Rattle.std.proofs.lemmas.Result.{err_from_is_err_and}
 use Rattle.mcs.specs.KnownWords.{own_list}
 use Rattle.mcs.specs.VerOperands.{HasLists}
 use Rattle.mcs.proofs.NotNaming.{free_all, all_free}
@@ -21,13 +22,14 @@ made : (c : After-ver_of_lists-ver)
     → HasVer (own_list c.args.known.now) (words_of c.args.words.now) c.ver_of_lists-ver.result
 made c = rw c.ver_of_lists-ver.ensures record {
   has_srel = c.in-Some.ensures.one;
-  has_fmid = optional_text IsId (operand (codes "FMID") (words_of c.args.words.now)) c.in-Ok.fmid c.in-Ok.ensures.ok;
+  has_fmid = optional_text IsId (operand (codes "FMID") (words_of c.args.words.now)) c.in_ok-fmid.fmid c.in_ok-fmid.ensures.ok;
   has_lists = c.in_ok-lists.ensures.ok;
   no_ifs = refl;
 }
 
 pub returns-in_err-lists-clause-bad : goal.returns-in_err-lists-clause-bad
 returns-in_err-lists-clause-bad c =
+    let p = err_from_is_err_and c.from_residual-in_err-lists.result c.from_residual-in_err-lists.ensures.1 in
     let own = own_list c.args.known.now in
     let ws = words_of c.args.words.now in
     let All : Type 0 = (pre req sup npre del : List Id) × HasLists ws pre req sup npre del in
@@ -40,7 +42,7 @@ returns-in_err-lists-clause-bad c =
       x.0.del,
       lists_in c.args.sysmod.now own ws x.0 x.1,
     ) in
-    excludes_more c.in_err-lists.field-0 All One pick c.in_err-lists.ensures.bad
+    rw (p.1, p.2) (excludes_more c.in_err-lists.field-0.0 All One pick c.in_err-lists.ensures.bad)
 
 same_id : (c : After-ver_of_lists-ver) → c.sysmod.inside.id ≡ c.args.sysmod.now.id
 same_id c = ap (λ (s : Sysmod). s.id) c.sysmod.view_is

@@ -3,6 +3,7 @@ use Rattle.std.proofs.lemmas.Bool.{true≢false}
 use Rattle.terms.specs.Statements.{SaysVer}
 use Rattle.terms.specs.Ptfin.{sysmod_in}
 use Rattle.rec80.specs.Views.{words_of}
+use Rattle.std.proofs.lemmas.Result.{err_from_is_err_and}
 use Rattle.mcs.specs.KnownWords.{own_list}
 use Rattle.mcs.specs.Files.{begun_of}
 use Rattle.mcs.proofs.Saying.{ver_excludes}
@@ -16,9 +17,10 @@ returns-in_default-clause-fault c = λ rest h.
 
 pub returns-in_err-ver-clause-fault : goal.returns-in_err-ver-clause-fault
 returns-in_err-ver-clause-fault c = λ rest h.
+    let p = err_from_is_err_and c.from_residual.result c.from_residual.ensures.1 in
     let b = begun_of c.args.begun.now in
-    rw c.statement_error.ensures (ver_error (Some b) b c.args.known.now.word (own_list c.args.known.now) rest
-    c.args.known.now.inline.now (words_of c.in-Some.words.now) c.in_err-ver.field-0 refl c.requires
+    rw (p.1, p.2) (ver_error (Some b) b c.args.known.now.word (own_list c.args.known.now) rest
+    c.args.known.now.inline.now (words_of c.in-Some.words.now) c.in_err-ver.field-0.0 refl c.requires
     (c.in-Some.ensures.words rest h) c.in_err-ver.ensures.bad)
 
 pub returns-then-not-is_within-clause-fault : goal.returns-then-not-is_within-clause-fault

@@ -1,4 +1,3 @@
-use Rattle.std.proofs.Common.{◌∙◌}
 use Rattle.rec80.proofs.Naming.{twice_is}
 use Rattle.rec80.proofs.find.is_twice.Goals as goal
 

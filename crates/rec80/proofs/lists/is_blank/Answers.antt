@@ -6,6 +6,6 @@ pub returns-clause-blank : goal.returns-clause-blank
 returns-clause-blank c = λ yes'. blank_end _ (text_of c.skip_blanks.result) c.skip_blanks.ensures
     (c.is_end.ensures.end yes')
 
-pub returns-clause-dark : goal.returns-clause-dark
-returns-clause-dark c = λ no' blanks. c.is_end.ensures.more no'
+pub returns-clause-not_blank : goal.returns-clause-not_blank
+returns-clause-not_blank c = λ no' blanks. c.is_end.ensures.more no'
     (dark_end _ (text_of c.skip_blanks.result) c.skip_blanks.ensures blanks)

@@ -19,7 +19,7 @@ pub returns-in_default-clause-bad : goal.returns-in_default-clause-bad
 returns-in_default-clause-bad c = no_left c.args.self.now.first (text_of c.args.self.now.rest) c.in_default.ensures.none
     (elim c.else-not-self.branch [
       | else-not-self-via-then-not-self+else-is_blank w ↦ λ later blanks.
-          w.is_blank.ensures.dark w.if-is_blank.false blanks
+          w.is_blank.ensures.not_blank w.if-is_blank.false blanks
       | else-not-self-via-else-not-self w ↦ λ later blanks. absurd (true≢false (sym w.if-not-self.false ∙ later))
     ])
 
