@@ -6,11 +6,12 @@ use Rattle.mcs.proofs.HoldKeys.{reason_of}
 use Rattle.mcs.proofs.hold_operands.read_key.Goals as goal
 
 pub returns-in_err-reason-clause-none : goal.returns-in_err-reason-clause-none
-returns-in_err-reason-clause-none c = λ r k.
+returns-in_err-reason-clause-none c =
+    rw c.from_residual-in_err-reason.ensures (λ r k.
     let ws = words_of c.args.words.now in
     c.in_err-reason.ensures.none r.reason
     (reason_of (own_list c.args.known.now) ws (operand (codes "REASON") ws) c.in_ok-kind.kind r
-    c.in_ok-kind.ensures.some k.kind k.reason)
+    c.in_ok-kind.ensures.some k.kind k.reason))
 
 pub returns-clause-some : goal.returns-clause-some
 returns-clause-some c = record {

@@ -8,8 +8,9 @@ use Rattle.mcs.proofs.HoldKeys.{reason_class, reason_form, class_reason}
 use Rattle.mcs.proofs.listed_values.required_reason.Goals as goal
 
 pub returns-in_err-reason-clause-none : goal.returns-in_err-reason-clause-none
-returns-in_err-reason-clause-none c = λ v h. c.in_err-reason.ensures.none v
-    (reason_class c.args.kind (operand c.args.name.now (words_of c.args.words.now)) v h)
+returns-in_err-reason-clause-none c =
+    rw c.from_residual.ensures (λ v h. c.in_err-reason.ensures.none v
+    (reason_class c.args.kind (operand c.args.name.now (words_of c.args.words.now)) v h))
 
 pub returns-then-not-suits-clause-none : goal.returns-then-not-suits-clause-none
 returns-then-not-suits-clause-none c = λ v h.
