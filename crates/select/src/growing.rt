@@ -9,7 +9,7 @@ ghost use Rattle.sysmods.specs.Seen.{AddsAll};
 ghost use Rattle.select.specs.Scopes.{is_start_in};
 ghost use Rattle.select.specs.Growing.{AreAsked, asked_first, next_asked};
 
-use crate::asking::Asked;
+use crate::asked::Asked;
 use crate::scope::Selecting;
 use crate::start::brings_others;
 use fields::{Attest, Id};

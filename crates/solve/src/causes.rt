@@ -12,7 +12,7 @@ use crate::system::System;
 use std::alloc::{AllocError, Global};
 
 // For each candidate, whether it has a need that no candidate serves.
-fn bare_needs(alloc: Global, s: &System) -> Result<Vec<bool>, AllocError>
+fn candidates_with_bare_need(alloc: Global, s: &System) -> Result<Vec<bool>, AllocError>
     ensures size { IfOk result (λ bare. length bare.items ≡ s.now.size) }
     ensures exact { IfOk result (λ bare. (x : ℕ) → IsTrue (holds bare.items x) ↔ HasBareNeed s.now x) }
 {
@@ -122,7 +122,7 @@ pub fn causers(alloc: Global, s: &System, kept: &Kept) -> Result<Vec<Vec<u32>>, 
         return Ok(rows);
     }
     let flags = kept.flags();
-    let bare = bare_needs(alloc, s)?;
+    let bare = candidates_with_bare_need(alloc, s)?;
     let leads = predecessors(alloc, s, flags)?;
     let mut marks = vec![in alloc; false; s.size() as usize]?;
     for y in 0..s.size() {

@@ -11,7 +11,7 @@ ghost use Rattle.sysmods.specs.Undone.{Undoes, is_restoring};
 
 use crate::iter::Iter;
 use crate::key::{HoldKey, HoldPlace, key_of};
-use crate::undo::{Undo, put_each, take_back};
+use crate::undo::{Undo, put_each, take_back_all};
 use fields::{Id, Reason};
 use sorted::are_rising;
 use std::alloc::{AllocError, Global};
@@ -150,7 +150,7 @@ impl Holds {
         match put_each(self, holds, &mut log) {
             Ok(()) => Ok(()),
             Err(refused) => {
-                take_back(self, log);
+                take_back_all(self, log);
                 Err(refused)
             }
         }

@@ -122,7 +122,7 @@ fn is_one_known(known: &IndexSet<(Id, Id)>, ids: &[Id], z: Id) -> bool
 }
 
 // Whether x names in PRE or SUP an id that is known to be over z.
-fn follows_known(vers: &VerChoice<'_>, known: &IndexSet<(Id, Id)>, x: Id, z: Id) -> bool
+fn names_known_over(vers: &VerChoice<'_>, known: &IndexSet<(Id, Id)>, x: Id, z: Id) -> bool
     ensures { result ≡ (is_one_known known.now.keys (pre_of (choice vers.now) x) z
         || is_one_known known.now.keys (sup_of (choice vers.now) x) z) }
 {
@@ -151,7 +151,7 @@ fn find_over(
     if vers.names(x, z) {
         return Ok(true);
     }
-    if follows_known(vers, known, x, z) {
+    if names_known_over(vers, known, x, z) {
         return Ok(true);
     }
     graph.add_with_named(alloc, vers, x)?;

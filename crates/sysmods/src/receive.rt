@@ -17,7 +17,7 @@ use std::alloc::{AllocError, Global};
 use sysmods_values::Sysmod;
 
 /// How many SYSMODs may be received.
-const MOST: usize = 65_535;
+const MOST_SYSMODS: usize = 65_535;
 
 /// Returns an error if the SYSMOD may not be received: the first fault for which RECEIVE refuses it. The caller ensures
 /// that the received SYSMODs have no loop and that their roles fit. A SYSMOD without a fault preserves both.
@@ -40,7 +40,7 @@ pub(crate) fn check_receivable(
     if !roles_fit(received, sysmod) {
         return Err(Refused::WrongRole);
     }
-    if received.len() >= MOST {
+    if received.len() >= MOST_SYSMODS {
         return Err(Refused::NoRoom);
     }
     Ok(())
@@ -48,7 +48,7 @@ pub(crate) fn check_receivable(
 
 /// Takes a new SYSMOD in, and its holds among the others. After an error it has taken in neither. The SYSMOD comes
 /// first, since taking it out again takes no memory.
-pub(crate) fn take_in(
+pub(crate) fn insert_with_holds(
     sysmods: &mut Received,
     holds: &mut Holds,
     alloc: Global,

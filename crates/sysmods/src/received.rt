@@ -135,7 +135,7 @@ impl Received {
         ensures { result ≡ option_map_or (names_so way id) (found self.now namer) false }
     {
         match self.get(namer) {
-            Some(sysmod) => way.is_taken_by(sysmod, id),
+            Some(sysmod) => way.is_used_by(sysmod, id),
             None => false,
         }
     }

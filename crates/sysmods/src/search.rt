@@ -96,7 +96,7 @@ pub fn leads_to<N: Names>(alloc: Global, names: &N, x: Id, z: Id) -> Result<bool
 }
 
 // Whether the search from x has seen z, or the one back from z has seen x.
-fn have_met(ahead: &IndexSet<Id>, behind: &IndexSet<Id>, x: Id, z: Id) -> bool
+fn either_has_arrived(ahead: &IndexSet<Id>, behind: &IndexSet<Id>, x: Id, z: Id) -> bool
     ensures { result ≡ (is_in ahead.now.keys z || is_in behind.now.keys x) }
 {
     ahead.contains(&z) || behind.contains(&x)
@@ -104,7 +104,7 @@ fn have_met(ahead: &IndexSet<Id>, behind: &IndexSet<Id>, x: Id, z: Id) -> bool
 
 /// Whether x leads to z. `namers` gives for each id those that name it. The search continues from the end that has seen
 /// less, and stops once either end has seen the other one or has nothing left.
-pub fn leads_from_both_ends<F: Names, B: Names>(
+pub fn leads_to_from_both_ends<F: Names, B: Names>(
     alloc: Global,
     names: &F,
     namers: &B,
@@ -122,7 +122,7 @@ pub fn leads_from_both_ends<F: Names, B: Names>(
     let mut i = 0;
     let mut j = 0;
     while i < ahead.len() && j < behind.len() {
-        if have_met(&ahead, &behind, x, z) {
+        if either_has_arrived(&ahead, &behind, x, z) {
             return Ok(true);
         }
         if ahead.len() <= behind.len() {
@@ -133,7 +133,7 @@ pub fn leads_from_both_ends<F: Names, B: Names>(
             j += 1;
         }
     }
-    Ok(have_met(&ahead, &behind, x, z))
+    Ok(either_has_arrived(&ahead, &behind, x, z))
 }
 
 /// The ids to which x leads, in one step or more.

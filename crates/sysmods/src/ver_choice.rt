@@ -164,7 +164,7 @@ impl<'a> VerChoice<'a> {
     }
 
     /// Whether its chain contains one of these ids. Without any, it does not walk the chain.
-    pub fn meets(&self, id: Id, ids: &[Id]) -> bool
+    pub fn chain_contains_any(&self, id: Id, ids: &[Id]) -> bool
         ensures { result ≡ meets (chain self.now.global.now (choice self.now) id) ids.now }
     {
         if ids.is_empty() {

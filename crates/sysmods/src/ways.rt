@@ -15,7 +15,7 @@ pub(crate) enum Way {
 
 impl Way {
     /// Whether the SYSMOD names the id in this way.
-    pub(crate) fn is_taken_by(self, sysmod: &Sysmod, id: Id) -> bool
+    pub(crate) fn is_used_by(self, sysmod: &Sysmod, id: Id) -> bool
         ensures { result ≡ names_so self id sysmod.now }
     {
         match self {

@@ -15,8 +15,8 @@ use terms::ElemType;
 #[derive(Drop)]
 pub struct ZoneDelta {
     edits: ZoneEdits,
-    entries_stood: Vec<Option<VerNumber>>,
-    elements_stood: Vec<bool>,
+    entry_numbers_before: Vec<Option<VerNumber>>,
+    elements_existed_before: Vec<bool>,
 }
 
 impl Model for ZoneDelta {
@@ -26,8 +26,8 @@ impl Model for ZoneDelta {
 
     ghost view = { λ d. record {
       edits = d.edits;
-      entries_stood = d.entries_stood.items;
-      elements_stood = d.elements_stood.items;
+      entry_numbers_before = d.entry_numbers_before.items;
+      elements_existed_before = d.elements_existed_before.items;
     } };
 }
 
@@ -46,12 +46,12 @@ impl ZoneDelta {
     pub fn from_edits(alloc: Global, edits: ZoneEdits, zone: &Zone) -> Result<ZoneDelta, AllocError>
         ensures { IfOk result (λ d. (d.edits ≡ edits) × KnowsStood zone.now d) }
     {
-        let entries_stood = old_numbers(alloc, edits.entries(), zone)?;
-        let elements_stood = old_elements_exist(alloc, edits.elements(), zone)?;
+        let entry_numbers_before = old_numbers(alloc, edits.entries(), zone)?;
+        let elements_existed_before = old_elements_exist(alloc, edits.elements(), zone)?;
         Ok(ZoneDelta {
             edits,
-            entries_stood,
-            elements_stood,
+            entry_numbers_before,
+            elements_existed_before,
         })
     }
 
@@ -70,17 +70,17 @@ impl ZoneDelta {
     }
 
     /// For each edit of an entry, the number of the `++VER` of the old entry, if there was one.
-    pub fn entries_stood(&self) -> &[Option<VerNumber>]
-        ensures { result.now ≡ self.now.entries_stood }
+    pub fn entry_numbers_before(&self) -> &[Option<VerNumber>]
+        ensures { result.now ≡ self.now.entry_numbers_before }
     {
-        self.entries_stood.as_slice()
+        self.entry_numbers_before.as_slice()
     }
 
     /// For each edit of an element, whether there was an old one.
-    pub fn elements_stood(&self) -> &[bool]
-        ensures { result.now ≡ self.now.elements_stood }
+    pub fn elements_existed_before(&self) -> &[bool]
+        ensures { result.now ≡ self.now.elements_existed_before }
     {
-        self.elements_stood.as_slice()
+        self.elements_existed_before.as_slice()
     }
 
     /// The zone as this delta changes it, beside the old one. It goes over both once, in order, and copies what stays

@@ -84,7 +84,7 @@ impl Entry {
     }
 
     /// Whether it waives requisites only if it is applied.
-    pub fn waives_applied(&self) -> bool
+    pub fn waives_only_if_applied(&self) -> bool
         ensures { result ≡ waives_applied self.now }
     {
         self.applied.is_some() || self.waived.is_empty()
