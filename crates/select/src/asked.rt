@@ -144,7 +144,7 @@ fn required_by_pre_and_req(alloc: Global, vers: &[&Ver]) -> Result<Vec<Id>, Allo
     by_pre.chain(by_req).copied().collect(alloc)
 }
 
-/// The scope of a search, and the ids that it has asked for so far.
+/// A search at one moment: what it chooses from, and the ids that it has asked for so far.
 #[derive(Drop)]
 pub(crate) struct Asked<'a> {
     pub(crate) scope: &'a Selecting<'a>,
@@ -159,14 +159,14 @@ impl<'a> Asked<'a> {
         self.seen.contains(&id) && self.scope.is_open(id)
     }
 
-    // Whether the id is a candidate so far: it is of the start, or asked for and open.
+    // Whether the id is a candidate so far: it is an id of the start, or asked for and open.
     fn is_candidate(&self, id: Id) -> bool
         ensures { result ≡ taken_up self.now.scope.now self.now.seen.now.keys id }
     {
         self.scope.is_start_id(id) || self.is_asked_and_open(id)
     }
 
-    /// Whether the id asks for others: it is of the start and brings others in, or it is asked for and open.
+    /// Whether the id asks for others: it is an id of the start that brings others in, or it is asked for and open.
     pub(crate) fn is_growing(&self, id: Id) -> bool
         ensures { result ≡ has_grown self.now.scope.now self.now.seen.now.keys id }
     {

@@ -65,7 +65,7 @@ fn has_ver_with_fmid_among(vers: &[Ver], srel: Srel, wanted: &IdList) -> bool
         .any(|ver| is_for_srel_with_fmid_among(ver, srel, wanted))
 }
 
-// Whether a `++VER` of the SYSMOD is for the SREL and has an FMID that is wanted.
+// Whether the SYSMOD belongs to one of the wanted functions: the FMID of one of its `++VER`s for the SREL is wanted.
 fn belongs_to_function_among(global: &GlobalZone, srel: Srel, id: Id, wanted: &IdList) -> bool
     ensures { result ≡ meets (flat_map (λ v. at_most_one v.fmid) (vers_of global.now srel id)) wanted.now }
 {
@@ -75,7 +75,7 @@ fn belongs_to_function_among(global: &GlobalZone, srel: Srel, id: Id, wanted: &I
     }
 }
 
-// Whether the SYSMOD is a function that is wanted.
+// Whether the SYSMOD is one of the wanted functions.
 fn is_function_among(global: &GlobalZone, id: Id, wanted: &IdList) -> bool
     ensures { result ≡ meets (if is_function global.now id then id ∷ [] else []) wanted.now }
 {
@@ -83,10 +83,16 @@ fn is_function_among(global: &GlobalZone, id: Id, wanted: &IdList) -> bool
 }
 
 // Whether the SYSMOD is one of the wanted functions or belongs to one.
-fn is_or_belongs_to_function_among(global: &GlobalZone, zone: &Zone, id: Id, wanted: &IdList) -> bool
+fn is_or_belongs_to_function_among(
+    global: &GlobalZone,
+    zone: &Zone,
+    id: Id,
+    wanted: &IdList,
+) -> bool
     ensures { result ≡ meets (forfmid_ids global.now zone.now id) wanted.now }
 {
-    belongs_to_function_among(global, zone.srel(), id, wanted) || is_function_among(global, id, wanted)
+    belongs_to_function_among(global, zone.srel(), id, wanted)
+        || is_function_among(global, id, wanted)
 }
 
 // Whether FORFMID is not given, or names the SYSMOD or its function.
@@ -110,14 +116,14 @@ pub(crate) fn passes_filters(
         && passes_forfmid(global, zone, sysmod.id, &selection.forfmid)
 }
 
-// Whether the command names ids neither in SELECT nor in GROUP.
+// Whether SELECT and GROUP are both empty.
 fn names_no_id(selection: &Selection) -> bool
     ensures { result ≡ (is_nil selection.now.select && is_nil selection.now.group) }
 {
     selection.select.is_empty() && selection.group.is_empty()
 }
 
-/// Whether the command chooses by mass: it has a filter, or neither SELECT nor GROUP.
+/// Whether the command chooses by mass: it has a filter, or names no id in SELECT or GROUP.
 pub(crate) fn has_mass_choice(selection: &Selection) -> bool
     ensures { result ≡ has_mass_choice selection.now }
 {

@@ -65,7 +65,7 @@ fn insert_first_asked(
     Ok(())
 }
 
-// The ids that those of the start ask for that bring others in.
+// What the ids of the start ask for by themselves, if they bring others in.
 fn asked_by_start(
     alloc: Global,
     scope: &Selecting,

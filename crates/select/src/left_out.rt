@@ -41,7 +41,7 @@ fn reason_not_chosen(scope: &Selecting, id: Id) -> Option<NotChosen>
     }
 }
 
-// Pushes the id together with its reason, if it has one.
+// Adds the id with its reason, if it has one.
 fn push_with_reason(
     scope: &Selecting,
     id: Id,

@@ -25,7 +25,7 @@ fn open_among(alloc: Global, scope: &Selecting, ids: &[Id]) -> Result<Vec<Id>, A
         .collect(alloc)
 }
 
-// The start, and the open ids that it asks for.
+// The ids of the candidates: the start, and the open ids that it asks for, directly or through others.
 fn candidate_ids(alloc: Global, scope: &Selecting) -> Result<IdList, AllocError>
     ensures members { IfOk result
         (λ ids. AreCandidates scope.now.global scope.now.zone scope.now.selection ids) }

@@ -20,7 +20,7 @@ pub(crate) fn is_named(selection: &Selection, id: Id) -> bool
     selection.select.contains(id) || selection.group.contains(id)
 }
 
-/// Whether an id of the start brings others in.
+/// Whether an id of the start brings others in: under GROUPEXTEND each does, and otherwise each that GROUP names.
 pub(crate) fn brings_others(selection: &Selection, id: Id) -> bool
     ensures { result ≡ brings_others selection.now id }
 {
@@ -46,14 +46,14 @@ impl<'a> Selecting<'a> {
         has_mass_choice(self.selection) && self.passes_filters(id)
     }
 
-    /// Whether the id is open, and the mass choice, SELECT or GROUP names it.
+    /// Whether the search starts with the id: it is open, and the mass choice, SELECT or GROUP names it.
     pub(crate) fn is_start_id(&self, id: Id) -> bool
         ensures { result ≡ is_start_in self.now id }
     {
         self.is_open(id) && (is_named(self.selection, id) || self.is_mass_chosen(id))
     }
 
-    /// Whether the id is of the start and brings others in.
+    /// Whether the search starts with the id, and the id brings others in.
     pub(crate) fn is_growing_start_id(&self, id: Id) -> bool
         ensures { result ≡ is_growing_start_in self.now id }
     {
@@ -81,7 +81,7 @@ fn received_ids(alloc: Global, global: &GlobalZone) -> Result<Vec<Id>, AllocErro
     Ok(ids)
 }
 
-// The ids that may be in the start: those named, or all received ones if the command chooses by mass.
+// A list that has all ids of the start: the named ones, or all received ones if the command chooses by mass.
 fn possible_start_ids(alloc: Global, scope: &Selecting) -> Result<Vec<Id>, AllocError>
     ensures { IfOk result (λ ids. (x : AnId) → IsTrue (is_start_in scope.now x) → Contains ids.items x) }
 {
@@ -92,7 +92,7 @@ fn possible_start_ids(alloc: Global, scope: &Selecting) -> Result<Vec<Id>, Alloc
     }
 }
 
-// The ids among these that are open and chosen.
+// The ids of the start among these.
 fn start_ids_among(alloc: Global, scope: &Selecting, ids: &[Id]) -> Result<Vec<Id>, AllocError>
     ensures { IfOk result (λ start. start.items ≡ filter (is_start_in scope.now) ids.now) }
 {

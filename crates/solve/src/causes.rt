@@ -36,7 +36,8 @@ fn is_root(s: &System, kept: &[bool], bare: &[bool], x: u32) -> bool
     !kept[x as usize] && (!s.eligible()[x as usize] || bare[x as usize])
 }
 
-// For each candidate, those that lead to it: they failed, and it would serve a need of theirs that stays open.
+// For each candidate, those from which a step leads to it: they failed, and it would serve a need of theirs that stays
+// open.
 fn predecessors(alloc: Global, s: &System, kept: &[bool]) -> Result<Vec<Vec<u32>>, AllocError>
     requires { length kept.now ≡ s.now.size }
     ensures { IfOk result (λ leads. AreLeads s.now kept.now leads.items) }

@@ -18,7 +18,7 @@ ghost use Rattle.sysmods.specs.Parts.{IsMadeOf};
 
 use crate::holds::{Holds, Placed, ReleaseError};
 use crate::iter::Iter;
-use crate::parts::{have_owners_if_internal, build_received};
+use crate::parts::{build_received, have_owners_if_internal};
 use crate::receive::{check_receivable, insert_with_holds};
 use crate::received::Received;
 use crate::refused::Refused;

@@ -10,7 +10,7 @@ ghost use Rattle.sysmods.specs.Internal.{IsNextInternal};
 ghost use Rattle.sysmods.specs.Undone.{Undoes, is_restoring};
 
 use crate::iter::Iter;
-use crate::key::{HoldKey, HoldPlace, key_of};
+use crate::key::{HoldKey, HoldPlace};
 use crate::undo::{Undo, put_each, take_back_all};
 use fields::{Id, Reason};
 use sorted::are_rising;
@@ -197,7 +197,7 @@ impl Holds {
         ensures ok { OnOk result (self.new ≡ with_hold self.old hold) }
         ensures err { OnErr result (self.new ≡ self.old) }
     {
-        let key = key_of(&hold);
+        let key = HoldKey::of_hold(&hold);
         let hold = with_internal_mark(hold, self.map.get(&key));
         let Some(old) = self.map.insert(key, hold)? else {
             return Ok(Undo::Remove(key));
@@ -211,7 +211,7 @@ impl Holds {
     {
         match undo {
             Undo::Remove(key) => drop(self.map.remove(&key)),
-            Undo::Restore(hold) => drop(self.map.insert(key_of(&hold), hold)),
+            Undo::Restore(hold) => drop(self.map.insert(HoldKey::of_hold(&hold), hold)),
         }
     }
 }
@@ -234,7 +234,7 @@ fn next_internal(map: &BTreeMap<HoldKey, Hold>, from: HoldKey) -> Option<HoldKey
     None
 }
 
-// The hold, marked as internal if the hold that it replaces is internal.
+// The hold, marked as internal if `was`, the hold that it replaces, is internal.
 fn with_internal_mark(mut hold: Hold, was: Option<&Hold>) -> Hold
     ensures { result ≡ marked (option_copied was.entry) hold }
 {

@@ -91,7 +91,7 @@ impl<'a, 'b> Overs<'a, 'b> {
         self.vers
     }
 
-    /// Whether x is over z: PRE, SUP and FMID lead from x to z. After an error it may be asked again.
+    /// Whether x is over z: PRE, SUP and FMID lead from x to z. After an error the call may be repeated.
     pub fn over(&mut self, alloc: Global, x: Id, z: Id) -> Result<bool, AllocError>
         ensures over { IfOk result (λ over. IsTrue over ↔ IsOver (choice self.old) x z) }
         ensures same { self.new ≡ self.old }
@@ -134,7 +134,8 @@ fn names_known_over(vers: &VerChoice<'_>, known: &IndexSet<(Id, Id)>, x: Id, z: 
     }
 }
 
-// Whether x is over z. The graph takes in what x leads to, unless x names z itself or an id that is known to be over z.
+// Whether x is over z. The graph grows by all to which x leads, unless x names z itself or an id that is known to be
+// over z: then no search is needed.
 fn find_over(
     alloc: Global,
     vers: &VerChoice<'_>,

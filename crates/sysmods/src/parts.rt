@@ -83,7 +83,9 @@ fn has_no_holds(sysmod: &Sysmod) -> bool
 pub(crate) fn have_owners_if_internal(received: &Received, holds: &[Hold]) -> bool
     ensures { IsTrue result ↔ All (IsOwned (zone_of received.now)) holds.now }
 {
-    holds.iter().all(|hold| has_owner_if_internal(received, hold))
+    holds
+        .iter()
+        .all(|hold| has_owner_if_internal(received, hold))
 }
 
 // Whether the hold is not internal, or is a SYSTEM hold of a received SYSMOD.

@@ -16,7 +16,7 @@ use crate::roles::roles_fit;
 use std::alloc::{AllocError, Global};
 use sysmods_values::Sysmod;
 
-/// How many SYSMODs may be received.
+/// The most SYSMODs that a global zone may have received.
 const MOST_SYSMODS: usize = 65_535;
 
 /// Returns an error if the SYSMOD may not be received: the first fault for which RECEIVE refuses it. The caller ensures
@@ -46,8 +46,8 @@ pub(crate) fn check_receivable(
     Ok(())
 }
 
-/// Takes a new SYSMOD in, and its holds among the others. After an error it has taken in neither. The SYSMOD comes
-/// first, since taking it out again takes no memory.
+/// Inserts a new SYSMOD, and the holds that came inside it among the other holds. After an error it has inserted
+/// neither. It inserts the SYSMOD first, because taking that out again needs no memory.
 pub(crate) fn insert_with_holds(
     sysmods: &mut Received,
     holds: &mut Holds,

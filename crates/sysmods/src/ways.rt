@@ -5,11 +5,14 @@ ghost use Rattle.sysmods.specs.Ways.{names_so};
 use fields::Id;
 use sysmods_values::Sysmod;
 
-/// How one of its `++VER`s names an id: in PRE, SUP or FMID; in SUP; in DELETE, FMID or an `++IF`.
+/// How one of a SYSMOD's `++VER`s names an id.
 #[derive(Clone, Copy)]
 pub(crate) enum Way {
+    /// In PRE, SUP or FMID, by which SYSMODs are over others.
     Named,
+    /// In SUP.
     Superseded,
+    /// In DELETE, FMID or an `++IF`, which name functions only.
     AsFunction,
 }
 

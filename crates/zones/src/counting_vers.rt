@@ -33,7 +33,7 @@ pub fn choose<'a>(
     Ok(VerChoice::new(global, zone.srel(), kept, fitting))
 }
 
-// A table of items that already rise by their keys.
+// The table of these items, which already rise by their keys.
 fn table_of<T: Keyed + Drop>(items: Vec<T>) -> Table<T>
     requires { Rises T.Key.cmp T.key_of items.items }
     ensures { result ≡ items.items }
@@ -41,7 +41,7 @@ fn table_of<T: Keyed + Drop>(items: Vec<T>) -> Table<T>
     Table::from_vec(items).unwrap()
 }
 
-/// Whether the `++VER` has no FMID, or one that is applied in the zone or a candidate.
+/// Whether the `++VER` fits the zone: it has no FMID, or one that is applied in the zone or a candidate.
 pub fn fits(zone: &Zone, cands: &IdList, ver: &Ver) -> bool
     ensures { result ≡ fits zone.now (is_in cands.now) ver.now }
 {
@@ -51,7 +51,7 @@ pub fn fits(zone: &Zone, cands: &IdList, ver: &Ver) -> bool
     }
 }
 
-// Adds the pick, unless its number is 1. A SYSMOD without a pick has the number 1.
+// Adds the pick, unless its number is 1, because a SYSMOD without a pick has the number 1.
 fn push_if_not_first(pick: Pick, picks: &mut Vec<Pick>) -> Result<(), AllocError>
     ensures { OnOk result (picks.new.items ≡ picks.old.items ++ filter is_further (pick ∷ [])) }
 {
@@ -67,10 +67,7 @@ fn kept_pick(entry: &Entry) -> Pick
 {
     Pick {
         id: entry.id,
-        number: match entry.applied {
-            Some(applied) => applied.number,
-            None => VerNumber::FIRST,
-        },
+        number: entry.number(),
     }
 }
 

@@ -36,7 +36,7 @@ pub(crate) fn chain_deletions(
     Ok(dels)
 }
 
-// Adds what it names in DELETE, if it is a candidate.
+// Adds what the SYSMOD names in DELETE, if it is a candidate.
 fn append_candidate_deletions(
     vers: &VerChoice<'_>,
     cands: &IdList,

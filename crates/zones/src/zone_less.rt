@@ -34,7 +34,7 @@ impl<'a, 'b> ZoneLess<'a, 'b> {
         self.is_applied(id) || self.is_superseded(id)
     }
 
-    /// Whether it meets a need; only an applied SYSMOD meets one for an FMID.
+    /// Whether what is left meets the need for this id. An FMID has to be applied, any other id may be superseded.
     pub fn meets_need(&self, kind: NeedKind, id: Id) -> bool
         ensures { result ≡ is_met (left_of self.now) kind id }
     {
@@ -69,7 +69,7 @@ impl<'a, 'b> ZoneLess<'a, 'b> {
         self.takes_out(id) || self.takes_out_superseder(id)
     }
 
-    // Whether one of the SYSMODs that supersede it stays.
+    // Whether one of the SYSMODs that supersede the id stays.
     fn is_superseded(&self, id: Id) -> bool
         ensures { result ≡ not (is_nil (supby_of (left_of self.now) id)) }
     {
@@ -86,7 +86,7 @@ impl<'a, 'b> ZoneLess<'a, 'b> {
         ids.iter().any(|id| !self.takes_out(*id))
     }
 
-    // Whether one of the SYSMODs that supersede it is taken out.
+    // Whether one of the SYSMODs that supersede the id is taken out.
     fn takes_out_superseder(&self, id: Id) -> bool
         ensures { result ≡ list_any (is_gone self.now) (supby_of self.now.zone.now id) }
     {

@@ -91,7 +91,7 @@ impl ZoneDelta {
         zone.with_edits(alloc, &self.edits)
     }
 
-    // The edits by themselves.
+    /// The edits by themselves.
     pub(crate) fn edits(&self) -> &ZoneEdits
         ensures { result.now ≡ self.now.edits }
     {

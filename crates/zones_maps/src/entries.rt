@@ -29,7 +29,7 @@ impl Model for Applied {
 }
 
 impl Applied {
-    /// Applied on this date by the first `++VER` of the SREL.
+    /// Applied on this date, by the first `++VER` for the zone's SREL.
     pub fn on(date: YyDdd) -> Applied
         ensures { result ≡ an_applied date 1 }
     {

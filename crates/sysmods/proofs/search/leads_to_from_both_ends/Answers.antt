@@ -21,7 +21,8 @@ returns-then-either_has_arrived g c = (
 
 pub returns : goal.returns
 returns g c =
-    rw c.either_has_arrived-2.ensures (both_tell _ _ c.requires _ _ _ _ _ _ c.loop-i.invariant.ahead c.loop-i.invariant.behind
+    rw c.either_has_arrived-2.ensures (both_tell _ _ c.requires _ _ _ _ _ _ c.loop-i.invariant.ahead
+    c.loop-i.invariant.behind
     (elim c.loop-i-test.branch [
       | then-loop-i-test+else-j-len w ↦ inr (omega arith)
       | else-loop-i-test w ↦ inl
