@@ -15,8 +15,8 @@ use terms::ElemType;
 #[derive(Drop)]
 pub struct ZoneDelta {
     edits: ZoneEdits,
-    entry_numbers_before: Vec<Option<VerNumber>>,
-    elements_existed_before: Vec<bool>,
+    numbers_before: Vec<Option<VerNumber>>,
+    elements_existed: Vec<bool>,
 }
 
 impl Model for ZoneDelta {
@@ -26,8 +26,8 @@ impl Model for ZoneDelta {
 
     ghost view = { λ d. record {
       edits = d.edits;
-      entry_numbers_before = d.entry_numbers_before.items;
-      elements_existed_before = d.elements_existed_before.items;
+      numbers_before = d.numbers_before.items;
+      elements_existed = d.elements_existed.items;
     } };
 }
 
@@ -46,12 +46,12 @@ impl ZoneDelta {
     pub fn from_edits(alloc: Global, edits: ZoneEdits, zone: &Zone) -> Result<ZoneDelta, AllocError>
         ensures { IfOk result (λ d. (d.edits ≡ edits) × KnowsStood zone.now d) }
     {
-        let entry_numbers_before = old_numbers(alloc, edits.entries(), zone)?;
-        let elements_existed_before = old_elements_exist(alloc, edits.elements(), zone)?;
+        let numbers_before = old_numbers(alloc, edits.entries(), zone)?;
+        let elements_existed = old_elements_exist(alloc, edits.elements(), zone)?;
         Ok(ZoneDelta {
             edits,
-            entry_numbers_before,
-            elements_existed_before,
+            numbers_before,
+            elements_existed,
         })
     }
 
@@ -70,17 +70,17 @@ impl ZoneDelta {
     }
 
     /// For each edit of an entry, the number of the `++VER` of the old entry, if there was one.
-    pub fn entry_numbers_before(&self) -> &[Option<VerNumber>]
-        ensures { result.now ≡ self.now.entry_numbers_before }
+    pub fn numbers_before(&self) -> &[Option<VerNumber>]
+        ensures { result.now ≡ self.now.numbers_before }
     {
-        self.entry_numbers_before.as_slice()
+        self.numbers_before.as_slice()
     }
 
     /// For each edit of an element, whether there was an old one.
-    pub fn elements_existed_before(&self) -> &[bool]
-        ensures { result.now ≡ self.now.elements_existed_before }
+    pub fn elements_existed(&self) -> &[bool]
+        ensures { result.now ≡ self.now.elements_existed }
     {
-        self.elements_existed_before.as_slice()
+        self.elements_existed.as_slice()
     }
 
     /// The zone as this delta changes it, beside the old one. It goes over both once, in order, and copies what stays
