@@ -179,6 +179,7 @@ impl Holds {
     pub fn drop_internal(&mut self, id: Id)
         ensures { self.new ≡ filter (λ h. not (is_internal_on id h)) self.old }
     {
+        // ERROR is the lowest kind.
         let mut from = HoldKey {
             id,
             kind: HoldKind::Error,
@@ -221,6 +222,7 @@ fn next_internal(map: &BTreeMap<HoldKey, Hold>, from: HoldKey) -> Option<HoldKey
     requires { IsByKey map.now.entries }
     ensures { IsNextInternal map.now.entries from result }
 {
+    // USER is the highest kind.
     let end = HoldKey {
         id: from.id,
         kind: HoldKind::User,

@@ -86,6 +86,7 @@ impl OverGraph {
         ensures { IsGraph (choice vers.now) (keys self.new.nodes) (values self.new.nodes) }
     {
         let mut path = vec![in alloc; id]?;
+        // A path is never this long. The bound shows that the loop ends.
         'path: for _ in 0..u64::MAX {
             let Some(last) = path.last() else {
                 break;

@@ -31,7 +31,8 @@ returns-clause-ok c =
     let s = c.args.sysmod in (
       subst (λ g. HasNoFault g s) c.self.view_is (no_fault xs hs s c.in_ok-check_receivable.ensures.ok),
       taken (a_global xs hs) s c.insert_with_holds.new.sysmods c.insert_with_holds.new.holds
-          c.in_ok-insert_with_holds.ensures.sysmods c.in_ok-insert_with_holds.ensures.holds ∙ ap (λ g. received g s) c.self.view_is,
+          c.in_ok-insert_with_holds.ensures.sysmods c.in_ok-insert_with_holds.ensures.holds
+          ∙ ap (λ g. received g s) c.self.view_is,
     )
 
 pub returns-in_err-check_receivable-clause-refused : goal.returns-in_err-check_receivable-clause-refused

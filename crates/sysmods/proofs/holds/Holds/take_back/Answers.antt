@@ -12,7 +12,8 @@ invariant_of-self c = removed c.self.inside.map.entries c.self.invariant c.in-Re
 pub invariant_of-self-in-Restore : goal.invariant_of-self-in-Restore
 invariant_of-self-in-Restore c =
     kept_restored c.self.inside.map.entries c.insert.new.self.entries c.self.invariant c.of_hold.result
-    c.in-Restore.hold c.of_hold.ensures c.insert.result c.insert.ensures.entries c.insert.ensures.err c.insert.ensures.ordered
+    c.in-Restore.hold c.of_hold.ensures c.insert.result c.insert.ensures.entries c.insert.ensures.err
+    c.insert.ensures.ordered
 
 pub returns-in-Remove : goal.returns-in-Remove
 returns-in-Remove c =
