@@ -40,7 +40,7 @@ impl<'a, 'b> Deleting<'a, 'b> {
                 .kept
                 .iter()
                 .copied()
-                .find(|k| vers.meets(id, vers.del(*k)));
+                .find(|k| vers.chain_contains_any(id, vers.del(*k)));
         }
         // Few ids are ever named in DELETE, so this spares the search.
         if !self.left.dels.contains(&id) {

@@ -54,7 +54,7 @@ pub(crate) fn forbidders(
 fn any_applied(view: &ZoneLess<'_, '_>, ids: &[Id]) -> bool
     ensures { result ≡ list_any (is_applied (left_of view.now)) ids.now }
 {
-    ids.iter().any(|id| view.has(*id))
+    ids.iter().any(|id| view.is_applied(*id))
 }
 
 /// Whether the candidate forbids a SYSMOD that is applied in its view, or a function that is applied there forbids the

@@ -50,7 +50,7 @@ impl<'a, 'b> Conditions<'a, 'b> {
             .ifs(id)
             .iter()
             .filter(|condition| {
-                left.has(condition.function) || scope.ids.contains(condition.function)
+                left.is_applied(condition.function) || scope.ids.contains(condition.function)
             })
             .flat_map(|condition| condition.req.iter())
             .copied()
@@ -72,7 +72,7 @@ impl<'a, 'b> Conditions<'a, 'b> {
         }
         listed(&self.stated, id)
             .iter()
-            .filter(|requisite| left.has(requisite.by))
+            .filter(|requisite| left.is_applied(requisite.by))
             .map(|requisite| requisite.id)
             .collect(alloc)
     }

@@ -20,7 +20,7 @@ use zones::{Scope, ZoneLess, deletions, orphans};
 fn is_open(scope: &Scope<'_, '_>, left: &ZoneLess<'_, '_>, kind: NeedKind, id: Id) -> bool
     ensures { result ≡ is_open (left_of left.now) scope.now.bypass.now kind id }
 {
-    !scope.is_bypassed(kind) && !left.meets(kind, id)
+    !scope.is_bypassed(kind) && !left.meets_need(kind, id)
 }
 
 // Adds a need of the candidate for each of these ids that neither BYPASS nor what is left of the zone meets.

@@ -25,7 +25,7 @@ use zones::Scope;
 fn is_in_chain(vers: &VerChoice<'_>, id: Id, other: Id) -> bool
     ensures { result ≡ is_in (chain vers.now.global.now (choice vers.now) id) other }
 {
-    vers.meets(id, &[other])
+    vers.chain_contains_any(id, &[other])
 }
 
 // Whether the first SYSMOD names the second in NPRE.

@@ -19,7 +19,7 @@ use zones::{TakesOut, ZoneLess};
 fn is_in_chain(vers: &VerChoice<'_>, id: Id, other: Id) -> bool
     ensures { result ≡ is_in (chain vers.now.global.now (choice vers.now) id) other }
 {
-    vers.meets(id, &[other])
+    vers.chain_contains_any(id, &[other])
 }
 
 // The SYSMODs among these that the deletions take out of the zone.

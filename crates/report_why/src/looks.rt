@@ -16,7 +16,7 @@ impl<'a, 'b> Asking<'a, 'b> {
     pub(crate) fn view_has(&self, id: Id) -> bool
         ensures { result ≡ is_applied (view_in self.now) id }
     {
-        self.seen.has(id)
+        self.seen.is_applied(id)
     }
 
     /// Whether the function is applied in its view, or is the id itself.
@@ -37,14 +37,14 @@ impl<'a, 'b> Asking<'a, 'b> {
     pub(crate) fn remains_applied(&self, id: Id) -> bool
         ensures { result ≡ is_applied (left_in self.now) id }
     {
-        self.left.has(id)
+        self.left.is_applied(id)
     }
 
     /// Whether the zone less what the DELETE takes out meets the need.
     pub(crate) fn meets(&self, kind: NeedKind, id: Id) -> bool
         ensures { result ≡ is_met (left_in self.now) kind id }
     {
-        self.left.meets(kind, id)
+        self.left.meets_need(kind, id)
     }
 
     // The ids among these that the DELETE does not take out.

@@ -9,7 +9,7 @@ ghost use Rattle.select.specs.Scopes.{sups_in};
 ghost use Rattle.select.specs.Growing.{has_grown, fitting_namers, asked_by_namers, brought_by};
 ghost use Rattle.select.specs.Growing.{superseders, next_asked};
 
-use crate::asking::Asked;
+use crate::asked::Asked;
 use crate::scope::Selecting;
 use fields::Id;
 use std::alloc::{AllocError, Global};
@@ -111,7 +111,7 @@ impl<'a> Asked<'a> {
     {
         let vers = self.fitting_vers_of_namers(alloc, function)?;
         let its_own = vers_with_fmid(alloc, function, vers.as_slice())?;
-        let mut ids = self.required_of(alloc, its_own.as_slice())?;
+        let mut ids = self.required_by(alloc, its_own.as_slice())?;
         let by_ifs = required_by_ifs_for(alloc, function, vers.as_slice())?;
         ids.extend_from_slice(by_ifs.as_slice())?;
         self.scope.unsupplied(alloc, ids.as_slice())
@@ -122,11 +122,11 @@ impl<'a> Asked<'a> {
     fn brought_by(&self, alloc: Global, id: Id) -> Result<Vec<Id>, AllocError>
         ensures { IfOk result (λ found. found.items ≡ brought_by self.now.scope.now self.now.seen.now.keys id) }
     {
-        if self.scope.is_growing_start(id) {
+        if self.scope.is_growing_start_id(id) {
             return Ok(Vec::new(alloc));
         }
         let mut found = self.asked_by_itself(alloc, id)?;
-        if self.scope.is_start(id) {
+        if self.scope.is_start_id(id) {
             return Ok(found);
         }
         let by_others = self.asked_by_namers(alloc, id)?;

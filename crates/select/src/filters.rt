@@ -13,7 +13,7 @@ use terms::Kind;
 use zones::Zone;
 
 // Whether the operands choose SYSMODs of the kind. PTFs are chosen unless only other kinds are named.
-fn takes_kind(selection: &Selection, kind: Kind) -> bool
+fn chooses_kind(selection: &Selection, kind: Kind) -> bool
     ensures { result ≡ takes_kind selection.now kind }
 {
     match kind {
@@ -33,7 +33,7 @@ fn has_source_among(sources: &SourceList, wanted: &SourceList) -> bool
 }
 
 // Whether SOURCEID is not given, or one of the sources is in it.
-fn passes_sources(wanted: &SourceList, sources: &SourceList) -> bool
+fn passes_sourceid(wanted: &SourceList, sources: &SourceList) -> bool
     ensures { result ≡ (is_nil wanted.now || meets sources.now wanted.now) }
 {
     wanted.is_empty() || has_source_among(sources, wanted)
@@ -65,8 +65,8 @@ fn has_ver_with_fmid_among(vers: &[Ver], srel: Srel, wanted: &IdList) -> bool
         .any(|ver| is_for_srel_with_fmid_among(ver, srel, wanted))
 }
 
-// Whether a `++VER` of the SYSMOD is for the SREL and has an FMID that is wanted.
-fn meets_fmids(global: &GlobalZone, srel: Srel, id: Id, wanted: &IdList) -> bool
+// Whether the SYSMOD belongs to one of the wanted functions: the FMID of one of its `++VER`s for the SREL is wanted.
+fn belongs_to_function_among(global: &GlobalZone, srel: Srel, id: Id, wanted: &IdList) -> bool
     ensures { result ≡ meets (flat_map (λ v. at_most_one v.fmid) (vers_of global.now srel id)) wanted.now }
 {
     match global.get(id) {
@@ -75,25 +75,31 @@ fn meets_fmids(global: &GlobalZone, srel: Srel, id: Id, wanted: &IdList) -> bool
     }
 }
 
-// Whether the SYSMOD is a function that is wanted.
-fn meets_function(global: &GlobalZone, id: Id, wanted: &IdList) -> bool
+// Whether the SYSMOD is one of the wanted functions.
+fn is_function_among(global: &GlobalZone, id: Id, wanted: &IdList) -> bool
     ensures { result ≡ meets (if is_function global.now id then id ∷ [] else []) wanted.now }
 {
     global.is_function(id) && wanted.contains(id)
 }
 
 // Whether the SYSMOD is one of the wanted functions or belongs to one.
-fn meets_forfmid(global: &GlobalZone, zone: &Zone, id: Id, wanted: &IdList) -> bool
+fn is_or_belongs_to_function_among(
+    global: &GlobalZone,
+    zone: &Zone,
+    id: Id,
+    wanted: &IdList,
+) -> bool
     ensures { result ≡ meets (forfmid_ids global.now zone.now id) wanted.now }
 {
-    meets_fmids(global, zone.srel(), id, wanted) || meets_function(global, id, wanted)
+    belongs_to_function_among(global, zone.srel(), id, wanted)
+        || is_function_among(global, id, wanted)
 }
 
 // Whether FORFMID is not given, or names the SYSMOD or its function.
 fn passes_forfmid(global: &GlobalZone, zone: &Zone, id: Id, wanted: &IdList) -> bool
     ensures { result ≡ (is_nil wanted.now || meets (forfmid_ids global.now zone.now id) wanted.now) }
 {
-    wanted.is_empty() || meets_forfmid(global, zone, id, wanted)
+    wanted.is_empty() || is_or_belongs_to_function_among(global, zone, id, wanted)
 }
 
 /// Whether the SYSMOD passes all filters of the mass choice.
@@ -105,19 +111,19 @@ pub(crate) fn passes_filters(
 ) -> bool
     ensures { result ≡ passes_filters global.now zone.now selection.now sysmod.now }
 {
-    takes_kind(selection, sysmod.kind)
-        && passes_sources(&selection.sourceid, &sysmod.sources)
+    chooses_kind(selection, sysmod.kind)
+        && passes_sourceid(&selection.sourceid, &sysmod.sources)
         && passes_forfmid(global, zone, sysmod.id, &selection.forfmid)
 }
 
-// Whether the command names ids neither in SELECT nor in GROUP.
+// Whether SELECT and GROUP are both empty.
 fn names_no_id(selection: &Selection) -> bool
     ensures { result ≡ (is_nil selection.now.select && is_nil selection.now.group) }
 {
     selection.select.is_empty() && selection.group.is_empty()
 }
 
-/// Whether the command chooses by mass: it has a filter, or neither SELECT nor GROUP.
+/// Whether the command chooses by mass: it has a filter, or names no id in SELECT or GROUP.
 pub(crate) fn has_mass_choice(selection: &Selection) -> bool
     ensures { result ≡ has_mass_choice selection.now }
 {

@@ -9,7 +9,7 @@ ghost use Rattle.sysmods.specs.Seen.{AddsAll};
 ghost use Rattle.select.specs.Scopes.{is_start_in};
 ghost use Rattle.select.specs.Growing.{AreAsked, asked_first, next_asked};
 
-use crate::asking::Asked;
+use crate::asked::Asked;
 use crate::scope::Selecting;
 use crate::start::brings_others;
 use fields::{Attest, Id};
@@ -65,7 +65,7 @@ fn insert_first_asked(
     Ok(())
 }
 
-// The ids that those of the start ask for that bring others in.
+// What the ids of the start ask for by themselves, if they bring others in.
 fn asked_by_start(
     alloc: Global,
     scope: &Selecting,

@@ -41,7 +41,7 @@ fn reason_not_chosen(scope: &Selecting, id: Id) -> Option<NotChosen>
     }
 }
 
-// Pushes the id together with its reason, if it has one.
+// Adds the id with its reason, if it has one.
 fn push_with_reason(
     scope: &Selecting,
     id: Id,
@@ -56,7 +56,7 @@ fn push_with_reason(
 }
 
 // The ids that have a reason, each with its reason.
-fn with_reasons(
+fn ids_with_reasons(
     alloc: Global,
     scope: &Selecting,
     ids: &[Id],
@@ -71,7 +71,7 @@ fn with_reasons(
 }
 
 /// The ids of SELECT and GROUP that are neither excluded nor open, rising, each with the reason.
-pub(crate) fn ids_not_chosen(
+pub(crate) fn left_out_with_reasons(
     alloc: Global,
     scope: &Selecting,
 ) -> Result<Vec<(Id, NotChosen)>, AllocError>
@@ -80,5 +80,5 @@ pub(crate) fn ids_not_chosen(
         → Contains {X = AnId × Reason} found.items (x, why) ↔ (reason_in scope.now x ≡ Some why)) }
 {
     let named = IdList::from_vec(named_ids(alloc, scope.selection)?);
-    with_reasons(alloc, scope, named.as_slice())
+    ids_with_reasons(alloc, scope, named.as_slice())
 }

@@ -8,7 +8,7 @@
 //! runs out.
 #![tactic(auto)]
 
-mod asking;
+mod asked;
 mod bringing;
 mod filters;
 mod growing;

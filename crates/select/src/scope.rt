@@ -39,7 +39,7 @@ impl<'a> Selecting<'a> {
     }
 
     /// Whether the `++VER` is for the zone's SREL.
-    pub(crate) fn is_for(&self, ver: &Ver) -> bool
+    pub(crate) fn is_for_zone_srel(&self, ver: &Ver) -> bool
         ensures { result ≡ bytes_eq ver.now.srel self.now.zone.srel }
     {
         ver.srel == self.zone.srel()

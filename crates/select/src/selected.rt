@@ -7,7 +7,7 @@ ghost use Rattle.terms.specs.Candidates.{AreCandidates, is_installable, not_chos
 ghost use Rattle.select.specs.Scopes.{is_installable_in, is_open_in};
 
 use crate::growing::asked_ids;
-use crate::left_out::ids_not_chosen;
+use crate::left_out::left_out_with_reasons;
 use crate::scope::Selecting;
 use crate::start::start_ids;
 use fields::{Id, IdList, Selection};
@@ -25,8 +25,8 @@ fn open_among(alloc: Global, scope: &Selecting, ids: &[Id]) -> Result<Vec<Id>, A
         .collect(alloc)
 }
 
-// The start, and the open ids that it asks for.
-fn start_and_growing(alloc: Global, scope: &Selecting) -> Result<IdList, AllocError>
+// The ids of the candidates: the start, and the open ids that it asks for, directly or through others.
+fn candidate_ids(alloc: Global, scope: &Selecting) -> Result<IdList, AllocError>
     ensures members { IfOk result
         (λ ids. AreCandidates scope.now.global scope.now.zone scope.now.selection ids) }
     ensures installable { IfOk result (λ ids. All (λ x. IsTrue (is_installable_in scope.now x)) ids) }
@@ -58,7 +58,7 @@ pub fn candidates(
         selection,
     };
     Ok(Candidates {
-        ids: start_and_growing(alloc, &scope)?,
-        left_out: ids_not_chosen(alloc, &scope)?,
+        ids: candidate_ids(alloc, &scope)?,
+        left_out: left_out_with_reasons(alloc, &scope)?,
     })
 }

@@ -20,7 +20,7 @@ pub(crate) fn is_named(selection: &Selection, id: Id) -> bool
     selection.select.contains(id) || selection.group.contains(id)
 }
 
-/// Whether an id of the start brings others in.
+/// Whether an id of the start brings others in: under GROUPEXTEND each does, and otherwise each that GROUP names.
 pub(crate) fn brings_others(selection: &Selection, id: Id) -> bool
     ensures { result ≡ brings_others selection.now id }
 {
@@ -46,18 +46,18 @@ impl<'a> Selecting<'a> {
         has_mass_choice(self.selection) && self.passes_filters(id)
     }
 
-    /// Whether the id is open, and the mass choice, SELECT or GROUP names it.
-    pub(crate) fn is_start(&self, id: Id) -> bool
+    /// Whether the search starts with the id: it is open, and the mass choice, SELECT or GROUP names it.
+    pub(crate) fn is_start_id(&self, id: Id) -> bool
         ensures { result ≡ is_start_in self.now id }
     {
         self.is_open(id) && (is_named(self.selection, id) || self.is_mass_chosen(id))
     }
 
-    /// Whether the id is of the start and brings others in.
-    pub(crate) fn is_growing_start(&self, id: Id) -> bool
+    /// Whether the search starts with the id, and the id brings others in.
+    pub(crate) fn is_growing_start_id(&self, id: Id) -> bool
         ensures { result ≡ is_growing_start_in self.now id }
     {
-        self.is_start(id) && brings_others(self.selection, id)
+        self.is_start_id(id) && brings_others(self.selection, id)
     }
 }
 
@@ -81,8 +81,8 @@ fn received_ids(alloc: Global, global: &GlobalZone) -> Result<Vec<Id>, AllocErro
     Ok(ids)
 }
 
-// The ids that may be in the start: those named, or all received ones if the command chooses by mass.
-fn ids_in_question(alloc: Global, scope: &Selecting) -> Result<Vec<Id>, AllocError>
+// A list that has all ids of the start: the named ones, or all received ones if the command chooses by mass.
+fn possible_start_ids(alloc: Global, scope: &Selecting) -> Result<Vec<Id>, AllocError>
     ensures { IfOk result (λ ids. (x : AnId) → IsTrue (is_start_in scope.now x) → Contains ids.items x) }
 {
     if has_mass_choice(scope.selection) {
@@ -92,12 +92,12 @@ fn ids_in_question(alloc: Global, scope: &Selecting) -> Result<Vec<Id>, AllocErr
     }
 }
 
-// The ids among these that are open and chosen.
-fn start_among(alloc: Global, scope: &Selecting, ids: &[Id]) -> Result<Vec<Id>, AllocError>
+// The ids of the start among these.
+fn start_ids_among(alloc: Global, scope: &Selecting, ids: &[Id]) -> Result<Vec<Id>, AllocError>
     ensures { IfOk result (λ start. start.items ≡ filter (is_start_in scope.now) ids.now) }
 {
     ids.iter()
-        .filter(|id| scope.is_start(**id))
+        .filter(|id| scope.is_start_id(**id))
         .copied()
         .collect(alloc)
 }
@@ -106,6 +106,6 @@ fn start_among(alloc: Global, scope: &Selecting, ids: &[Id]) -> Result<Vec<Id>, 
 pub(crate) fn start_ids(alloc: Global, scope: &Selecting) -> Result<Vec<Id>, AllocError>
     ensures { IfOk result (λ start. (x : AnId) → Contains start.items x ↔ IsTrue (is_start_in scope.now x)) }
 {
-    let ids = ids_in_question(alloc, scope)?;
-    start_among(alloc, scope, ids.as_slice())
+    let ids = possible_start_ids(alloc, scope)?;
+    start_ids_among(alloc, scope, ids.as_slice())
 }

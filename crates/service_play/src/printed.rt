@@ -139,7 +139,7 @@ fn put_text(puts: bool, stood: bool) -> &'static [u8] {
 
 // A line for each edit of an entry.
 fn put_entry_edits(delta: &ZoneDelta, text: &mut Vec<u8>) -> Result<(), AllocError> {
-    for (edit, stood) in delta.entries().iter().zip(delta.entries_stood().iter()) {
+    for (edit, stood) in delta.entries().iter().zip(delta.numbers_before().iter()) {
         let (id, puts) = match edit {
             Edit::Put(entry) => (entry.id, true),
             Edit::Remove(id) => (*id, false),
@@ -154,7 +154,7 @@ fn put_entry_edits(delta: &ZoneDelta, text: &mut Vec<u8>) -> Result<(), AllocErr
 
 // A line for each edit of an element.
 fn put_element_edits(delta: &ZoneDelta, text: &mut Vec<u8>) -> Result<(), AllocError> {
-    for (edit, stood) in delta.elements().iter().zip(delta.elements_stood().iter()) {
+    for (edit, stood) in delta.elements().iter().zip(delta.elements_existed().iter()) {
         let (elem_type, name, puts) = match edit {
             Edit::Put(element) => (element.elem_type, element.name, true),
             Edit::Remove(key) => (key.0, key.1, false),

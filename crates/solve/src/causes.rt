@@ -12,7 +12,7 @@ use crate::system::System;
 use std::alloc::{AllocError, Global};
 
 // For each candidate, whether it has a need that no candidate serves.
-fn bare_needs(alloc: Global, s: &System) -> Result<Vec<bool>, AllocError>
+fn candidates_with_bare_need(alloc: Global, s: &System) -> Result<Vec<bool>, AllocError>
     ensures size { IfOk result (λ bare. length bare.items ≡ s.now.size) }
     ensures exact { IfOk result (λ bare. (x : ℕ) → IsTrue (holds bare.items x) ↔ HasBareNeed s.now x) }
 {
@@ -36,7 +36,8 @@ fn is_root(s: &System, kept: &[bool], bare: &[bool], x: u32) -> bool
     !kept[x as usize] && (!s.eligible()[x as usize] || bare[x as usize])
 }
 
-// For each candidate, those that lead to it: they failed, and it would serve a need of theirs that stays open.
+// For each candidate, those from which a step leads to it: they failed, and it would serve a need of theirs that stays
+// open.
 fn predecessors(alloc: Global, s: &System, kept: &[bool]) -> Result<Vec<Vec<u32>>, AllocError>
     requires { length kept.now ≡ s.now.size }
     ensures { IfOk result (λ leads. AreLeads s.now kept.now leads.items) }
@@ -122,7 +123,7 @@ pub fn causers(alloc: Global, s: &System, kept: &Kept) -> Result<Vec<Vec<u32>>, 
         return Ok(rows);
     }
     let flags = kept.flags();
-    let bare = bare_needs(alloc, s)?;
+    let bare = candidates_with_bare_need(alloc, s)?;
     let leads = predecessors(alloc, s, flags)?;
     let mut marks = vec![in alloc; false; s.size() as usize]?;
     for y in 0..s.size() {

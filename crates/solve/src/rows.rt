@@ -4,7 +4,7 @@ ghost use Rattle.solve.specs.Rows.{row_at, times};
 
 use std::alloc::{AllocError, Global};
 
-/// So many rows with no member.
+/// `n` rows without members.
 pub fn empty_rows<T: Copy>(alloc: Global, n: u32) -> Result<Vec<Vec<T>>, AllocError>
     ensures size { IfOk result (λ rows. length rows.items ≡ n) }
     ensures empty { IfOk result (λ rows. (x : ℕ) → row_at rows.items x ≡ []) }
@@ -16,7 +16,7 @@ pub fn empty_rows<T: Copy>(alloc: Global, n: u32) -> Result<Vec<Vec<T>>, AllocEr
     Ok(rows)
 }
 
-/// Adds a value to the row of each number of the list, as often as the list has the number.
+/// Adds the value to the row of each number in the list, once for each time that the list has the number.
 pub(crate) fn add_to_rows<T: Copy>(
     rows: &mut [Vec<T>],
     list: &[u32],

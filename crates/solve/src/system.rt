@@ -29,14 +29,14 @@ fn rises(list: &[u32]) -> bool
     true
 }
 
-// Whether a system of so many candidates admits the need.
+// Whether a system of `size` candidates admits the need.
 fn is_valid_need(size: u32, of: u32, any: &[u32]) -> bool
     ensures { IsTrue result ↔ IsNeed size (record { of = of; any = any.now }) }
 {
     of < size && any.iter().all(|y| *y < size) && rises(any)
 }
 
-// Whether a system of so many candidates admits all the needs.
+// Whether a system of `size` candidates admits all the needs.
 fn are_valid_needs(size: u32, needs: &[Need]) -> bool
     ensures { IsTrue result ↔ All (λ need. IsNeed size (numbered need)) needs.now }
 {
@@ -78,7 +78,8 @@ impl System {
         System::from_needs(eligible, Vec::new(alloc))
     }
 
-    /// A system with these flags and needs.
+    /// A system with these flags and needs. Returns `TooMany` if there are more flags than a `u32` counts, and
+    /// `BadNeed` if one of the needs is not valid.
     pub fn from_needs(eligible: Vec<bool>, needs: Vec<Need>) -> Result<System, SystemError>
         ensures ok { IfOk result (λ s. s ≡ record {
           size = length eligible.items;

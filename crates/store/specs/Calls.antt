@@ -107,8 +107,8 @@ edits_calls stated edits = let progress = progress_of stated edits in progress.0
 -- the entries first, and then the elements
 abbrev pub delta_calls : Text → ZoneDelta → List Call
 delta_calls name delta =
-    entries_calls name (zip delta.edits.entries delta.entries_stood)
-    ++ elements_calls name (zip delta.edits.elements delta.elements_stood)
+    entries_calls name (zip delta.edits.entries delta.numbers_before)
+    ++ elements_calls name (zip delta.edits.elements delta.elements_existed)
 
 -- one after the other, as they run
 abbrev pub calls_of : Change → List Call

@@ -234,6 +234,6 @@ pub(crate) fn write_delta<S: Alter>(
     ensures ok { OnOk result ((zone : Zone) → KnowsStood zone delta.now
         → ChangesZone S.Store tx.old.conn.now tx.new.conn.now name (HasEdited zone delta.now)) }
 {
-    edit_entries(alloc, tx, name, delta.entries(), delta.entries_stood())?;
-    edit_elements(alloc, tx, name, delta.elements(), delta.elements_stood())
+    edit_entries(alloc, tx, name, delta.entries(), delta.numbers_before())?;
+    edit_elements(alloc, tx, name, delta.elements(), delta.elements_existed())
 }

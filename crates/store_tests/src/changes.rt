@@ -127,7 +127,7 @@ fn put_applied(alloc: Global, id: Id, applied: Option<Applied>) -> Result<ZoneEd
         delby: None,
         waived: IdList::new(alloc),
     };
-    if entry.has_content() && entry.waives_applied() {
+    if entry.has_content() && entry.waives_only_if_applied() {
         edits.put_entry(entry)?;
     }
     Ok(edits)

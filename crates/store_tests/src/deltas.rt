@@ -33,7 +33,7 @@ fn put_second(alloc: Global, edits: &mut ZoneEdits, id: Id) -> Result<(), Fail> 
         delby: None,
         waived: IdList::new(alloc),
     };
-    if entry.has_content() && entry.waives_applied() {
+    if entry.has_content() && entry.waives_only_if_applied() {
         edits.put_entry(entry)?;
     }
     Ok(())

@@ -59,7 +59,7 @@ fn edits_to(alloc: Global, global: &GlobalZone) -> Result<Change<'_>, Fail> {
 fn put_all(alloc: Global, edits: &mut ZoneEdits, zone: &Zone) -> Result<(), Fail> {
     for entry in zone.entries() {
         let entry = entry.try_clone(alloc)?;
-        if entry.has_content() && entry.waives_applied() {
+        if entry.has_content() && entry.waives_only_if_applied() {
             edits.put_entry(entry)?;
         }
     }

@@ -14,7 +14,7 @@ use std::marker::Model;
 pub struct Chain<'a, 'b> {
     vers: &'a VerChoice<'b>,
     next: Option<Id>,
-    most: usize,
+    steps_left: usize,
 }
 
 impl<'a, 'b> Model for Chain<'a, 'b> {
@@ -26,7 +26,7 @@ impl<'a, 'b> Model for Chain<'a, 'b> {
     ghost use Rattle.sysmods.specs.Choices.{choice};
     ghost use Rattle.terms.specs.Over.{chain_from};
 
-    ghost view = { λ a. chain_from a.most (choice a.vers.now) a.next };
+    ghost view = { λ a. chain_from a.steps_left (choice a.vers.now) a.next };
 }
 
 impl<'a, 'b> Chain<'a, 'b> {
@@ -39,7 +39,7 @@ impl<'a, 'b> Chain<'a, 'b> {
         Chain {
             vers,
             next: Some(id),
-            most: vers.global().len() + 1,
+            steps_left: vers.global().len() + 1,
         }
     }
 }
@@ -52,11 +52,11 @@ impl<'a, 'b> Iterator for Chain<'a, 'b> {
     ghost remaining = { item_count (λ s. s) };
 
     fn next(&mut self) -> Option<Id> {
-        if self.most == 0 {
+        if self.steps_left == 0 {
             return None;
         }
         let id = self.next?;
-        self.most -= 1;
+        self.steps_left -= 1;
         self.next = self.vers.fmid(id);
         Some(id)
     }

@@ -28,7 +28,8 @@ fn mark_successors(lists: &[Vec<usize>], number: usize, marks: &mut Vec<bool>)
     mark_numbers(lists[number].as_slice(), marks);
 }
 
-/// Whether a number leads to a lower one. It goes through the numbers between them, from the highest on.
+/// Whether the number `high` leads to the lower number `low`: `lists` has for each number the lower ones to which it
+/// leads in one step. It goes through the numbers between the two, from the highest down.
 pub(crate) fn leads_down(
     alloc: Global,
     lists: &[Vec<usize>],

@@ -10,6 +10,7 @@ use terms::HoldKind;
 pub enum GlobalEdit {
     /// Puts the hold, instead of one of the same key.
     PutHold(Hold),
+    /// Removes the hold of this key.
     RemoveHold(Id, HoldKind, Reason),
     /// The SYSMOD of this id is received, with these sources. Other edits put its holds.
     InsertSysmod(Id, Vec<Source>),

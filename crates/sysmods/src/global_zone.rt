@@ -18,8 +18,8 @@ ghost use Rattle.sysmods.specs.Parts.{IsMadeOf};
 
 use crate::holds::{Holds, Placed, ReleaseError};
 use crate::iter::Iter;
-use crate::parts::{are_owned, build_received};
-use crate::receive::{check_receivable, take_in};
+use crate::parts::{build_received, have_owners_if_internal};
+use crate::receive::{check_receivable, insert_with_holds};
 use crate::received::Received;
 use crate::refused::Refused;
 use fields::{Attest, Id, Name, Reason, Source, Srel};
@@ -90,7 +90,7 @@ impl GlobalZone {
         let Some(sysmods) = build_received(alloc, sysmods)? else {
             return Ok(None);
         };
-        if !are_owned(&sysmods, holds.as_slice()) {
+        if !have_owners_if_internal(&sysmods, holds.as_slice()) {
             return Ok(None);
         }
         let Some(holds) = Holds::from_vec(alloc, holds)? else {
@@ -240,7 +240,7 @@ impl GlobalZone {
     {
         check_receivable(alloc, &self.sysmods, &sysmod)?;
         sysmod.attest();
-        take_in(&mut self.sysmods, &mut self.holds, alloc, sysmod)?;
+        insert_with_holds(&mut self.sysmods, &mut self.holds, alloc, sysmod)?;
         Ok(())
     }
 

@@ -10,8 +10,8 @@ ghost use Rattle.sysmods.specs.Internal.{IsNextInternal};
 ghost use Rattle.sysmods.specs.Undone.{Undoes, is_restoring};
 
 use crate::iter::Iter;
-use crate::key::{HoldKey, HoldPlace, key_of};
-use crate::undo::{Undo, put_each, take_back};
+use crate::key::{HoldKey, HoldPlace};
+use crate::undo::{Undo, put_each, take_back_all};
 use fields::{Id, Reason};
 use sorted::are_rising;
 use std::alloc::{AllocError, Global};
@@ -150,7 +150,7 @@ impl Holds {
         match put_each(self, holds, &mut log) {
             Ok(()) => Ok(()),
             Err(refused) => {
-                take_back(self, log);
+                take_back_all(self, log);
                 Err(refused)
             }
         }
@@ -179,6 +179,7 @@ impl Holds {
     pub fn drop_internal(&mut self, id: Id)
         ensures { self.new ≡ filter (λ h. not (is_internal_on id h)) self.old }
     {
+        // ERROR is the lowest kind.
         let mut from = HoldKey {
             id,
             kind: HoldKind::Error,
@@ -197,7 +198,7 @@ impl Holds {
         ensures ok { OnOk result (self.new ≡ with_hold self.old hold) }
         ensures err { OnErr result (self.new ≡ self.old) }
     {
-        let key = key_of(&hold);
+        let key = HoldKey::of_hold(&hold);
         let hold = with_internal_mark(hold, self.map.get(&key));
         let Some(old) = self.map.insert(key, hold)? else {
             return Ok(Undo::Remove(key));
@@ -211,7 +212,7 @@ impl Holds {
     {
         match undo {
             Undo::Remove(key) => drop(self.map.remove(&key)),
-            Undo::Restore(hold) => drop(self.map.insert(key_of(&hold), hold)),
+            Undo::Restore(hold) => drop(self.map.insert(HoldKey::of_hold(&hold), hold)),
         }
     }
 }
@@ -221,6 +222,7 @@ fn next_internal(map: &BTreeMap<HoldKey, Hold>, from: HoldKey) -> Option<HoldKey
     requires { IsByKey map.now.entries }
     ensures { IsNextInternal map.now.entries from result }
 {
+    // USER is the highest kind.
     let end = HoldKey {
         id: from.id,
         kind: HoldKind::User,
@@ -234,7 +236,7 @@ fn next_internal(map: &BTreeMap<HoldKey, Hold>, from: HoldKey) -> Option<HoldKey
     None
 }
 
-// The hold, marked as internal if the hold that it replaces is internal.
+// The hold, marked as internal if `was`, the hold that it replaces, is internal.
 fn with_internal_mark(mut hold: Hold, was: Option<&Hold>) -> Hold
     ensures { result ≡ marked (option_copied was.entry) hold }
 {

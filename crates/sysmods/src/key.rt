@@ -16,7 +16,7 @@ pub(crate) enum HoldPlace {
     Last,
 }
 
-/// The id, the kind and the place of a hold.
+/// The id, the kind and the place of a hold. Holds rise by these, in this order.
 #[derive(Clone, Copy, Debug)]
 pub(crate) struct HoldKey {
     pub id: Id,
@@ -34,6 +34,13 @@ impl HoldKey {
             kind,
             place: HoldPlace::At(reason),
         }
+    }
+
+    /// The key of the hold.
+    pub(crate) fn of_hold(hold: &Hold) -> HoldKey
+        ensures { result ≡ record { id = hold.now.id; kind = hold.now.kind; place = HoldPlace.At hold.now.reason } }
+    {
+        HoldKey::new(hold.id, hold.kind, hold.reason)
     }
 }
 
@@ -84,11 +91,4 @@ impl Ord for HoldKey {
             .then(self.kind.cmp(&other.kind))
             .then(self.place.cmp(&other.place))
     }
-}
-
-/// The key of a hold.
-pub(crate) fn key_of(hold: &Hold) -> HoldKey
-    ensures { result ≡ record { id = hold.now.id; kind = hold.now.kind; place = HoldPlace.At hold.now.reason } }
-{
-    HoldKey::new(hold.id, hold.kind, hold.reason)
 }

@@ -6,7 +6,7 @@ ghost use Rattle.sysmods.specs.Held.{found, zone_of};
 
 use crate::naming::{Namers, Naming};
 use crate::received::Received;
-use crate::search::leads_from_both_ends;
+use crate::search::leads_to_from_both_ends;
 use fields::Srel;
 use std::alloc::{AllocError, Global};
 use sysmods_values::Sysmod;
@@ -32,7 +32,7 @@ fn leads_back(
         sysmod,
         srel,
     };
-    leads_from_both_ends(alloc, &naming, &namers, sysmod.id, sysmod.id)
+    leads_to_from_both_ends(alloc, &naming, &namers, sysmod.id, sysmod.id)
 }
 
 /// Whether there is a loop with the SYSMOD, if there was none without it. It searches only if a received SYSMOD, or the

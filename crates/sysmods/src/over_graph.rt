@@ -53,7 +53,8 @@ impl OverGraph {
         }
     }
 
-    // Gives the id a number if all that it names have one, and returns `None`. Otherwise returns one that has none.
+    // Gives the id a number if it has none and all that it names have one. Then it returns `None`. Otherwise it returns
+    // the first named id without a number, which has to come first.
     fn add(&mut self, alloc: Global, vers: &VerChoice<'_>, id: Id) -> Result<Option<Id>, AllocError>
         requires { IsGraph (choice vers.now) (keys self.old.nodes) (values self.old.nodes) }
         ensures { IsGraph (choice vers.now) (keys self.new.nodes) (values self.new.nodes) }
@@ -73,8 +74,8 @@ impl OverGraph {
     }
 
     /// Gives the id a number, after all to which it leads. The path from the id to one without a number has no id
-    /// twice, because SYSMODs make no loop. No clause says that the id has a number then: `over` searches without numbers
-    /// if it has none.
+    /// twice, because SYSMODs make no loop. No clause says that the id has a number then: `over` searches without
+    /// numbers if it has none.
     pub(crate) fn add_with_named(
         &mut self,
         alloc: Global,
@@ -85,6 +86,7 @@ impl OverGraph {
         ensures { IsGraph (choice vers.now) (keys self.new.nodes) (values self.new.nodes) }
     {
         let mut path = vec![in alloc; id]?;
+        // A path is never this long. The bound shows that the loop ends.
         'path: for _ in 0..u64::MAX {
             let Some(last) = path.last() else {
                 break;
@@ -97,7 +99,8 @@ impl OverGraph {
         Ok(())
     }
 
-    /// Whether x is over z. It searches the numbers if x has one, as it has after `add_with_named`.
+    /// Whether x is over z. It searches the numbers if x has one, which it has after `add_with_named`, and otherwise
+    /// the ids.
     pub(crate) fn over(
         &self,
         alloc: Global,

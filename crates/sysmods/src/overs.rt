@@ -91,7 +91,7 @@ impl<'a, 'b> Overs<'a, 'b> {
         self.vers
     }
 
-    /// Whether x is over z: PRE, SUP and FMID lead from x to z. After an error it may be asked again.
+    /// Whether x is over z: PRE, SUP and FMID lead from x to z. After an error the call may be repeated.
     pub fn over(&mut self, alloc: Global, x: Id, z: Id) -> Result<bool, AllocError>
         ensures over { IfOk result (λ over. IsTrue over ↔ IsOver (choice self.old) x z) }
         ensures same { self.new ≡ self.old }
@@ -122,7 +122,7 @@ fn is_one_known(known: &IndexSet<(Id, Id)>, ids: &[Id], z: Id) -> bool
 }
 
 // Whether x names in PRE or SUP an id that is known to be over z.
-fn follows_known(vers: &VerChoice<'_>, known: &IndexSet<(Id, Id)>, x: Id, z: Id) -> bool
+fn names_known_over(vers: &VerChoice<'_>, known: &IndexSet<(Id, Id)>, x: Id, z: Id) -> bool
     ensures { result ≡ (is_one_known known.now.keys (pre_of (choice vers.now) x) z
         || is_one_known known.now.keys (sup_of (choice vers.now) x) z) }
 {
@@ -134,7 +134,8 @@ fn follows_known(vers: &VerChoice<'_>, known: &IndexSet<(Id, Id)>, x: Id, z: Id)
     }
 }
 
-// Whether x is over z. The graph takes in what x leads to, unless x names z itself or an id that is known to be over z.
+// Whether x is over z. The graph grows by all to which x leads, unless x names z itself or an id that is known to be
+// over z: then no search is needed.
 fn find_over(
     alloc: Global,
     vers: &VerChoice<'_>,
@@ -151,7 +152,7 @@ fn find_over(
     if vers.names(x, z) {
         return Ok(true);
     }
-    if follows_known(vers, known, x, z) {
+    if names_known_over(vers, known, x, z) {
         return Ok(true);
     }
     graph.add_with_named(alloc, vers, x)?;

@@ -80,14 +80,16 @@ fn has_no_holds(sysmod: &Sysmod) -> bool
 }
 
 /// Whether each internal hold is a SYSTEM hold of a received SYSMOD.
-pub(crate) fn are_owned(received: &Received, holds: &[Hold]) -> bool
+pub(crate) fn have_owners_if_internal(received: &Received, holds: &[Hold]) -> bool
     ensures { IsTrue result ↔ All (IsOwned (zone_of received.now)) holds.now }
 {
-    holds.iter().all(|hold| is_owned(received, hold))
+    holds
+        .iter()
+        .all(|hold| has_owner_if_internal(received, hold))
 }
 
 // Whether the hold is not internal, or is a SYSTEM hold of a received SYSMOD.
-fn is_owned(received: &Received, hold: &Hold) -> bool
+fn has_owner_if_internal(received: &Received, hold: &Hold) -> bool
     ensures { IsTrue result ↔ IsOwned (zone_of received.now) hold.now }
 {
     !hold.internal || is_system_hold(received, hold)

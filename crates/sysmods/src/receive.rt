@@ -16,8 +16,8 @@ use crate::roles::roles_fit;
 use std::alloc::{AllocError, Global};
 use sysmods_values::Sysmod;
 
-/// How many SYSMODs may be received.
-const MOST: usize = 65_535;
+/// The most SYSMODs that a global zone may have received.
+const MOST_SYSMODS: usize = 65_535;
 
 /// Returns an error if the SYSMOD may not be received: the first fault for which RECEIVE refuses it. The caller ensures
 /// that the received SYSMODs have no loop and that their roles fit. A SYSMOD without a fault preserves both.
@@ -40,15 +40,15 @@ pub(crate) fn check_receivable(
     if !roles_fit(received, sysmod) {
         return Err(Refused::WrongRole);
     }
-    if received.len() >= MOST {
+    if received.len() >= MOST_SYSMODS {
         return Err(Refused::NoRoom);
     }
     Ok(())
 }
 
-/// Takes a new SYSMOD in, and its holds among the others. After an error it has taken in neither. The SYSMOD comes
-/// first, since taking it out again takes no memory.
-pub(crate) fn take_in(
+/// Inserts a new SYSMOD, and the holds that came inside it among the other holds. After an error it has inserted
+/// neither. It inserts the SYSMOD first, because taking that out again needs no memory.
+pub(crate) fn insert_with_holds(
     sysmods: &mut Received,
     holds: &mut Holds,
     alloc: Global,

@@ -69,7 +69,7 @@ impl Received {
         self.by_id.get(&id)
     }
 
-    /// Whether a SYSMOD of this id is there.
+    /// Whether a SYSMOD of this id is received.
     pub fn contains(&self, id: Id) -> bool
         ensures { result ≡ is_some (found self.now id) }
     {
@@ -84,8 +84,8 @@ impl Received {
         self.by_id.values()
     }
 
-    /// Takes a SYSMOD in and returns `None`. If one of its id is there already, nothing changes and it returns the
-    /// SYSMOD.
+    /// Takes a SYSMOD in and returns `None`. If one of its id is received already, it changes nothing and gives the
+    /// new one back.
     pub fn insert(&mut self, sysmod: Sysmod) -> Result<Option<Sysmod>, AllocError>
         ensures back { IfOk result (λ back. back ≡ (if is_some (found self.old sysmod.id) then Some sysmod else None)) }
         ensures ok { OnOk result (self.new ≡ (if is_some (found self.old sysmod.id) then self.old else with_item
@@ -135,7 +135,7 @@ impl Received {
         ensures { result ≡ option_map_or (names_so way id) (found self.now namer) false }
     {
         match self.get(namer) {
-            Some(sysmod) => way.is_taken_by(sysmod, id),
+            Some(sysmod) => way.is_used_by(sysmod, id),
             None => false,
         }
     }

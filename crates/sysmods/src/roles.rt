@@ -69,7 +69,7 @@ fn fmid_is_service(received: &Received, sysmod: &Sysmod, fmid: Option<Id>) -> bo
 }
 
 // Whether the function that one of these `++IF`s asks for is service.
-fn some_if_names_service(received: &Received, sysmod: &Sysmod, conditions: &[IfReq]) -> bool
+fn any_if_names_service(received: &Received, sysmod: &Sysmod, conditions: &[IfReq]) -> bool
     ensures { result ≡ list_any (is_service (with_sysmod (zone_of received.now) sysmod.now))
         (map (λ i. i.function) conditions.now) }
 {
@@ -86,7 +86,7 @@ fn names_service(received: &Received, sysmod: &Sysmod, ver: &Ver) -> bool
 {
     any_is_service(received, sysmod, ver.del.as_slice())
         || fmid_is_service(received, sysmod, ver.fmid)
-        || some_if_names_service(received, sysmod, ver.ifs.as_slice())
+        || any_if_names_service(received, sysmod, ver.ifs.as_slice())
 }
 
 // Whether the `++VER` names no function in SUP, and no service as a function.

@@ -18,7 +18,7 @@ pub trait Names {
         ensures { OnOk result (found.new.items ≡ found.old.items ++ named self.now id) };
 }
 
-// Adds the ids that this one names to those seen. `found` is working space: what it had is gone.
+// Adds the ids that this one names to those seen. `found` is working space, which the call empties first.
 fn see_named<N: Names>(
     names: &N,
     id: Id,
@@ -35,7 +35,7 @@ fn see_named<N: Names>(
     Ok(())
 }
 
-// Whether the search has an id at which to stop, and has seen it.
+// Whether there is an id at which the search stops, and the search has seen it.
 fn is_stop_seen(seen: &IndexSet<Id>, stop: Option<&Id>) -> bool
     ensures { IsTrue result ↔ IsSomeAnd stop.entry (λ z. Contains seen.now.keys z.now) }
 {
@@ -48,20 +48,20 @@ fn is_stop_seen(seen: &IndexSet<Id>, stop: Option<&Id>) -> bool
 // Visits the id at this place among those seen: adds the ids that it names to them.
 fn visit_seen<N: Names>(
     names: &N,
-    gone: usize,
+    place: usize,
     found: &mut Vec<Id>,
     seen: &mut IndexSet<Id>,
 ) -> Result<(), AllocError>
-    requires { gone < length seen.old.keys }
-    ensures { OnOk result (GoesOn (N.named names.now) gone seen.old.keys seen.new.keys) }
+    requires { place < length seen.old.keys }
+    ensures { OnOk result (GoesOn (N.named names.now) place seen.old.keys seen.new.keys) }
 {
-    let y = seen.as_slice()[gone];
-    see_named(names, y, found, seen)?;
+    let id = seen.as_slice()[place];
+    see_named(names, id, found, seen)?;
     Ok(())
 }
 
-// The ids that x reaches, each where the search met it first: the list serves both as marks and as a queue. Once the
-// search has seen the id at which to stop, it goes no further.
+// The ids that x reaches, in the order in which the search meets them: the set serves both as marks and as a queue.
+// Once the search has seen the id `stop`, it goes no further, and may not have met all.
 fn search_reachable<N: Names>(
     alloc: Global,
     names: &N,
@@ -88,7 +88,7 @@ fn search_reachable<N: Names>(
 
 /// Whether x leads to z: each id on the way names the next, in one step or more. If z is x, this says whether x is on a
 /// loop.
-pub fn leads_to<N: Names>(alloc: Global, names: &N, x: Id, z: Id) -> Result<bool, AllocError>
+pub(crate) fn leads_to<N: Names>(alloc: Global, names: &N, x: Id, z: Id) -> Result<bool, AllocError>
     ensures { IfOk result (λ found. IsTrue found ↔ Reaches (N.named names.now) x z) }
 {
     let seen = search_reachable(alloc, names, x, Some(&z))?;
@@ -96,7 +96,7 @@ pub fn leads_to<N: Names>(alloc: Global, names: &N, x: Id, z: Id) -> Result<bool
 }
 
 // Whether the search from x has seen z, or the one back from z has seen x.
-fn have_met(ahead: &IndexSet<Id>, behind: &IndexSet<Id>, x: Id, z: Id) -> bool
+fn either_has_arrived(ahead: &IndexSet<Id>, behind: &IndexSet<Id>, x: Id, z: Id) -> bool
     ensures { result ≡ (is_in ahead.now.keys z || is_in behind.now.keys x) }
 {
     ahead.contains(&z) || behind.contains(&x)
@@ -104,7 +104,7 @@ fn have_met(ahead: &IndexSet<Id>, behind: &IndexSet<Id>, x: Id, z: Id) -> bool
 
 /// Whether x leads to z. `namers` gives for each id those that name it. The search continues from the end that has seen
 /// less, and stops once either end has seen the other one or has nothing left.
-pub fn leads_from_both_ends<F: Names, B: Names>(
+pub(crate) fn leads_to_from_both_ends<F: Names, B: Names>(
     alloc: Global,
     names: &F,
     namers: &B,
@@ -122,7 +122,7 @@ pub fn leads_from_both_ends<F: Names, B: Names>(
     let mut i = 0;
     let mut j = 0;
     while i < ahead.len() && j < behind.len() {
-        if have_met(&ahead, &behind, x, z) {
+        if either_has_arrived(&ahead, &behind, x, z) {
             return Ok(true);
         }
         if ahead.len() <= behind.len() {
@@ -133,11 +133,11 @@ pub fn leads_from_both_ends<F: Names, B: Names>(
             j += 1;
         }
     }
-    Ok(have_met(&ahead, &behind, x, z))
+    Ok(either_has_arrived(&ahead, &behind, x, z))
 }
 
 /// The ids to which x leads, in one step or more.
-pub fn reachable_ids<N: Names>(alloc: Global, names: &N, x: Id) -> Result<IdList, AllocError>
+pub(crate) fn reachable_ids<N: Names>(alloc: Global, names: &N, x: Id) -> Result<IdList, AllocError>
     ensures { IfOk result (λ ends. (z : List ℕ) → Contains ends z ↔ Reaches (N.named names.now) x z) }
 {
     let seen = search_reachable(alloc, names, x, None)?;

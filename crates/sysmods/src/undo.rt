@@ -35,7 +35,7 @@ pub(crate) fn put_each(
 }
 
 /// Undoes changes, the last one first.
-pub(crate) fn take_back(from: &mut Holds, mut log: Vec<Undo>)
+pub(crate) fn take_back_all(from: &mut Holds, mut log: Vec<Undo>)
     ensures { (old : List terms.Hold) → UndoesAll old from.old log.items → from.new ≡ old }
 {
     while let Some(undo) = log.pop() {

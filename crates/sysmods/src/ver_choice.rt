@@ -15,7 +15,7 @@ use sorted::{Keyed, Table};
 use std::alloc::{AllocError, Global};
 use sysmods_values::Ver;
 
-/// The number of an id's `++VER` among those for an SREL.
+/// The number of an id's `++VER` among those for an SREL, counted from 1.
 #[derive(Clone, Copy, Debug)]
 pub struct Pick {
     pub id: Id,
@@ -38,7 +38,9 @@ impl Keyed for Pick {
 pub struct VerChoice<'a> {
     global: &'a GlobalZone,
     srel: Srel,
+    // The numbers by which applied SYSMODs were installed.
     kept: Table<Pick>,
+    // The numbers of the first `++VER`s that fit.
     fitting: Table<Pick>,
 }
 
@@ -99,7 +101,7 @@ impl<'a> VerChoice<'a> {
         }
     }
 
-    /// Appends what it names in PRE, SUP and FMID.
+    /// Appends what the `++VER` that counts names in PRE, SUP and FMID.
     pub(crate) fn append_named(&self, id: Id, found: &mut Vec<Id>) -> Result<(), AllocError>
         ensures { OnOk result (found.new.items ≡ found.old.items ++ names (choice self.now) id) }
     {
@@ -146,7 +148,8 @@ impl<'a> VerChoice<'a> {
         }
     }
 
-    /// The id that owns its elements: a function owns its own, otherwise its FMID does.
+    /// The function that owns the elements of the SYSMOD: a function owns its own, otherwise the FMID of the `++VER`
+    /// that counts does. Without an FMID it is the id itself.
     pub fn owner(&self, id: Id) -> Id
         ensures { result ≡ owner self.now.global.now (choice self.now) id }
     {
@@ -163,8 +166,8 @@ impl<'a> VerChoice<'a> {
         Chain::new(self, id)
     }
 
-    /// Whether its chain contains one of these ids. Without any, it does not walk the chain.
-    pub fn meets(&self, id: Id, ids: &[Id]) -> bool
+    /// Whether the chain of the id contains one of these ids. If there are none, it does not walk the chain.
+    pub fn chain_contains_any(&self, id: Id, ids: &[Id]) -> bool
         ensures { result ≡ meets (chain self.now.global.now (choice self.now) id) ids.now }
     {
         if ids.is_empty() {
@@ -242,7 +245,7 @@ impl Names for AllNames<'_, '_> {
     }
 }
 
-// What it names in SUP.
+// What the `++VER` that counts names in SUP.
 #[derive(Clone, Copy)]
 struct Superseded<'a, 'b> {
     choice: &'a VerChoice<'b>,

@@ -5,17 +5,20 @@ ghost use Rattle.sysmods.specs.Ways.{names_so};
 use fields::Id;
 use sysmods_values::Sysmod;
 
-/// How one of its `++VER`s names an id: in PRE, SUP or FMID; in SUP; in DELETE, FMID or an `++IF`.
+/// How one of a SYSMOD's `++VER`s names an id.
 #[derive(Clone, Copy)]
 pub(crate) enum Way {
+    /// In PRE, SUP or FMID, by which SYSMODs are over others.
     Named,
+    /// In SUP.
     Superseded,
+    /// In DELETE, FMID or an `++IF`, which name functions only.
     AsFunction,
 }
 
 impl Way {
     /// Whether the SYSMOD names the id in this way.
-    pub(crate) fn is_taken_by(self, sysmod: &Sysmod, id: Id) -> bool
+    pub(crate) fn is_used_by(self, sysmod: &Sysmod, id: Id) -> bool
         ensures { result ≡ names_so self id sysmod.now }
     {
         match self {

@@ -67,7 +67,7 @@ fn push_requisites_of_if(
     ensures { OnOk result (asked.new.items ≡ asked.old.items ++ (if stays left.now condition.now.function
         then unwaived left.now.zone.now condition.now.function condition.now.req else [])) }
 {
-    if left.has(condition.function) {
+    if left.is_applied(condition.function) {
         push_unwaived(
             left.zone,
             condition.function,

@@ -32,7 +32,7 @@ fn covers_reason(reasons: &Reasons, reason: Reason) -> bool
 }
 
 // Whether HOLDCLASS has the class.
-fn has_class(bypass: &Bypass, class: Option<Class>) -> bool
+fn covers_class(bypass: &Bypass, class: Option<Class>) -> bool
     ensures { result ≡ option_map_or (is_in bypass.now.holdclass) class false }
 {
     match class {
@@ -45,5 +45,5 @@ fn has_class(bypass: &Bypass, class: Option<Class>) -> bool
 pub fn is_bypassed_hold(bypass: &Bypass, hold: &Hold) -> bool
     ensures { result ≡ is_bypassed_hold bypass.now hold.now }
 {
-    covers_reason(reasons_of(bypass, hold.kind), hold.reason) || has_class(bypass, hold.class)
+    covers_reason(reasons_of(bypass, hold.kind), hold.reason) || covers_class(bypass, hold.class)
 }

@@ -20,20 +20,20 @@ pub fn choose<'a>(
     alloc: Global,
     global: &'a GlobalZone,
     zone: &Zone,
-    cands: &IdList,
+    candidates: &IdList,
 ) -> Result<VerChoice<'a>, AllocError>
     ensures global { IfOk result (λ vers. vers.global.now ≡ global.now) }
     ensures srel { IfOk result (λ vers. vers.srel ≡ zone.now.srel) }
-    ensures counting { IfOk result (λ vers. choice vers ≡ counting global.now zone.now cands.now) }
-    ensures numbers { IfOk result (λ vers. number_in vers ≡ (λ x. place global.now zone.now cands.now x + 1)) }
+    ensures counting { IfOk result (λ vers. choice vers ≡ counting global.now zone.now candidates.now) }
+    ensures numbers { IfOk result (λ vers. number_in vers ≡ (λ x. place global.now zone.now candidates.now x + 1)) }
 {
     global.attest();
     let kept = table_of(kept_picks(alloc, zone)?);
-    let fitting = table_of(fitting_picks(alloc, global, zone, cands)?);
+    let fitting = table_of(fitting_picks(alloc, global, zone, candidates)?);
     Ok(VerChoice::new(global, zone.srel(), kept, fitting))
 }
 
-// A table of items that already rise by their keys.
+// The table of these items, which already rise by their keys.
 fn table_of<T: Keyed + Drop>(items: Vec<T>) -> Table<T>
     requires { Rises T.Key.cmp T.key_of items.items }
     ensures { result ≡ items.items }
@@ -41,17 +41,17 @@ fn table_of<T: Keyed + Drop>(items: Vec<T>) -> Table<T>
     Table::from_vec(items).unwrap()
 }
 
-/// Whether the `++VER` has no FMID, or one that is applied in the zone or a candidate.
-pub fn fits(zone: &Zone, cands: &IdList, ver: &Ver) -> bool
-    ensures { result ≡ fits zone.now (is_in cands.now) ver.now }
+/// Whether the `++VER` fits the zone: it has no FMID, or one that is applied in the zone or a candidate.
+pub fn fits(zone: &Zone, candidates: &IdList, ver: &Ver) -> bool
+    ensures { result ≡ fits zone.now (is_in candidates.now) ver.now }
 {
     match ver.fmid {
-        Some(fmid) => zone.is_applied(fmid) || cands.contains(fmid),
+        Some(fmid) => zone.is_applied(fmid) || candidates.contains(fmid),
         None => true,
     }
 }
 
-// Adds the pick, unless its number is 1. A SYSMOD without a pick has the number 1.
+// Adds the pick, unless its number is 1, because a SYSMOD without a pick has the number 1.
 fn push_if_not_first(pick: Pick, picks: &mut Vec<Pick>) -> Result<(), AllocError>
     ensures { OnOk result (picks.new.items ≡ picks.old.items ++ filter is_further (pick ∷ [])) }
 {
@@ -67,10 +67,7 @@ fn kept_pick(entry: &Entry) -> Pick
 {
     Pick {
         id: entry.id,
-        number: match entry.applied {
-            Some(applied) => applied.number,
-            None => VerNumber::FIRST,
-        },
+        number: entry.number(),
     }
 }
 
@@ -87,38 +84,38 @@ fn kept_picks(alloc: Global, zone: &Zone) -> Result<Vec<Pick>, AllocError>
 }
 
 // The place of the first `++VER` that fits, among those for the zone's SREL.
-fn first_fitting(zone: &Zone, cands: &IdList, vers: &[Ver]) -> Option<usize>
-    ensures { result ≡ position (fits zone.now (is_in cands.now))
+fn first_fitting(zone: &Zone, candidates: &IdList, vers: &[Ver]) -> Option<usize>
+    ensures { result ≡ position (fits zone.now (is_in candidates.now))
         (filter (λ v. bytes_eq v.srel zone.now.srel) vers.now) }
 {
     let srel = zone.srel();
     vers.iter()
         .filter(|ver| ver.srel == srel)
-        .position(|ver| fits(zone, cands, ver))
+        .position(|ver| fits(zone, candidates, ver))
 }
 
 // The number of the first `++VER` that fits, or 1 if none fits.
-fn fitting_number(zone: &Zone, cands: &IdList, vers: &[Ver]) -> VerNumber
-    ensures { result ≡ unwrap_or (position (fits zone.now (is_in cands.now))
+fn fitting_number(zone: &Zone, candidates: &IdList, vers: &[Ver]) -> VerNumber
+    ensures { result ≡ unwrap_or (position (fits zone.now (is_in candidates.now))
         (filter (λ v. bytes_eq v.srel zone.now.srel) vers.now)) 0 + 1 }
 {
     if vers.len() < 2 {
         return VerNumber::FIRST;
     }
-    match first_fitting(zone, cands, vers) {
+    match first_fitting(zone, candidates, vers) {
         Some(place) => VerNumber::at_place(place),
         None => VerNumber::FIRST,
     }
 }
 
 // The pick of a received SYSMOD. It has the number 1 if the SYSMOD is applied, because `kept_pick` says its number.
-fn fitting_pick(zone: &Zone, cands: &IdList, sysmod: &Sysmod) -> Pick
-    ensures { result ≡ fitting_pick zone.now cands.now sysmod.now }
+fn fitting_pick(zone: &Zone, candidates: &IdList, sysmod: &Sysmod) -> Pick
+    ensures { result ≡ fitting_pick zone.now candidates.now sysmod.now }
 {
     let number = if zone.is_applied(sysmod.id) {
         VerNumber::FIRST
     } else {
-        fitting_number(zone, cands, sysmod.vers.as_slice())
+        fitting_number(zone, candidates, sysmod.vers.as_slice())
     };
     Pick {
         id: sysmod.id,
@@ -131,14 +128,14 @@ fn fitting_picks(
     alloc: Global,
     global: &GlobalZone,
     zone: &Zone,
-    cands: &IdList,
+    candidates: &IdList,
 ) -> Result<Vec<Pick>, AllocError>
     ensures { IfOk result
-        (λ picks. picks.items ≡ filter is_further (map (fitting_pick zone.now cands.now) global.now.sysmods)) }
+        (λ picks. picks.items ≡ filter is_further (map (fitting_pick zone.now candidates.now) global.now.sysmods)) }
 {
     let mut picks = Vec::new(alloc);
     for sysmod in global.sysmods() {
-        push_if_not_first(fitting_pick(zone, cands, sysmod), &mut picks)?;
+        push_if_not_first(fitting_pick(zone, candidates, sysmod), &mut picks)?;
     }
     Ok(picks)
 }

@@ -23,30 +23,30 @@ pub fn deletions(alloc: Global, vers: &VerChoice<'_>, ids: &[Id]) -> Result<Vec<
 pub(crate) fn chain_deletions(
     alloc: Global,
     vers: &VerChoice<'_>,
-    cands: &IdList,
+    candidates: &IdList,
     id: Id,
 ) -> Result<Vec<Id>, AllocError>
     ensures { IfOk result (λ dels. dels.items ≡ deletions (choice vers.now)
-        (filter (is_in cands.now) (chain vers.now.global.now (choice vers.now) id))) }
+        (filter (is_in candidates.now) (chain vers.now.global.now (choice vers.now) id))) }
 {
     let mut dels = Vec::new(alloc);
     for above in vers.chain(id) {
-        append_candidate_deletions(vers, cands, above, &mut dels)?;
+        append_candidate_deletions(vers, candidates, above, &mut dels)?;
     }
     Ok(dels)
 }
 
-// Adds what it names in DELETE, if it is a candidate.
+// Adds what the SYSMOD names in DELETE, if it is a candidate.
 fn append_candidate_deletions(
     vers: &VerChoice<'_>,
-    cands: &IdList,
+    candidates: &IdList,
     id: Id,
     dels: &mut Vec<Id>,
 ) -> Result<(), AllocError>
     ensures { OnOk result (dels.new.items
-        ≡ dels.old.items ++ deletions (choice vers.now) (filter (is_in cands.now) (id ∷ []))) }
+        ≡ dels.old.items ++ deletions (choice vers.now) (filter (is_in candidates.now) (id ∷ []))) }
 {
-    if cands.contains(id) {
+    if candidates.contains(id) {
         dels.extend_from_slice(vers.del(id))?;
     }
     Ok(())

@@ -52,7 +52,7 @@ fn remaining_ids<T: TakesOut>(alloc: Global, taking: &T, ids: &[Id]) -> Result<V
     Ok(left)
 }
 
-// The same as a list that rises.
+// The ids that are not taken out, as a list that rises.
 fn remaining_list<T: TakesOut>(
     alloc: Global,
     taking: &T,

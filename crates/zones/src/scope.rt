@@ -74,8 +74,8 @@ impl<'a, 'b> Scope<'a, 'b> {
         }
     }
 
-    /// What the candidates in the chain of this SYSMOD name in DELETE. Its view is the zone less these. Usually no
-    /// candidate names anything in DELETE, and then the call walks no chain.
+    /// What the candidates in the chain of this SYSMOD name in DELETE: the SYSMOD sees the zone without these. Usually
+    /// no candidate names anything in DELETE, and then the call walks no chain.
     pub fn view_deletions(&self, alloc: Global, id: Id) -> Result<Vec<Id>, AllocError>
         ensures { IfOk result (λ dels. dels.items ≡ deletions (choice self.now.vers.now)
             (filter (is_in self.now.ids.now) (chain self.now.vers.now.global.now (choice self.now.vers.now) id))) }

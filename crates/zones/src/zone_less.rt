@@ -21,7 +21,7 @@ pub struct ZoneLess<'a, 'b> {
 
 impl<'a, 'b> ZoneLess<'a, 'b> {
     /// Whether the id is still applied.
-    pub fn has(&self, id: Id) -> bool
+    pub fn is_applied(&self, id: Id) -> bool
         ensures { result ≡ is_applied (left_of self.now) id }
     {
         self.zone.is_applied(id) && !self.deletes(id)
@@ -31,15 +31,15 @@ impl<'a, 'b> ZoneLess<'a, 'b> {
     pub fn supplies(&self, id: Id) -> bool
         ensures { result ≡ is_supplied (left_of self.now) id }
     {
-        self.has(id) || self.is_superseded(id)
+        self.is_applied(id) || self.is_superseded(id)
     }
 
-    /// Whether it meets a need; only an applied SYSMOD meets one for an FMID.
-    pub fn meets(&self, kind: NeedKind, id: Id) -> bool
+    /// Whether what is left meets the need for this id. An FMID has to be applied, any other id may be superseded.
+    pub fn meets_need(&self, kind: NeedKind, id: Id) -> bool
         ensures { result ≡ is_met (left_of self.now) kind id }
     {
         match kind {
-            NeedKind::Fmid => self.has(id),
+            NeedKind::Fmid => self.is_applied(id),
             _ => self.supplies(id),
         }
     }
@@ -59,17 +59,17 @@ impl<'a, 'b> ZoneLess<'a, 'b> {
     pub fn deletes(&self, id: Id) -> bool
         ensures { result ≡ is_cut self.now id }
     {
-        self.vers.meets(id, self.dels)
+        self.vers.chain_contains_any(id, self.dels)
     }
 
     /// Whether the id, or an applied SYSMOD that supersedes it, is taken out.
     pub fn loses(&self, id: Id) -> bool
         ensures { result ≡ loses self.now id }
     {
-        self.takes_out(id) || self.takes_superseder(id)
+        self.takes_out(id) || self.takes_out_superseder(id)
     }
 
-    // Whether one of the SYSMODs that supersede it stays.
+    // Whether one of the SYSMODs that supersede the id stays.
     fn is_superseded(&self, id: Id) -> bool
         ensures { result ≡ not (is_nil (supby_of (left_of self.now) id)) }
     {
@@ -86,18 +86,18 @@ impl<'a, 'b> ZoneLess<'a, 'b> {
         ids.iter().any(|id| !self.takes_out(*id))
     }
 
-    // Whether one of the SYSMODs that supersede it is taken out.
-    fn takes_superseder(&self, id: Id) -> bool
+    // Whether one of the SYSMODs that supersede the id is taken out.
+    fn takes_out_superseder(&self, id: Id) -> bool
         ensures { result ≡ list_any (is_gone self.now) (supby_of self.now.zone.now id) }
     {
         match self.zone.entry(id) {
-            Some(entry) => self.takes_any(entry.supby.as_slice()),
+            Some(entry) => self.takes_out_any(entry.supby.as_slice()),
             None => false,
         }
     }
 
     // Whether one of the ids is taken out.
-    fn takes_any(&self, ids: &[Id]) -> bool
+    fn takes_out_any(&self, ids: &[Id]) -> bool
         ensures { result ≡ list_any (is_gone self.now) ids.now }
     {
         ids.iter().any(|id| self.takes_out(*id))

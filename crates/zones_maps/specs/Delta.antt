@@ -40,8 +40,8 @@ number_of e = option_map_or (λ a. a.number) e.applied 1
 -- whether there was one
 pub record ZoneDelta : Type 0 where
   pub edits : ZoneEdits
-  pub entries_stood : List (Option ℕ)
-  pub elements_stood : List Bool
+  pub numbers_before : List (Option ℕ)
+  pub elements_existed : List Bool
 
 -- what the zone has at the key of an edit
 abbrev pub entry_stood : Zone → Edit Entry Id → Option ℕ
@@ -52,8 +52,8 @@ element_stood zone d = is_some (element_of zone (edit_key element_key d).0 (edit
 
 -- The delta knows what the zone has at the key of each of its edits.
 pub record KnowsStood (zone : Zone) (delta : ZoneDelta) : Type 0 where
-  pub entries : delta.entries_stood ≡ map (entry_stood zone) delta.edits.entries
-  pub elements : delta.elements_stood ≡ map (element_stood zone) delta.edits.elements
+  pub entries : delta.numbers_before ≡ map (entry_stood zone) delta.edits.entries
+  pub elements : delta.elements_existed ≡ map (element_stood zone) delta.edits.elements
 
 abbrev pub IsDelta : ZoneDelta → Type 0
 IsDelta delta = AreEdits delta.edits

@@ -15,8 +15,8 @@ use terms::ElemType;
 #[derive(Drop)]
 pub struct ZoneDelta {
     edits: ZoneEdits,
-    entries_stood: Vec<Option<VerNumber>>,
-    elements_stood: Vec<bool>,
+    numbers_before: Vec<Option<VerNumber>>,
+    elements_existed: Vec<bool>,
 }
 
 impl Model for ZoneDelta {
@@ -26,8 +26,8 @@ impl Model for ZoneDelta {
 
     ghost view = { λ d. record {
       edits = d.edits;
-      entries_stood = d.entries_stood.items;
-      elements_stood = d.elements_stood.items;
+      numbers_before = d.numbers_before.items;
+      elements_existed = d.elements_existed.items;
     } };
 }
 
@@ -46,12 +46,12 @@ impl ZoneDelta {
     pub fn from_edits(alloc: Global, edits: ZoneEdits, zone: &Zone) -> Result<ZoneDelta, AllocError>
         ensures { IfOk result (λ d. (d.edits ≡ edits) × KnowsStood zone.now d) }
     {
-        let entries_stood = old_numbers(alloc, edits.entries(), zone)?;
-        let elements_stood = old_elements_exist(alloc, edits.elements(), zone)?;
+        let numbers_before = old_numbers(alloc, edits.entries(), zone)?;
+        let elements_existed = old_elements_exist(alloc, edits.elements(), zone)?;
         Ok(ZoneDelta {
             edits,
-            entries_stood,
-            elements_stood,
+            numbers_before,
+            elements_existed,
         })
     }
 
@@ -70,17 +70,17 @@ impl ZoneDelta {
     }
 
     /// For each edit of an entry, the number of the `++VER` of the old entry, if there was one.
-    pub fn entries_stood(&self) -> &[Option<VerNumber>]
-        ensures { result.now ≡ self.now.entries_stood }
+    pub fn numbers_before(&self) -> &[Option<VerNumber>]
+        ensures { result.now ≡ self.now.numbers_before }
     {
-        self.entries_stood.as_slice()
+        self.numbers_before.as_slice()
     }
 
     /// For each edit of an element, whether there was an old one.
-    pub fn elements_stood(&self) -> &[bool]
-        ensures { result.now ≡ self.now.elements_stood }
+    pub fn elements_existed(&self) -> &[bool]
+        ensures { result.now ≡ self.now.elements_existed }
     {
-        self.elements_stood.as_slice()
+        self.elements_existed.as_slice()
     }
 
     /// The zone as this delta changes it, beside the old one. It goes over both once, in order, and copies what stays
@@ -91,7 +91,7 @@ impl ZoneDelta {
         zone.with_edits(alloc, &self.edits)
     }
 
-    // The edits by themselves.
+    /// The edits by themselves.
     pub(crate) fn edits(&self) -> &ZoneEdits
         ensures { result.now ≡ self.now.edits }
     {

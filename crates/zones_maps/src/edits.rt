@@ -69,7 +69,7 @@ impl ZoneEdits {
         self.elements.as_slice()
     }
 
-    // The same as a table, with the form of all edits.
+    /// What they put and remove of entries, as a table. The call also gives a proof the form of all edits.
     pub(crate) fn entry_edits(&self) -> &Table<Edit<Entry, Id>>
         ensures same { result.now ≡ self.now.entries }
         ensures form { AreEdits self.now }
@@ -77,7 +77,7 @@ impl ZoneEdits {
         &self.entries
     }
 
-    // The same as a table.
+    /// What they put and remove of elements, as a table.
     pub(crate) fn element_edits(&self) -> &Table<Edit<Element, (ElemType, Name)>>
         ensures { result.now ≡ self.now.elements }
     {

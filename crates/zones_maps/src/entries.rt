@@ -29,7 +29,7 @@ impl Model for Applied {
 }
 
 impl Applied {
-    /// Applied on this date by the first `++VER` of the SREL.
+    /// Applied on this date, by the first `++VER` for the zone's SREL.
     pub fn on(date: YyDdd) -> Applied
         ensures { result ≡ an_applied date 1 }
     {
@@ -84,7 +84,7 @@ impl Entry {
     }
 
     /// Whether it waives requisites only if it is applied.
-    pub fn waives_applied(&self) -> bool
+    pub fn waives_only_if_applied(&self) -> bool
         ensures { result ≡ waives_applied self.now }
     {
         self.applied.is_some() || self.waived.is_empty()

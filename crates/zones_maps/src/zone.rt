@@ -80,7 +80,8 @@ impl Zone {
         }
     }
 
-    /// The zone of these entries and elements, if they may be in one.
+    /// The zone of these entries and elements. Returns `None` if an entry may not be in a zone, or if a target zone has
+    /// no related zone or a distribution zone has one.
     pub fn from_tables(
         kind: ZoneKind,
         srel: Srel,
@@ -93,7 +94,9 @@ impl Zone {
             × (is_some related ≡ is_target kind)) }
         ensures same { IfSome result (λ zone. zone ≡ a_zone kind srel related entries elements) }
     {
-        if related.is_some() != (kind == ZoneKind::Target) || !may_be_in_zone(entries.as_slice()) {
+        if related.is_some() != (kind == ZoneKind::Target)
+            || !may_all_be_in_zone(entries.as_slice())
+        {
             return None;
         }
         // The call adds the fact that the elements rise, which the new zone's invariant needs.
@@ -217,7 +220,7 @@ impl Zone {
             .collect(alloc)
     }
 
-    // A new zone as the edits leave it. This one stays as it is.
+    /// A new zone as the edits leave it. This one stays as it is.
     pub(crate) fn with_edits(&self, alloc: Global, edits: &ZoneEdits) -> Result<Zone, AllocError>
         ensures { IfOk result (IsEdited edits.now self.now) }
     {
@@ -253,11 +256,11 @@ impl Zone {
 }
 
 // Whether each entry has a date, SUPBY or DELBY, and waives requisites only if it is applied.
-fn may_be_in_zone(entries: &[Entry]) -> bool
+fn may_all_be_in_zone(entries: &[Entry]) -> bool
     ensures { IsTrue result
         ↔ (All (λ e. IsTrue (has_content e)) entries.now
         × All (λ e. IsTrue (waives_applied e)) entries.now) }
 {
     entries.iter().all(|entry| entry.has_content())
-        && entries.iter().all(|entry| entry.waives_applied())
+        && entries.iter().all(|entry| entry.waives_only_if_applied())
 }

@@ -21,4 +21,5 @@ meets_one (x ∷ xs) z =
 
 pub returns : goal.returns
 returns c =
-    c.meets.ensures ∙ meets_one (chain c.args.vers.now.global.now (choice c.args.vers.now) c.args.id) c.args.other
+    c.chain_contains_any.ensures
+    ∙ meets_one (chain c.args.vers.now.global.now (choice c.args.vers.now) c.args.id) c.args.other

@@ -14,9 +14,9 @@ returns-then-names-clause-over c =
       λ over. refl,
     )
 
-pub returns-then-follows_known-clause-over : goal.returns-then-follows_known-clause-over
-returns-then-follows_known-clause-over c = (
+pub returns-then-names_known_over-clause-over : goal.returns-then-names_known_over-clause-over
+returns-then-names_known_over-clause-over c = (
   λ on. follows_over (choice c.args.vers.now) c.args.known.now.keys c.requires.known c.args.x c.args.z
-      (sym c.follows_known.ensures ∙ c.if-follows_known.true),
+      (sym c.names_known_over.ensures ∙ c.if-names_known_over.true),
   λ over. refl,
 )

@@ -9,7 +9,7 @@ use Rattle.zones.proofs.counting_vers.first_fitting.Goals as goal
 
 pub returns : goal.returns
 returns c =
-    position_from_yields_List (fits c.args.zone.now (is_in c.args.cands.now)) _ _ _ c.position.ensures.ran
+    position_from_yields_List (fits c.args.zone.now (is_in c.args.candidates.now)) _ _ _ c.position.ensures.ran
     (YieldsList-from_filter _ (λ v. bytes_eq v.srel c.args.zone.now.srel)
     (YieldsList-at c.filter.ensures.source (YieldsList-from_slice _ c.iter.ensures.rest)) c.filter.ensures.closure
     (λ x b q k. search (rules, tests))) (λ x b q k. search (rules, tests))

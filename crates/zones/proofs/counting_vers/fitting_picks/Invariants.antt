@@ -5,5 +5,5 @@ use Rattle.zones.proofs.counting_vers.fitting_picks.Given as goal
 -- with those of the SYSMODs that are left they are all
 abbrev pub invariant-loop-sysmod : goal.invariant-loop-sysmod
 invariant-loop-sysmod l =
-    l.picks.items ++ filter is_further (map (fitting_pick l.zone l.cands) l.sysmod-iterator)
-    ≡ filter is_further (map (fitting_pick l.zone l.cands) l.global.sysmods)
+    l.picks.items ++ filter is_further (map (fitting_pick l.zone l.candidates) l.sysmod-iterator)
+    ≡ filter is_further (map (fitting_pick l.zone l.candidates) l.global.sysmods)

@@ -12,7 +12,7 @@ loop-above-preserved c =
     let at = c.loop-above in
     let x = c.in-Some.above in
     let ch = choice c.args.vers.now in
-    let is_cand = is_in c.args.cands.now in (
+    let is_cand = is_in c.args.candidates.now in (
       c.in_ok-append_candidate_deletions.ensures
           ∙ ap (λ ys. ys ++ deletions ch (filter is_cand (x ∷ []))) at.invariant.0
           ∙ sym (ap (deletions ch) (filter-append is_cand at.yielded (x ∷ []))
@@ -24,5 +24,5 @@ pub returns : goal.returns
 returns c =
     let at = c.loop-above in
     let all = sym (append-nil at.yielded) ∙ rw c.in-None.ensures.steps.0 at at.invariant.1 in
-    at.invariant.0 ∙ ap (λ xs. deletions (choice c.args.vers.now) (filter (is_in c.args.cands.now) xs))
+    at.invariant.0 ∙ ap (λ xs. deletions (choice c.args.vers.now) (filter (is_in c.args.candidates.now) xs))
     (all ∙ c.into_iter-above-iterator.ensures.into_iter_gives ∙ c.chain-above-items.ensures)

@@ -7,5 +7,5 @@ use Rattle.zones.proofs.deleting.chain_deletions.Given as goal
 -- what the candidates of the chain so far delete
 abbrev pub invariant-loop-above : goal.invariant-loop-above
 invariant-loop-above l =
-    (l.dels.items ≡ deletions (choice l.vers) (filter (is_in l.cands) l.yielded))
+    (l.dels.items ≡ deletions (choice l.vers) (filter (is_in l.candidates) l.yielded))
     × (l.yielded ++ l.above-iterator ≡ l.initial.above-iterator)

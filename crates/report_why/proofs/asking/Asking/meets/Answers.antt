@@ -4,4 +4,4 @@ use Rattle.terms.specs.Needs.{is_met}
 use Rattle.report_why.proofs.asking.Asking.meets.Goals as goal
 
 pub returns : goal.returns
-returns c = c.meets.ensures ∙ ap (λ (z : Zone). is_met z c.args.kind c.args.id) c.args.self.now.left_is
+returns c = c.meets_need.ensures ∙ ap (λ (z : Zone). is_met z c.args.kind c.args.id) c.args.self.now.left_is

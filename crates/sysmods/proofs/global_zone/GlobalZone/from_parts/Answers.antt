@@ -20,7 +20,7 @@ good c =
     (c.in_ok-holds.ensures.none.0 (ap is_some c.in-Some-2.is))
     (subst (λ xs. All (IsOwned (zone_of xs)) c.args.holds.items) (sysmods_are c)
     (subst (All (IsOwned (zone_of c.in-Some.sysmods))) c.as_slice.ensures.value
-    (c.are_owned.ensures.0 c.if-not-are_owned.false)))
+    (c.have_owners_if_internal.ensures.0 c.if-not-have_owners_if_internal.false)))
 
 pub invariant_of-result : goal.invariant_of-result
 invariant_of-result c =

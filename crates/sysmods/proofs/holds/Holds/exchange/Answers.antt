@@ -3,10 +3,11 @@ use Rattle.sysmods.proofs.Undoing.{IsExchanged, exchanged}
 use Rattle.sysmods.proofs.holds.Holds.exchange.Goals as goal
 use Rattle.sysmods.proofs.holds.Holds.exchange.Goals.{In_ok-old}
 
-made : (c : In_ok-old) → IsExchanged c.self.inside.map.entries c.insert.new.self.entries c.key_of-key.result c.args.hold
+made : (c : In_ok-old)
+    → IsExchanged c.self.inside.map.entries c.insert.new.self.entries c.of_hold-key.result c.args.hold
 made c =
-    exchanged c.self.inside.map.entries c.insert.new.self.entries c.self.invariant c.key_of-key.result
-    c.with_internal_mark-hold.result c.args.hold (option_copied c.get.result) c.key_of-key.ensures
+    exchanged c.self.inside.map.entries c.insert.new.self.entries c.self.invariant c.of_hold-key.result
+    c.with_internal_mark-hold.result c.args.hold (option_copied c.get.result) c.of_hold-key.ensures
     c.with_internal_mark-hold.ensures c.get.ensures.value c.in_ok-old.ensures.entries c.insert.ensures.ordered
 
 pub invariant_of-self-in_default : goal.invariant_of-self-in_default

@@ -11,8 +11,9 @@ invariant_of-self c = removed c.self.inside.map.entries c.self.invariant c.in-Re
 
 pub invariant_of-self-in-Restore : goal.invariant_of-self-in-Restore
 invariant_of-self-in-Restore c =
-    kept_restored c.self.inside.map.entries c.insert.new.self.entries c.self.invariant c.key_of.result c.in-Restore.hold
-    c.key_of.ensures c.insert.result c.insert.ensures.entries c.insert.ensures.err c.insert.ensures.ordered
+    kept_restored c.self.inside.map.entries c.insert.new.self.entries c.self.invariant c.of_hold.result
+    c.in-Restore.hold c.of_hold.ensures c.insert.result c.insert.ensures.entries c.insert.ensures.err
+    c.insert.ensures.ordered
 
 pub returns-in-Remove : goal.returns-in-Remove
 returns-in-Remove c =
@@ -27,5 +28,5 @@ returns-in-Restore c =
     λ old undoes.
     let before = subst (λ u. Undoes old c.args.self.now u) c.in-Restore.is undoes in
     let inside = subst (λ xs. Undoes old xs (Restore c.in-Restore.hold)) (sym c.self.view_is) before in
-    takes_replaced c.self.inside.map.entries c.insert.new.self.entries c.self.invariant c.key_of.result
-    c.in-Restore.hold c.key_of.ensures c.insert.result c.insert.ensures.entries c.insert.ensures.absent old inside
+    takes_replaced c.self.inside.map.entries c.insert.new.self.entries c.self.invariant c.of_hold.result
+    c.in-Restore.hold c.of_hold.ensures c.insert.result c.insert.ensures.entries c.insert.ensures.absent old inside

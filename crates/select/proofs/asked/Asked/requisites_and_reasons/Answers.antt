@@ -1,0 +1,20 @@
+use Rattle.std.proofs.Common.{◌++◌, ◌∙◌, Bool, Bor, [], ◌∷◌, map, ap}
+use Rattle.terms.specs.Types.{Id, Ver}
+use Rattle.select.specs.Growing.{taken_up, fitting, required_of, stated}
+use Rattle.select.proofs.Vers.{required_mapped}
+use Rattle.select.proofs.asked.Asked.requisites_and_reasons.Goals as goal
+
+pub returns : goal.returns
+returns c =
+    let scope = c.args.self.now.scope.now in
+    let cands : Id → Bool = taken_up scope c.args.self.now.seen.now.keys in
+    let own = c.in_ok-ids.ensures
+    ∙ required_mapped scope.zone cands (λ (v : Bor Ver). v.now) c.as_slice.result.now
+    ∙ ap (required_of scope.zone cands) (ap (map (λ v. v.now)) c.as_slice.ensures.value ∙ c.in_ok-vers.ensures) in
+    c.in_ok-extend_from_slice-2.ensures.items
+    ∙ ap (λ xs. xs ++ c.as_slice-3.result.now)
+    (c.in_ok-extend_from_slice.ensures.items ∙ ap (λ xs. xs ++ c.as_slice-2.result.now) own
+    ∙ ap (λ xs. required_of scope.zone cands (fitting scope cands (c.args.id ∷ [])) ++ xs)
+    (c.as_slice-2.ensures.value ∙ c.in_ok-stated.ensures))
+    ∙ ap (λ xs. required_of scope.zone cands (fitting scope cands (c.args.id ∷ [])) ++ stated scope c.args.id ++ xs)
+    (c.as_slice-3.ensures.value ∙ c.in_ok-reasons.ensures)

@@ -1,0 +1,12 @@
+use Rattle.std.proofs.Common.{◌-◌, ◌+◌, ◌^◌}
+use Rattle.sysmods.specs.Seen.{IsSearch}
+use Rattle.sysmods.proofs.search.leads_to_from_both_ends.Given as goal
+
+abbrev pub invariant-loop-i : goal.invariant-loop-i
+invariant-loop-i g l = record {
+  ahead : IsSearch (g.F.Names.named l.names) l.fn.x l.ahead.keys l.i;
+  behind : IsSearch (g.B.Names.named l.namers) l.fn.z l.behind.keys l.j;
+}
+
+abbrev pub decreases-loop-i : goal.decreases-loop-i
+decreases-loop-i g l = 2 ^ 64 - (l.i + l.j)
