@@ -124,8 +124,8 @@ pub fn run<S: Alter>(
     Ok(())
 }
 
-/// Runs the statement so many times: with 1, and each time with twice the number.
-pub fn doubled<S: Alter>(conn: &mut Connection<S>, sql: &str, times: u32) -> Result<(), Fail> {
+/// Runs the statement so many times: first with the parameter 1, and then each time with twice the number.
+pub fn run_doubling<S: Alter>(conn: &mut Connection<S>, sql: &str, times: u32) -> Result<(), Fail> {
     let mut number = 1_i64;
     for _ in 0..times {
         run(conn, sql, &[ValueRef::Int(number)])?;
@@ -143,7 +143,7 @@ pub fn run_all<S: Alter>(conn: &mut Connection<S>, all: &[&str]) -> Result<(), F
 }
 
 /// Writes all rows except those of sources into empty tables.
-pub fn fill_first<S: Alter>(alloc: Global, conn: &mut Connection<S>) -> Result<(), Fail> {
+pub fn fill_without_sources<S: Alter>(alloc: Global, conn: &mut Connection<S>) -> Result<(), Fail> {
     run_all(conn, ROWS)?;
     fill_texts(alloc, conn)?;
     run(conn, ELEMENTS, &[])
@@ -159,7 +159,7 @@ fn fill_texts<S: Alter>(alloc: Global, conn: &mut Connection<S>) -> Result<(), F
 }
 
 // Appends the texts that the query finds, each as a line.
-fn put_lines<S: Alter>(
+fn append_lines<S: Alter>(
     conn: &mut Connection<S>,
     sql: &str,
     lines: &mut String,
@@ -174,9 +174,13 @@ fn put_lines<S: Alter>(
 }
 
 /// The texts that the query finds, each as a line.
-pub fn lines<S: Alter>(alloc: Global, conn: &mut Connection<S>, sql: &str) -> Result<String, Fail> {
+pub fn query_lines<S: Alter>(
+    alloc: Global,
+    conn: &mut Connection<S>,
+    sql: &str,
+) -> Result<String, Fail> {
     let mut lines = String::new(alloc);
-    put_lines(conn, sql, &mut lines)?;
+    append_lines(conn, sql, &mut lines)?;
     Ok(lines)
 }
 
@@ -207,7 +211,7 @@ const TABLES: &[&str] = &[
 pub fn all_lines<S: Alter>(alloc: Global, conn: &mut Connection<S>) -> Result<String, Fail> {
     let mut all = String::new(alloc);
     for sql in TABLES {
-        put_lines(conn, sql, &mut all)?;
+        append_lines(conn, sql, &mut all)?;
     }
     Ok(all)
 }

@@ -21,7 +21,7 @@ use store_sysmods::{
 };
 
 /// A row of which each of two tables has some, with the same keys; the second table came with schema 3.
-pub(crate) trait InTwo: Drop {
+pub(crate) trait InTwoTables: Drop {
     ghost use Rattle.std.specs.Prelude.{◌≡◌};
     ghost use Rattle.store_schema.specs.declared.schema.Schema.{Schema as ARelease};
     ghost use Rattle.store_schema.specs.declared.schema.Schema.TheVariants.{Third};
@@ -37,7 +37,7 @@ pub(crate) trait InTwo: Drop {
     ghost third: { Self.Furthers.knows Third };
 }
 
-impl InTwo for VerRow {
+impl InTwoTables for VerRow {
     ghost use Rattle.std.specs.Prelude.{refl};
 
     type Firsts = Vers;
@@ -51,7 +51,7 @@ impl InTwo for VerRow {
     ghost third = { refl };
 }
 
-impl InTwo for IfRow {
+impl InTwoTables for IfRow {
     ghost use Rattle.std.specs.Prelude.{refl};
 
     type Firsts = Ifs;
@@ -80,7 +80,7 @@ fn merge_sorted<T: Listed>(
 
 // The items of both tables as one list, sorted by their keys. Returns `BadRow` if a row stands for no item, `Memory` if
 // memory runs out, and `Fault` if the disk fails or the tables are others.
-fn load_both_tables<S: Alter, T: InTwo>(
+fn load_both_tables<S: Alter, T: InTwoTables>(
     alloc: Global,
     conn: &mut Connection<S>,
 ) -> Result<Vec<T>, ReadError>
@@ -112,7 +112,7 @@ fn load_both_tables<S: Alter, T: InTwo>(
 /// The items of the first table and, under schema 3, of the second, sorted by their keys. Under an earlier schema each
 /// `++VER` is the first for its SREL. Returns `BadRow` if a row stands for no item, `Memory` if memory runs out, and
 /// `Fault` if the disk fails or the tables are others.
-pub(crate) fn load_firsts_and_furthers<S: Alter, T: InTwo>(
+pub(crate) fn load_firsts_and_furthers<S: Alter, T: InTwoTables>(
     alloc: Global,
     conn: &mut Connection<S>,
     schema: Schema,

@@ -10,7 +10,7 @@ ghost use Rattle.store_sysmods.specs.Sysmods.{sysmod_key};
 ghost use Rattle.store_sysmods.specs.Vers.{delete_vers, AreVerTexts};
 
 use crate::cells::{read_other_id, read_other_ids};
-use crate::item_rows::Rows;
+use crate::item_rows::ItemRows;
 use crate::listed::Listed;
 use crate::numbers::number_after;
 use fields::{Id, Srel};
@@ -98,7 +98,7 @@ impl Query for Vers {
 
     ghost knows = { λ r. ⊤ };
 
-    fn sql() -> &'static str {
+    fn select_sql() -> &'static str {
         SELECT
     }
 }
@@ -165,7 +165,7 @@ pub(crate) struct FirstVers {
     pub id: Id,
 }
 
-impl Rows for FirstVers {
+impl ItemRows for FirstVers {
     ghost use Rattle.store_sysmods.specs.Behind.{of_numbered};
     ghost use Rattle.store_sysmods.specs.Vers.{first_row};
 
@@ -173,7 +173,12 @@ impl Rows for FirstVers {
 
     ghost of_item = { λ of. of_numbered (first_row of.id) };
 
-    fn push(&self, rows: &mut Vec<Cells>, front: &[Ver], ver: &Ver) -> Result<(), AllocError> {
+    fn append_rows(
+        &self,
+        rows: &mut Vec<Cells>,
+        front: &[Ver],
+        ver: &Ver,
+    ) -> Result<(), AllocError> {
         if number_after(front, ver) != 1 {
             return Ok(());
         }

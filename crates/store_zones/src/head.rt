@@ -129,7 +129,7 @@ impl Query for AllHeads {
 
     ghost knows = { λ r. ⊤ };
 
-    fn sql() -> &'static str {
+    fn select_sql() -> &'static str {
         SELECT
     }
 }
@@ -151,7 +151,7 @@ impl Query for NamedHeads {
 
     ghost knows = { λ r. ⊤ };
 
-    fn sql() -> &'static str {
+    fn select_sql() -> &'static str {
         SELECT_NAMED
     }
 }
@@ -170,7 +170,7 @@ fn only_head(heads: &[ZoneHead]) -> Result<Option<ZoneHead>, ReadError>
 }
 
 /// The head of the zone of this name, if there is one. Returns `BadRow` if its row is not a head.
-pub(crate) fn zone_head<S: Alter>(
+pub(crate) fn load_zone_head<S: Alter>(
     alloc: Global,
     conn: &mut Connection<S>,
     name: &ZoneName,

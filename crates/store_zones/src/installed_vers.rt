@@ -253,7 +253,7 @@ impl Query for Numbers {
 
     ghost knows = { λ r. r ≡ Third };
 
-    fn sql() -> &'static str {
+    fn select_sql() -> &'static str {
         SELECT
     }
 }
