@@ -74,7 +74,8 @@ all_emptied [] rises = refl
 all_emptied (s ∷ ss) rises =
     let h = head_of s in
     let below = AllPairs_first (λ (a b : Sysmod). IsBelow a.id b.id) s ss rises in
-    ap (emptied (map head_of ss)) (own_goes h (Text (kind_text s.kind) ∷ joined s.sources ∷ []) (map first_sysmod_row ss)
+    ap (emptied (map head_of ss)) (own_goes h (Text (kind_text s.kind) ∷ joined s.sources ∷ [])
+    (map first_sysmod_row ss)
     ∙ ap (λ rows. bare_row h ∷ rows) (none_placed h ss below))
     ∙ (stays ss s.id (Text (kind_text s.kind) ∷ joined [] ∷ []) (map first_sysmod_row ss) below
     ∙ ap (λ rows. sysmod_row s ∷ rows) (all_emptied ss (AllPairs_rest (λ (a b : Sysmod). IsBelow a.id b.id) s ss

@@ -13,7 +13,7 @@ use Rattle.terms.specs.Types.{Element, NamedZone}
 use Rattle.terms.specs.Lookups.{date_of}
 use Rattle.terms.specs.Spelling.{kind_text, hold_text, type_text, zone_kind_text}
 
--- a list of ids as a text: joined by commas, and empty for no ids
+-- a list of ids, or of sources, as a text: joined by commas, and empty for none
 abbrev pub joined : List Id → Value
 joined list = value.Text (join_with_byte 44 list)
 
@@ -41,14 +41,14 @@ source_row x name = value.Text x ∷ value.Text name ∷ []
 -- a SYSMOD's first ++VER of an SREL
 abbrev pub ver_row : Id → Ver → Row
 ver_row x v =
-    value.Text x ∷ value.Text v.srel ∷ or_null value.Text v.fmid ∷ joined v.pre ∷ joined v.req ∷ joined v.sup ∷ joined v.npre ∷ joined
-    v.del ∷ []
+    value.Text x ∷ value.Text v.srel ∷ or_null value.Text v.fmid ∷ joined v.pre ∷ joined v.req ∷ joined v.sup
+    ∷ joined v.npre ∷ joined v.del ∷ []
 
 -- a further ++VER of an SREL, and its number; it has neither NPRE nor DELETE
 abbrev pub morever_row : Id → ℕ × Ver → Row
 morever_row x v =
-    value.Text x ∷ value.Text v.1.srel ∷ value.Int (pos v.0) ∷ or_null value.Text v.1.fmid ∷ joined v.1.pre ∷ joined v.1.req
-    ∷ joined v.1.sup ∷ []
+    value.Text x ∷ value.Text v.1.srel ∷ value.Int (pos v.0) ∷ or_null value.Text v.1.fmid ∷ joined v.1.pre
+    ∷ joined v.1.req ∷ joined v.1.sup ∷ []
 
 -- a ++IF of a first ++VER, and its number
 abbrev pub ifreq_row : Id → Text → ℕ × IfReq → Row
@@ -82,8 +82,8 @@ zone_row z =
 
 abbrev pub entry_row : Text → Entry → Row
 entry_row zone e =
-    value.Text zone ∷ value.Text e.id ∷ or_null value.Text (date_of e) ∷ joined e.supby ∷ or_null value.Text e.delby ∷ joined
-    e.waived ∷ []
+    value.Text zone ∷ value.Text e.id ∷ or_null value.Text (date_of e) ∷ joined e.supby ∷ or_null value.Text e.delby
+    ∷ joined e.waived ∷ []
 
 -- the ++VER by which the zone has applied the SYSMOD
 abbrev pub chosen_row : Text → Id → ℕ → Row

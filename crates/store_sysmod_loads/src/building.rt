@@ -114,8 +114,8 @@ fn may_have_changes(kind: Kind, changes: &[ElemChange]) -> bool
     are_changes_allowed(kind, changes) && are_changes_rising(changes)
 }
 
-// The SYSMOD of these parts. Returns `BadRow`, and no other error, if it has no `++VER`, or if no SYSMOD of its kind may
-// have these statements.
+// The SYSMOD of these parts. Returns `BadRow`, and no other error, if it has no `++VER`, or if no SYSMOD of its kind
+// may have these statements.
 fn build_sysmod(
     alloc: Global,
     head: HeadRow,

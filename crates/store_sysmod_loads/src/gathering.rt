@@ -154,8 +154,8 @@ fn with_ifs(ver: Ver, ifs: Vec<IfReq>) -> Ver
     }
 }
 
-// The `++VER` of the row with its `++IF`s, whose rows it takes off the front of `ifs`. Returns `BadRow` if their numbers
-// do not count from 1, and `Memory` if memory runs out.
+// The `++VER` of the row with its `++IF`s, whose rows it takes off the front of `ifs`. Returns `BadRow` if their
+// numbers do not count from 1, and `Memory` if memory runs out.
 fn fill_ver(alloc: Global, ifs: &mut VecDeque<IfRow>, id: Id, row: VerRow) -> Result<Ver, ReadError>
     ensures same { IfOk result (λ ver. ver ≡ record row.ver { ifs = ver.ifs }) }
     ensures taken { IfOk result (λ ver. HasIfs id row.ver.srel row.number 1 ifs.old.items ver.ifs ifs.new.items) }
@@ -177,9 +177,9 @@ fn comes_next(vers: &[Ver], row: &VerRow) -> bool
     vers.len() < MOST_VERS && row.number == number_after(vers, &row.ver) as u64
 }
 
-/// The `++VER`s of a SYSMOD with their `++IF`s, whose rows it takes off the front of the lists. Returns `BadRow` if there
-/// are more than eight, if one has not the next number of its SREL, or if the numbers of its `++IF`s do not count from
-/// 1. Returns `Memory` if memory runs out.
+/// The `++VER`s of a SYSMOD with their `++IF`s, whose rows it takes off the front of the lists. Returns `BadRow` if
+/// there are more than `MOST_VERS`, if one does not have the next number of its SREL, or if the numbers of its `++IF`s
+/// do not count from 1. Returns `Memory` if memory runs out.
 pub(crate) fn take_vers(
     alloc: Global,
     rows: &mut VecDeque<VerRow>,

@@ -175,10 +175,10 @@ pub(crate) fn load_zone_head<S: Alter>(
     conn: &mut Connection<S>,
     name: &ZoneName,
 ) -> Result<Option<ZoneHead>, ReadError>
-    ensures found { HasCleanDisk (state S.Store conn.new) → (r : Schema) (contents : Contents)
+    ensures rows { HasCleanDisk (state S.Store conn.new) → (r : Schema) (contents : Contents)
         → HasContents (schema_under r) contents (state S.Store conn.old).now
         → IfOk result (HoldsHead contents name.now) }
-    ensures none { HasCleanDisk (state S.Store conn.new) → IsErrOf result ReadError.BadRow → (r : Schema)
+    ensures no_rows { HasCleanDisk (state S.Store conn.new) → IsErrOf result ReadError.BadRow → (r : Schema)
         → (contents : Contents) → HasContents (schema_under r) contents (state S.Store conn.old).now
         → (head : Option AZoneHead) → ¬ HoldsHead contents name.now head }
     ensures reads { (r : Schema) → OnlyReads S.Store (schema_under r) ReadError.BadRow ReadError.Fault conn.old

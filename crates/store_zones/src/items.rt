@@ -85,8 +85,9 @@ fn item_rows<T: ZoneItem>(
     Ok(rows)
 }
 
-/// Adds the rows of the items to the table that the two statements name: `many_sql` adds `ROWS_A_STATEMENT` rows at a time, and
-/// `one_sql` the remaining ones, one at a time. It makes the rows of at most `ROWS_A_STATEMENT` items at a time, to save memory.
+/// Adds the rows of the items to the table that the two statements name: `many_sql` adds `ROWS_A_STATEMENT` rows at a
+/// time, and `one_sql` the remaining ones, one at a time. It makes the rows of at most `ROWS_A_STATEMENT` items at a
+/// time, to save memory.
 pub(crate) fn insert_items<S: Alter, T: ZoneItem>(
     alloc: Global,
     tx: &mut Transaction<'_, S>,

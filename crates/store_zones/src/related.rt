@@ -17,7 +17,7 @@ fn is_distribution_zone(head: &ZoneHead, name: ZoneName, srel: Srel) -> bool
 }
 
 // Whether one of these is the head of the distribution zone of this name and SREL.
-fn has_distribution_zone(heads: &[ZoneHead], name: ZoneName, srel: Srel) -> bool
+fn lists_distribution_zone(heads: &[ZoneHead], name: ZoneName, srel: Srel) -> bool
     ensures { IsTrue result ↔ Any (IsDistributionOf name srel) heads.now }
 {
     heads
@@ -25,25 +25,25 @@ fn has_distribution_zone(heads: &[ZoneHead], name: ZoneName, srel: Srel) -> bool
         .any(|head| is_distribution_zone(head, name, srel))
 }
 
-// Whether the distribution zone that this head names is among the heads. A head that names none passes.
-fn has_its_related_zone(heads: &[ZoneHead], head: &ZoneHead) -> bool
+// Whether the distribution zone that this head names is among the heads, or the head names none.
+fn lists_related_zone(heads: &[ZoneHead], head: &ZoneHead) -> bool
     ensures { IsTrue result ↔ IsRelatedAmong heads.now head.now }
 {
     match head.related {
-        Some(name) => has_distribution_zone(heads, name, head.srel),
+        Some(name) => lists_distribution_zone(heads, name, head.srel),
         None => true,
     }
 }
 
-// Whether the distribution zone that each head names is among the heads.
-fn all_have_related_zone(heads: &[ZoneHead]) -> bool
+// Whether each distribution zone that one of the heads names is among them.
+fn lists_all_related_zones(heads: &[ZoneHead]) -> bool
     ensures { IsTrue result ↔ All (IsRelatedAmong heads.now) heads.now }
 {
-    heads.iter().all(|head| has_its_related_zone(heads, head))
+    heads.iter().all(|head| lists_related_zone(heads, head))
 }
 
 // Whether the two heads do not name the same related zone.
-fn shares_no_related_zone(head: &ZoneHead, other: &ZoneHead) -> bool
+fn have_own_related_zones(head: &ZoneHead, other: &ZoneHead) -> bool
     ensures { IsTrue result ↔ HeadsAreApart head.now other.now }
 {
     match head.related {
@@ -53,10 +53,10 @@ fn shares_no_related_zone(head: &ZoneHead, other: &ZoneHead) -> bool
 }
 
 // Whether none of these heads names the same related zone as the other head.
-fn none_shares_related_zone(heads: &[ZoneHead], other: &ZoneHead) -> bool
+fn has_own_related_zone(heads: &[ZoneHead], other: &ZoneHead) -> bool
     ensures { IsTrue result ↔ All (λ head. HeadsAreApart head other.now) heads.now }
 {
-    heads.iter().all(|head| shares_no_related_zone(head, other))
+    heads.iter().all(|head| have_own_related_zones(head, other))
 }
 
 // Whether no two heads name the same related zone.
@@ -64,22 +64,22 @@ fn each_has_own_related_zone(heads: &[ZoneHead]) -> bool
     ensures { IsTrue result ↔ AllPairs HeadsAreApart heads.now }
 {
     for i in 0..heads.len() {
-        if !none_shares_related_zone(&heads[..i], &heads[i]) {
+        if !has_own_related_zone(&heads[..i], &heads[i]) {
             return false;
         }
     }
     true
 }
 
-/// The same heads. Returns `BadRow` if one of them names a distribution zone that does not exist, or if two of them
-/// name the same one.
+/// Hands the heads back if they are related as they must be. Returns `BadRow` if one of them names a distribution zone
+/// that does not exist, or if two of them name the same one.
 pub(crate) fn require_related(heads: Vec<ZoneHead>) -> Result<Vec<ZoneHead>, ReadError>
     ensures same { IfOk result (λ same. same.items ≡ heads.items) }
     ensures related { IfOk result (λ same. AreRelated same.items) }
     ensures none { IsErrOf result ReadError.BadRow → ¬ AreRelated heads.items }
     ensures fault { IsErrOf result ReadError.Fault → ⊥ }
 {
-    if !all_have_related_zone(heads.as_slice()) {
+    if !lists_all_related_zones(heads.as_slice()) {
         return Err(ReadError::BadRow);
     }
     if !each_has_own_related_zone(heads.as_slice()) {

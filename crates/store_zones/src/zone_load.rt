@@ -48,10 +48,10 @@ fn load_entries<S: Alter>(
     schema: Schema,
     name: &ZoneName,
 ) -> Result<Table<Entry>, ReadError>
-    ensures found { HasCleanDisk (state S.Store conn.new) → (contents : Contents)
+    ensures rows { HasCleanDisk (state S.Store conn.new) → (contents : Contents)
         → HasContents (schema_under schema) contents (state S.Store conn.old).now
         → IfOk result (HoldsNumbered schema contents name.now) }
-    ensures none { HasCleanDisk (state S.Store conn.new) → IsErrOf result ReadError.BadRow → (contents : Contents)
+    ensures no_rows { HasCleanDisk (state S.Store conn.new) → IsErrOf result ReadError.BadRow → (contents : Contents)
         → HasContents (schema_under schema) contents (state S.Store conn.old).now
         → (entries : List EntryTerm) → ¬ HoldsNumbered schema contents name.now entries }
     ensures reads { OnlyReads S.Store (schema_under schema) ReadError.BadRow ReadError.Fault conn.old conn.new result }
@@ -73,11 +73,11 @@ fn load_rest_of_zone<S: Alter>(
     schema: Schema,
     head: ZoneHead,
 ) -> Result<Zone, ReadError>
-    ensures found { HasCleanDisk (state S.Store conn.new) → (contents : Contents)
+    ensures rows { HasCleanDisk (state S.Store conn.new) → (contents : Contents)
         → HasContents (schema_under schema) contents (state S.Store conn.old).now
         → HoldsHead contents head.name (Some head)
         → IfOk result (λ zone. HoldsUnder schema contents head.name (Some zone)) }
-    ensures none { HasCleanDisk (state S.Store conn.new) → IsErrOf result ReadError.BadRow
+    ensures no_rows { HasCleanDisk (state S.Store conn.new) → IsErrOf result ReadError.BadRow
         → (contents : Contents) → HasContents (schema_under schema) contents (state S.Store conn.old).now
         → HoldsHead contents head.name (Some head) → (zone : ZoneTerm)
         → ¬ HoldsUnder schema contents head.name (Some zone) }
@@ -88,18 +88,18 @@ fn load_rest_of_zone<S: Alter>(
     assemble_zone(head, entries, elements)
 }
 
-// The zone of this name, if there is one, from the tables of this schema. Its contract is about rows. From it `load_zone`
-// derives the one about inventories.
+// The zone of this name, if there is one, from the tables of this schema. Its contract is about rows; `load_zone`
+// derives from it the one about inventories.
 fn load_zone_by_rows<S: Alter>(
     alloc: Global,
     conn: &mut Connection<S>,
     schema: Schema,
     name: &ZoneName,
 ) -> Result<Option<Zone>, ReadError>
-    ensures found { HasCleanDisk (state S.Store conn.new) → (contents : Contents)
+    ensures rows { HasCleanDisk (state S.Store conn.new) → (contents : Contents)
         → HasContents (schema_under schema) contents (state S.Store conn.old).now
         → IfOk result (HoldsUnder schema contents name.now) }
-    ensures none { HasCleanDisk (state S.Store conn.new) → IsErrOf result ReadError.BadRow → (contents : Contents)
+    ensures no_rows { HasCleanDisk (state S.Store conn.new) → IsErrOf result ReadError.BadRow → (contents : Contents)
         → HasContents (schema_under schema) contents (state S.Store conn.old).now
         → (zone : Option ZoneTerm) → ¬ HoldsUnder schema contents name.now zone }
     ensures reads { OnlyReads S.Store (schema_under schema) ReadError.BadRow ReadError.Fault conn.old conn.new result }

@@ -41,13 +41,14 @@ returns-in-First-clause-forms g c =
 pub returns-in-Third-clause-rows : goal.returns-in-Third-clause-rows
 returns-in-Third-clause-rows g c = rw c.in-Third.is (record {
   found = λ clean contents was.
-      c.load_both_tables.ensures.found clean Third (g.met.T.InTwoTables.each Third) g.met.T.InTwoTables.third contents was;
+      c.load_both_tables.ensures.found clean Third (g.met.T.InTwoTables.each Third) g.met.T.InTwoTables.third contents
+      was;
   only = λ clean contents was.
       if_ok c.load_both_tables.result _ _ (λ rows only xs held rise. only held.0 held.1 xs held.2 rise)
-      (c.load_both_tables.ensures.only clean Third (g.met.T.InTwoTables.each Third) g.met.T.InTwoTables.third contents was);
+      (c.load_both_tables.ensures.only clean Third (g.met.T.InTwoTables.each Third) g.met.T.InTwoTables.third contents
+      was);
   none = λ clean bad contents was xs held.
-      c.load_both_tables.ensures.none clean bad Third (g.met.T.InTwoTables.each Third) g.met.T.InTwoTables.third contents was held.0
-      held.1
-      xs held.2;
+      c.load_both_tables.ensures.none clean bad Third (g.met.T.InTwoTables.each Third) g.met.T.InTwoTables.third
+      contents was held.0 held.1 xs held.2;
   reads = c.load_both_tables.ensures.reads Third (g.met.T.InTwoTables.each Third) g.met.T.InTwoTables.third;
 })

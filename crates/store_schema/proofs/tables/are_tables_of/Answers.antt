@@ -3,7 +3,7 @@ use Rattle.sqlite.proofs.Callers.{memory_is_clean}
 use Rattle.store_schema.specs.Plain.{IsPlain}
 use Rattle.store_schema.specs.Earlier.{schema_under}
 use Rattle.store_schema.proofs.Plain.{schema_is_plain}
-use Rattle.store_schema.proofs.tables.is_schema_under.Goals as goal
+use Rattle.store_schema.proofs.tables.are_tables_of.Goals as goal
 
 pub returns : goal.returns
 returns c =
