@@ -69,7 +69,7 @@ impl Columns<'_> {
         }
     }
 
-    /// A whole number that is not negative.
+    /// An integer that is not negative.
     pub fn number(&mut self) -> Result<u64, ReadError>
         ensures read { IfOk result (λ n. self.old ≡ Int (pos n) ∷ self.new) }
         ensures none { IsErrOf result ReadError.BadRow → (n : ℕ) (rest : SqlRow) → self.old ≢ Int (pos n) ∷ rest }

@@ -66,14 +66,11 @@ impl TryClone for ZoneHead {
     }
 }
 
-// Whether zones of this kind are target zones.
+// Whether zones of this kind are target zones, which name a related zone.
 fn is_target(kind: ZoneKind) -> bool
     ensures { result ≡ is_target kind }
 {
-    match kind {
-        ZoneKind::Target => true,
-        ZoneKind::Distribution => false,
-    }
+    matches!(kind, ZoneKind::Target)
 }
 
 /// Reads the rows of zones.

@@ -38,7 +38,8 @@ returns-in_default-clause-reads g c =
 pub returns-in_err-head-clause-no_rows : goal.returns-in_err-head-clause-no_rows
 returns-in_err-head-clause-no_rows g c clean bad contents was zone held =
     let r = c.args.schema in
-    c.load_zone_head.ensures.no_rows clean (search rules) r contents was _ (head_at contents c.args.name.now r zone held)
+    c.load_zone_head.ensures.no_rows clean (search rules) r contents was _
+    (head_at contents c.args.name.now r zone held)
 
 pub returns-in_default-clause-rows : goal.returns-in_default-clause-rows
 returns-in_default-clause-rows g c clean contents was =

@@ -1,6 +1,6 @@
 use Rattle.std.proofs.Common.{◌≡◌, length, drop, arith, ap, ◌∙◌}
 use Rattle.std.proofs.lemmas.List.{length-drop}
-use Rattle.store_schema.proofs.columns.Columns.end.Goals as goal
+use Rattle.store_schema.proofs.columns.Columns.expect_end.Goals as goal
 
 pub returns-then-self-column_count-clause-none : goal.returns-then-self-column_count-clause-none
 returns-then-self-column_count-clause-none c bad none =
