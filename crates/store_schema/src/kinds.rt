@@ -62,7 +62,7 @@ impl Columns<'_> {
         ensures none { IsErrOf result ReadError.BadRow → (b : Bool) (rest : SqlRow) → self.old ≢ flag b ∷ rest }
         ensures fault { IsErrOf result ReadError.Fault → ⊥ }
     {
-        match self.whole()? {
+        match self.integer()? {
             0 => Ok(false),
             1 => Ok(true),
             _ => Err(ReadError::BadRow),
@@ -75,7 +75,7 @@ impl Columns<'_> {
         ensures none { IsErrOf result ReadError.BadRow → (n : ℕ) (rest : SqlRow) → self.old ≢ Int (pos n) ∷ rest }
         ensures fault { IsErrOf result ReadError.Fault → ⊥ }
     {
-        let number = self.whole()?;
+        let number = self.integer()?;
         if number < 0 {
             return Err(ReadError::BadRow);
         }

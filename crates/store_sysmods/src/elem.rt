@@ -124,7 +124,7 @@ fn read_action(
     match (updates, distlib, syslib) {
         (false, Some(distlib), Some(syslib)) => {
             let lines = read_replacement(alloc, columns, elem_type)?;
-            columns.end()?;
+            columns.expect_end()?;
             Ok(Action::Replaces {
                 distlib,
                 syslib,
@@ -133,7 +133,7 @@ fn read_action(
         }
         (true, None, None) => {
             let update = read_update(alloc, columns, elem_type, name)?;
-            columns.end()?;
+            columns.expect_end()?;
             Ok(Action::Updates { update })
         }
         _ => Err(ReadError::BadRow),

@@ -113,7 +113,7 @@ impl FromRow for Heads {
         let id = columns.id()?;
         let kind = columns.kind()?;
         let sources = read_short_sources(alloc, &mut columns)?;
-        columns.end()?;
+        columns.expect_end()?;
         Ok(HeadRow { id, kind, sources })
     }
 }
@@ -182,7 +182,7 @@ impl FromRow for BareHeads {
         if !columns.text()?.is_empty() {
             return Err(ReadError::BadRow);
         }
-        columns.end()?;
+        columns.expect_end()?;
         Ok(BareHead { id, kind })
     }
 }

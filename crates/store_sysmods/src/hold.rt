@@ -106,7 +106,7 @@ impl FromRow for HoldReader {
         let date = columns.optional()?;
         let comment = read_comment(alloc, &mut columns)?;
         let internal = columns.flag()?;
-        columns.end()?;
+        columns.expect_end()?;
         Ok(Hold {
             id,
             kind,

@@ -68,7 +68,7 @@ impl FromRow for Ifs {
         let number = columns.number()?;
         let function = columns.id()?;
         let req = read_requisites(alloc, &mut columns, id)?;
-        columns.end()?;
+        columns.expect_end()?;
         let ifreq = IfReq { function, req };
         Ok(IfRow {
             id,

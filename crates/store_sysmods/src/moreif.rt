@@ -59,7 +59,7 @@ impl FromRow for MoreIfs {
         let number = columns.number()?;
         let function = columns.id()?;
         let req = read_requisites(alloc, &mut columns, id)?;
-        columns.end()?;
+        columns.expect_end()?;
         let ifreq = IfReq { function, req };
         Ok(IfRow {
             id,

@@ -60,7 +60,7 @@ impl FromRow for MoreVers {
         let pre = read_other_ids(alloc, &mut columns, id)?;
         let req = read_other_ids(alloc, &mut columns, id)?;
         let sup = read_other_ids(alloc, &mut columns, id)?;
-        columns.end()?;
+        columns.expect_end()?;
         let npre = IdList::new(alloc);
         let del = IdList::new(alloc);
         let ifs = Vec::new(alloc);

@@ -58,7 +58,7 @@ impl FromRow for Sources {
         let mut columns = Columns::new(row);
         let id = columns.id()?;
         let name = columns.source()?;
-        columns.end()?;
+        columns.expect_end()?;
         Ok(SourceRow { id, name })
     }
 }

@@ -68,7 +68,7 @@ impl FromRow for Vers {
         let sup = read_other_ids(alloc, &mut columns, id)?;
         let npre = read_other_ids(alloc, &mut columns, id)?;
         let del = read_other_ids(alloc, &mut columns, id)?;
-        columns.end()?;
+        columns.expect_end()?;
         let ifs = Vec::new(alloc);
         let ver = Ver {
             srel,

@@ -222,7 +222,7 @@ impl FromRow for Entries {
         let supby = columns.ids(alloc)?;
         let delby = columns.optional()?;
         let waived = columns.ids(alloc)?;
-        columns.end()?;
+        columns.expect_end()?;
         Ok(ZoneRow {
             zone,
             item: Entry {

@@ -96,7 +96,7 @@ impl FromRow for ZoneHeads {
         let kind = columns.zone_kind()?;
         let srel = columns.srel()?;
         let related = columns.optional()?;
-        columns.end()?;
+        columns.expect_end()?;
         if name.is_global() || related.is_some() != is_target(kind) {
             return Err(ReadError::BadRow);
         }
