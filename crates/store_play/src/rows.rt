@@ -85,13 +85,16 @@ const TEXTS: &[(&str, &str)] = &[
     ),
 ];
 
-// A record with this text; a tab leads to column 73.
+// Where a tab leads: after the 72 columns of text, to the sequence number.
+const TAB_COLUMN: usize = 72;
+
+// A record with this text.
 fn record(text: &str) -> [u8; RECORD] {
     let mut record = [b' '; RECORD];
     let mut column: usize = 0;
     for letter in text.as_bytes() {
         if *letter == b'\t' {
-            column = 72;
+            column = TAB_COLUMN;
         } else if let Some(place) = record.get_mut(column) {
             *place = *letter;
             column = column.saturating_add(1);
@@ -100,7 +103,7 @@ fn record(text: &str) -> [u8; RECORD] {
     record
 }
 
-/// A record for each line of the text, or none for an empty text. A tab leads to column 73.
+/// A record for each line of the text, or none for an empty text. A tab leads to its sequence number.
 pub fn records(alloc: Global, text: &str) -> Result<Vec<u8>, Fail> {
     let mut bytes = Vec::new(alloc);
     if text.is_empty() {

@@ -13,11 +13,6 @@ use store::{Change, Store};
 use sysmods::{GlobalEdit, GlobalZone};
 use zones_maps::{Zone, ZoneDelta, ZoneEdits};
 
-/// Commits a change. It must succeed.
-pub fn commit<S: Alter>(store: &mut Store<S>, change: &Change<'_>) -> Result<(), Fail> {
-    Ok(store.commit(change)?)
-}
-
 /// The zone of this name, which must exist.
 pub fn load_zone<S: Alter>(store: &mut Store<S>, name: ZoneName) -> Result<Zone, Fail> {
     Ok(store.load_zone(name)?.ok_or("no such zone")?)
@@ -32,7 +27,7 @@ pub fn commit_zone<S: Alter>(
 ) -> Result<(), Fail> {
     let zone = load_zone(store, name)?;
     let delta = ZoneDelta::from_edits(alloc, edits, &zone)?;
-    commit(store, &Change::Zone(name, delta))
+    Ok(store.commit(&Change::Zone(name, delta))?)
 }
 
 /// Commits edits of the global zone that insert no SYSMOD, so that no statements are needed.
@@ -42,7 +37,7 @@ pub fn commit_edits<S: Alter>(
     edits: Vec<GlobalEdit>,
 ) -> Result<(), Fail> {
     let stated = GlobalZone::new(alloc);
-    commit(store, &Change::Global(&stated, edits))
+    Ok(store.commit(&Change::Global(&stated, edits))?)
 }
 
 /// Opens the store over the connection.

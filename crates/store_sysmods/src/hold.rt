@@ -156,17 +156,17 @@ impl Listed for HoldReader {
 /// All holds, by id, kind and reason. Returns `BadRow` if a row is not a hold, `Memory` if memory runs out, and `Fault`
 /// if the disk fails or the tables are others.
 pub fn load_holds<S: Alter>(alloc: Global, conn: &mut Connection<S>) -> Result<Vec<Hold>, ReadError>
-    ensures found { HasCleanDisk (state S.Store conn.new) → (r : Schema) (contents : Contents)
+    ensures rows { HasCleanDisk (state S.Store conn.new) → (r : Schema) (contents : Contents)
         → HasContents (schema_under r) contents (state S.Store conn.old).now
         → IfOk result (λ holds. IsPermutation (map hold_row holds.items) (contents hold_table.tree)) }
-    ensures ordered { HasCleanDisk (state S.Store conn.new) → (r : Schema) (i : Inventory)
+    ensures found { HasCleanDisk (state S.Store conn.new) → (r : Schema) (i : Inventory)
         → StandsUnder r i (state S.Store conn.old).now → IfOk result (λ holds. holds.items ≡ i.global.holds) }
     ensures forms { IfOk result (λ holds. AllByRecursion HasHoldForms holds.items) }
-    ensures none { HasCleanDisk (state S.Store conn.new) → IsErrOf result ReadError.BadRow → (r : Schema)
+    ensures no_rows { HasCleanDisk (state S.Store conn.new) → IsErrOf result ReadError.BadRow → (r : Schema)
         → (contents : Contents) → HasContents (schema_under r) contents (state S.Store conn.old).now
         → (holds : List terms.Hold) → AllByRecursion HasHoldForms holds
         → ¬ IsPermutation (map hold_row holds) (contents hold_table.tree) }
-    ensures no_state { HasCleanDisk (state S.Store conn.new) → IsErrOf result ReadError.BadRow → (r : Schema)
+    ensures none { HasCleanDisk (state S.Store conn.new) → IsErrOf result ReadError.BadRow → (r : Schema)
         → (i : Inventory) → ¬ StandsUnder r i (state S.Store conn.old).now }
     ensures reads { (r : Schema) → OnlyReads S.Store (schema_under r) ReadError.BadRow ReadError.Fault conn.old
         conn.new result }

@@ -7,7 +7,7 @@ use std::alloc::Global;
 use std::test::Fail;
 use store::{Change, Store};
 use store_play::{
-    all_lines, commit, commit_edits, commit_zone, compare, known_rows_with, load_zone, open_store,
+    all_lines, commit_edits, commit_zone, compare, known_rows_with, load_zone, open_store,
     query_lines, run, run_all, run_doubling, zone_name,
 };
 use store_schema::StoreError;
@@ -274,7 +274,7 @@ const WRITTEN: &[&str] = &[
 
 fn commit_two<S: Alter>(alloc: Global, store: &mut Store<S>, zone: &Zone) -> Result<(), Fail> {
     let delta = ZoneDelta::from_edits(alloc, removals(alloc)?, zone)?;
-    commit(store, &Change::Zone(zone_name(b"TGT1")?, delta))?;
+    store.commit(&Change::Zone(zone_name(b"TGT1")?, delta))?;
     commit_edits(alloc, store, new_sources(alloc)?)
 }
 

@@ -6,9 +6,7 @@ use sqlite::{Connection, MemStore};
 use std::alloc::Global;
 use std::test::Fail;
 use store::{Change, Store};
-use store_play::{
-    CHOSEN, commit, compare, known_rows_with, load_zone, open_store, query_lines, zone_name,
-};
+use store_play::{CHOSEN, compare, known_rows_with, load_zone, open_store, query_lines, zone_name};
 use terms::ElemType;
 use zones_maps::{
     Applied, Element, Entry, Zone, ZoneDelta, ZoneEdits, are_same_elements, is_same_entry,
@@ -94,7 +92,7 @@ fn committed(alloc: Global, store: &mut Store<MemStore>) -> Result<Zone, Fail> {
     let zone = load_zone(store, zone_name(b"TGT1")?)?;
     let delta = ZoneDelta::from_edits(alloc, edits(alloc, &zone)?, &zone)?;
     let applied = delta.apply(alloc, &zone)?;
-    commit(store, &Change::Zone(zone_name(b"TGT1")?, delta))?;
+    store.commit(&Change::Zone(zone_name(b"TGT1")?, delta))?;
     Ok(applied)
 }
 

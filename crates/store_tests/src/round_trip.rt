@@ -8,8 +8,8 @@ use std::alloc::Global;
 use std::test::Fail;
 use store::{Change, Store};
 use store_play::{
-    CHOSEN, FURTHER, all_lines, commit, commit_edits, commit_zone, compare, in_memory,
-    known_rows_with, load_zone, new_files, open_store, query_lines, reopen, run_doubling,
+    CHOSEN, FURTHER, all_lines, commit_edits, commit_zone, compare, in_memory, known_rows_with,
+    load_zone, new_files, open_store, query_lines, reopen, run_doubling,
 };
 use sysmods::{GlobalEdit, GlobalZone};
 use sysmods_values::{Hold, Sysmod};
@@ -82,7 +82,7 @@ fn copy_global<S: Alter, T: Alter>(
     to: &mut Store<T>,
 ) -> Result<(), Fail> {
     let global = from.load_global()?;
-    commit(to, &edits_to(alloc, &global)?)
+    Ok(to.commit(&edits_to(alloc, &global)?)?)
 }
 
 fn copy_zone<S: Alter, T: Alter>(
@@ -93,7 +93,7 @@ fn copy_zone<S: Alter, T: Alter>(
 ) -> Result<(), Fail> {
     let zone = load_zone(from, name)?;
     let change = Change::NewZone(name, zone.kind(), zone.srel(), zone.related());
-    commit(to, &change)?;
+    to.commit(&change)?;
     commit_zone(alloc, to, name, edits_of(alloc, &zone)?)
 }
 
@@ -239,10 +239,7 @@ fn come_and_change(
 fn rows_behind(alloc: Global, goes: bool) -> Result<String, Fail> {
     let global = open_store(alloc, many_sysmods(alloc)?)?.load_global()?;
     let mut store = open_store(alloc, in_memory(alloc)?)?;
-    commit(
-        &mut store,
-        &Change::Global(&global, come_and_change(alloc, &global, goes)?),
-    )?;
+    store.commit(&Change::Global(&global, come_and_change(alloc, &global, goes)?))?;
     query_lines(alloc, &mut store.close(), BESIDE)
 }
 
