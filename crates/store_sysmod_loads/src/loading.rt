@@ -17,7 +17,7 @@ use std::alloc::{AllocError, Global};
 use store_rows::{FromRow, ReadError};
 use store_schema::{Query, Schema, load_query};
 use store_sysmods::{
-    IfRow, Ifs, Listed, MoreIfs, MoreVers, VerRow, Vers, load_sorted, sort_by_keys,
+    IfRow, Ifs, MoreIfs, MoreVers, VerRow, Vers, WholeTable, load_sorted, sort_by_keys,
 };
 
 /// A row of which each of two tables has some, with the same keys; the second table came with schema 3.
@@ -26,7 +26,7 @@ pub(crate) trait InTwoTables: Drop {
     ghost use Rattle.store_schema.specs.declared.schema.Schema.{Schema as ARelease};
     ghost use Rattle.store_schema.specs.declared.schema.Schema.TheVariants.{Third};
 
-    type Firsts: FromRow<Item = Self> + Listed<Rows = Self::Firsts>;
+    type Firsts: FromRow<Item = Self> + WholeTable<Rows = Self::Firsts>;
 
     type Furthers: FromRow<Item = Self> + Query<Rows = Self::Furthers>;
 
@@ -66,7 +66,7 @@ impl InTwoTables for IfRow {
 }
 
 // The items of both lists as one list, sorted by their keys.
-fn merge_sorted<T: Listed>(
+fn merge_sorted<T: WholeTable>(
     mut items: Vec<<T::Rows as FromRow>::Item>,
     mut more: Vec<<T::Rows as FromRow>::Item>,
 ) -> Result<Vec<<T::Rows as FromRow>::Item>, AllocError>

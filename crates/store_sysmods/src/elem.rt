@@ -21,7 +21,7 @@ ghost use Rattle.store_sysmods.specs.Steps.{RunsCalls};
 ghost use Rattle.store_sysmods.specs.Sysmods.{sysmod_key};
 
 use crate::item_rows::ItemRows;
-use crate::listed::Listed;
+use crate::listed::WholeTable;
 use fields::spelling::type_text;
 use fields::{Id, Name};
 use sqlite::{Alter, Error, Row, Transaction};
@@ -191,7 +191,7 @@ impl Query for Elems {
     }
 }
 
-impl Listed for Elems {
+impl WholeTable for Elems {
     ghost use Rattle.std.specs.Prelude.{refl};
 
     type Key = (Id, (ElemType, Name));

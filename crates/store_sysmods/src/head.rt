@@ -16,7 +16,7 @@ ghost use Rattle.store_sysmods.specs.declared.head.BareHead.{BareHead as ABareHe
 ghost use Rattle.store_sysmods.specs.Heads.{delete_sysmod, AreShort};
 ghost use Rattle.store_sysmods.specs.Sysmods.{sysmod_key, sysmod_children};
 
-use crate::listed::Listed;
+use crate::listed::WholeTable;
 use fields::spelling::kind_text;
 use fields::{Id, Source, SourceList};
 use sorted::Keyed;
@@ -137,7 +137,7 @@ impl Query for Heads {
     }
 }
 
-impl Listed for Heads {
+impl WholeTable for Heads {
     ghost use Rattle.std.specs.Prelude.{refl};
 
     type Key = Id;
@@ -206,7 +206,7 @@ impl Query for BareHeads {
     }
 }
 
-impl Listed for BareHeads {
+impl WholeTable for BareHeads {
     ghost use Rattle.std.specs.Prelude.{refl};
 
     type Key = Id;

@@ -25,7 +25,7 @@ ghost use Rattle.terms.specs.Types as terms;
 ghost use Rattle.store_sysmods.specs.Holds.{hold_key, key_row, put_hold_calls, remove_hold_calls};
 
 use crate::hold_comment::is_comment;
-use crate::listed::{Listed, load_sorted};
+use crate::listed::{WholeTable, load_sorted};
 use fields::spelling::hold_text;
 use fields::{Id, Reason};
 use sqlite::{Alter, Connection, Error, Row, Transaction};
@@ -139,7 +139,7 @@ impl Query for HoldReader {
     }
 }
 
-impl Listed for HoldReader {
+impl WholeTable for HoldReader {
     ghost use Rattle.std.specs.Prelude.{refl};
 
     type Key = (Id, (HoldKind, Reason));

@@ -12,7 +12,7 @@ ghost use Rattle.store_sysmods.specs.Sysmods.{sysmod_key};
 
 use crate::cells::read_requisites;
 use crate::item_rows::{ItemRows, append_all_rows};
-use crate::listed::Listed;
+use crate::listed::WholeTable;
 use crate::numbers::number_after;
 use fields::{Id, Srel};
 use sqlite::{Alter, Error, Row, Transaction};
@@ -99,7 +99,7 @@ impl Query for Ifs {
     }
 }
 
-impl Listed for Ifs {
+impl WholeTable for Ifs {
     ghost use Rattle.std.specs.Prelude.{refl};
 
     type Key = (Id, (Srel, (u64, u64)));

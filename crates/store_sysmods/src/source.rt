@@ -10,7 +10,7 @@ ghost use Rattle.store_sysmods.specs.Steps.{RunsCalls};
 ghost use Rattle.store_sysmods.specs.Sysmods.{sysmod_key};
 
 use crate::item_rows::ItemRows;
-use crate::listed::Listed;
+use crate::listed::WholeTable;
 use fields::{Id, Source};
 use sqlite::{Alter, Error, Row, Transaction};
 use sqlite_value::row::Row as Cells;
@@ -83,7 +83,7 @@ impl Query for Sources {
     }
 }
 
-impl Listed for Sources {
+impl WholeTable for Sources {
     ghost use Rattle.std.specs.Prelude.{refl};
 
     type Key = (Id, Source);

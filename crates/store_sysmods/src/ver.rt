@@ -11,7 +11,7 @@ ghost use Rattle.store_sysmods.specs.Vers.{delete_vers, AreVerTexts};
 
 use crate::cells::{read_other_id, read_other_ids};
 use crate::item_rows::ItemRows;
-use crate::listed::Listed;
+use crate::listed::WholeTable;
 use crate::numbers::number_after;
 use fields::{Id, Srel};
 use sqlite::{Alter, Error, Row, Transaction};
@@ -103,7 +103,7 @@ impl Query for Vers {
     }
 }
 
-impl Listed for Vers {
+impl WholeTable for Vers {
     ghost use Rattle.std.specs.Prelude.{refl};
 
     type Key = (Id, (Srel, u64));
