@@ -93,7 +93,7 @@ fn are_changes_allowed(kind: Kind, changes: &[ElemChange]) -> bool
     changes.iter().all(|change| is_change_allowed(kind, change))
 }
 
-// Whether the element statements rise by type and name, in the order of the definitions, which `change_cmp` is.
+// Whether the element statements rise by type and name. The contract calls that order `change_cmp`.
 fn are_changes_rising(changes: &[ElemChange]) -> bool
     ensures { IsTrue result ↔ Rises change_cmp (λ c. c) changes.now }
 {

@@ -13,7 +13,8 @@ use Rattle.store_sysmod_loads.proofs.loading.load_both_tables.Goals as goal
 pub returns-in_err-firsts-clause-none : goal.returns-in_err-firsts-clause-none
 returns-in_err-firsts-clause-none g c clean bad r one two contents was firsts furthers xs h =
     let failed : IsErrOf c.load_query.result BadRow = search rules in
-    c.load_query.ensures.none clean failed (sym g.met.T.Firsts.WholeTable.whole) r one contents was firsts h.firsts_forms
+    c.load_query.ensures.none clean failed (sym g.met.T.Firsts.WholeTable.whole) r one contents was firsts
+    h.firsts_forms
     h.firsts_are
 
 pub returns-in_err-firsts-clause-reads : goal.returns-in_err-firsts-clause-reads
@@ -35,7 +36,8 @@ returns-in_err-furthers-clause-none g c clean bad r one two contents was firsts 
 pub returns-in_err-furthers-clause-reads : goal.returns-in_err-furthers-clause-reads
 returns-in_err-furthers-clause-reads g c r one two =
     reads_then g.S.Store _ _ _ c.args.conn.now c.load_query.new.conn c.load_query-2.new.conn c.load_query.result
-    c.in_ok-firsts.firsts _ c.in_ok-firsts.was (c.load_query.ensures.reads (sym g.met.T.Firsts.WholeTable.whole) tt r one)
+    c.in_ok-firsts.firsts _ c.in_ok-firsts.was
+    (c.load_query.ensures.reads (sym g.met.T.Firsts.WholeTable.whole) tt r one)
     (reads_err g.S.Store _ _ _ c.load_query.new.conn c.load_query-2.new.conn c.load_query-2.result _ (search rules)
     (λ bad. search rules) (λ failed. search rules)
     (c.load_query-2.ensures.reads (sym g.met.T.InTwoTables.whole) tt r two))
@@ -43,7 +45,8 @@ returns-in_err-furthers-clause-reads g c r one two =
 pub returns-in_err-rows-clause-reads : goal.returns-in_err-rows-clause-reads
 returns-in_err-rows-clause-reads g c r one two =
     reads_then g.S.Store _ _ _ c.args.conn.now c.load_query.new.conn c.load_query-2.new.conn c.load_query.result
-    c.in_ok-firsts.firsts _ c.in_ok-firsts.was (c.load_query.ensures.reads (sym g.met.T.Firsts.WholeTable.whole) tt r one)
+    c.in_ok-firsts.firsts _ c.in_ok-firsts.was
+    (c.load_query.ensures.reads (sym g.met.T.Firsts.WholeTable.whole) tt r one)
     (reads_more g.S.Store _ _ _ c.load_query.new.conn c.load_query-2.new.conn c.load_query-2.result
     c.in_ok-furthers.furthers _ c.in_ok-furthers.was (λ failed. search rules)
     (c.load_query-2.ensures.reads (sym g.met.T.InTwoTables.whole) tt r two))
@@ -51,7 +54,8 @@ returns-in_err-rows-clause-reads g c r one two =
 pub returns-clause-reads : goal.returns-clause-reads
 returns-clause-reads g c r one two =
     reads_then g.S.Store _ _ _ c.args.conn.now c.load_query.new.conn c.load_query-2.new.conn c.load_query.result
-    c.in_ok-firsts.firsts _ c.in_ok-firsts.was (c.load_query.ensures.reads (sym g.met.T.Firsts.WholeTable.whole) tt r one)
+    c.in_ok-firsts.firsts _ c.in_ok-firsts.was
+    (c.load_query.ensures.reads (sym g.met.T.Firsts.WholeTable.whole) tt r one)
     (reads_more g.S.Store _ _ _ c.load_query.new.conn c.load_query-2.new.conn c.load_query-2.result
     c.in_ok-furthers.furthers _ c.in_ok-furthers.was (λ failed. search rules)
     (c.load_query-2.ensures.reads (sym g.met.T.InTwoTables.whole) tt r two))
