@@ -23,8 +23,8 @@ use store_sysmods::{
 use sysmods::{GlobalEdit, GlobalZone};
 use sysmods_values::Sysmod;
 
-/// How many SYSMODs wait at most.
-const MOST_WAIT: usize = 256;
+/// How many SYSMODs wait at most, so that their rows take little memory.
+const MOST_WAITING: usize = 256;
 
 // Writes the SYSMODs that wait. Afterwards none waits.
 fn write_waiting<S: Alter>(
@@ -51,7 +51,7 @@ fn make_room<S: Alter>(
     ensures goes { (ss : List ASysmod) → AreWaitingRows waiting.old ss → Waits S.Store ss (with_room ([], ss))
         (λ g. Unit {0}) (λ g. g) tx.old.conn.now tx.new.conn.now waiting.new result }
 {
-    if waiting.len() != MOST_WAIT {
+    if waiting.len() != MOST_WAITING {
         return Ok(());
     }
     write_waiting(alloc, tx, waiting)

@@ -16,7 +16,7 @@ use Rattle.terms.proofs.TextOrder.{same_itself, same_back, other_from_less}
 use Rattle.store_rows.specs.Rows.{has_key, in_place}
 use Rattle.store_rows.proofs.Keys.{equals, and_true}
 use Rattle.store_schema.specs.Earlier.{first_sysmod_row}
-use Rattle.store_schema.specs.Rows.{ids, sysmod_row}
+use Rattle.store_schema.specs.Rows.{joined, sysmod_row}
 use Rattle.store_migration.specs.Moved.{head_of, bare_row}
 use Rattle.store_migration.specs.declared.head.Head.{Head}
 
@@ -63,7 +63,7 @@ none_placed : (h : Head) (ss : List Sysmod) → All (λ s. IsBelow h.id s.id) ss
     → in_place (Text h.id ∷ []) (bare_row h) (map first_sysmod_row ss) ≡ map first_sysmod_row ss
 none_placed h [] below = refl
 none_placed h (s ∷ ss) below =
-    other_stays h s.id (Text (kind_text s.kind) ∷ ids s.sources ∷ []) (map first_sysmod_row ss)
+    other_stays h s.id (Text (kind_text s.kind) ∷ joined s.sources ∷ []) (map first_sysmod_row ss)
     (same_back s.id h.id ∙ apart h.id s.id (All-head (λ r. IsBelow h.id r.id) s ss below))
     ∙ ap (λ rows. first_sysmod_row s ∷ rows) (none_placed h ss (All-tail (λ r. IsBelow h.id r.id) s ss below))
 
@@ -74,8 +74,9 @@ all_emptied [] rises = refl
 all_emptied (s ∷ ss) rises =
     let h = head_of s in
     let below = AllPairs_first (λ (a b : Sysmod). IsBelow a.id b.id) s ss rises in
-    ap (emptied (map head_of ss)) (own_goes h (Text (kind_text s.kind) ∷ ids s.sources ∷ []) (map first_sysmod_row ss)
+    ap (emptied (map head_of ss)) (own_goes h (Text (kind_text s.kind) ∷ joined s.sources ∷ [])
+    (map first_sysmod_row ss)
     ∙ ap (λ rows. bare_row h ∷ rows) (none_placed h ss below))
-    ∙ (stays ss s.id (Text (kind_text s.kind) ∷ ids [] ∷ []) (map first_sysmod_row ss) below
+    ∙ (stays ss s.id (Text (kind_text s.kind) ∷ joined [] ∷ []) (map first_sysmod_row ss) below
     ∙ ap (λ rows. sysmod_row s ∷ rows) (all_emptied ss (AllPairs_rest (λ (a b : Sysmod). IsBelow a.id b.id) s ss
     rises)))

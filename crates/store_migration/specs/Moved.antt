@@ -5,7 +5,7 @@ use Rattle.sqlite.specs.Order.{Row}
 use Rattle.terms.specs.Types.{Text, Id, Sysmod}
 use Rattle.terms.specs.Spelling.{kind_text}
 use Rattle.store_rows.specs.Rows.{Contents, in_table, with_row, in_place}
-use Rattle.store_schema.specs.Rows.{ids, source_row, number_row}
+use Rattle.store_schema.specs.Rows.{joined, source_row, number_row}
 use Rattle.store_schema.specs.Tables.{meta, sysmod, source}
 use Rattle.store_migration.specs.declared.head.Head.{Head}
 use Rattle.store_migration.specs.declared.number.TheConstants as ForNumber
@@ -22,7 +22,7 @@ head_of s = record { id = s.id; kind = s.kind; sources = s.sources }
 
 -- its row, whose column of sources is empty
 abbrev pub bare_row : Head → Row
-bare_row h = value.Text h.id ∷ value.Text (kind_text h.kind) ∷ ids [] ∷ []
+bare_row h = value.Text h.id ∷ value.Text (kind_text h.kind) ∷ joined [] ∷ []
 
 -- the table of sources has one more row
 abbrev pub with_source : Id → Contents → Text → Contents

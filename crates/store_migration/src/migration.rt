@@ -6,7 +6,7 @@ ghost use Rattle.sqlite.specs.State.{IsLive};
 ghost use Rattle.store_migration.specs.Migrated.{Migrated, Unmigrated, Migrates};
 
 use crate::check::check_all;
-use crate::taking::take_over;
+use crate::taking::convert_and_commit;
 use sqlite::{Alter, Connection};
 use std::alloc::Global;
 use store::{Store, map_read_error};
@@ -35,7 +35,7 @@ fn migrate_tables<S: Alter>(alloc: Global, conn: &mut Connection<S>) -> Result<(
     match schema {
         Schema::Third => Ok(()),
         _ => {
-            take_over(conn, schema, heads.as_slice())?;
+            convert_and_commit(conn, schema, heads.as_slice())?;
             Ok(())
         }
     }

@@ -13,7 +13,7 @@ use sqlite::{Alter, Connection, Error, Transaction};
 use store_schema::{Schema, add_tables};
 
 // Adds the tables that the schema lacks, moves the sources of these SYSMODs, and writes the store's number, all in an
-// open transaction. Returns the same errors as `take_over`.
+// open transaction. Returns the same errors as `convert_and_commit`.
 fn convert_tables<S: Alter>(
     tx: &mut Transaction<'_, S>,
     schema: Schema,
@@ -30,7 +30,7 @@ fn convert_tables<S: Alter>(
 
 /// Makes the tables of the schema the store's. Under schema 1 it moves the sources of all SYSMODs, which are these.
 /// Returns an error if the database refuses a table or a row, if the disk fails or if memory runs out.
-pub fn take_over<S: Alter>(
+pub fn convert_and_commit<S: Alter>(
     conn: &mut Connection<S>,
     schema: Schema,
     heads: &[Head],

@@ -7,10 +7,11 @@ mod stores;
 mod texts;
 
 pub use rows::{
-    CHOSEN, FURTHER, SOURCES, all_lines, doubled, fill_first, lines, records, run, run_all,
+    CHOSEN, FURTHER, SOURCES, all_lines, fill_without_sources, query_lines, records, run, run_all,
+    run_doubling,
 };
 pub use stores::{
-    again, close, commit, commit_edits, commit_zone, in_memory, known_with, loaded, new_files,
-    opened, zone_name,
+    close, commit_edits, commit_zone, in_memory, known_rows_with, load_zone, new_files, open_store,
+    reopen, zone_name,
 };
 pub use texts::{compare, first_difference};

@@ -85,13 +85,16 @@ const TEXTS: &[(&str, &str)] = &[
     ),
 ];
 
-// A record with this text; a tab leads to column 73.
+// Where a tab leads: after the 72 columns of text, to the sequence number.
+const TAB_COLUMN: usize = 72;
+
+// A record with this text.
 fn record(text: &str) -> [u8; RECORD] {
     let mut record = [b' '; RECORD];
     let mut column: usize = 0;
     for letter in text.as_bytes() {
         if *letter == b'\t' {
-            column = 72;
+            column = TAB_COLUMN;
         } else if let Some(place) = record.get_mut(column) {
             *place = *letter;
             column = column.saturating_add(1);
@@ -100,7 +103,7 @@ fn record(text: &str) -> [u8; RECORD] {
     record
 }
 
-/// A record for each line of the text, or none for an empty text. A tab leads to column 73.
+/// A record for each line of the text, or none for an empty text. A tab leads to its sequence number.
 pub fn records(alloc: Global, text: &str) -> Result<Vec<u8>, Fail> {
     let mut bytes = Vec::new(alloc);
     if text.is_empty() {
@@ -124,8 +127,8 @@ pub fn run<S: Alter>(
     Ok(())
 }
 
-/// Runs the statement so many times: with 1, and each time with twice the number.
-pub fn doubled<S: Alter>(conn: &mut Connection<S>, sql: &str, times: u32) -> Result<(), Fail> {
+/// Runs the statement so many times: first with the parameter 1, and then each time with twice the number.
+pub fn run_doubling<S: Alter>(conn: &mut Connection<S>, sql: &str, times: u32) -> Result<(), Fail> {
     let mut number = 1_i64;
     for _ in 0..times {
         run(conn, sql, &[ValueRef::Int(number)])?;
@@ -143,7 +146,7 @@ pub fn run_all<S: Alter>(conn: &mut Connection<S>, all: &[&str]) -> Result<(), F
 }
 
 /// Writes all rows except those of sources into empty tables.
-pub fn fill_first<S: Alter>(alloc: Global, conn: &mut Connection<S>) -> Result<(), Fail> {
+pub fn fill_without_sources<S: Alter>(alloc: Global, conn: &mut Connection<S>) -> Result<(), Fail> {
     run_all(conn, ROWS)?;
     fill_texts(alloc, conn)?;
     run(conn, ELEMENTS, &[])
@@ -159,7 +162,7 @@ fn fill_texts<S: Alter>(alloc: Global, conn: &mut Connection<S>) -> Result<(), F
 }
 
 // Appends the texts that the query finds, each as a line.
-fn put_lines<S: Alter>(
+fn append_lines<S: Alter>(
     conn: &mut Connection<S>,
     sql: &str,
     lines: &mut String,
@@ -174,9 +177,13 @@ fn put_lines<S: Alter>(
 }
 
 /// The texts that the query finds, each as a line.
-pub fn lines<S: Alter>(alloc: Global, conn: &mut Connection<S>, sql: &str) -> Result<String, Fail> {
+pub fn query_lines<S: Alter>(
+    alloc: Global,
+    conn: &mut Connection<S>,
+    sql: &str,
+) -> Result<String, Fail> {
     let mut lines = String::new(alloc);
-    put_lines(conn, sql, &mut lines)?;
+    append_lines(conn, sql, &mut lines)?;
     Ok(lines)
 }
 
@@ -207,7 +214,7 @@ const TABLES: &[&str] = &[
 pub fn all_lines<S: Alter>(alloc: Global, conn: &mut Connection<S>) -> Result<String, Fail> {
     let mut all = String::new(alloc);
     for sql in TABLES {
-        put_lines(conn, sql, &mut all)?;
+        append_lines(conn, sql, &mut all)?;
     }
     Ok(all)
 }

@@ -3,7 +3,7 @@
 ghost use Rattle.std.specs.Prelude.{IsTrue, IfOk};
 ghost use Rattle.sqlite_disk.specs.Memory.{memory_is_usable};
 
-use crate::rows::{SOURCES, fill_first, run_all};
+use crate::rows::{SOURCES, fill_without_sources, run_all};
 use fields::ZoneName;
 use sqlite::{Alter, Connection, Error, FileStore, Files, MemStore, Options};
 use sqlite_disk::Memory;
@@ -13,13 +13,8 @@ use store::{Change, Store};
 use sysmods::{GlobalEdit, GlobalZone};
 use zones_maps::{Zone, ZoneDelta, ZoneEdits};
 
-/// Commits a change, which must succeed.
-pub fn commit<S: Alter>(store: &mut Store<S>, change: &Change<'_>) -> Result<(), Fail> {
-    Ok(store.commit(change)?)
-}
-
-/// The zone of this name, as it is loaded.
-pub fn loaded<S: Alter>(store: &mut Store<S>, name: ZoneName) -> Result<Zone, Fail> {
+/// The zone of this name, which must exist.
+pub fn load_zone<S: Alter>(store: &mut Store<S>, name: ZoneName) -> Result<Zone, Fail> {
     Ok(store.load_zone(name)?.ok_or("no such zone")?)
 }
 
@@ -30,9 +25,9 @@ pub fn commit_zone<S: Alter>(
     name: ZoneName,
     edits: ZoneEdits,
 ) -> Result<(), Fail> {
-    let zone = loaded(store, name)?;
+    let zone = load_zone(store, name)?;
     let delta = ZoneDelta::from_edits(alloc, edits, &zone)?;
-    commit(store, &Change::Zone(name, delta))
+    Ok(store.commit(&Change::Zone(name, delta))?)
 }
 
 /// Commits edits of the global zone that insert no SYSMOD, so that no statements are needed.
@@ -42,11 +37,11 @@ pub fn commit_edits<S: Alter>(
     edits: Vec<GlobalEdit>,
 ) -> Result<(), Fail> {
     let stated = GlobalZone::new(alloc);
-    commit(store, &Change::Global(&stated, edits))
+    Ok(store.commit(&Change::Global(&stated, edits))?)
 }
 
-/// The store over the connection.
-pub fn opened<S: Alter + Drop>(alloc: Global, conn: Connection<S>) -> Result<Store<S>, Fail> {
+/// Opens the store over the connection.
+pub fn open_store<S: Alter + Drop>(alloc: Global, conn: Connection<S>) -> Result<Store<S>, Fail> {
     if !conn.is_autocommit() {
         return Err(Fail::from("a transaction is under way"));
     }
@@ -56,10 +51,13 @@ pub fn opened<S: Alter + Drop>(alloc: Global, conn: Connection<S>) -> Result<Sto
     }
 }
 
-// The database without tables, once its tables have the known rows.
-fn filled<S: Alter + Drop>(alloc: Global, conn: Connection<S>) -> Result<Connection<S>, Fail> {
-    let mut conn = opened(alloc, conn)?.close();
-    fill_first(alloc, &mut conn)?;
+// Creates the tables in a database that has none, and writes the known rows into them.
+fn fill_known_rows<S: Alter + Drop>(
+    alloc: Global,
+    conn: Connection<S>,
+) -> Result<Connection<S>, Fail> {
+    let mut conn = open_store(alloc, conn)?.close();
+    fill_without_sources(alloc, &mut conn)?;
     run_all(&mut conn, SOURCES)?;
     Ok(conn)
 }
@@ -70,18 +68,23 @@ pub fn in_memory(alloc: Global) -> Result<Connection<MemStore>, Fail> {
 }
 
 /// The known rows in memory, and these as well.
-pub fn known_with(alloc: Global, more: &[&str]) -> Result<Connection<MemStore>, Fail> {
-    let mut conn = filled(alloc, in_memory(alloc)?)?;
+pub fn known_rows_with(alloc: Global, more: &[&str]) -> Result<Connection<MemStore>, Fail> {
+    let mut conn = fill_known_rows(alloc, in_memory(alloc)?)?;
     run_all(&mut conn, more)?;
     Ok(conn)
 }
 
+/// The name of a zone that this text is, which must be one.
 pub fn zone_name(text: &[u8]) -> Result<ZoneName, Fail> {
     Ok(ZoneName::read(text).ok_or("no name of a zone")?)
 }
 
 // A connection to a database in these files.
-fn files(alloc: Global, log: Memory, db: Memory) -> Result<Connection<FileStore<Memory>>, Error>
+fn open_files(
+    alloc: Global,
+    log: Memory,
+    db: Memory,
+) -> Result<Connection<FileStore<Memory>>, Error>
     requires { IsTrue (memory_is_usable log) × IsTrue (memory_is_usable db) }
 {
     match Connection::open_files(alloc, Files { log, db }, Options::new(1)) {
@@ -92,9 +95,10 @@ fn files(alloc: Global, log: Memory, db: Memory) -> Result<Connection<FileStore<
 
 /// A connection to a new database in files.
 pub fn new_files(alloc: Global) -> Result<Connection<FileStore<Memory>>, Error> {
-    files(alloc, Memory::new(alloc), Memory::new(alloc))
+    open_files(alloc, Memory::new(alloc), Memory::new(alloc))
 }
 
+/// The files of the connection, once it is closed.
 pub fn close(conn: Connection<FileStore<Memory>>) -> Result<Files<Memory>, Error>
     ensures { IfOk result (λ files. IsTrue (memory_is_usable files.log) × IsTrue (memory_is_usable files.db)) }
 {
@@ -104,11 +108,11 @@ pub fn close(conn: Connection<FileStore<Memory>>) -> Result<Files<Memory>, Error
     }
 }
 
-/// A connection to the files that this one has written.
-pub fn again(
+/// Closes the connection, and opens one to the files that it has written.
+pub fn reopen(
     alloc: Global,
     conn: Connection<FileStore<Memory>>,
 ) -> Result<Connection<FileStore<Memory>>, Error> {
     let closed = close(conn)?;
-    files(alloc, closed.log, closed.db)
+    open_files(alloc, closed.log, closed.db)
 }

@@ -35,7 +35,7 @@ use Rattle.store_schema.specs.Forms.{VerSuitsKind}
 use Rattle.store_schema.specs.Inventory.{Inventory, IsInventory, IsZoneNamed, empty_inventory}
 use Rattle.store_schema.specs.Rows.{sysmod_row, source_row, sources_of, ver_row, vers_of, ifreq_row, ifreqs_of}
 use Rattle.store_schema.specs.Rows.{hold_row, action_cells, elem_row, elems_of, zone_row, entry_row, entries_of}
-use Rattle.store_schema.specs.Rows.{zelem_row, zelems_of, ids, morever_row, morevers_of, moreif_row, moreifs_of}
+use Rattle.store_schema.specs.Rows.{zelem_row, zelems_of, joined, morever_row, morevers_of, moreif_row, moreifs_of}
 use Rattle.store_schema.specs.Rows.{chosen_row, chosen_in, chosen_of, is_first}
 use Rattle.store_schema.specs.Tables.{ver, ifreq, hold, elem, zone, entry, zelem, source, morever, moreif, chosen}
 use Rattle.store_schema.specs.Tables.{first_tables, second_tables, all_tables}
@@ -58,11 +58,11 @@ use Rattle.store_schema.proofs.Singles.{no_morevers, no_moreifs, no_chosen}
 
 -- ---- what one row says
 
-pub same_ids : (a b : List Id) → AreSorted IsId a → AreSorted IsId b → ids a ≡ ids b → a ≡ b
+pub same_ids : (a b : List Id) → AreSorted IsId a → AreSorted IsId b → joined a ≡ joined b → a ≡ b
 same_ids a b p q e = ids_same a b (ids_are_words a p) (ids_are_words b q) e
 
 pub if_same : (x y : Id) (a b : IfReq) → HasIfForms x a → HasIfForms y b → a.function ≡ b.function
-    → ids a.req ≡ ids b.req → a ≡ b
+    → joined a.req ≡ joined b.req → a ≡ b
 if_same x y a b p q function e =
     let req = same_ids a.req b.req p.req.listed q.req.listed e in
     ap₂ (λ f r. record { function = f; req = r }) function req
@@ -414,7 +414,7 @@ first_if_told s t v w f g forms_f forms_g first_v first_w e = (
   cc,
   let number : f.0 ≡ g.0 = cc in
       let function : f.1.function ≡ g.1.function = cc in
-      let req : ids f.1.req ≡ ids g.1.req = cc in
+      let req : joined f.1.req ≡ joined g.1.req = cc in
       both_same f g number (if_same s.id t.id f.1 g.1 forms_f forms_g function req),
 )
 
@@ -425,7 +425,7 @@ further_if_told s t v w f g forms_f forms_g further_v further_w e = (
   cc,
   let number : f.0 ≡ g.0 = cc in
       let function : f.1.function ≡ g.1.function = cc in
-      let req : ids f.1.req ≡ ids g.1.req = cc in
+      let req : joined f.1.req ≡ joined g.1.req = cc in
       both_same f g number (if_same s.id t.id f.1 g.1 forms_f forms_g function req),
 )
 

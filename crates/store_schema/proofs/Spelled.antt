@@ -26,7 +26,7 @@ use Rattle.terms.specs.Types.{Text, Id, Lines, type_number}
 use Rattle.terms.specs.Forms.{is_id_byte, IsRun, IsId, IsSource}
 use Rattle.terms.specs.Lookups.{is_before}
 use Rattle.store_schema.specs.Forms.{AreSorted, AreRecords}
-use Rattle.store_schema.specs.Rows.{ids, flag, records}
+use Rattle.store_schema.specs.Rows.{joined, flag, records}
 use Rattle.store_schema.proofs.WrittenLists.{IsWord, all_by, joined_same, records_same}
 
 -- ---- kinds
@@ -152,7 +152,8 @@ ids_are_words xs listed = all_by IsWord xs (λ k d within. word_of 7 7 _ (omega 
 pub sources_are_words : (xs : List Text) → AreSorted IsSource xs → AllByRecursion IsWord xs
 sources_are_words xs listed = all_by IsWord xs (λ k d within. word_of 1 64 _ (omega arith) (listed.each k d within))
 
-pub ids_same : (xs ys : List Text) → AllByRecursion IsWord xs → AllByRecursion IsWord ys → ids xs ≡ ids ys → xs ≡ ys
+pub ids_same : (xs ys : List Text) → AllByRecursion IsWord xs → AllByRecursion IsWord ys → joined xs ≡ joined ys
+    → xs ≡ ys
 ids_same xs ys p q e = joined_same xs ys p q (cc)
 
 pub text_same : (xs ys : Lines) → AreRecords xs → AreRecords ys → records xs ≡ records ys → xs ≡ ys

@@ -13,7 +13,7 @@ use Rattle.store_rows.specs.Rows.{Contents, HasContents}
 use Rattle.store_schema.specs.Tables.{meta, sysmod, source, schema_of}
 use Rattle.store_schema.specs.Tables.{morever, moreif, chosen, first_tables, second_tables, all_tables}
 use Rattle.store_schema.specs.Inventory.{Inventory, IsInventory}
-use Rattle.store_schema.specs.Rows.{setting_row, ids, sysmod_row}
+use Rattle.store_schema.specs.Rows.{setting_row, joined, sysmod_row}
 use Rattle.store_schema.specs.Rows.{sources_of}
 use Rattle.store_schema.specs.Stands.{rows_in, shared_tables_of, StandsFor, IsStateOf}
 use Rattle.store_schema.specs.declared.schema.Schema.{Schema}
@@ -26,7 +26,7 @@ pub record IsOfEarlier (i : Inventory) : Type 0 where
 
 -- Under schema 1 the sources of a SYSMOD are in its row, joined by commas.
 abbrev pub first_sysmod_row : Sysmod → Row
-first_sysmod_row s = value.Text s.id ∷ value.Text (kind_text s.kind) ∷ ids s.sources ∷ []
+first_sysmod_row s = value.Text s.id ∷ value.Text (kind_text s.kind) ∷ joined s.sources ∷ []
 
 abbrev pub first_rows_of : Inventory → Contents
 first_rows_of i = rows_in (

@@ -13,9 +13,9 @@ use Rattle.terms.specs.Types.{Element, NamedZone}
 use Rattle.terms.specs.Lookups.{date_of}
 use Rattle.terms.specs.Spelling.{kind_text, hold_text, type_text, zone_kind_text}
 
--- a list of ids as a text: joined by commas, and empty for no ids
-abbrev pub ids : List Id → Value
-ids list = value.Text (join_with_byte 44 list)
+-- a list of ids, or of sources, as a text: joined by commas, and empty for none
+abbrev pub joined : List Id → Value
+joined list = value.Text (join_with_byte 44 list)
 
 abbrev pub flag : Bool → Value
 flag b = value.Int (pos (if b then 1 else 0))
@@ -33,7 +33,7 @@ number_row = setting_row (pos 3)
 
 -- the column of the sources stays empty, since they have a table of their own
 abbrev pub sysmod_row : Sysmod → Row
-sysmod_row s = value.Text s.id ∷ value.Text (kind_text s.kind) ∷ ids [] ∷ []
+sysmod_row s = value.Text s.id ∷ value.Text (kind_text s.kind) ∷ joined [] ∷ []
 
 abbrev pub source_row : Id → Text → Row
 source_row x name = value.Text x ∷ value.Text name ∷ []
@@ -41,24 +41,24 @@ source_row x name = value.Text x ∷ value.Text name ∷ []
 -- a SYSMOD's first ++VER of an SREL
 abbrev pub ver_row : Id → Ver → Row
 ver_row x v =
-    value.Text x ∷ value.Text v.srel ∷ or_null value.Text v.fmid ∷ ids v.pre ∷ ids v.req ∷ ids v.sup ∷ ids v.npre ∷ ids
-    v.del ∷ []
+    value.Text x ∷ value.Text v.srel ∷ or_null value.Text v.fmid ∷ joined v.pre ∷ joined v.req ∷ joined v.sup
+    ∷ joined v.npre ∷ joined v.del ∷ []
 
 -- a further ++VER of an SREL, and its number; it has neither NPRE nor DELETE
 abbrev pub morever_row : Id → ℕ × Ver → Row
 morever_row x v =
-    value.Text x ∷ value.Text v.1.srel ∷ value.Int (pos v.0) ∷ or_null value.Text v.1.fmid ∷ ids v.1.pre ∷ ids v.1.req
-    ∷ ids v.1.sup ∷ []
+    value.Text x ∷ value.Text v.1.srel ∷ value.Int (pos v.0) ∷ or_null value.Text v.1.fmid ∷ joined v.1.pre
+    ∷ joined v.1.req ∷ joined v.1.sup ∷ []
 
 -- a ++IF of a first ++VER, and its number
 abbrev pub ifreq_row : Id → Text → ℕ × IfReq → Row
 ifreq_row x srel i =
-    value.Text x ∷ value.Text srel ∷ value.Int (pos i.0) ∷ value.Text i.1.function ∷ ids i.1.req ∷ []
+    value.Text x ∷ value.Text srel ∷ value.Int (pos i.0) ∷ value.Text i.1.function ∷ joined i.1.req ∷ []
 
 -- a ++IF of the ++VER of this number, and its own number
 abbrev pub moreif_row : Id → Text → ℕ → ℕ × IfReq → Row
 moreif_row x srel v i =
-    value.Text x ∷ value.Text srel ∷ value.Int (pos v) ∷ value.Int (pos i.0) ∷ value.Text i.1.function ∷ ids i.1.req
+    value.Text x ∷ value.Text srel ∷ value.Int (pos v) ∷ value.Int (pos i.0) ∷ value.Text i.1.function ∷ joined i.1.req
     ∷ []
 
 abbrev pub hold_row : Hold → Row
@@ -82,8 +82,8 @@ zone_row z =
 
 abbrev pub entry_row : Text → Entry → Row
 entry_row zone e =
-    value.Text zone ∷ value.Text e.id ∷ or_null value.Text (date_of e) ∷ ids e.supby ∷ or_null value.Text e.delby ∷ ids
-    e.waived ∷ []
+    value.Text zone ∷ value.Text e.id ∷ or_null value.Text (date_of e) ∷ joined e.supby ∷ or_null value.Text e.delby
+    ∷ joined e.waived ∷ []
 
 -- the ++VER by which the zone has applied the SYSMOD
 abbrev pub chosen_row : Text → Id → ℕ → Row
@@ -92,7 +92,7 @@ chosen_row zone x n = value.Text zone ∷ value.Text x ∷ value.Int (pos n) ∷
 abbrev pub zelem_row : Text → Element → Row
 zelem_row zone e =
     value.Text zone ∷ value.Text (type_text e.elem_type) ∷ value.Text e.name ∷ value.Text e.fmid ∷ value.Text e.rmid
-    ∷ ids e.umids ∷ value.Text e.distlib ∷ value.Text e.syslib ∷ records e.text ∷ []
+    ∷ joined e.umids ∷ value.Text e.distlib ∷ value.Text e.syslib ∷ records e.text ∷ []
 
 -- The number of a ++VER after these others: it counts among those of its SREL, from 1.
 abbrev pub number_behind : List Ver → Ver → ℕ

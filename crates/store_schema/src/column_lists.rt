@@ -5,7 +5,7 @@ ghost use Rattle.std.specs.List.{concat, join_with_byte};
 ghost use Rattle.store_schema.specs.Parts.{parts_of};
 ghost use Rattle.sqlite.specs.Order.{Row as SqlRow};
 ghost use Rattle.store_schema.specs.Forms.{AreSorted, AreRecords};
-ghost use Rattle.store_schema.specs.Rows.{ids, records};
+ghost use Rattle.store_schema.specs.Rows.{joined, records};
 ghost use Rattle.terms.specs.Forms.{IsId, IsSource};
 
 use crate::columns::Columns;
@@ -114,9 +114,9 @@ fn read_records(alloc: Global, bytes: &[u8]) -> Result<Vec<Line>, ReadError>
 impl Columns<'_> {
     /// A rising list of ids.
     pub fn ids(&mut self, alloc: Global) -> Result<IdList, ReadError>
-        ensures read { IfOk result (λ list. (self.old ≡ ids list ∷ self.new) × AreSorted IsId list) }
+        ensures read { IfOk result (λ list. (self.old ≡ joined list ∷ self.new) × AreSorted IsId list) }
         ensures none { IsErrOf result ReadError.BadRow → (list : List (List ℕ)) (rest : SqlRow) → AreSorted IsId list
-            → self.old ≢ ids list ∷ rest }
+            → self.old ≢ joined list ∷ rest }
         ensures fault { IsErrOf result ReadError.Fault → ⊥ }
     {
         read_joined_ids(alloc, self.text()?)
@@ -124,9 +124,9 @@ impl Columns<'_> {
 
     /// A rising list of sources.
     pub fn sources(&mut self, alloc: Global) -> Result<SourceList, ReadError>
-        ensures read { IfOk result (λ list. (self.old ≡ ids list ∷ self.new) × AreSorted IsSource list) }
+        ensures read { IfOk result (λ list. (self.old ≡ joined list ∷ self.new) × AreSorted IsSource list) }
         ensures none { IsErrOf result ReadError.BadRow → (list : List (List ℕ)) (rest : SqlRow)
-            → AreSorted IsSource list → self.old ≢ ids list ∷ rest }
+            → AreSorted IsSource list → self.old ≢ joined list ∷ rest }
         ensures fault { IsErrOf result ReadError.Fault → ⊥ }
     {
         read_joined_sources(alloc, self.text()?)

@@ -39,8 +39,8 @@ impl<'a> Columns<'a> {
         Columns { row, at: 0 }
     }
 
-    /// Returns `BadRow` if a column is left.
-    pub fn end(&self) -> Result<(), ReadError>
+    /// Returns `BadRow` if a column is left, so that a row with too many is refused.
+    pub fn expect_end(&self) -> Result<(), ReadError>
         ensures read { IfOk result (λ _. self.now ≡ []) }
         ensures none { IsErrOf result ReadError.BadRow → self.now ≢ [] }
         ensures fault { IsErrOf result ReadError.Fault → ⊥ }
@@ -90,8 +90,8 @@ impl<'a> Columns<'a> {
         }
     }
 
-    /// A whole number, which may be negative.
-    pub fn whole(&mut self) -> Result<i64, ReadError>
+    /// An integer, which may be negative.
+    pub fn integer(&mut self) -> Result<i64, ReadError>
         ensures read { IfOk result (λ n. self.old ≡ Int n ∷ self.new) }
         ensures none { IsErrOf result ReadError.BadRow → (n : ℤ) (rest : SqlRow) → self.old ≢ Int n ∷ rest }
         ensures fault { IsErrOf result ReadError.Fault → ⊥ }

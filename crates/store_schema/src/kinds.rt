@@ -62,20 +62,20 @@ impl Columns<'_> {
         ensures none { IsErrOf result ReadError.BadRow → (b : Bool) (rest : SqlRow) → self.old ≢ flag b ∷ rest }
         ensures fault { IsErrOf result ReadError.Fault → ⊥ }
     {
-        match self.whole()? {
+        match self.integer()? {
             0 => Ok(false),
             1 => Ok(true),
             _ => Err(ReadError::BadRow),
         }
     }
 
-    /// A whole number that is not negative.
+    /// An integer that is not negative.
     pub fn number(&mut self) -> Result<u64, ReadError>
         ensures read { IfOk result (λ n. self.old ≡ Int (pos n) ∷ self.new) }
         ensures none { IsErrOf result ReadError.BadRow → (n : ℕ) (rest : SqlRow) → self.old ≢ Int (pos n) ∷ rest }
         ensures fault { IsErrOf result ReadError.Fault → ⊥ }
     {
-        let number = self.whole()?;
+        let number = self.integer()?;
         if number < 0 {
             return Err(ReadError::BadRow);
         }

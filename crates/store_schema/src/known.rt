@@ -13,7 +13,7 @@ ghost use Rattle.store_schema.specs.Stands.{StandsFor, IsStateOf, IsSetUp};
 use crate::error::StoreError;
 use crate::numbers::{check_number, refuse_other_numbers};
 use crate::schema::Schema;
-use crate::tables::{create_store, is_blank, is_schema_under};
+use crate::tables::{are_tables_of, create_store, is_blank};
 use sqlite::{Alter, Connection};
 use std::alloc::Global;
 
@@ -29,7 +29,7 @@ fn check_store_tables<S: Alter>(alloc: Global, conn: &mut Connection<S>) -> Resu
     ensures crash { SurvivesAs S.Store conn.old conn.new }
     ensures mode { conn.old.in_transaction ≡ false → conn.new.in_transaction ≡ false }
 {
-    if !is_schema_under(alloc, conn.schema(), Schema::Third)? {
+    if !are_tables_of(alloc, conn.schema(), Schema::Third)? {
         return Err(StoreError::NoState);
     }
     check_number(conn, Schema::Third)

@@ -38,7 +38,7 @@ pub trait Query {
     ghost knows: { Schema → Type 0 };
 
     /// Its SQL, which has one meaning under all schemas that have the table. A row represents its item completely.
-    fn sql() -> &'static str
+    fn select_sql() -> &'static str
         ensures reads { (r : Schema) → knows r → ReadsRows (schema_under r) table width result.now }
         ensures there { (r : Schema) → knows r → IsTableOf (schema_under r) at table }
         ensures selects { IsSelect result.now }
@@ -71,5 +71,5 @@ pub fn load_query<S: Alter, Q: Query>(
     ensures reads { length key.now ≡ Q.width → AreTexts (bound key.now) → (r : Schema) → Q.knows r
         → OnlyReads S.Store (schema_under r) ReadError.BadRow ReadError.Fault conn.old conn.new result }
 {
-    load::<S, Q::Rows>(alloc, conn, Q::sql(), key)
+    load::<S, Q::Rows>(alloc, conn, Q::select_sql(), key)
 }

@@ -15,7 +15,7 @@ use sqlite::{Alter, Connection, Error, Row};
 use sqlite_value::value::ValueRef;
 
 // The keys and values of `meta`, in a database with any tables.
-fn meta_rows<S: Alter>(conn: &mut Connection<S>) -> Result<Vec<Row>, Error>
+fn load_meta_rows<S: Alter>(conn: &mut Connection<S>) -> Result<Vec<Row>, Error>
     ensures shown { HasCleanDisk (state S.Store conn.new) → IfOk result
         (λ rows. Shown select_meta [] (state S.Store conn.old) (state S.Store conn.new) rows.items) }
     ensures same { LeavesAll S.Store conn.old conn.new result }
@@ -26,8 +26,8 @@ fn meta_rows<S: Alter>(conn: &mut Connection<S>) -> Result<Vec<Row>, Error>
     conn.query_all("SELECT k, v FROM meta", &[])
 }
 
-// The rows of `meta` with their rowids, in a database that may have the tables of a schema.
-fn meta_rows_with_rowid<S: Alter>(conn: &mut Connection<S>) -> Result<Vec<Row>, Error>
+// All that `meta` holds, rowids included, in a database that may have the tables of a schema.
+fn load_meta_rows_with_rowids<S: Alter>(conn: &mut Connection<S>) -> Result<Vec<Row>, Error>
     ensures shown { HasCleanDisk (state S.Store conn.new) → IfOk result
         (λ rows. Shown select_own [] (state S.Store conn.old) (state S.Store conn.new) rows.items) }
     ensures same { LeavesAll S.Store conn.old conn.new result }
@@ -38,14 +38,14 @@ fn meta_rows_with_rowid<S: Alter>(conn: &mut Connection<S>) -> Result<Vec<Row>, 
     conn.query_all("SELECT rowid, k, v FROM meta", &[])
 }
 
-// Whether the key of a row of `meta` says that its value is the number of the schema.
-fn is_schema_word(word: &[u8]) -> bool
-    ensures { IsTrue result ↔ (word.now ≡ codes "schema") }
+// Whether this is the key under which `meta` has the number of the schema.
+fn is_schema_key(key: &[u8]) -> bool
+    ensures { IsTrue result ↔ (key.now ≡ codes "schema") }
 {
-    word == b"schema".as_slice()
+    key == b"schema".as_slice()
 }
 
-// The number that a row of `meta`, as `meta_rows` reads it, gives to the schema.
+// The number that a row of `meta`, as `load_meta_rows` reads it, gives to the schema.
 fn number_in_row(row: &Row) -> Option<i64>
     ensures some { IfSome result (λ n. Gives n row.now) }
     ensures none { IfNone result ((n : ℤ) → ¬ Gives n row.now) }
@@ -54,14 +54,12 @@ fn number_in_row(row: &Row) -> Option<i64>
         return None;
     }
     match (row.get_ref(0), row.get_ref(1)) {
-        (Ok(ValueRef::Text(word)), Ok(ValueRef::Int(number))) if is_schema_word(word) => Some(
-            number,
-        ),
+        (Ok(ValueRef::Text(key)), Ok(ValueRef::Int(number))) if is_schema_key(key) => Some(number),
         _ => None,
     }
 }
 
-// The number that a row of `meta` with its rowid, as `meta_rows_with_rowid` reads it, gives to the schema.
+// The number that a row of `meta` with its rowid, as `load_meta_rows_with_rowids` reads it, gives to the schema.
 fn number_in_row_with_rowid(row: &Row) -> Option<i64>
     ensures some { IfSome result (λ n. GivesOwn n row.now) }
     ensures none { IfNone result ((n : ℤ) → ¬ GivesOwn n row.now) }
@@ -70,8 +68,8 @@ fn number_in_row_with_rowid(row: &Row) -> Option<i64>
         return None;
     }
     match (row.get_ref(0), row.get_ref(1), row.get_ref(2)) {
-        (Ok(ValueRef::Int(_)), Ok(ValueRef::Text(word)), Ok(ValueRef::Int(number)))
-            if is_schema_word(word) => { Some(number) }
+        (Ok(ValueRef::Int(_)), Ok(ValueRef::Text(key)), Ok(ValueRef::Int(number)))
+            if is_schema_key(key) => { Some(number) }
         _ => None,
     }
 }
@@ -123,7 +121,7 @@ pub(crate) fn refuse_other_numbers<S: Alter>(
     ensures crash { SurvivesAs S.Store conn.old conn.new }
     ensures mode { conn.old.in_transaction ≡ false → conn.new.in_transaction ≡ false }
 {
-    let rows = meta_rows(conn)?;
+    let rows = load_meta_rows(conn)?;
     if has_other_number(rows.as_slice(), numbers) {
         return Err(StoreError::OtherSchema);
     }
@@ -153,7 +151,7 @@ pub(crate) fn check_number<S: Alter>(
     ensures crash { SurvivesAs S.Store conn.old conn.new }
     ensures mode { conn.old.in_transaction ≡ false → conn.new.in_transaction ≡ false }
 {
-    let rows = meta_rows_with_rowid(conn)?;
+    let rows = load_meta_rows_with_rowids(conn)?;
     if !gives_only_number(rows.as_slice(), schema) {
         return Err(StoreError::NoState);
     }

@@ -82,7 +82,7 @@ fn create_schema<S: Alter>(conn: &mut Connection<S>, schema: Schema) -> Result<(
 }
 
 /// Whether the tables are those of the schema. It compares them with those that the schema creates in memory.
-pub(crate) fn is_schema_under(
+pub(crate) fn are_tables_of(
     alloc: Global,
     held: &SqliteSchema,
     schema: Schema,
@@ -99,13 +99,13 @@ pub(crate) fn schema_of_tables(alloc: Global, held: &SqliteSchema) -> Result<Opt
     ensures some { IfOk result (λ found. IfSome found (λ schema. held.now ≡ schema_under schema)) }
     ensures none { IfOk result (λ found. IfNone found ((schema : SchemaOf) → held.now ≢ schema_under schema)) }
 {
-    if is_schema_under(alloc, held, Schema::First)? {
+    if are_tables_of(alloc, held, Schema::First)? {
         return Ok(Some(Schema::First));
     }
-    if is_schema_under(alloc, held, Schema::Second)? {
+    if are_tables_of(alloc, held, Schema::Second)? {
         return Ok(Some(Schema::Second));
     }
-    if is_schema_under(alloc, held, Schema::Third)? {
+    if are_tables_of(alloc, held, Schema::Third)? {
         return Ok(Some(Schema::Third));
     }
     Ok(None)

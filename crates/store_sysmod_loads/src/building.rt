@@ -75,7 +75,7 @@ fn may_follow_all(kind: Kind, vers: &[Ver], other: &Ver) -> bool
 }
 
 // Whether each `++VER` may follow all that come before it in a SYSMOD of this kind.
-fn may_be_together(kind: Kind, vers: &[Ver]) -> bool
+fn each_may_follow_earlier(kind: Kind, vers: &[Ver]) -> bool
     ensures { IsTrue result ↔ AllPairs (AreVersApart kind) vers.now }
 {
     for i in 0..vers.len() {
@@ -93,8 +93,8 @@ fn are_changes_allowed(kind: Kind, changes: &[ElemChange]) -> bool
     changes.iter().all(|change| is_change_allowed(kind, change))
 }
 
-// Whether the element statements rise by type and name.
-fn are_in_order(changes: &[ElemChange]) -> bool
+// Whether the element statements rise by type and name. The contract calls that order `change_cmp`.
+fn are_changes_rising(changes: &[ElemChange]) -> bool
     ensures { IsTrue result ↔ Rises change_cmp (λ c. c) changes.now }
 {
     are_rising(changes)
@@ -104,18 +104,18 @@ fn are_in_order(changes: &[ElemChange]) -> bool
 fn may_have_vers(kind: Kind, vers: &[Ver]) -> bool
     ensures { IsTrue result ↔ (All (VerSuitsKind kind) vers.now × AllPairs (AreVersApart kind) vers.now) }
 {
-    all_suit_kind(kind, vers) && may_be_together(kind, vers)
+    all_suit_kind(kind, vers) && each_may_follow_earlier(kind, vers)
 }
 
 // Whether a SYSMOD of this kind may have these element statements, in this order.
 fn may_have_changes(kind: Kind, changes: &[ElemChange]) -> bool
     ensures { IsTrue result ↔ (All (λ c. MayDo kind c.action) changes.now × Rises change_cmp (λ c. c) changes.now) }
 {
-    are_changes_allowed(kind, changes) && are_in_order(changes)
+    are_changes_allowed(kind, changes) && are_changes_rising(changes)
 }
 
-// The SYSMOD of these parts. Returns `BadRow`, and no other error, if it has no `++VER`, or if no SYSMOD of its kind may
-// have these statements.
+// The SYSMOD of these parts. Returns `BadRow`, and no other error, if it has no `++VER`, or if no SYSMOD of its kind
+// may have these statements.
 fn build_sysmod(
     alloc: Global,
     head: HeadRow,

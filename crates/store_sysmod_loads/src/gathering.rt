@@ -17,6 +17,9 @@ use store_rows::ReadError;
 use store_sysmods::{ElemRow, IfRow, SourceRow, VerRow, number_after};
 use sysmods_values::{ElemChange, IfReq, Ver};
 
+/// How many `++VER`s a SYSMOD has at most.
+const MOST_VERS: usize = 8;
+
 /// A row that belongs to another row.
 pub(crate) trait Child: Drop {
     type Parent: Copy;
@@ -76,7 +79,8 @@ impl Child for ElemRow {
     }
 }
 
-/// The first row, which it takes off the list, or `None` if there is no row.
+/// The first row, which it takes off the list, or `None` if there is no row. Loops over the rows need `pop_front` with
+/// this contract.
 pub(crate) fn pop_row<T: Drop>(rows: &mut VecDeque<T>) -> Option<T>
     ensures some { IfSome result (λ row. rows.old.items ≡ row ∷ rows.new.items) }
     ensures none { IfNone result (rows.old.items ≡ []) }
@@ -150,8 +154,8 @@ fn with_ifs(ver: Ver, ifs: Vec<IfReq>) -> Ver
     }
 }
 
-// The `++VER` of the row with its `++IF`s, whose rows it takes off the front of `ifs`. Returns `BadRow` if their numbers
-// do not count from 1, and `Memory` if memory runs out.
+// The `++VER` of the row with its `++IF`s, whose rows it takes off the front of `ifs`. Returns `BadRow` if their
+// numbers do not count from 1, and `Memory` if memory runs out.
 fn fill_ver(alloc: Global, ifs: &mut VecDeque<IfRow>, id: Id, row: VerRow) -> Result<Ver, ReadError>
     ensures same { IfOk result (λ ver. ver ≡ record row.ver { ifs = ver.ifs }) }
     ensures taken { IfOk result (λ ver. HasIfs id row.ver.srel row.number 1 ifs.old.items ver.ifs ifs.new.items) }
@@ -166,16 +170,16 @@ fn fill_ver(alloc: Global, ifs: &mut VecDeque<IfRow>, id: Id, row: VerRow) -> Re
     Ok(with_ifs(row.ver, found))
 }
 
-// Whether the row has the next number after these `++VER`s, of which there are fewer than eight.
+// Whether a SYSMOD with these `++VER`s may have another one, and the row has the next number for its SREL.
 fn comes_next(vers: &[Ver], row: &VerRow) -> bool
     ensures { IsTrue result ↔ (length vers.now < 8) × (row.now.number ≡ number_behind vers.now row.now.ver) }
 {
-    vers.len() < 8 && row.number == number_after(vers, &row.ver) as u64
+    vers.len() < MOST_VERS && row.number == number_after(vers, &row.ver) as u64
 }
 
-/// The `++VER`s of a SYSMOD with their `++IF`s, whose rows it takes off the front of the lists. Returns `BadRow` if there
-/// are more than eight, if one has not the next number of its SREL, or if the numbers of its `++IF`s do not count from
-/// 1. Returns `Memory` if memory runs out.
+/// The `++VER`s of a SYSMOD with their `++IF`s, whose rows it takes off the front of the lists. Returns `BadRow` if
+/// there are more than `MOST_VERS`, if one does not have the next number of its SREL, or if the numbers of its `++IF`s
+/// do not count from 1. Returns `Memory` if memory runs out.
 pub(crate) fn take_vers(
     alloc: Global,
     rows: &mut VecDeque<VerRow>,

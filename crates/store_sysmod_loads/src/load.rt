@@ -10,7 +10,7 @@ ghost use Rattle.store_schema.specs.Inventory.{Inventory};
 ghost use Rattle.terms.specs.Types.{Sysmod as SysmodTerm};
 ghost use Rattle.store_sysmod_loads.specs.Flats.{AreFormed, AreRowsOf};
 
-use crate::rows_of::load_and_gather;
+use crate::rows_of::load_sysmods_by_rows;
 use sqlite::{Alter, Connection};
 use std::alloc::Global;
 use store_rows::ReadError;
@@ -33,13 +33,13 @@ pub fn load_sysmods<S: Alter>(
         → HasContents (schema_under schema) contents (state S.Store conn.old).now
         → IfOk result (λ sysmods. AreRowsOf schema sysmods.items contents) }
     ensures forms { IfOk result (λ sysmods. AreFormed schema sysmods.items) }
-    ensures none { HasCleanDisk (state S.Store conn.new) → IsErrOf result ReadError.BadRow → (contents : Contents)
+    ensures no_rows { HasCleanDisk (state S.Store conn.new) → IsErrOf result ReadError.BadRow → (contents : Contents)
         → HasContents (schema_under schema) contents (state S.Store conn.old).now
         → (sysmods : List SysmodTerm) → AreFormed schema sysmods → ¬ AreRowsOf schema sysmods contents }
-    ensures no_state { HasCleanDisk (state S.Store conn.new) → IsErrOf result ReadError.BadRow → (i : Inventory)
+    ensures none { HasCleanDisk (state S.Store conn.new) → IsErrOf result ReadError.BadRow → (i : Inventory)
         → ¬ StandsUnder schema i (state S.Store conn.old).now }
     ensures reads { OnlyReads S.Store (schema_under schema) ReadError.BadRow ReadError.Fault conn.old conn.new
         result }
 {
-    load_and_gather(alloc, conn, schema)
+    load_sysmods_by_rows(alloc, conn, schema)
 }

@@ -17,16 +17,16 @@ use std::alloc::{AllocError, Global};
 use store_rows::{FromRow, ReadError};
 use store_schema::{Query, Schema, load_query};
 use store_sysmods::{
-    IfRow, Ifs, Listed, MoreIfs, MoreVers, VerRow, Vers, load_sorted, sort_by_keys,
+    IfRow, Ifs, MoreIfs, MoreVers, VerRow, Vers, WholeTable, load_sorted, sort_by_keys,
 };
 
 /// A row of which each of two tables has some, with the same keys; the second table came with schema 3.
-pub(crate) trait InTwo: Drop {
+pub(crate) trait InTwoTables: Drop {
     ghost use Rattle.std.specs.Prelude.{◌≡◌};
     ghost use Rattle.store_schema.specs.declared.schema.Schema.{Schema as ARelease};
     ghost use Rattle.store_schema.specs.declared.schema.Schema.TheVariants.{Third};
 
-    type Firsts: FromRow<Item = Self> + Listed<Rows = Self::Firsts>;
+    type Firsts: FromRow<Item = Self> + WholeTable<Rows = Self::Firsts>;
 
     type Furthers: FromRow<Item = Self> + Query<Rows = Self::Furthers>;
 
@@ -37,7 +37,7 @@ pub(crate) trait InTwo: Drop {
     ghost third: { Self.Furthers.knows Third };
 }
 
-impl InTwo for VerRow {
+impl InTwoTables for VerRow {
     ghost use Rattle.std.specs.Prelude.{refl};
 
     type Firsts = Vers;
@@ -51,7 +51,7 @@ impl InTwo for VerRow {
     ghost third = { refl };
 }
 
-impl InTwo for IfRow {
+impl InTwoTables for IfRow {
     ghost use Rattle.std.specs.Prelude.{refl};
 
     type Firsts = Ifs;
@@ -66,7 +66,7 @@ impl InTwo for IfRow {
 }
 
 // The items of both lists as one list, sorted by their keys.
-fn merge_sorted<T: Listed>(
+fn merge_sorted<T: WholeTable>(
     mut items: Vec<<T::Rows as FromRow>::Item>,
     mut more: Vec<<T::Rows as FromRow>::Item>,
 ) -> Result<Vec<<T::Rows as FromRow>::Item>, AllocError>
@@ -80,7 +80,7 @@ fn merge_sorted<T: Listed>(
 
 // The items of both tables as one list, sorted by their keys. Returns `BadRow` if a row stands for no item, `Memory` if
 // memory runs out, and `Fault` if the disk fails or the tables are others.
-fn load_both_tables<S: Alter, T: InTwo>(
+fn load_both_tables<S: Alter, T: InTwoTables>(
     alloc: Global,
     conn: &mut Connection<S>,
 ) -> Result<Vec<T>, ReadError>
@@ -112,7 +112,7 @@ fn load_both_tables<S: Alter, T: InTwo>(
 /// The items of the first table and, under schema 3, of the second, sorted by their keys. Under an earlier schema each
 /// `++VER` is the first for its SREL. Returns `BadRow` if a row stands for no item, `Memory` if memory runs out, and
 /// `Fault` if the disk fails or the tables are others.
-pub(crate) fn load_firsts_and_furthers<S: Alter, T: InTwo>(
+pub(crate) fn load_firsts_and_furthers<S: Alter, T: InTwoTables>(
     alloc: Global,
     conn: &mut Connection<S>,
     schema: Schema,

@@ -87,7 +87,7 @@ pub(crate) fn gather_sysmods(alloc: Global, rows: FlatRows) -> Result<Vec<Sysmod
 
 /// The SYSMODs whose rows the tables of the schema hold. Returns `BadRow` if the rows stand for no SYSMODs, `Memory` if
 /// memory runs out, and `Fault` if the disk fails or the tables are others.
-pub(crate) fn load_and_gather<S: Alter>(
+pub(crate) fn load_sysmods_by_rows<S: Alter>(
     alloc: Global,
     conn: &mut Connection<S>,
     schema: Schema,

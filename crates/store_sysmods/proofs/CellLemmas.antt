@@ -16,7 +16,7 @@ use Rattle.terms.specs.Texts.{IsActionOf}
 use Rattle.terms.proofs.ListMembers.{none_in_nil}
 use Rattle.terms.proofs.Ids.{Contains_from_is_in}
 use Rattle.store_schema.specs.Forms.{AreSorted, AreOthers, HasActionForms}
-use Rattle.store_schema.specs.Rows.{ids, flag, records, action_cells}
+use Rattle.store_schema.specs.Rows.{joined, flag, records, action_cells}
 use Rattle.store_schema.proofs.OneState.{same_ids}
 use Rattle.terms.specs.Forms.{IsId}
 
@@ -37,8 +37,8 @@ ids_of_others x None forms = tt
 ids_of_others x (Some o) forms = forms.0
 
 -- the SYSMOD's own id is not among others
-pub own_id : (x : Id) (xs ys : List Id) (v : Value) → v ≡ ids xs → AreSorted IsId xs → is_in xs x ≡ true
-    → AreOthers x ys → v ≡ ids ys → ⊥
+pub own_id : (x : Id) (xs ys : List Id) (v : Value) → v ≡ joined xs → AreSorted IsId xs → is_in xs x ≡ true
+    → AreOthers x ys → v ≡ joined ys → ⊥
 own_id x xs ys v is listed there others same =
     let one : xs ≡ ys = same_ids xs ys listed others.listed (sym is ∙ same) in
     others.others (Contains_from_is_in ys x (ap (λ l. is_in l x) (sym one) ∙ there))

@@ -6,7 +6,7 @@ use Rattle.terms.specs.Forms.{IsId, IsSource}
 use Rattle.terms.specs.Spelling.{kind_text}
 use Rattle.terms.specs.Types.{Text}
 use Rattle.store_schema.specs.Forms.{AreSorted}
-use Rattle.store_schema.specs.Rows.{ids}
+use Rattle.store_schema.specs.Rows.{joined}
 use Rattle.store_schema.specs.declared.schema.Schema.{Schema}
 use Rattle.store_schema.specs.declared.schema.Schema.TheVariants.{First}
 use Rattle.store_sysmods.specs.declared.head.TheConstants.{SELECT, INSERT, INSERT_MANY, DELETE}
@@ -27,11 +27,11 @@ delete_sysmod = DELETE.now
 
 -- with its sources, as under schema 1
 abbrev pub row_of_head : HeadRow → Row
-row_of_head h = value.Text h.id ∷ value.Text (kind_text h.kind) ∷ ids h.sources ∷ []
+row_of_head h = value.Text h.id ∷ value.Text (kind_text h.kind) ∷ joined h.sources ∷ []
 
 -- without them
 abbrev pub row_of_bare : BareHead → Row
-row_of_bare h = value.Text h.id ∷ value.Text (kind_text h.kind) ∷ ids [] ∷ []
+row_of_bare h = value.Text h.id ∷ value.Text (kind_text h.kind) ∷ joined [] ∷ []
 
 -- the forms that a single row shows
 abbrev pub HasBareForms : BareHead → Type 0

@@ -5,7 +5,7 @@ ghost use Rattle.sqlite.specs.declared.types.Value.TheVariants.{Int, Text};
 ghost use Rattle.sqlite.specs.Order.{Row};
 ghost use Rattle.sqlite.specs.Values.{or_null};
 ghost use Rattle.store_schema.specs.Forms.{AreOthers};
-ghost use Rattle.store_schema.specs.Rows.{ids};
+ghost use Rattle.store_schema.specs.Rows.{joined};
 ghost use Rattle.terms.specs.Forms.{IsId};
 
 use fields::{Id, IdList};
@@ -19,9 +19,9 @@ pub(crate) fn read_other_ids(
     columns: &mut Columns<'_>,
     id: Id,
 ) -> Result<IdList, ReadError>
-    ensures read { IfOk result (λ list. (columns.old ≡ ids list ∷ columns.new) × AreOthers id list) }
+    ensures read { IfOk result (λ list. (columns.old ≡ joined list ∷ columns.new) × AreOthers id list) }
     ensures none { IsErrOf result ReadError.BadRow → (list : List (List ℕ)) (rest : Row) → AreOthers id list
-        → columns.old ≢ ids list ∷ rest }
+        → columns.old ≢ joined list ∷ rest }
     ensures fault { IsErrOf result ReadError.Fault → ⊥ }
 {
     let list = columns.ids(alloc)?;
@@ -38,9 +38,9 @@ pub(crate) fn read_requisites(
     columns: &mut Columns<'_>,
     id: Id,
 ) -> Result<IdList, ReadError>
-    ensures read { IfOk result (λ list. (columns.old ≡ ids list ∷ columns.new) × AreOthers id list × (list ≢ [])) }
+    ensures read { IfOk result (λ list. (columns.old ≡ joined list ∷ columns.new) × AreOthers id list × (list ≢ [])) }
     ensures none { IsErrOf result ReadError.BadRow → (list : List (List ℕ)) (rest : Row) → AreOthers id list
-        → list ≢ [] → columns.old ≢ ids list ∷ rest }
+        → list ≢ [] → columns.old ≢ joined list ∷ rest }
     ensures fault { IsErrOf result ReadError.Fault → ⊥ }
 {
     let list = read_other_ids(alloc, columns, id)?;

@@ -20,8 +20,8 @@ ghost use Rattle.store_sysmods.specs.Elems.{lines_of as lines_in};
 ghost use Rattle.store_sysmods.specs.Steps.{RunsCalls};
 ghost use Rattle.store_sysmods.specs.Sysmods.{sysmod_key};
 
-use crate::item_rows::Rows;
-use crate::listed::Listed;
+use crate::item_rows::ItemRows;
+use crate::listed::WholeTable;
 use fields::spelling::type_text;
 use fields::{Id, Name};
 use sqlite::{Alter, Error, Row, Transaction};
@@ -124,7 +124,7 @@ fn read_action(
     match (updates, distlib, syslib) {
         (false, Some(distlib), Some(syslib)) => {
             let lines = read_replacement(alloc, columns, elem_type)?;
-            columns.end()?;
+            columns.expect_end()?;
             Ok(Action::Replaces {
                 distlib,
                 syslib,
@@ -133,7 +133,7 @@ fn read_action(
         }
         (true, None, None) => {
             let update = read_update(alloc, columns, elem_type, name)?;
-            columns.end()?;
+            columns.expect_end()?;
             Ok(Action::Updates { update })
         }
         _ => Err(ReadError::BadRow),
@@ -186,12 +186,12 @@ impl Query for Elems {
 
     ghost knows = { λ r. ⊤ };
 
-    fn sql() -> &'static str {
+    fn select_sql() -> &'static str {
         SELECT
     }
 }
 
-impl Listed for Elems {
+impl WholeTable for Elems {
     ghost use Rattle.std.specs.Prelude.{refl};
 
     type Key = (Id, (ElemType, Name));
@@ -269,12 +269,12 @@ fn make_element_row<'a>(
 
 /// The rows of the SYSMOD's element statements.
 #[derive(Drop)]
-pub(crate) struct Changes {
+pub(crate) struct ElemsOf {
     pub alloc: Global,
     pub id: Id,
 }
 
-impl Rows for Changes {
+impl ItemRows for ElemsOf {
     ghost use Rattle.store_schema.specs.Rows.{elem_row};
     ghost use Rattle.store_sysmods.specs.Behind.{of_each};
 
@@ -282,7 +282,7 @@ impl Rows for Changes {
 
     ghost of_item = { λ of. of_each (elem_row of.id) };
 
-    fn push(
+    fn append_rows(
         &self,
         rows: &mut Vec<Cells>,
         _front: &[ElemChange],

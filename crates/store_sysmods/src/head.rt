@@ -8,7 +8,7 @@ ghost use Rattle.store_rows.specs.Calls.{RunsInside};
 ghost use Rattle.store_rows.specs.Inside.{Continues};
 ghost use Rattle.store_rows.specs.Rows.{Contents, HasContents, HaveNone, as_bound, in_table, without};
 ghost use Rattle.store_schema.specs.Forms.{AreSorted};
-ghost use Rattle.store_schema.specs.Rows.{ids, sysmod_row};
+ghost use Rattle.store_schema.specs.Rows.{joined, sysmod_row};
 ghost use Rattle.store_schema.specs.Tables.{sysmod as sysmod_table, store_schema};
 ghost use Rattle.terms.specs.Forms.{IsSource};
 ghost use Rattle.store_sysmods.specs.declared.head.HeadRow.{HeadRow as AHeadRow};
@@ -16,7 +16,7 @@ ghost use Rattle.store_sysmods.specs.declared.head.BareHead.{BareHead as ABareHe
 ghost use Rattle.store_sysmods.specs.Heads.{delete_sysmod, AreShort};
 ghost use Rattle.store_sysmods.specs.Sysmods.{sysmod_key, sysmod_children};
 
-use crate::listed::Listed;
+use crate::listed::WholeTable;
 use fields::spelling::kind_text;
 use fields::{Id, Source, SourceList};
 use sorted::Keyed;
@@ -38,6 +38,9 @@ pub(crate) const INSERT_MANY: &str = sysmod_columns!(insert_many_text);
 
 const DELETE: &str = "DELETE FROM sysmod WHERE id = ?1";
 
+// How many characters the name of a source has at most under schema 1.
+const MOST_CHARACTERS: usize = 8;
+
 // ---- as it is read
 
 /// A SYSMOD without its statements.
@@ -58,27 +61,27 @@ impl Keyed for HeadRow {
     }
 }
 
-// Whether the name of a source has at most 8 characters.
+// Whether the name of a source is one that schema 1 allows.
 fn is_short(name: Source) -> bool
     ensures { IsTrue result ↔ (length name ≤ 8) }
 {
-    name.as_bytes().len() <= 8
+    name.as_bytes().len() <= MOST_CHARACTERS
 }
 
-// Whether each name of a source has at most 8 characters.
+// Whether each name of a source is one that schema 1 allows.
 fn are_short(names: &[Source]) -> bool
     ensures { IsTrue result ↔ AreShort names.now }
 {
     names.iter().all(|name| is_short(*name))
 }
 
-// The sources in the next column, as schema 1 has them. Returns `BadRow` if a name has more than the 8 characters that
-// this schema allows.
+// The sources in the next column, as schema 1 has them. Returns `BadRow` if a name is longer than this
+// schema allows.
 fn read_short_sources(alloc: Global, columns: &mut Columns<'_>) -> Result<SourceList, ReadError>
-    ensures read { IfOk result (λ names. (columns.old ≡ ids names ∷ columns.new) × AreSorted IsSource names
+    ensures read { IfOk result (λ names. (columns.old ≡ joined names ∷ columns.new) × AreSorted IsSource names
         × AreShort names) }
     ensures none { IsErrOf result ReadError.BadRow → (names : List (List ℕ)) (rest : SqlRow)
-        → AreSorted IsSource names → AreShort names → columns.old ≢ ids names ∷ rest }
+        → AreSorted IsSource names → AreShort names → columns.old ≢ joined names ∷ rest }
     ensures fault { IsErrOf result ReadError.Fault → ⊥ }
 {
     let names = columns.sources(alloc)?;
@@ -110,7 +113,7 @@ impl FromRow for Heads {
         let id = columns.id()?;
         let kind = columns.kind()?;
         let sources = read_short_sources(alloc, &mut columns)?;
-        columns.end()?;
+        columns.expect_end()?;
         Ok(HeadRow { id, kind, sources })
     }
 }
@@ -129,12 +132,12 @@ impl Query for Heads {
 
     ghost knows = { λ r. ⊤ };
 
-    fn sql() -> &'static str {
+    fn select_sql() -> &'static str {
         SELECT
     }
 }
 
-impl Listed for Heads {
+impl WholeTable for Heads {
     ghost use Rattle.std.specs.Prelude.{refl};
 
     type Key = Id;
@@ -179,7 +182,7 @@ impl FromRow for BareHeads {
         if !columns.text()?.is_empty() {
             return Err(ReadError::BadRow);
         }
-        columns.end()?;
+        columns.expect_end()?;
         Ok(BareHead { id, kind })
     }
 }
@@ -198,12 +201,12 @@ impl Query for BareHeads {
 
     ghost knows = { λ r. ⊤ };
 
-    fn sql() -> &'static str {
+    fn select_sql() -> &'static str {
         SELECT
     }
 }
 
-impl Listed for BareHeads {
+impl WholeTable for BareHeads {
     ghost use Rattle.std.specs.Prelude.{refl};
 
     type Key = Id;

@@ -25,7 +25,7 @@ ghost use Rattle.terms.specs.Types as terms;
 ghost use Rattle.store_sysmods.specs.Holds.{hold_key, key_row, put_hold_calls, remove_hold_calls};
 
 use crate::hold_comment::is_comment;
-use crate::listed::{Listed, load_sorted};
+use crate::listed::{WholeTable, load_sorted};
 use fields::spelling::hold_text;
 use fields::{Id, Reason};
 use sqlite::{Alter, Connection, Error, Row, Transaction};
@@ -106,7 +106,7 @@ impl FromRow for HoldReader {
         let date = columns.optional()?;
         let comment = read_comment(alloc, &mut columns)?;
         let internal = columns.flag()?;
-        columns.end()?;
+        columns.expect_end()?;
         Ok(Hold {
             id,
             kind,
@@ -134,12 +134,12 @@ impl Query for HoldReader {
 
     ghost knows = { λ r. ⊤ };
 
-    fn sql() -> &'static str {
+    fn select_sql() -> &'static str {
         SELECT
     }
 }
 
-impl Listed for HoldReader {
+impl WholeTable for HoldReader {
     ghost use Rattle.std.specs.Prelude.{refl};
 
     type Key = (Id, (HoldKind, Reason));
@@ -156,17 +156,17 @@ impl Listed for HoldReader {
 /// All holds, by id, kind and reason. Returns `BadRow` if a row is not a hold, `Memory` if memory runs out, and `Fault`
 /// if the disk fails or the tables are others.
 pub fn load_holds<S: Alter>(alloc: Global, conn: &mut Connection<S>) -> Result<Vec<Hold>, ReadError>
-    ensures found { HasCleanDisk (state S.Store conn.new) → (r : Schema) (contents : Contents)
+    ensures rows { HasCleanDisk (state S.Store conn.new) → (r : Schema) (contents : Contents)
         → HasContents (schema_under r) contents (state S.Store conn.old).now
         → IfOk result (λ holds. IsPermutation (map hold_row holds.items) (contents hold_table.tree)) }
-    ensures ordered { HasCleanDisk (state S.Store conn.new) → (r : Schema) (i : Inventory)
+    ensures found { HasCleanDisk (state S.Store conn.new) → (r : Schema) (i : Inventory)
         → StandsUnder r i (state S.Store conn.old).now → IfOk result (λ holds. holds.items ≡ i.global.holds) }
     ensures forms { IfOk result (λ holds. AllByRecursion HasHoldForms holds.items) }
-    ensures none { HasCleanDisk (state S.Store conn.new) → IsErrOf result ReadError.BadRow → (r : Schema)
+    ensures no_rows { HasCleanDisk (state S.Store conn.new) → IsErrOf result ReadError.BadRow → (r : Schema)
         → (contents : Contents) → HasContents (schema_under r) contents (state S.Store conn.old).now
         → (holds : List terms.Hold) → AllByRecursion HasHoldForms holds
         → ¬ IsPermutation (map hold_row holds) (contents hold_table.tree) }
-    ensures no_state { HasCleanDisk (state S.Store conn.new) → IsErrOf result ReadError.BadRow → (r : Schema)
+    ensures none { HasCleanDisk (state S.Store conn.new) → IsErrOf result ReadError.BadRow → (r : Schema)
         → (i : Inventory) → ¬ StandsUnder r i (state S.Store conn.old).now }
     ensures reads { (r : Schema) → OnlyReads S.Store (schema_under r) ReadError.BadRow ReadError.Fault conn.old
         conn.new result }

@@ -8,7 +8,7 @@ ghost use Rattle.store_schema.specs.Forms.{IsComment, IsPaired};
 const LONGEST: usize = 200;
 
 // Whether there is a first character, and it is not a blank.
-fn begins_dark(text: &[u8]) -> bool
+fn begins_with_nonblank(text: &[u8]) -> bool
     ensures { IsTrue result ↔ BeginsDark text.now }
 {
     match text {
@@ -18,7 +18,7 @@ fn begins_dark(text: &[u8]) -> bool
 }
 
 // Whether there is a last character, and it is not a blank.
-fn ends_dark(text: &[u8]) -> bool
+fn ends_with_nonblank(text: &[u8]) -> bool
     ensures { IsTrue result ↔ BeginsDark (reverse text.now) }
 {
     match text {
@@ -61,8 +61,8 @@ pub(crate) fn is_comment(text: &[u8]) -> bool
     ensures { IsTrue result ↔ IsComment text.now }
 {
     text.len() <= LONGEST
-        && begins_dark(text)
-        && ends_dark(text)
+        && begins_with_nonblank(text)
+        && ends_with_nonblank(text)
         && is_printable(text)
         && is_paired(text)
 }

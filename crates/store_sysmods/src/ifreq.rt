@@ -11,8 +11,8 @@ ghost use Rattle.store_sysmods.specs.Steps.{RunsCalls};
 ghost use Rattle.store_sysmods.specs.Sysmods.{sysmod_key};
 
 use crate::cells::read_requisites;
-use crate::item_rows::{Rows, push_all};
-use crate::listed::Listed;
+use crate::item_rows::{ItemRows, append_all_rows};
+use crate::listed::WholeTable;
 use crate::numbers::number_after;
 use fields::{Id, Srel};
 use sqlite::{Alter, Error, Row, Transaction};
@@ -68,7 +68,7 @@ impl FromRow for Ifs {
         let number = columns.number()?;
         let function = columns.id()?;
         let req = read_requisites(alloc, &mut columns, id)?;
-        columns.end()?;
+        columns.expect_end()?;
         let ifreq = IfReq { function, req };
         Ok(IfRow {
             id,
@@ -94,12 +94,12 @@ impl Query for Ifs {
 
     ghost knows = { λ r. ⊤ };
 
-    fn sql() -> &'static str {
+    fn select_sql() -> &'static str {
         SELECT
     }
 }
 
-impl Listed for Ifs {
+impl WholeTable for Ifs {
     ghost use Rattle.std.specs.Prelude.{refl};
 
     type Key = (Id, (Srel, (u64, u64)));
@@ -115,36 +115,34 @@ impl Listed for Ifs {
 
 // ---- as it is written
 
-// The `++IF`'s row, with this text of its requisites.
+// The row of an `++IF` of the `++VER` that `ifs` names, with this text of its requisites.
 fn make_if_row<'a>(
-    alloc: Global,
-    id: &'a Id,
-    srel: &'a Srel,
+    ifs: &'a IfsOfFirstVer,
     number: usize,
     ifreq: &'a IfReq,
     req: &'a [u8],
 ) -> Result<Cells, AllocError>
     requires number { number < 2 ^ 63 }
     requires req { req.now ≡ join_with_byte 44 ifreq.now.req }
-    ensures { IfOk result (λ row. as_bound row ≡ ifreq_row id.now srel.now (number, ifreq.now)) }
+    ensures { IfOk result (λ row. as_bound row ≡ ifreq_row ifs.now.id ifs.now.srel (number, ifreq.now)) }
 {
-    let id = ValueRef::Text(id.as_bytes());
-    let srel = ValueRef::Text(srel.as_bytes());
+    let id = ValueRef::Text(ifs.id.as_bytes());
+    let srel = ValueRef::Text(ifs.srel.as_bytes());
     let number = ValueRef::Int(number as i64);
     let function = ValueRef::Text(ifreq.function.as_bytes());
     let req = ValueRef::Text(req);
-    row_of_values(alloc, &[id, srel, number, function, req])
+    row_of_values(ifs.alloc, &[id, srel, number, function, req])
 }
 
-/// The rows of the `++IF`s of a `++VER` for the SREL, which count from 1.
+/// The rows of the `++IF`s of the first `++VER` for the SREL. Their numbers count from 1.
 #[derive(Drop)]
-struct IfsOf {
+struct IfsOfFirstVer {
     alloc: Global,
     id: Id,
     srel: Srel,
 }
 
-impl Rows for IfsOf {
+impl ItemRows for IfsOfFirstVer {
     ghost use Rattle.store_schema.specs.Rows.{ifreq_row};
     ghost use Rattle.store_sysmods.specs.Behind.{of_counted};
 
@@ -152,22 +150,14 @@ impl Rows for IfsOf {
 
     ghost of_item = { λ of. of_counted (ifreq_row of.id of.srel) };
 
-    fn push(
+    fn append_rows(
         &self,
         rows: &mut Vec<Cells>,
         front: &[IfReq],
         ifreq: &IfReq,
     ) -> Result<(), AllocError> {
         let req = joined_ids(self.alloc, ifreq.req.as_slice())?;
-        let number = front.len() + 1;
-        rows.push(make_if_row(
-            self.alloc,
-            &self.id,
-            &self.srel,
-            number,
-            ifreq,
-            req.as_slice(),
-        )?)?;
+        rows.push(make_if_row(self, front.len() + 1, ifreq, req.as_slice())?)?;
         Ok(())
     }
 }
@@ -179,7 +169,7 @@ pub(crate) struct FirstIfs {
     pub id: Id,
 }
 
-impl Rows for FirstIfs {
+impl ItemRows for FirstIfs {
     ghost use Rattle.store_sysmods.specs.Behind.{of_numbered};
     ghost use Rattle.store_sysmods.specs.Ifs.{first_ifs};
 
@@ -187,16 +177,21 @@ impl Rows for FirstIfs {
 
     ghost of_item = { λ of. of_numbered (first_ifs of.id) };
 
-    fn push(&self, rows: &mut Vec<Cells>, front: &[Ver], ver: &Ver) -> Result<(), AllocError> {
+    fn append_rows(
+        &self,
+        rows: &mut Vec<Cells>,
+        front: &[Ver],
+        ver: &Ver,
+    ) -> Result<(), AllocError> {
         if number_after(front, ver) != 1 {
             return Ok(());
         }
-        let ifs = IfsOf {
+        let ifs = IfsOfFirstVer {
             alloc: self.alloc,
             id: self.id,
             srel: ver.srel,
         };
-        push_all(rows, &ifs, ver.ifs.as_slice())
+        append_all_rows(rows, &ifs, ver.ifs.as_slice())
     }
 }
 

@@ -8,7 +8,7 @@ use sqlite_value::row::Row as Cells;
 use std::alloc::AllocError;
 
 /// The rows of one table for an item that follows others of its list.
-pub(crate) trait Rows {
+pub(crate) trait ItemRows {
     ghost use Rattle.std.specs.Prelude.{◌≡◌, ◌+◌, ◌<◌, ◌^◌, ◌++◌, List, length, map, OnOk};
     ghost use Rattle.sqlite.specs.Order.{Row};
     ghost use Rattle.store_rows.specs.Rows.{as_bound};
@@ -18,7 +18,7 @@ pub(crate) trait Rows {
     ghost of_item: { Self → List Self.Item → Self.Item → List Row };
 
     /// Adds the rows of the item.
-    fn push(
+    fn append_rows(
         &self,
         rows: &mut Vec<Cells>,
         front: &[Self::Item],
@@ -30,17 +30,17 @@ pub(crate) trait Rows {
 }
 
 /// Adds the rows of each item, in order.
-pub(crate) fn push_all<R: Rows>(
+pub(crate) fn append_all_rows<R: ItemRows>(
     rows: &mut Vec<Cells>,
-    kind: &R,
+    item_rows: &R,
     items: &[R::Item],
 ) -> Result<(), AllocError>
     requires { length items.now < 2 ^ 63 }
     ensures { OnOk result (map as_bound rows.new.items
-        ≡ map as_bound rows.old.items ++ rows_behind (R.of_item kind.now) [] items.now) }
+        ≡ map as_bound rows.old.items ++ rows_behind (R.of_item item_rows.now) [] items.now) }
 {
     for (index, item) in items.iter().enumerate() {
-        kind.push(rows, &items[..index], item)?;
+        item_rows.append_rows(rows, &items[..index], item)?;
     }
     Ok(())
 }

@@ -26,7 +26,7 @@ pub use elem::{ElemRow, Elems};
 pub use head::{BareHead, BareHeads, HeadRow, Heads};
 pub use hold::{load_holds, put_hold, remove_hold};
 pub use ifreq::{IfRow, Ifs};
-pub use listed::{Listed, load_sorted, sort_by_keys};
+pub use listed::{WholeTable, load_sorted, sort_by_keys};
 pub use moreif::MoreIfs;
 pub use morever::MoreVers;
 pub use numbers::number_after;

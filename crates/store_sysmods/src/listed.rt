@@ -16,7 +16,7 @@ use store_rows::{FromRow, ReadError};
 use store_schema::{Query, load_query};
 
 /// A query for a whole table, whose rows have different keys.
-pub trait Listed: Query {
+pub trait WholeTable: Query {
     ghost use Rattle.std.specs.Prelude.{◌≡◌};
 
     type Key: Ord + Copy;
@@ -31,7 +31,7 @@ pub trait Listed: Query {
 }
 
 /// The items, sorted by their keys.
-pub fn sort_by_keys<T: Listed>(
+pub fn sort_by_keys<T: WholeTable>(
     mut items: Vec<<T::Rows as FromRow>::Item>,
 ) -> Vec<<T::Rows as FromRow>::Item>
     ensures same { IsPermutation items.items result.items }
@@ -44,7 +44,7 @@ pub fn sort_by_keys<T: Listed>(
 
 /// The items of the table's rows, sorted by their keys. Returns `BadRow` if a row stands for no item, `Memory` if
 /// memory runs out, and `Fault` if the disk fails or the tables are others.
-pub fn load_sorted<S: Alter, T: Listed>(
+pub fn load_sorted<S: Alter, T: WholeTable>(
     alloc: Global,
     conn: &mut Connection<S>,
 ) -> Result<Vec<<T::Rows as FromRow>::Item>, ReadError>

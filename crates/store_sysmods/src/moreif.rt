@@ -12,7 +12,7 @@ ghost use Rattle.store_sysmods.specs.Sysmods.{sysmod_key};
 
 use crate::cells::{read_further_number, read_requisites};
 use crate::ifreq::IfRow;
-use crate::item_rows::{Rows, push_all};
+use crate::item_rows::{ItemRows, append_all_rows};
 use crate::numbers::number_after;
 use fields::{Id, Srel};
 use sqlite::{Alter, Error, Row, Transaction};
@@ -59,7 +59,7 @@ impl FromRow for MoreIfs {
         let number = columns.number()?;
         let function = columns.id()?;
         let req = read_requisites(alloc, &mut columns, id)?;
-        columns.end()?;
+        columns.expect_end()?;
         let ifreq = IfReq { function, req };
         Ok(IfRow {
             id,
@@ -86,7 +86,7 @@ impl Query for MoreIfs {
 
     ghost knows = { λ r. r ≡ Third };
 
-    fn sql() -> &'static str {
+    fn select_sql() -> &'static str {
         SELECT
     }
 }
@@ -95,7 +95,7 @@ impl Query for MoreIfs {
 
 // The row of an `++IF` of the `++VER` at the place that `ifs` names, with this text of its requisites.
 fn make_further_if_row<'a>(
-    ifs: &'a FurtherIfsOf,
+    ifs: &'a IfsOfFurtherVer,
     number: usize,
     ifreq: &'a IfReq,
     req: &'a [u8],
@@ -113,9 +113,9 @@ fn make_further_if_row<'a>(
     row_of_values(ifs.alloc, &[id, srel, place, number, function, req])
 }
 
-/// The rows of the `++IF`s of the `++VER` of the place, which count from 1.
+/// The rows of the `++IF`s of the `++VER` at this place among those for the SREL. Their numbers count from 1.
 #[derive(Drop)]
-struct FurtherIfsOf {
+struct IfsOfFurtherVer {
     alloc: Global,
     id: Id,
     srel: Srel,
@@ -123,7 +123,7 @@ struct FurtherIfsOf {
     ghost small: { place < 2 ^ 63 },
 }
 
-impl Rows for FurtherIfsOf {
+impl ItemRows for IfsOfFurtherVer {
     ghost use Rattle.store_schema.specs.Rows.{moreif_row};
     ghost use Rattle.store_sysmods.specs.Behind.{of_counted};
 
@@ -131,7 +131,7 @@ impl Rows for FurtherIfsOf {
 
     ghost of_item = { λ of. of_counted (moreif_row of.id of.srel of.place) };
 
-    fn push(
+    fn append_rows(
         &self,
         rows: &mut Vec<Cells>,
         front: &[IfReq],
@@ -150,7 +150,7 @@ pub(crate) struct FurtherIfs {
     pub id: Id,
 }
 
-impl Rows for FurtherIfs {
+impl ItemRows for FurtherIfs {
     ghost use Rattle.store_sysmods.specs.Behind.{of_numbered};
     ghost use Rattle.store_sysmods.specs.MoreIfs.{further_ifs};
 
@@ -158,18 +158,23 @@ impl Rows for FurtherIfs {
 
     ghost of_item = { λ of. of_numbered (further_ifs of.id) };
 
-    fn push(&self, rows: &mut Vec<Cells>, front: &[Ver], ver: &Ver) -> Result<(), AllocError> {
+    fn append_rows(
+        &self,
+        rows: &mut Vec<Cells>,
+        front: &[Ver],
+        ver: &Ver,
+    ) -> Result<(), AllocError> {
         let place = number_after(front, ver);
         if place == 1 {
             return Ok(());
         }
-        let ifs = FurtherIfsOf {
+        let ifs = IfsOfFurtherVer {
             alloc: self.alloc,
             id: self.id,
             srel: ver.srel,
             place,
         };
-        push_all(rows, &ifs, ver.ifs.as_slice())
+        append_all_rows(rows, &ifs, ver.ifs.as_slice())
     }
 }
 

@@ -11,7 +11,7 @@ ghost use Rattle.store_sysmods.specs.Sysmods.{sysmod_key};
 ghost use Rattle.store_sysmods.specs.Vers.{AreVerTexts};
 
 use crate::cells::{read_further_number, read_other_id, read_other_ids};
-use crate::item_rows::Rows;
+use crate::item_rows::ItemRows;
 use crate::numbers::number_after;
 use crate::ver::{VerRow, VerTexts, join_ver_lists};
 use fields::{Id, IdList};
@@ -60,7 +60,7 @@ impl FromRow for MoreVers {
         let pre = read_other_ids(alloc, &mut columns, id)?;
         let req = read_other_ids(alloc, &mut columns, id)?;
         let sup = read_other_ids(alloc, &mut columns, id)?;
-        columns.end()?;
+        columns.expect_end()?;
         let npre = IdList::new(alloc);
         let del = IdList::new(alloc);
         let ifs = Vec::new(alloc);
@@ -93,7 +93,7 @@ impl Query for MoreVers {
 
     ghost knows = { λ r. r ≡ Third };
 
-    fn sql() -> &'static str {
+    fn select_sql() -> &'static str {
         SELECT
     }
 }
@@ -129,7 +129,7 @@ pub(crate) struct FurtherVers {
     pub id: Id,
 }
 
-impl Rows for FurtherVers {
+impl ItemRows for FurtherVers {
     ghost use Rattle.store_sysmods.specs.Behind.{of_numbered};
     ghost use Rattle.store_sysmods.specs.MoreVers.{further_row};
 
@@ -137,7 +137,12 @@ impl Rows for FurtherVers {
 
     ghost of_item = { λ of. of_numbered (further_row of.id) };
 
-    fn push(&self, rows: &mut Vec<Cells>, front: &[Ver], ver: &Ver) -> Result<(), AllocError> {
+    fn append_rows(
+        &self,
+        rows: &mut Vec<Cells>,
+        front: &[Ver],
+        ver: &Ver,
+    ) -> Result<(), AllocError> {
         let number = number_after(front, ver);
         if number == 1 {
             return Ok(());

@@ -8,7 +8,7 @@ use fields::Srel;
 use sysmods_values::Ver;
 
 // How many of these `++VER`s are for the SREL.
-fn count_of(vers: &[Ver], srel: Srel) -> usize
+fn count_for_srel(vers: &[Ver], srel: Srel) -> usize
     ensures same { result ≡ length (filter (λ ver. bytes_eq ver.srel srel) vers.now) }
     ensures most { result ≤ length vers.now }
 {
@@ -20,5 +20,5 @@ pub fn number_after(front: &[Ver], ver: &Ver) -> usize
     ensures same { result ≡ number_behind front.now ver.now }
     ensures most { result ≤ length front.now + 1 }
 {
-    count_of(front, ver.srel) + 1
+    count_for_srel(front, ver.srel) + 1
 }

@@ -9,8 +9,8 @@ ghost use Rattle.store_sysmods.specs.Sources.{insert_source as into_source, dele
 ghost use Rattle.store_sysmods.specs.Steps.{RunsCalls};
 ghost use Rattle.store_sysmods.specs.Sysmods.{sysmod_key};
 
-use crate::item_rows::Rows;
-use crate::listed::Listed;
+use crate::item_rows::ItemRows;
+use crate::listed::WholeTable;
 use fields::{Id, Source};
 use sqlite::{Alter, Error, Row, Transaction};
 use sqlite_value::row::Row as Cells;
@@ -58,7 +58,7 @@ impl FromRow for Sources {
         let mut columns = Columns::new(row);
         let id = columns.id()?;
         let name = columns.source()?;
-        columns.end()?;
+        columns.expect_end()?;
         Ok(SourceRow { id, name })
     }
 }
@@ -78,12 +78,12 @@ impl Query for Sources {
 
     ghost knows = { λ r. r ≢ First };
 
-    fn sql() -> &'static str {
+    fn select_sql() -> &'static str {
         SELECT
     }
 }
 
-impl Listed for Sources {
+impl WholeTable for Sources {
     ghost use Rattle.std.specs.Prelude.{refl};
 
     type Key = (Id, Source);
@@ -130,7 +130,7 @@ pub(crate) struct SourcesOf {
     pub id: Id,
 }
 
-impl Rows for SourcesOf {
+impl ItemRows for SourcesOf {
     ghost use Rattle.store_schema.specs.Rows.{source_row};
     ghost use Rattle.store_sysmods.specs.Behind.{of_each};
 
@@ -138,7 +138,7 @@ impl Rows for SourcesOf {
 
     ghost of_item = { λ of. of_each (source_row of.id) };
 
-    fn push(
+    fn append_rows(
         &self,
         rows: &mut Vec<Cells>,
         _front: &[Source],

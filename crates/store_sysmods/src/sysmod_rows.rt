@@ -10,9 +10,9 @@ ghost use Rattle.store_sysmods.specs.Calls.{insert_sysmods_calls, remove_sysmod_
 ghost use Rattle.store_sysmods.specs.Sysmods.{AddsSysmods, AreWaitingRows, ReplacesSources, RemovesSysmod, sourced};
 ghost use Rattle.store_sysmods.specs.Sysmods.{with_source_rows, with_sysmods_rows, without_sysmod_rows};
 
-use crate::elem::Changes;
+use crate::elem::ElemsOf;
 use crate::ifreq::FirstIfs;
-use crate::item_rows::push_all;
+use crate::item_rows::append_all_rows;
 use crate::moreif::FurtherIfs;
 use crate::morever::FurtherVers;
 use crate::source::SourcesOf;
@@ -74,16 +74,16 @@ impl SysmodRows {
         let id = sysmod.id;
         let vers = sysmod.vers.as_slice();
         self.sysmods.push(head::make_head_row(alloc, sysmod)?)?;
-        push_all(&mut self.sources, &SourcesOf { alloc, id }, sources)?;
-        push_all(&mut self.vers, &FirstVers { alloc, id }, vers)?;
-        push_all(&mut self.ifreqs, &FirstIfs { alloc, id }, vers)?;
-        push_all(
+        append_all_rows(&mut self.sources, &SourcesOf { alloc, id }, sources)?;
+        append_all_rows(&mut self.vers, &FirstVers { alloc, id }, vers)?;
+        append_all_rows(&mut self.ifreqs, &FirstIfs { alloc, id }, vers)?;
+        append_all_rows(
             &mut self.elems,
-            &Changes { alloc, id },
+            &ElemsOf { alloc, id },
             sysmod.changes.as_slice(),
         )?;
-        push_all(&mut self.morevers, &FurtherVers { alloc, id }, vers)?;
-        push_all(&mut self.moreifs, &FurtherIfs { alloc, id }, vers)
+        append_all_rows(&mut self.morevers, &FurtherVers { alloc, id }, vers)?;
+        append_all_rows(&mut self.moreifs, &FurtherIfs { alloc, id }, vers)
     }
 }
 
@@ -134,7 +134,7 @@ pub fn replace_sources<S: Alter>(
 {
     let id = sysmod.id;
     let mut rows = Vec::new(alloc);
-    push_all(
+    append_all_rows(
         &mut rows,
         &SourcesOf { alloc, id },
         sysmod.sources.as_slice(),

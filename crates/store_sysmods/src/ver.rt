@@ -10,8 +10,8 @@ ghost use Rattle.store_sysmods.specs.Sysmods.{sysmod_key};
 ghost use Rattle.store_sysmods.specs.Vers.{delete_vers, AreVerTexts};
 
 use crate::cells::{read_other_id, read_other_ids};
-use crate::item_rows::Rows;
-use crate::listed::Listed;
+use crate::item_rows::ItemRows;
+use crate::listed::WholeTable;
 use crate::numbers::number_after;
 use fields::{Id, Srel};
 use sqlite::{Alter, Error, Row, Transaction};
@@ -68,7 +68,7 @@ impl FromRow for Vers {
         let sup = read_other_ids(alloc, &mut columns, id)?;
         let npre = read_other_ids(alloc, &mut columns, id)?;
         let del = read_other_ids(alloc, &mut columns, id)?;
-        columns.end()?;
+        columns.expect_end()?;
         let ifs = Vec::new(alloc);
         let ver = Ver {
             srel,
@@ -98,12 +98,12 @@ impl Query for Vers {
 
     ghost knows = { λ r. ⊤ };
 
-    fn sql() -> &'static str {
+    fn select_sql() -> &'static str {
         SELECT
     }
 }
 
-impl Listed for Vers {
+impl WholeTable for Vers {
     ghost use Rattle.std.specs.Prelude.{refl};
 
     type Key = (Id, (Srel, u64));
@@ -165,7 +165,7 @@ pub(crate) struct FirstVers {
     pub id: Id,
 }
 
-impl Rows for FirstVers {
+impl ItemRows for FirstVers {
     ghost use Rattle.store_sysmods.specs.Behind.{of_numbered};
     ghost use Rattle.store_sysmods.specs.Vers.{first_row};
 
@@ -173,7 +173,12 @@ impl Rows for FirstVers {
 
     ghost of_item = { λ of. of_numbered (first_row of.id) };
 
-    fn push(&self, rows: &mut Vec<Cells>, front: &[Ver], ver: &Ver) -> Result<(), AllocError> {
+    fn append_rows(
+        &self,
+        rows: &mut Vec<Cells>,
+        front: &[Ver],
+        ver: &Ver,
+    ) -> Result<(), AllocError> {
         if number_after(front, ver) != 1 {
             return Ok(());
         }

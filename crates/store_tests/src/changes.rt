@@ -7,8 +7,8 @@ use std::alloc::Global;
 use std::test::Fail;
 use store::{Change, Store};
 use store_play::{
-    all_lines, commit, commit_edits, commit_zone, compare, doubled, known_with, lines, loaded,
-    opened, run, run_all, zone_name,
+    all_lines, commit_edits, commit_zone, compare, known_rows_with, load_zone, open_store,
+    query_lines, run, run_all, run_doubling, zone_name,
 };
 use store_schema::StoreError;
 use sysmods::GlobalEdit;
@@ -60,9 +60,9 @@ const LEFT: &str =
 
 // The rows that are left of the known ones.
 fn left<S: Alter + Drop>(alloc: Global, known: Connection<S>) -> Result<String, Fail> {
-    let mut store = opened(alloc, known)?;
+    let mut store = open_store(alloc, known)?;
     commit_all(alloc, &mut store)?;
-    lines(alloc, &mut store.close(), LEFT)
+    query_lines(alloc, &mut store.close(), LEFT)
 }
 
 const LEFT_LINES: &str =
@@ -73,7 +73,7 @@ const LEFT_LINES: &str =
 
 #[test]
 fn rows_go_and_are_replaced(rt: HostRuntime) -> Result<(), Fail> {
-    let got = left(rt.alloc(), known_with(rt.alloc(), &[])?)?;
+    let got = left(rt.alloc(), known_rows_with(rt.alloc(), &[])?)?;
     compare("what is left", got.as_str(), LEFT_LINES)
 }
 
@@ -82,14 +82,14 @@ fn told_of_no_zone<S: Alter>(
     alloc: Global,
     store: &mut Store<S>,
 ) -> Result<Result<(), StoreError>, Fail> {
-    let zone = loaded(store, zone_name(b"TGT1")?)?;
+    let zone = load_zone(store, zone_name(b"TGT1")?)?;
     let delta = ZoneDelta::from_edits(alloc, edits_of(alloc, &zone)?, &zone)?;
     Ok(store.commit(&Change::Zone(zone_name(b"TGT9")?, delta)))
 }
 
 #[test]
 fn a_zone_that_is_not_there_takes_no_entries(rt: HostRuntime) -> Result<(), Fail> {
-    let mut store = opened(rt.alloc(), known_with(rt.alloc(), &[])?)?;
+    let mut store = open_store(rt.alloc(), known_rows_with(rt.alloc(), &[])?)?;
     let told = told_of_no_zone(rt.alloc(), &mut store)?;
     assert_eq!(rt; told, Err(StoreError::Fault));
     Ok(())
@@ -112,7 +112,7 @@ const AGAIN: &[&str] = &[
 fn add_many<S: Alter>(conn: &mut Connection<S>) -> Result<(), Fail> {
     conn.execute_batch(FIRST)?;
     for sql in AGAIN {
-        doubled(conn, sql, 10)?;
+        run_doubling(conn, sql, 10)?;
     }
     Ok(())
 }
@@ -144,20 +144,20 @@ const CHANGED: &str = "SELECT zone||' '||id||' '||date FROM entry WHERE id = 'U1
 fn with_entry<S: Alter + Drop>(alloc: Global, conn: Connection<S>) -> Result<Connection<S>, Fail> {
     let applied = Applied::on(YyDdd::read(b"24.139").ok_or("no date")?);
     let edits = put_applied(alloc, id(b"U100500")?, Some(applied))?;
-    let mut store = opened(alloc, conn)?;
+    let mut store = open_store(alloc, conn)?;
     commit_zone(alloc, &mut store, zone_name(b"DLB1")?, edits)?;
     Ok(store.close())
 }
 
 #[test]
 fn other_rows_stay(rt: HostRuntime) -> Result<(), Fail> {
-    let mut conn = known_with(rt.alloc(), &[])?;
+    let mut conn = known_rows_with(rt.alloc(), &[])?;
     add_many(&mut conn)?;
-    let before = lines(rt.alloc(), &mut conn, OTHERS)?;
+    let before = query_lines(rt.alloc(), &mut conn, OTHERS)?;
     let mut conn = with_entry(rt.alloc(), conn)?;
-    let others = lines(rt.alloc(), &mut conn, OTHERS)?;
+    let others = query_lines(rt.alloc(), &mut conn, OTHERS)?;
     compare("other rows", others.as_str(), before.as_str())?;
-    let changed = lines(rt.alloc(), &mut conn, CHANGED)?;
+    let changed = query_lines(rt.alloc(), &mut conn, CHANGED)?;
     compare("the row", changed.as_str(), "DLB1 U100500 24.139\n")
 }
 
@@ -188,7 +188,7 @@ fn commit_number<S: Alter>(
 
 // The number of the entry that is loaded, if there is one.
 fn number_loaded<S: Alter>(store: &mut Store<S>) -> Result<Option<usize>, Fail> {
-    let zone = loaded(store, zone_name(b"DLB1")?)?;
+    let zone = load_zone(store, zone_name(b"DLB1")?)?;
     let Some(applied) = zone.applied(id(b"HAA1100")?) else {
         return Ok(None);
     };
@@ -214,9 +214,9 @@ fn numbers_after(
     alloc: Global,
     numbers: &[Option<usize>],
 ) -> Result<(String, Option<usize>), Fail> {
-    let mut store = opened(alloc, known_with(alloc, &[])?)?;
+    let mut store = open_store(alloc, known_rows_with(alloc, &[])?)?;
     let loaded = number_after(alloc, &mut store, numbers)?;
-    Ok((lines(alloc, &mut store.close(), NUMBERS)?, loaded))
+    Ok((query_lines(alloc, &mut store.close(), NUMBERS)?, loaded))
 }
 
 /// Numbers of the entry, which has 1, put one after the other or taken out, the rows that they leave, and what is
@@ -274,24 +274,24 @@ const WRITTEN: &[&str] = &[
 
 fn commit_two<S: Alter>(alloc: Global, store: &mut Store<S>, zone: &Zone) -> Result<(), Fail> {
     let delta = ZoneDelta::from_edits(alloc, removals(alloc)?, zone)?;
-    commit(store, &Change::Zone(zone_name(b"TGT1")?, delta))?;
+    store.commit(&Change::Zone(zone_name(b"TGT1")?, delta))?;
     commit_edits(alloc, store, new_sources(alloc)?)
 }
 
 // All rows once one is bad and both are committed. The zone is as it was before.
 fn rows_committed(alloc: Global, bad: &str) -> Result<String, Fail> {
-    let mut store = opened(alloc, known_with(alloc, &[])?)?;
-    let zone = loaded(&mut store, zone_name(b"TGT1")?)?;
+    let mut store = open_store(alloc, known_rows_with(alloc, &[])?)?;
+    let zone = load_zone(&mut store, zone_name(b"TGT1")?)?;
     let mut conn = store.close();
     run(&mut conn, bad, &[])?;
-    let mut store = opened(alloc, conn)?;
+    let mut store = open_store(alloc, conn)?;
     commit_two(alloc, &mut store, &zone)?;
     all_lines(alloc, &mut store.close())
 }
 
 // All rows once one is bad and these statements are run.
 fn rows_written(alloc: Global, bad: &str) -> Result<String, Fail> {
-    let mut conn = known_with(alloc, &[bad])?;
+    let mut conn = known_rows_with(alloc, &[bad])?;
     run_all(&mut conn, WRITTEN)?;
     all_lines(alloc, &mut conn)
 }

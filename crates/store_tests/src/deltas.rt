@@ -6,7 +6,7 @@ use sqlite::{Connection, MemStore};
 use std::alloc::Global;
 use std::test::Fail;
 use store::{Change, Store};
-use store_play::{CHOSEN, commit, compare, known_with, lines, loaded, opened, zone_name};
+use store_play::{CHOSEN, compare, known_rows_with, load_zone, open_store, query_lines, zone_name};
 use terms::ElemType;
 use zones_maps::{
     Applied, Element, Entry, Zone, ZoneDelta, ZoneEdits, are_same_elements, is_same_entry,
@@ -89,15 +89,15 @@ const TGT1_LINES: &str = "AAA0001 - 1\nHAA1000 - 1\nHAA1100 24.140 2\nMAC1 UAA00
 
 // Commits the edits, and what they leave when they are applied beside the zone.
 fn committed(alloc: Global, store: &mut Store<MemStore>) -> Result<Zone, Fail> {
-    let zone = loaded(store, zone_name(b"TGT1")?)?;
+    let zone = load_zone(store, zone_name(b"TGT1")?)?;
     let delta = ZoneDelta::from_edits(alloc, edits(alloc, &zone)?, &zone)?;
     let applied = delta.apply(alloc, &zone)?;
-    commit(store, &Change::Zone(zone_name(b"TGT1")?, delta))?;
+    store.commit(&Change::Zone(zone_name(b"TGT1")?, delta))?;
     Ok(applied)
 }
 
 fn store(alloc: Global) -> Result<Store<MemStore>, Fail> {
-    opened(alloc, known_with(alloc, CHOSEN)?)
+    open_store(alloc, known_rows_with(alloc, CHOSEN)?)
 }
 
 // The connection once the edits are committed.
@@ -109,7 +109,7 @@ fn edited(alloc: Global) -> Result<Connection<MemStore>, Fail> {
 
 #[test]
 fn a_delta_writes_its_rows(rt: HostRuntime) -> Result<(), Fail> {
-    let rows = lines(rt.alloc(), &mut edited(rt.alloc())?, TGT1)?;
+    let rows = query_lines(rt.alloc(), &mut edited(rt.alloc())?, TGT1)?;
     compare("the rows of TGT1", rows.as_str(), TGT1_LINES)
 }
 
@@ -128,7 +128,7 @@ fn have_same_elements(a: &[Element], b: &[Element]) -> bool {
 fn an_applied_delta_gives_the_zone_that_is_loaded(rt: HostRuntime) -> Result<(), Fail> {
     let mut store = store(rt.alloc())?;
     let applied = committed(rt.alloc(), &mut store)?;
-    let zone = loaded(&mut store, zone_name(b"TGT1")?)?;
+    let zone = load_zone(&mut store, zone_name(b"TGT1")?)?;
     assert_eq!(rt; (zone.entries().len(), zone.elements().len()), (4, 8));
     assert!(rt; have_same_entries(applied.entries(), zone.entries()));
     assert!(rt; have_same_elements(applied.elements(), zone.elements()));

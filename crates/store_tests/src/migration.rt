@@ -8,8 +8,8 @@ use std::alloc::Global;
 use std::test::Fail;
 use store_migration::migrate;
 use store_play::{
-    SOURCES, again, all_lines, close, compare, fill_first, first_difference, in_memory, known_with,
-    lines, new_files, run_all,
+    SOURCES, all_lines, close, compare, fill_without_sources, first_difference, in_memory,
+    known_rows_with, new_files, query_lines, reopen, run_all,
 };
 use store_schema::StoreError;
 
@@ -54,7 +54,7 @@ fn earlier<S: Alter + Drop>(
     for sql in tables {
         conn.execute_batch(sql)?;
     }
-    fill_first(alloc, &mut conn)?;
+    fill_without_sources(alloc, &mut conn)?;
     run_all(&mut conn, sources)?;
     Ok(conn)
 }
@@ -89,7 +89,7 @@ fn rows_taken<S: Alter + Drop>(alloc: Global, conn: Connection<S>) -> Result<Str
 
 // All rows that the store itself writes.
 fn own_rows(alloc: Global) -> Result<String, Fail> {
-    let mut conn = known_with(alloc, &[])?;
+    let mut conn = known_rows_with(alloc, &[])?;
     all_lines(alloc, &mut conn)
 }
 
@@ -109,7 +109,7 @@ fn earlier_rows_become_the_stores_own(rt: HostRuntime) -> Result<(), Fail> {
     check_taken(alloc, "schema 1", first(alloc, in_memory(alloc)?)?)?;
     let second = earlier(alloc, in_memory(alloc)?, &[FIRST, SECOND], SOURCES)?;
     check_taken(alloc, "schema 2", second)?;
-    check_taken(alloc, "schema 3", known_with(alloc, &[])?)
+    check_taken(alloc, "schema 3", known_rows_with(alloc, &[])?)
 }
 
 #[test]
@@ -121,10 +121,10 @@ fn a_blank_database_gets_tables(rt: HostRuntime) -> Result<(), Fail> {
 #[test]
 fn files_are_closed_and_opened_between(rt: HostRuntime) -> Result<(), Fail> {
     let alloc = rt.alloc();
-    let earlier = again(alloc, first(alloc, new_files(alloc)?)?)?;
+    let earlier = reopen(alloc, first(alloc, new_files(alloc)?)?)?;
     let (conn, fault) = migrated(alloc, earlier)?;
     assert_eq!(rt; fault, None);
-    check_taken(alloc, "migrated twice", again(alloc, conn)?)
+    check_taken(alloc, "migrated twice", reopen(alloc, conn)?)
 }
 
 /// Edits of a database of schema 1 after which its rows stand for no state, in whichever zone they are.
@@ -160,9 +160,9 @@ const LEFT: &str =
 fn told_of(alloc: Global, sql: &str) -> Result<(Option<StoreError>, bool), Fail> {
     let mut conn = first(alloc, in_memory(alloc)?)?;
     conn.execute_batch(sql)?;
-    let before = lines(alloc, &mut conn, LEFT)?;
+    let before = query_lines(alloc, &mut conn, LEFT)?;
     let (mut conn, fault) = migrated(alloc, conn)?;
-    let after = lines(alloc, &mut conn, LEFT)?;
+    let after = query_lines(alloc, &mut conn, LEFT)?;
     Ok((fault, before.as_str() == after.as_str()))
 }
 

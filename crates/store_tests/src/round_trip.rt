@@ -8,8 +8,8 @@ use std::alloc::Global;
 use std::test::Fail;
 use store::{Change, Store};
 use store_play::{
-    CHOSEN, FURTHER, again, all_lines, commit, commit_edits, commit_zone, compare, doubled,
-    in_memory, known_with, lines, loaded, new_files, opened,
+    CHOSEN, FURTHER, all_lines, commit_edits, commit_zone, compare, in_memory, known_rows_with,
+    load_zone, new_files, open_store, query_lines, reopen, run_doubling,
 };
 use sysmods::{GlobalEdit, GlobalZone};
 use sysmods_values::{Hold, Sysmod};
@@ -82,7 +82,7 @@ fn copy_global<S: Alter, T: Alter>(
     to: &mut Store<T>,
 ) -> Result<(), Fail> {
     let global = from.load_global()?;
-    commit(to, &edits_to(alloc, &global)?)
+    Ok(to.commit(&edits_to(alloc, &global)?)?)
 }
 
 fn copy_zone<S: Alter, T: Alter>(
@@ -91,9 +91,9 @@ fn copy_zone<S: Alter, T: Alter>(
     to: &mut Store<T>,
     name: ZoneName,
 ) -> Result<(), Fail> {
-    let zone = loaded(from, name)?;
+    let zone = load_zone(from, name)?;
     let change = Change::NewZone(name, zone.kind(), zone.srel(), zone.related());
-    commit(to, &change)?;
+    to.commit(&change)?;
     commit_zone(alloc, to, name, edits_of(alloc, &zone)?)
 }
 
@@ -116,8 +116,8 @@ fn copied<S: Alter + Drop, T: Alter + Drop>(
     from: Connection<S>,
     to: Connection<T>,
 ) -> Result<Connection<T>, Fail> {
-    let mut from = opened(alloc, from)?;
-    let mut to = opened(alloc, to)?;
+    let mut from = open_store(alloc, from)?;
+    let mut to = open_store(alloc, to)?;
     copy_all(alloc, &mut from, &mut to)?;
     Ok(to.close())
 }
@@ -127,7 +127,7 @@ fn in_files<S: Alter + Drop>(
     alloc: Global,
     from: Connection<S>,
 ) -> Result<Connection<FileStore<Memory>>, Fail> {
-    Ok(again(alloc, copied(alloc, from, new_files(alloc)?)?)?)
+    Ok(reopen(alloc, copied(alloc, from, new_files(alloc)?)?)?)
 }
 
 // The rows of the copy in memory.
@@ -149,9 +149,13 @@ fn all_is_loaded_again(rt: HostRuntime) -> Result<(), Fail> {
     copy_twice(
         alloc,
         "with the number of a ++VER",
-        known_with(alloc, CHOSEN)?,
+        known_rows_with(alloc, CHOSEN)?,
     )?;
-    copy_twice(alloc, "with further ++VERs", known_with(alloc, FURTHER)?)
+    copy_twice(
+        alloc,
+        "with further ++VERs",
+        known_rows_with(alloc, FURTHER)?,
+    )
 }
 
 /// A SYSMOD that has rows in each table.
@@ -191,9 +195,9 @@ const AGAIN: &[&str] = &[
 
 // The known rows, and 512 SYSMODs in addition.
 fn many_sysmods(alloc: Global) -> Result<Connection<MemStore>, Fail> {
-    let mut conn = known_with(alloc, FIRST)?;
+    let mut conn = known_rows_with(alloc, FIRST)?;
     for sql in AGAIN {
-        doubled(&mut conn, sql, 9)?;
+        run_doubling(&mut conn, sql, 9)?;
     }
     Ok(conn)
 }
@@ -233,13 +237,10 @@ fn come_and_change(
 }
 
 fn rows_behind(alloc: Global, goes: bool) -> Result<String, Fail> {
-    let global = opened(alloc, many_sysmods(alloc)?)?.load_global()?;
-    let mut store = opened(alloc, in_memory(alloc)?)?;
-    commit(
-        &mut store,
-        &Change::Global(&global, come_and_change(alloc, &global, goes)?),
-    )?;
-    lines(alloc, &mut store.close(), BESIDE)
+    let global = open_store(alloc, many_sysmods(alloc)?)?.load_global()?;
+    let mut store = open_store(alloc, in_memory(alloc)?)?;
+    store.commit(&Change::Global(&global, come_and_change(alloc, &global, goes)?))?;
+    query_lines(alloc, &mut store.close(), BESIDE)
 }
 
 #[test]
@@ -276,9 +277,9 @@ fn rejection(alloc: Global) -> Result<Vec<GlobalEdit>, Fail> {
 
 // The rows of further `++VER`s that are left when their SYSMOD is removed.
 fn left_of_further(alloc: Global) -> Result<String, Fail> {
-    let mut store = opened(alloc, known_with(alloc, FURTHER)?)?;
+    let mut store = open_store(alloc, known_rows_with(alloc, FURTHER)?)?;
     commit_edits(alloc, &mut store, rejection(alloc)?)?;
-    lines(alloc, &mut store.close(), FURTHER_LINES)
+    query_lines(alloc, &mut store.close(), FURTHER_LINES)
 }
 
 #[test]

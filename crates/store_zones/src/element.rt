@@ -184,7 +184,7 @@ impl FromRow for Elements {
         let distlib = columns.name()?;
         let syslib = columns.name()?;
         let text = columns.element_text(alloc, elem_type)?;
-        columns.end()?;
+        columns.expect_end()?;
         Ok(ZoneRow {
             zone,
             item: Element {
@@ -215,7 +215,7 @@ impl Query for Elements {
 
     ghost knows = { λ r. ⊤ };
 
-    fn sql() -> &'static str {
+    fn select_sql() -> &'static str {
         SELECT
     }
 }

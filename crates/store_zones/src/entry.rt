@@ -222,7 +222,7 @@ impl FromRow for Entries {
         let supby = columns.ids(alloc)?;
         let delby = columns.optional()?;
         let waived = columns.ids(alloc)?;
-        columns.end()?;
+        columns.expect_end()?;
         Ok(ZoneRow {
             zone,
             item: Entry {
@@ -267,7 +267,7 @@ impl Query for Entries {
 
     ghost knows = { λ r. ⊤ };
 
-    fn sql() -> &'static str {
+    fn select_sql() -> &'static str {
         SELECT
     }
 }

@@ -66,14 +66,11 @@ impl TryClone for ZoneHead {
     }
 }
 
-// Whether zones of this kind are target zones.
+// Whether zones of this kind are target zones, which name a related zone.
 fn is_target(kind: ZoneKind) -> bool
     ensures { result ≡ is_target kind }
 {
-    match kind {
-        ZoneKind::Target => true,
-        ZoneKind::Distribution => false,
-    }
+    matches!(kind, ZoneKind::Target)
 }
 
 /// Reads the rows of zones.
@@ -99,7 +96,7 @@ impl FromRow for ZoneHeads {
         let kind = columns.zone_kind()?;
         let srel = columns.srel()?;
         let related = columns.optional()?;
-        columns.end()?;
+        columns.expect_end()?;
         if name.is_global() || related.is_some() != is_target(kind) {
             return Err(ReadError::BadRow);
         }
@@ -129,7 +126,7 @@ impl Query for AllHeads {
 
     ghost knows = { λ r. ⊤ };
 
-    fn sql() -> &'static str {
+    fn select_sql() -> &'static str {
         SELECT
     }
 }
@@ -151,7 +148,7 @@ impl Query for NamedHeads {
 
     ghost knows = { λ r. ⊤ };
 
-    fn sql() -> &'static str {
+    fn select_sql() -> &'static str {
         SELECT_NAMED
     }
 }
@@ -170,15 +167,15 @@ fn only_head(heads: &[ZoneHead]) -> Result<Option<ZoneHead>, ReadError>
 }
 
 /// The head of the zone of this name, if there is one. Returns `BadRow` if its row is not a head.
-pub(crate) fn zone_head<S: Alter>(
+pub(crate) fn load_zone_head<S: Alter>(
     alloc: Global,
     conn: &mut Connection<S>,
     name: &ZoneName,
 ) -> Result<Option<ZoneHead>, ReadError>
-    ensures found { HasCleanDisk (state S.Store conn.new) → (r : Schema) (contents : Contents)
+    ensures rows { HasCleanDisk (state S.Store conn.new) → (r : Schema) (contents : Contents)
         → HasContents (schema_under r) contents (state S.Store conn.old).now
         → IfOk result (HoldsHead contents name.now) }
-    ensures none { HasCleanDisk (state S.Store conn.new) → IsErrOf result ReadError.BadRow → (r : Schema)
+    ensures no_rows { HasCleanDisk (state S.Store conn.new) → IsErrOf result ReadError.BadRow → (r : Schema)
         → (contents : Contents) → HasContents (schema_under r) contents (state S.Store conn.old).now
         → (head : Option AZoneHead) → ¬ HoldsHead contents name.now head }
     ensures reads { (r : Schema) → OnlyReads S.Store (schema_under r) ReadError.BadRow ReadError.Fault conn.old

@@ -201,7 +201,7 @@ fn read_number(columns: &mut Columns<'_>) -> Result<VerNumber, ReadError>
         → columns.old ≢ Int (pos n) ∷ rest }
     ensures fault { IsErrOf result ReadError.Fault → ⊥ }
 {
-    let number = columns.whole()?;
+    let number = columns.integer()?;
     if number < 2 {
         return Err(ReadError::BadRow);
     }
@@ -230,7 +230,7 @@ impl FromRow for Numbers {
         let zone = columns.zone_name()?;
         let id = columns.id()?;
         let number = read_number(&mut columns)?;
-        columns.end()?;
+        columns.expect_end()?;
         Ok(ZoneRow {
             zone,
             item: EntryNumber { id, number },
@@ -253,7 +253,7 @@ impl Query for Numbers {
 
     ghost knows = { λ r. r ≡ Third };
 
-    fn sql() -> &'static str {
+    fn select_sql() -> &'static str {
         SELECT
     }
 }

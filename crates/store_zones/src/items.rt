@@ -25,8 +25,8 @@ use std::alloc::{AllocError, Global};
 use store_rows::{FromRow, ReadError, insert_rows};
 use store_schema::{Query, load_query};
 
-/// How many rows one statement adds at most.
-const RUN: usize = 16;
+/// How many rows a statement adds at most, and how many items `insert_items` makes the rows of at a time.
+const ROWS_A_STATEMENT: usize = 16;
 
 /// What a zone contains, by its keys, the query for its rows, whose first column is the name of the zone, and the row
 /// of an item.
@@ -85,8 +85,9 @@ fn item_rows<T: ZoneItem>(
     Ok(rows)
 }
 
-/// Adds the rows of the items to the table that the two statements name: `many_sql` adds `RUN` rows at a time, and
-/// `one_sql` the remaining ones, one at a time. It makes the rows of at most `RUN` items at a time, to save memory.
+/// Adds the rows of the items to the table that the two statements name: `many_sql` adds `ROWS_A_STATEMENT` rows at a
+/// time, and `one_sql` the remaining ones, one at a time. It makes the rows of at most `ROWS_A_STATEMENT` items at a
+/// time, to save memory.
 pub(crate) fn insert_items<S: Alter, T: ZoneItem>(
     alloc: Global,
     tx: &mut Transaction<'_, S>,
@@ -107,7 +108,7 @@ pub(crate) fn insert_items<S: Alter, T: ZoneItem>(
 {
     let mut done = 0;
     while done < items.len() {
-        let end = done + (items.len() - done).min(RUN);
+        let end = done + (items.len() - done).min(ROWS_A_STATEMENT);
         let rows = item_rows(alloc, zone, &items[done..end])?;
         insert_rows(alloc, tx, many_sql, one_sql, rows.as_slice())?;
         done = end;

@@ -62,7 +62,7 @@ fn give_number(entry: Entry, numbers: &mut VecDeque<EntryNumber>) -> Entry
     }
 }
 
-// Takes the first of the entries.
+// Takes the first of the entries. The loop below needs `pop_front` with this contract.
 fn pop_entry(entries: &mut VecDeque<Entry>) -> Option<Entry>
     ensures some { IfSome result (λ entry. entries.old.items ≡ entry ∷ entries.new.items) }
     ensures none { IfNone result (entries.old.items ≡ []) }

@@ -10,38 +10,40 @@ use store_rows::ReadError;
 use terms::ZoneKind;
 
 // Whether this is the head of the distribution zone of this name and SREL.
-fn is_distribution(head: &ZoneHead, name: ZoneName, srel: Srel) -> bool
+fn is_distribution_zone(head: &ZoneHead, name: ZoneName, srel: Srel) -> bool
     ensures { IsTrue result ↔ IsDistributionOf name srel head.now }
 {
     head.name == name && head.kind == ZoneKind::Distribution && head.srel == srel
 }
 
 // Whether one of these is the head of the distribution zone of this name and SREL.
-fn has_distribution(heads: &[ZoneHead], name: ZoneName, srel: Srel) -> bool
+fn lists_distribution_zone(heads: &[ZoneHead], name: ZoneName, srel: Srel) -> bool
     ensures { IsTrue result ↔ Any (IsDistributionOf name srel) heads.now }
 {
-    heads.iter().any(|head| is_distribution(head, name, srel))
+    heads
+        .iter()
+        .any(|head| is_distribution_zone(head, name, srel))
 }
 
-// Whether the distribution zone that this head names is among the heads. A head that names none passes.
-fn is_related(heads: &[ZoneHead], head: &ZoneHead) -> bool
+// Whether the distribution zone that this head names is among the heads, or the head names none.
+fn lists_related_zone(heads: &[ZoneHead], head: &ZoneHead) -> bool
     ensures { IsTrue result ↔ IsRelatedAmong heads.now head.now }
 {
     match head.related {
-        Some(name) => has_distribution(heads, name, head.srel),
+        Some(name) => lists_distribution_zone(heads, name, head.srel),
         None => true,
     }
 }
 
-// Whether the distribution zone that each head names is among the heads.
-fn are_related(heads: &[ZoneHead]) -> bool
+// Whether each distribution zone that one of the heads names is among them.
+fn lists_all_related_zones(heads: &[ZoneHead]) -> bool
     ensures { IsTrue result ↔ All (IsRelatedAmong heads.now) heads.now }
 {
-    heads.iter().all(|head| is_related(heads, head))
+    heads.iter().all(|head| lists_related_zone(heads, head))
 }
 
 // Whether the two heads do not name the same related zone.
-fn is_apart(head: &ZoneHead, other: &ZoneHead) -> bool
+fn have_own_related_zones(head: &ZoneHead, other: &ZoneHead) -> bool
     ensures { IsTrue result ↔ HeadsAreApart head.now other.now }
 {
     match head.related {
@@ -51,36 +53,36 @@ fn is_apart(head: &ZoneHead, other: &ZoneHead) -> bool
 }
 
 // Whether none of these heads names the same related zone as the other head.
-fn is_apart_from(heads: &[ZoneHead], other: &ZoneHead) -> bool
+fn has_own_related_zone(heads: &[ZoneHead], other: &ZoneHead) -> bool
     ensures { IsTrue result ↔ All (λ head. HeadsAreApart head other.now) heads.now }
 {
-    heads.iter().all(|head| is_apart(head, other))
+    heads.iter().all(|head| have_own_related_zones(head, other))
 }
 
 // Whether no two heads name the same related zone.
-fn are_apart(heads: &[ZoneHead]) -> bool
+fn each_has_own_related_zone(heads: &[ZoneHead]) -> bool
     ensures { IsTrue result ↔ AllPairs HeadsAreApart heads.now }
 {
     for i in 0..heads.len() {
-        if !is_apart_from(&heads[..i], &heads[i]) {
+        if !has_own_related_zone(&heads[..i], &heads[i]) {
             return false;
         }
     }
     true
 }
 
-/// The same heads. Returns `BadRow` if one of them names a distribution zone that does not exist, or if two of them
-/// name the same one.
+/// Hands the heads back if they are related as they must be. Returns `BadRow` if one of them names a distribution zone
+/// that does not exist, or if two of them name the same one.
 pub(crate) fn require_related(heads: Vec<ZoneHead>) -> Result<Vec<ZoneHead>, ReadError>
     ensures same { IfOk result (λ same. same.items ≡ heads.items) }
     ensures related { IfOk result (λ same. AreRelated same.items) }
     ensures none { IsErrOf result ReadError.BadRow → ¬ AreRelated heads.items }
     ensures fault { IsErrOf result ReadError.Fault → ⊥ }
 {
-    if !are_related(heads.as_slice()) {
+    if !lists_all_related_zones(heads.as_slice()) {
         return Err(ReadError::BadRow);
     }
-    if !are_apart(heads.as_slice()) {
+    if !each_has_own_related_zone(heads.as_slice()) {
         return Err(ReadError::BadRow);
     }
     Ok(heads)

@@ -11,7 +11,7 @@ ghost use Rattle.store_zones.specs.Found.{zone_in, MayBeZone};
 ghost use Rattle.store_zones.specs.Held.{HoldsHead, HoldsNumbered, HoldsUnder};
 ghost use Rattle.terms.specs.Types.{Entry as EntryTerm, Zone as ZoneTerm, a_zone};
 
-use crate::head::{ZoneHead, zone_head};
+use crate::head::{ZoneHead, load_zone_head};
 use crate::installed_vers::EntryNumber;
 use crate::items::load_items;
 use crate::numbering::number_entries;
@@ -48,10 +48,10 @@ fn load_entries<S: Alter>(
     schema: Schema,
     name: &ZoneName,
 ) -> Result<Table<Entry>, ReadError>
-    ensures found { HasCleanDisk (state S.Store conn.new) → (contents : Contents)
+    ensures rows { HasCleanDisk (state S.Store conn.new) → (contents : Contents)
         → HasContents (schema_under schema) contents (state S.Store conn.old).now
         → IfOk result (HoldsNumbered schema contents name.now) }
-    ensures none { HasCleanDisk (state S.Store conn.new) → IsErrOf result ReadError.BadRow → (contents : Contents)
+    ensures no_rows { HasCleanDisk (state S.Store conn.new) → IsErrOf result ReadError.BadRow → (contents : Contents)
         → HasContents (schema_under schema) contents (state S.Store conn.old).now
         → (entries : List EntryTerm) → ¬ HoldsNumbered schema contents name.now entries }
     ensures reads { OnlyReads S.Store (schema_under schema) ReadError.BadRow ReadError.Fault conn.old conn.new result }
@@ -73,11 +73,11 @@ fn load_rest_of_zone<S: Alter>(
     schema: Schema,
     head: ZoneHead,
 ) -> Result<Zone, ReadError>
-    ensures found { HasCleanDisk (state S.Store conn.new) → (contents : Contents)
+    ensures rows { HasCleanDisk (state S.Store conn.new) → (contents : Contents)
         → HasContents (schema_under schema) contents (state S.Store conn.old).now
         → HoldsHead contents head.name (Some head)
         → IfOk result (λ zone. HoldsUnder schema contents head.name (Some zone)) }
-    ensures none { HasCleanDisk (state S.Store conn.new) → IsErrOf result ReadError.BadRow
+    ensures no_rows { HasCleanDisk (state S.Store conn.new) → IsErrOf result ReadError.BadRow
         → (contents : Contents) → HasContents (schema_under schema) contents (state S.Store conn.old).now
         → HoldsHead contents head.name (Some head) → (zone : ZoneTerm)
         → ¬ HoldsUnder schema contents head.name (Some zone) }
@@ -88,22 +88,23 @@ fn load_rest_of_zone<S: Alter>(
     assemble_zone(head, entries, elements)
 }
 
-// The zone of this name, if there is one, from the tables of this schema.
-fn load_zone_under<S: Alter>(
+// The zone of this name, if there is one, from the tables of this schema. Its contract is about rows; `load_zone`
+// derives from it the one about inventories.
+fn load_zone_by_rows<S: Alter>(
     alloc: Global,
     conn: &mut Connection<S>,
     schema: Schema,
     name: &ZoneName,
 ) -> Result<Option<Zone>, ReadError>
-    ensures found { HasCleanDisk (state S.Store conn.new) → (contents : Contents)
+    ensures rows { HasCleanDisk (state S.Store conn.new) → (contents : Contents)
         → HasContents (schema_under schema) contents (state S.Store conn.old).now
         → IfOk result (HoldsUnder schema contents name.now) }
-    ensures none { HasCleanDisk (state S.Store conn.new) → IsErrOf result ReadError.BadRow → (contents : Contents)
+    ensures no_rows { HasCleanDisk (state S.Store conn.new) → IsErrOf result ReadError.BadRow → (contents : Contents)
         → HasContents (schema_under schema) contents (state S.Store conn.old).now
         → (zone : Option ZoneTerm) → ¬ HoldsUnder schema contents name.now zone }
     ensures reads { OnlyReads S.Store (schema_under schema) ReadError.BadRow ReadError.Fault conn.old conn.new result }
 {
-    let Some(head) = zone_head(alloc, conn, name)? else {
+    let Some(head) = load_zone_head(alloc, conn, name)? else {
         return Ok(None);
     };
     Ok(Some(load_rest_of_zone(alloc, conn, schema, head)?))
@@ -130,5 +131,5 @@ pub fn load_zone<S: Alter>(
         → ¬ StandsUnder schema i (state S.Store conn.old).now }
     ensures reads { OnlyReads S.Store (schema_under schema) ReadError.BadRow ReadError.Fault conn.old conn.new result }
 {
-    load_zone_under(alloc, conn, schema, &name)
+    load_zone_by_rows(alloc, conn, schema, &name)
 }

@@ -4,7 +4,7 @@ use crate::bad_rows::{NO_STATE, Part, check};
 use sqlite::{Alter, Connection, MemStore};
 use std::alloc::Global;
 use std::test::Fail;
-use store_play::{doubled, known_with, opened, run};
+use store_play::{known_rows_with, open_store, run, run_doubling};
 use store_schema::StoreError;
 
 /// SYSMODs.
@@ -68,8 +68,8 @@ const AS_MANY: &str = "DELETE FROM sysmod WHERE id > 'M' AND id < 'M100006'";
 
 // The known rows and 65,536 further SYSMODs, once the statement has removed some.
 fn many_without(alloc: Global, sql: &str) -> Result<Connection<MemStore>, Fail> {
-    let mut conn = known_with(alloc, &[FIRST])?;
-    doubled(&mut conn, AGAIN, 16)?;
+    let mut conn = known_rows_with(alloc, &[FIRST])?;
+    run_doubling(&mut conn, AGAIN, 16)?;
     run(&mut conn, THEIR_VERS, &[])?;
     run(&mut conn, sql, &[])?;
     Ok(conn)
@@ -80,7 +80,7 @@ fn size<S: Alter + Drop>(
     alloc: Global,
     conn: Connection<S>,
 ) -> Result<Result<usize, StoreError>, Fail> {
-    let mut store = opened(alloc, conn)?;
+    let mut store = open_store(alloc, conn)?;
     match store.load_global() {
         Ok(global) => Ok(Ok(global.len())),
         Err(error) => Ok(Err(error)),

@@ -37,7 +37,7 @@ returns-clause-rows g c clean contents held =
     record {
       sysmod_rows = c.in_ok-sysmods.ensures.rows before contents held;
       formed = c.in_ok-sysmods.ensures.forms;
-      hold_rows = c.in_ok-holds.ensures.found clean r contents
+      hold_rows = c.in_ok-holds.ensures.rows clean r contents
           (subst (λ (db : Database). HasContents (schema_under r) contents db) (sym same.0.now_is) held);
       hold_forms = c.in_ok-holds.ensures.forms;
     }

@@ -57,24 +57,24 @@ returns-in-Third g c =
     c.in-Third.is
     (c.if-prove.ensures.settled refl) (c.check_all.ensures.reads.mode c.find_schema.ensures.mode)
 
-pub returns-in_err-take_over-in_default-schema : goal.returns-in_err-take_over-in_default-schema
-returns-in_err-take_over-in_default-schema g c =
-    let read = (goal.at.returns-in_err-take_over-in_default-schema g c).After-check_all in
-    let made = rw c.as_slice.ensures.value at c.take_over.ensures in
+pub returns-in_err-convert_and_commit-in_default-schema : goal.returns-in_err-convert_and_commit-in_default-schema
+returns-in_err-convert_and_commit-in_default-schema g c =
+    let read = (goal.at.returns-in_err-convert_and_commit-in_default-schema g c).After-check_all in
+    let made = rw c.as_slice.ensures.value at c.convert_and_commit.ensures in
     not_taken g.S.Store c.args.conn.now c.attest.ensures c.in-Some.schema c.check_all.new.conn (known g read)
     c.check_all.result (checks g read) c.in_ok-heads.heads
     (has_read c.check_all.result c.in_ok-heads.heads (sym c.map_read_error.ensures ∙ c.in_ok-heads.was))
-    c.take_over.new.conn c.in_default-schema.not-Third made.crash made.mode c.take_over.result _
-    c.from_residual-in_err-take_over-in_default-schema.result c.in_err-take_over-in_default-schema.was
-    c.from_residual-in_err-take_over-in_default-schema.ensures.1 made.unchanged made.was_open
+    c.convert_and_commit.new.conn c.in_default-schema.not-Third made.crash made.mode c.convert_and_commit.result _
+    c.from_residual-in_err-convert_and_commit-in_default-schema.result c.in_err-convert_and_commit-in_default-schema.was
+    c.from_residual-in_err-convert_and_commit-in_default-schema.ensures.1 made.unchanged made.was_open
 
 pub returns : goal.returns
 returns g c =
     let read = (goal.at.returns g c).After-check_all in
-    let made = rw c.as_slice.ensures.value at c.take_over.ensures in
-    let done = rw c.as_slice.ensures.value at c.in_ok-take_over-in_default-schema.ensures in
+    let made = rw c.as_slice.ensures.value at c.convert_and_commit.ensures in
+    let done = rw c.as_slice.ensures.value at c.in_ok-convert_and_commit-in_default-schema.ensures in
     all_taken g.S.Store c.args.conn.now c.attest.ensures c.in-Some.schema c.check_all.new.conn (known g read)
     c.check_all.result (checks g read) c.in_ok-heads.heads
     (has_read c.check_all.result c.in_ok-heads.heads (sym c.map_read_error.ensures ∙ c.in_ok-heads.was))
-    c.take_over.new.conn c.in_default-schema.not-Third made.crash made.mode (tt {0}) done.made done.is_open
+    c.convert_and_commit.new.conn c.in_default-schema.not-Third made.crash made.mode (tt {0}) done.made done.is_open
     made.was_open

@@ -9,7 +9,7 @@ use Rattle.store_sysmod_loads.proofs.loading.load_firsts_and_furthers.Goals as g
 pub returns-in-First-clause-rows : goal.returns-in-First-clause-rows
 returns-in-First-clause-rows g c =
     let r = c.args.schema in
-    let known = g.met.T.InTwo.each r in
+    let known = g.met.T.InTwoTables.each r in
     let row_of = g.T.Firsts.FromRow.row_of in
     let further_row_of = g.T.Furthers.FromRow.row_of in
     let HasForm = g.T.Firsts.FromRow.has_form in
@@ -41,13 +41,14 @@ returns-in-First-clause-forms g c =
 pub returns-in-Third-clause-rows : goal.returns-in-Third-clause-rows
 returns-in-Third-clause-rows g c = rw c.in-Third.is (record {
   found = λ clean contents was.
-      c.load_both_tables.ensures.found clean Third (g.met.T.InTwo.each Third) g.met.T.InTwo.third contents was;
+      c.load_both_tables.ensures.found clean Third (g.met.T.InTwoTables.each Third) g.met.T.InTwoTables.third contents
+      was;
   only = λ clean contents was.
       if_ok c.load_both_tables.result _ _ (λ rows only xs held rise. only held.0 held.1 xs held.2 rise)
-      (c.load_both_tables.ensures.only clean Third (g.met.T.InTwo.each Third) g.met.T.InTwo.third contents was);
+      (c.load_both_tables.ensures.only clean Third (g.met.T.InTwoTables.each Third) g.met.T.InTwoTables.third contents
+      was);
   none = λ clean bad contents was xs held.
-      c.load_both_tables.ensures.none clean bad Third (g.met.T.InTwo.each Third) g.met.T.InTwo.third contents was held.0
-      held.1
-      xs held.2;
-  reads = c.load_both_tables.ensures.reads Third (g.met.T.InTwo.each Third) g.met.T.InTwo.third;
+      c.load_both_tables.ensures.none clean bad Third (g.met.T.InTwoTables.each Third) g.met.T.InTwoTables.third
+      contents was held.0 held.1 xs held.2;
+  reads = c.load_both_tables.ensures.reads Third (g.met.T.InTwoTables.each Third) g.met.T.InTwoTables.third;
 })

@@ -1,14 +1,14 @@
 use Rattle.std.proofs.Common.{◌≡◌, true, refl, sym, ◌∙◌}
 use Rattle.terms.specs.Lookups.{is_in}
 use Rattle.terms.proofs.Ids.{is_in_from_Contains}
-use Rattle.store_schema.specs.Rows.{ids}
+use Rattle.store_schema.specs.Rows.{joined}
 use Rattle.store_sysmods.proofs.CellLemmas.{own_id}
 use Rattle.store_sysmods.proofs.cells.read_other_ids.Goals as goal
 
 pub returns-then-contains-clause-none : goal.returns-then-contains-clause-none
 returns-then-contains-clause-none c bad list rest others same =
     let read = c.in_ok-list.ensures.read in
-    let one : ids c.in_ok-list.list ≡ ids list = let first = read.0 in cc in
+    let one : joined c.in_ok-list.list ≡ joined list = let first = read.0 in cc in
     own_id c.args.id c.in_ok-list.list list _ refl read.1 (sym c.contains.ensures ∙ c.if-contains.true) others one
 
 pub returns-clause-read : goal.returns-clause-read

@@ -1,5 +1,5 @@
 use Rattle.std.proofs.Common.{◌≡◌, [], sym, ◌∙◌}
-use Rattle.store_schema.specs.Rows.{ids}
+use Rattle.store_schema.specs.Rows.{joined}
 use Rattle.store_schema.proofs.OneState.{same_ids}
 use Rattle.store_sysmods.proofs.cells.read_requisites.Goals as goal
 
@@ -7,7 +7,7 @@ pub returns-then-is_empty-clause-none : goal.returns-then-is_empty-clause-none
 returns-then-is_empty-clause-none c bad list rest others some same =
     let none : c.in_ok-list.list ≡ [] = c.is_empty.ensures.0 c.if-is_empty.true in
     let read = c.in_ok-list.ensures.read in
-    let one : ids c.in_ok-list.list ≡ ids list = let first = read.0 in cc in
+    let one : joined c.in_ok-list.list ≡ joined list = let first = read.0 in cc in
     some (sym (same_ids c.in_ok-list.list list read.1.listed others.listed one) ∙ none)
 
 pub returns-clause-read : goal.returns-clause-read

@@ -7,8 +7,8 @@ use Rattle.store_sysmods.proofs.ifreq.make_if_row.Goals as goal
 pub returns : goal.returns
 returns c =
     let i = c.args.ifreq.now in
-    let x = c.args.id.now in
-    let srel = c.args.srel.now in
+    let x = c.args.ifs.now.id in
+    let srel = c.args.ifs.now.srel in
     let n = c.args.number in
     let row = ifreq_bound c.as_bytes.result.now c.as_bytes-2.result.now c.as_bytes-3.result.now c.args.req.now _ n x
     srel i c.as_bytes.ensures.same c.as_bytes-2.ensures.same (search rules)

@@ -9,13 +9,13 @@ use Rattle.store_sysmods.proofs.listed.load_sorted.Goals as goal
 pub returns-in_err-items-clause-none : goal.returns-in_err-items-clause-none
 returns-in_err-items-clause-none g c clean bad r known contents was xs forms same =
     let failed : IsErrOf c.load_query.result BadRow = search rules in
-    c.load_query.ensures.none clean failed (sym g.met.T.Listed.whole) r known contents was xs forms same
+    c.load_query.ensures.none clean failed (sym g.met.T.WholeTable.whole) r known contents was xs forms same
 
 pub returns-clause-found : goal.returns-clause-found
 returns-clause-found g c clean r known contents was =
     IsPermutation-trans _ _ _ (IsPermutation-map g.T.Rows.FromRow.row_of _ _
     (IsPermutation-sym _ _ c.sort_by_keys.ensures.same))
-    (c.in_ok-items.ensures.found clean (sym g.met.T.Listed.whole) r known contents was)
+    (c.in_ok-items.ensures.found clean (sym g.met.T.WholeTable.whole) r known contents was)
 
 pub returns-clause-forms : goal.returns-clause-forms
 returns-clause-forms g c =
@@ -26,7 +26,7 @@ returns-clause-forms g c =
 
 pub returns-clause-only : goal.returns-clause-only
 returns-clause-only g c clean r known contents was xs forms rises same =
-    c.sort_by_keys.ensures.only xs (c.in_ok-items.ensures.only clean (sym g.met.T.Listed.whole) r known
+    c.sort_by_keys.ensures.only xs (c.in_ok-items.ensures.only clean (sym g.met.T.WholeTable.whole) r known
     contents was xs forms same)
     rises
 
@@ -34,10 +34,10 @@ pub returns-in_err-items-clause-reads : goal.returns-in_err-items-clause-reads
 returns-in_err-items-clause-reads g c r known =
     reads_err g.S.Store _ _ _ c.args.conn.now c.load_query.new.conn c.load_query.result _ (search rules)
     (λ bad. search rules) (λ failed. search rules)
-    (c.load_query.ensures.reads (sym g.met.T.Listed.whole) tt r known)
+    (c.load_query.ensures.reads (sym g.met.T.WholeTable.whole) tt r known)
 
 pub returns-clause-reads : goal.returns-clause-reads
 returns-clause-reads g c r known =
     reads_more g.S.Store _ _ _ c.args.conn.now c.load_query.new.conn c.load_query.result c.in_ok-items.items _
     c.in_ok-items.was (λ failed. search rules)
-    (c.load_query.ensures.reads (sym g.met.T.Listed.whole) tt r known)
+    (c.load_query.ensures.reads (sym g.met.T.WholeTable.whole) tt r known)

@@ -7,7 +7,7 @@ use Rattle.store_sysmods.proofs.listed.sort_by_keys.Goals as goal
 
 pub returns-clause-only : goal.returns-clause-only
 returns-clause-only g c xs same rises =
-    let key = g.T.Listed.key_of in
+    let key = g.T.WholeTable.key_of in
     let items = c.sort_unstable_by_key.new.self.items in
     let up : IsSortedByKey key g.T.Key.Ord.cmp items = c.sort_unstable_by_key.ensures.sorted key
     (answers_always _ _ _ (λ f a r h q. search rules)) in

@@ -26,7 +26,7 @@ bound_rows g c =
     let x = c.sysmod.inside.id in
     let names = c.as_slice.result.now in
     let view = c.sysmod.view_is in
-    ap (map as_bound) c.as_slice-2.ensures.value ∙ c.in_ok-push_all.ensures
+    ap (map as_bound) c.as_slice-2.ensures.value ∙ c.in_ok-append_all_rows.ensures
     ∙ ap (λ items. map as_bound items ++ rows_behind (of_each (source_row x)) [] names) c.new-rows.ensures.items
     ∙ each_behind (source_row x) [] names
     ∙ ap₂ (λ y sources. map (source_row y) sources) (ap (λ (t : Sysmod). t.id) view)

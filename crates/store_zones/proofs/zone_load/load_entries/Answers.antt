@@ -7,23 +7,23 @@ use Rattle.store_zones.specs.Numbered.{as_first, numbers_of}
 use Rattle.store_zones.proofs.BySchema.{earlier_numbered, all_numbered, none_over, numbers_third, held_after}
 use Rattle.store_zones.proofs.zone_load.load_entries.Goals as goal
 
-pub returns-in_err-entries-clause-none : goal.returns-in_err-entries-clause-none
-returns-in_err-entries-clause-none g c clean bad contents was all held =
+pub returns-in_err-entries-clause-no_rows : goal.returns-in_err-entries-clause-no_rows
+returns-in_err-entries-clause-no_rows g c clean bad contents was all held =
     c.load_items.ensures.none clean (search rules) c.args.schema tt contents was (map as_first all) held.firsts
 
 pub returns-in-First : goal.returns-in-First
 returns-in-First g c =
     let r = c.args.schema in
     record {
-      found = λ clean contents was. earlier_numbered contents c.args.name.now c.in_ok-entries.entries r c.in-First.is
+      rows = λ clean contents was. earlier_numbered contents c.args.name.now c.in_ok-entries.entries r c.in-First.is
           (c.in_ok-entries.ensures.found clean r tt contents was);
-      none = λ clean bad contents was all held. absurd cc;
+      no_rows = λ clean bad contents was all held. absurd cc;
       reads = reads_more g.S.Store _ _ _ c.args.conn.now c.load_items.new.conn c.load_items.result
           c.in_ok-entries.entries _ c.in_ok-entries.was (λ failed. search rules) (c.load_items.ensures.reads r tt);
     }
 
-pub returns-in_err-numbers-in-Third-clause-none : goal.returns-in_err-numbers-in-Third-clause-none
-returns-in_err-numbers-in-Third-clause-none g c clean bad contents was all held =
+pub returns-in_err-numbers-in-Third-clause-no_rows : goal.returns-in_err-numbers-in-Third-clause-no_rows
+returns-in_err-numbers-in-Third-clause-no_rows g c clean bad contents was all held =
     let r = c.args.schema in
     let before : HasCleanDisk (state g.S.Store c.load_items.new.conn) =
     omega (arith, clean, (c.load_items-in-Third.ensures.reads r c.in-Third.is).crash.clean) in
@@ -31,8 +31,8 @@ returns-in_err-numbers-in-Third-clause-none g c clean bad contents was all held 
     (held_after r contents _ _ ((c.in_ok-entries.ensures.reads r tt).same before) was) (numbers_of all)
     (numbers_third r contents c.args.name.now (numbers_of all) c.in-Third.is held.numbers)
 
-pub returns-in_ok-numbers-in-Third-clause-found : goal.returns-in_ok-numbers-in-Third-clause-found
-returns-in_ok-numbers-in-Third-clause-found g c clean contents was =
+pub returns-in_ok-numbers-in-Third-clause-rows : goal.returns-in_ok-numbers-in-Third-clause-rows
+returns-in_ok-numbers-in-Third-clause-rows g c clean contents was =
     let r = c.args.schema in
     let before : HasCleanDisk (state g.S.Store c.load_items.new.conn) =
     omega (arith, clean, (c.load_items-in-Third.ensures.reads r c.in-Third.is).crash.clean) in
@@ -43,8 +43,8 @@ returns-in_ok-numbers-in-Third-clause-found g c clean contents was =
     (held_after r contents _ _ ((c.in_ok-entries.ensures.reads r tt).same before) was)) r c.in-Third.is)
     c.number_entries.ensures.same c.number_entries.ensures.whole
 
-pub returns-in_ok-numbers-in-Third-clause-none : goal.returns-in_ok-numbers-in-Third-clause-none
-returns-in_ok-numbers-in-Third-clause-none g c clean bad contents was all held =
+pub returns-in_ok-numbers-in-Third-clause-no_rows : goal.returns-in_ok-numbers-in-Third-clause-no_rows
+returns-in_ok-numbers-in-Third-clause-no_rows g c clean bad contents was all held =
     let r = c.args.schema in
     let before : HasCleanDisk (state g.S.Store c.load_items.new.conn) =
     omega (arith, clean, (c.load_items-in-Third.ensures.reads r c.in-Third.is).crash.clean) in

@@ -13,13 +13,13 @@ use Rattle.store_zones.proofs.InZone.{held_alike}
 use Rattle.store_zones.proofs.Zones.{is_held, may_stand, its_numbered, its_elements}
 use Rattle.store_zones.proofs.zone_load.load_rest_of_zone.Goals as goal
 
-pub returns-in_err-entries-clause-none : goal.returns-in_err-entries-clause-none
-returns-in_err-entries-clause-none g c clean bad contents was head zone held =
-    c.load_entries.ensures.none clean (search rules) contents was zone.entries
+pub returns-in_err-entries-clause-no_rows : goal.returns-in_err-entries-clause-no_rows
+returns-in_err-entries-clause-no_rows g c clean bad contents was head zone held =
+    c.load_entries.ensures.no_rows clean (search rules) contents was zone.entries
     (its_numbered contents c.args.head.name c.args.schema zone held)
 
-pub returns-in_err-elements-clause-none : goal.returns-in_err-elements-clause-none
-returns-in_err-elements-clause-none g c clean bad contents was head zone held =
+pub returns-in_err-elements-clause-no_rows : goal.returns-in_err-elements-clause-no_rows
+returns-in_err-elements-clause-no_rows g c clean bad contents was head zone held =
     let r = c.args.schema in
     let before : HasCleanDisk (state g.S.Store c.load_entries.new.conn) =
     omega (arith, clean, (c.load_items.ensures.reads r tt).crash.clean) in
@@ -29,14 +29,14 @@ returns-in_err-elements-clause-none g c clean bad contents was head zone held =
     c.load_items.ensures.none clean (search rules) r tt contents later zone.elements
     (held_alike _ element_cmp cmp_keys contents name zone.elements (its_elements contents name zone held.1))
 
-pub returns-clause-found : goal.returns-clause-found
-returns-clause-found g c clean contents was head =
+pub returns-clause-rows : goal.returns-clause-rows
+returns-clause-rows g c clean contents was head =
     let r = c.args.schema in
     let before : HasCleanDisk (state g.S.Store c.load_entries.new.conn) =
     omega (arith, clean, (c.load_items.ensures.reads r tt).crash.clean) in
     let same = c.in_ok-entries.ensures.reads.same before in
     let later = subst (HasContents (schema_under r) contents) (sym same.0.now_is) was in
-    let entries = c.in_ok-entries.ensures.found before contents was in
+    let entries = c.in_ok-entries.ensures.rows before contents was in
     let elements = held_alike element_cmp _ (λ a b. sym (cmp_keys a b)) contents c.args.head.name
     c.in_ok-elements.elements (c.in_ok-elements.ensures.found clean r tt contents later) in
     if_ok_both c.assemble_zone.result _ _ _ (λ zone is may.
@@ -44,12 +44,12 @@ returns-clause-found g c clean contents was head =
     (is_held r contents c.args.head c.in_ok-entries.entries c.in_ok-elements.elements head entries elements may))
     c.assemble_zone.ensures.same c.assemble_zone.ensures.may_be
 
-pub returns-clause-none : goal.returns-clause-none
-returns-clause-none g c clean bad contents was head zone held =
+pub returns-clause-no_rows : goal.returns-clause-no_rows
+returns-clause-no_rows g c clean bad contents was head zone held =
     let r = c.args.schema in
     let before : HasCleanDisk (state g.S.Store c.load_entries.new.conn) =
     omega (arith, clean, (c.load_items.ensures.reads r tt).crash.clean) in
-    let entries = c.in_ok-entries.ensures.found before contents was in
+    let entries = c.in_ok-entries.ensures.rows before contents was in
     c.assemble_zone.ensures.none bad (may_stand r contents c.args.head c.in_ok-entries.entries c.in_ok-elements.elements
     head
     entries zone held)

@@ -11,12 +11,12 @@ returns-clause-found g c clean i stands =
     let r = c.args.schema in
     let name = c.args.name in
     let own = holds_found i (stands_inventory r i _ stands) name r (stands_first r i _ stands) in
-    if_ok c.load_zone_under.result _ _
+    if_ok c.load_zone_by_rows.result _ _
     (λ zone held. one_under (rows_under r i) name r zone (zone_in i name) held own)
-    (c.load_zone_under.ensures.found clean (rows_under r i) (stands_rows r i _ stands))
+    (c.load_zone_by_rows.ensures.rows clean (rows_under r i) (stands_rows r i _ stands))
 
 pub returns-clause-none : goal.returns-clause-none
 returns-clause-none g c clean bad i stands =
     let r = c.args.schema in
-    c.load_zone_under.ensures.none clean bad (rows_under r i) (stands_rows r i _ stands) (zone_in i c.args.name)
+    c.load_zone_by_rows.ensures.no_rows clean bad (rows_under r i) (stands_rows r i _ stands) (zone_in i c.args.name)
     (holds_found i (stands_inventory r i _ stands) c.args.name r (stands_first r i _ stands))

@@ -12,7 +12,7 @@ returns-clause-read c =
     let requisites = c.in_ok-req.ensures.read in (
       sym c.new-columns.ensures ∙ next c.in_ok-id.ensures.read.0 (next c.in_ok-srel.ensures.read.0
           (next c.in_ok-number.ensures.read (next c.in_ok-function.ensures.read.0
-          (next requisites.0 c.in_ok-end.ensures.read)))),
+          (next requisites.0 c.in_ok-expect_end.ensures.read)))),
       (
         (
           c.in_ok-id.ensures.read.1,

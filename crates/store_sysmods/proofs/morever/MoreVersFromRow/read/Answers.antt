@@ -20,7 +20,7 @@ pub returns-clause-read : goal.returns-clause-read
 returns-clause-read c = (
   sym c.new-columns.ensures ∙ next c.in_ok-id.ensures.read.0 (next c.in_ok-srel.ensures.read.0
       (next c.in_ok-number.ensures.read.0 (next c.in_ok-fmid.ensures.read.0 (next c.in_ok-pre.ensures.read.0
-      (next c.in_ok-req.ensures.read.0 (next c.in_ok-sup.ensures.read.0 c.in_ok-end.ensures.read)))))),
+      (next c.in_ok-req.ensures.read.0 (next c.in_ok-sup.ensures.read.0 c.in_ok-expect_end.ensures.read)))))),
   (
     (
       c.in_ok-id.ensures.read.1,

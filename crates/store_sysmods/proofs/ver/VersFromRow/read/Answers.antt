@@ -21,7 +21,7 @@ returns-clause-read c = (
   sym c.new-columns.ensures ∙ next c.in_ok-id.ensures.read.0 (next c.in_ok-srel.ensures.read.0
       (next c.in_ok-fmid.ensures.read.0 (next c.in_ok-pre.ensures.read.0 (next c.in_ok-req.ensures.read.0
       (next c.in_ok-sup.ensures.read.0 (next c.in_ok-npre.ensures.read.0 (next c.in_ok-del.ensures.read.0
-      c.in_ok-end.ensures.read))))))),
+      c.in_ok-expect_end.ensures.read))))))),
   (
     (
       c.in_ok-id.ensures.read.1,

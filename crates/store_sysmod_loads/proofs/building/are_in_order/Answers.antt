@@ -1,6 +1,0 @@
-use Rattle.std.proofs.Common.{rules}
-use Rattle.store_sysmod_loads.proofs.RiseLemmas.{changes_derived}
-use Rattle.store_sysmod_loads.proofs.building.are_in_order.Goals as goal
-
-pub returns : goal.returns
-returns c = (λ is. search rules, λ up. c.are_rising.ensures.1 (changes_derived c.args.changes.now up))

@@ -1,6 +1,0 @@
-use Rattle.store_sysmods.proofs.Selects.{elems}
-use Rattle.store_sysmods.proofs.Exact.{exact_elem}
-use Rattle.store_sysmods.proofs.elem.ElemsQuery.sql.Goals as goal
-
-pub returns : goal.returns
-returns c = record { reads = elems.reads; there = elems.there; selects = elems.selects; exact = exact_elem }

@@ -1,6 +1,0 @@
-use Rattle.store_zones.proofs.Selects.{entries}
-use Rattle.store_zones.proofs.Entries.{exact_entry}
-use Rattle.store_zones.proofs.entry.EntriesQuery.sql.Goals as goal
-
-pub returns : goal.returns
-returns c = record { reads = entries.reads; there = entries.there; selects = entries.selects; exact = exact_entry }
