@@ -12,8 +12,8 @@ use sorted::lists::Lists;
 use std::alloc::{AllocError, Global};
 use zones::Zone;
 
-/// Which SYSMODs take effect, which ones supersede an id, which requisites of an id were bypassed, and which entries
-/// change.
+/// Which SYSMODs take effect, which of them supersede an id, which requisites of an id were bypassed, the ids whose
+/// entries may change (`touched`), and the date of the install.
 #[derive(Drop)]
 pub(crate) struct Plan {
     pub(crate) effective: IdList,
@@ -47,8 +47,8 @@ pub(crate) fn make_plan(
     })
 }
 
-// The ids whose entries may change: those that take effect, what they supersede, and if something is deleted all that
-// is deleted or has an entry. Usually nothing is.
+// The ids whose entries may change: those that take effect and those that they supersede. If something is deleted, also
+// the deletions and all ids with an entry. Usually nothing is deleted.
 fn touched_ids(
     alloc: Global,
     effective: &[Id],

@@ -15,7 +15,7 @@ ghost use Rattle.judge_faults.specs.Own.{IsLowerAt, HasFaults, passes_alone, pas
 ghost use Rattle.terms.specs.Beside.{Beside};
 ghost use Rattle.zones.specs.Gone.{left_of};
 
-use crate::element_tests::{has_bare_update, is_foreign, is_lower_somewhere};
+use crate::element_tests::{has_bare_update, is_foreign, regresses_any_element};
 use crate::forbidden::{Forbidders, forbidders, is_forbidden};
 use fields::{Bypass, Id, IdList};
 use std::alloc::{AllocError, Global};
@@ -64,7 +64,7 @@ impl OwnFaults {
     }
 }
 
-// Whether a hold of this kind on the SYSMOD is not covered by BYPASS.
+// Whether the SYSMOD has a hold of this kind that BYPASS does not cover.
 fn has_standing_hold(global: &GlobalZone, bypass: &Bypass, kind: HoldKind, id: Id) -> bool
     ensures { result ≡ list_any (λ h. not (is_bypassed_hold bypass.now h)) (holds_of global.now kind id) }
 {
@@ -73,7 +73,7 @@ fn has_standing_hold(global: &GlobalZone, bypass: &Bypass, kind: HoldKind, id: I
         .any(|hold| !is_bypassed_hold(bypass, hold))
 }
 
-// Whether an element that the candidate changes was made by a SYSMOD that it is not over. BYPASS(ID) skips this test.
+// Whether the candidate would regress an element that it changes. BYPASS(ID) skips this test.
 fn has_regression(
     alloc: Global,
     view: &ZoneLess<'_, '_>,
@@ -89,11 +89,11 @@ fn has_regression(
     if bypass.same_id {
         return Ok(false);
     }
-    is_lower_somewhere(alloc, view, overs, id, changes)
+    regresses_any_element(alloc, view, overs, id, changes)
 }
 
-// Whether there is a related target zone and it has applied the SYSMOD.
-fn has_applied(related: Option<&Zone>, id: Id) -> bool
+// Whether the SYSMOD is applied in the related target zone. Without such a zone it is not.
+fn is_applied_in_target(related: Option<&Zone>, id: Id) -> bool
     ensures { result ≡ option_map_or (λ target. is_applied target id) (option_copied related.entry) false }
 {
     match related {
@@ -108,7 +108,9 @@ fn is_unapplied(zone: &Zone, related: Option<&Zone>, bypass: &Bypass, id: Id) ->
     ensures { result ≡ (is_distribution zone.now.kind && not bypass.now.applycheck && not
         (option_map_or (λ target. is_applied target id) (option_copied related.entry) false)) }
 {
-    zone.kind() == ZoneKind::Distribution && !bypass.applycheck && !has_applied(related, id)
+    zone.kind() == ZoneKind::Distribution
+        && !bypass.applycheck
+        && !is_applied_in_target(related, id)
 }
 
 // How many of the `++VER`s for the zone's SREL fit.
@@ -169,7 +171,7 @@ fn own_faults(
 }
 
 /// The faults of each candidate by itself.
-pub(crate) fn all_faults(
+pub(crate) fn all_own_faults(
     alloc: Global,
     scope: &Scope<'_, '_>,
     related: Option<&Zone>,

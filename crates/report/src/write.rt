@@ -91,9 +91,9 @@ fn put_outcome<W: Sink>(outcome: &Outcome<'_>, page: &mut Page<'_, W>) -> u8
         }
         Outcome::Control { number, code } => {
             let words = [
-                LineWord::Of(b"RECORD"),
+                LineWord::Text(b"RECORD"),
                 LineWord::Number(*number),
-                LineWord::Of(command_code_text(*code)),
+                LineWord::Text(command_code_text(*code)),
             ];
             put_words(b"CONTROL", &words, page);
             12

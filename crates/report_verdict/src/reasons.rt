@@ -73,6 +73,7 @@ fn is_several_fit_test(test: Test) -> bool
     matches!(test, Test::SeveralFit)
 }
 
+// Whether the id is over the SYSMOD that made the element.
 fn is_over(rank: Rank) -> bool
     ensures { result ≡ is_over (rank_view rank) }
 {
@@ -87,10 +88,10 @@ fn put_hold(bypass: &Bypass, test: Test, hold: &Hold, text: &mut Vec<u8>) -> Res
     if !stands {
         return Ok(());
     }
-    let code = LineWord::Of(test_text(test));
-    let kind = LineWord::Of(hold_text(hold.kind));
-    let hold_word = LineWord::Of(b"hold");
-    let reason = LineWord::Of(hold.reason.as_bytes());
+    let code = LineWord::Text(test_text(test));
+    let kind = LineWord::Text(hold_text(hold.kind));
+    let hold_word = LineWord::Text(b"hold");
+    let reason = LineWord::Text(hold.reason.as_bytes());
     let words = [code, kind, hold_word, reason];
     append_words(b"   ", &words, text)
 }
@@ -110,12 +111,12 @@ fn put_maker<'a>(
     if is_over(maker.rank) {
         return Ok(());
     }
-    let code = LineWord::Of(test_text(test));
-    let elem_type = LineWord::Of(type_text(elem_type));
+    let code = LineWord::Text(test_text(test));
+    let elem_type = LineWord::Text(type_text(elem_type));
     let name = LineWord::Named(name.as_bytes());
-    let word = LineWord::Of(word);
-    let id = LineWord::Of(maker.id.as_bytes());
-    let not_over = LineWord::Of(b"is not required or superseded by it");
+    let word = LineWord::Text(word);
+    let id = LineWord::Text(maker.id.as_bytes());
+    let not_over = LineWord::Text(b"is not required or superseded by it");
     let words = [code, elem_type, name, word, id, not_over];
     append_words(b"   ", &words, text)
 }
@@ -152,11 +153,11 @@ fn put_owner<'a>(
     if found.owned {
         return Ok(());
     }
-    let code = LineWord::Of(test_text(test));
-    let elem_type = LineWord::Of(type_text(elem_type));
+    let code = LineWord::Text(test_text(test));
+    let elem_type = LineWord::Text(type_text(elem_type));
     let name = LineWord::Named(name.as_bytes());
-    let belongs = LineWord::Of(b"it belongs to");
-    let owner = LineWord::Of(found.fmid.as_bytes());
+    let belongs = LineWord::Text(b"it belongs to");
+    let owner = LineWord::Text(found.fmid.as_bytes());
     let words = [code, elem_type, name, belongs, owner];
     append_words(b"   ", &words, text)
 }
@@ -196,10 +197,10 @@ fn put_missing_element(
     if !fails {
         return Ok(());
     }
-    let code = LineWord::Of(test_text(test));
-    let elem_type = LineWord::Of(type_text(elem_type));
+    let code = LineWord::Text(test_text(test));
+    let elem_type = LineWord::Text(type_text(elem_type));
     let name = LineWord::Named(name.as_bytes());
-    let none = LineWord::Of(b"there is none to update");
+    let none = LineWord::Text(b"there is none to update");
     let words = [code, elem_type, name, none];
     append_words(b"   ", &words, text)
 }
@@ -238,12 +239,12 @@ fn put_ver(
     if !fails {
         return Ok(());
     }
-    let code = LineWord::Of(test_text(test));
-    let ver = LineWord::Of(b"VER");
+    let code = LineWord::Text(test_text(test));
+    let ver = LineWord::Text(b"VER");
     let number = LineWord::Number(number);
-    let of_fmid = LineWord::Of(b"FMID");
-    let fmid = LineWord::Of(id_text(fmid));
-    let fits_word = LineWord::Of(b"fits");
+    let of_fmid = LineWord::Text(b"FMID");
+    let fmid = LineWord::Text(id_text(fmid));
+    let fits_word = LineWord::Text(b"fits");
     let words = [code, ver, number, of_fmid, fmid, fits_word];
     append_words(b"   ", &words, text)
 }
@@ -256,10 +257,10 @@ fn put_delete(test: Test, id: &Id, own: bool, text: &mut Vec<u8>) -> Result<(), 
     if !fails {
         return Ok(());
     }
-    let code = LineWord::Of(test_text(test));
-    let delete = LineWord::Of(b"DELETE");
-    let id = LineWord::Of(id.as_bytes());
-    let chain = LineWord::Of(b"is in its own chain");
+    let code = LineWord::Text(test_text(test));
+    let delete = LineWord::Text(b"DELETE");
+    let id = LineWord::Text(id.as_bytes());
+    let chain = LineWord::Text(b"is in its own chain");
     let words = [code, delete, id, chain];
     append_words(b"   ", &words, text)
 }
@@ -272,10 +273,10 @@ fn put_npre(test: Test, id: &Id, applied: bool, text: &mut Vec<u8>) -> Result<()
     if !fails {
         return Ok(());
     }
-    let code = LineWord::Of(test_text(test));
-    let npre = LineWord::Of(b"NPRE");
-    let id = LineWord::Of(id.as_bytes());
-    let applied_word = LineWord::Of(b"is applied");
+    let code = LineWord::Text(test_text(test));
+    let npre = LineWord::Text(b"NPRE");
+    let id = LineWord::Text(id.as_bytes());
+    let applied_word = LineWord::Text(b"is applied");
     let words = [code, npre, id, applied_word];
     append_words(b"   ", &words, text)
 }
@@ -287,9 +288,9 @@ fn put_forbidden(test: Test, id: &Id, text: &mut Vec<u8>) -> Result<(), AllocErr
     if !is_npre_test(test) {
         return Ok(());
     }
-    let code = LineWord::Of(test_text(test));
-    let id = LineWord::Of(id.as_bytes());
-    let forbids = LineWord::Of(b"is applied and has it in NPRE");
+    let code = LineWord::Text(test_text(test));
+    let id = LineWord::Text(id.as_bytes());
+    let forbids = LineWord::Text(b"is applied and has it in NPRE");
     let words = [code, id, forbids];
     append_words(b"   ", &words, text)
 }
@@ -353,8 +354,8 @@ pub(crate) fn put_failed_test(
     ensures { OnOk result (text.new.items ≡ text.old.items ++ test_told (basis_of grounds.now) test) }
 {
     if is_target_test(test) {
-        let code = LineWord::Of(test_text(test));
-        let none = LineWord::Of(b"no related target zone has applied it");
+        let code = LineWord::Text(test_text(test));
+        let none = LineWord::Text(b"no related target zone has applied it");
         let words = [code, none];
         return append_words(b"   ", &words, text);
     }

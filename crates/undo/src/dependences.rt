@@ -58,7 +58,7 @@ fn are_listed(list: &IdList, ids: &[Id]) -> bool
     ids.iter().all(|id| list.contains(*id))
 }
 
-// The members of the groups that lie in the list as a whole.
+// The members of those groups all of whose members are in the list.
 fn members_of_listed_groups(
     alloc: Global,
     list: &IdList,
@@ -76,7 +76,7 @@ fn members_of_listed_groups(
 }
 
 /// Pairs of a candidate and an applied SYSMOD that depends on it, that is, on a group whose members are all candidates.
-pub(crate) fn dep_pairs(
+pub(crate) fn dependence_pairs(
     alloc: Global,
     scope: &RestoreScope<'_, '_>,
     cands: &IdList,

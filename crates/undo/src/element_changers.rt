@@ -61,7 +61,7 @@ fn sharers_of(
 }
 
 /// Pairs of a candidate and an applied, unaccepted SYSMOD that changes an element of it. The two may be the same.
-pub(crate) fn elem_pairs(
+pub(crate) fn element_pairs(
     alloc: Global,
     scope: &RestoreScope<'_, '_>,
     cands: &IdList,

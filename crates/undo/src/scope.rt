@@ -19,7 +19,7 @@ pub(crate) struct RestoreScope<'a, 'b> {
     pub(crate) ghost form: { IsZone zone.now },
 }
 
-// Pushes the id of the entry, if the zone has applied it.
+// Adds the id of the entry, if it is applied.
 fn push_applied_id(entry: &Entry, found: &mut Vec<Id>) -> Result<(), AllocError>
     ensures { OnOk result (found.new.items ≡ found.old.items
         ++ map (λ e. e.id) (filter (λ e. is_some e.applied) (entry.now ∷ []))) }
