@@ -190,7 +190,7 @@ pub(crate) fn all_own_faults(
     Ok(faults)
 }
 
-/// What the candidate at the place fails by itself.
+/// What the candidate at the place fails by itself, with a contract that names it as an item of the list.
 pub(crate) fn own_faults_at(faults: &[OwnFaults], place: usize) -> OwnFaults
     requires { place < length faults.now }
     ensures { slice_get faults.now place ≡ Some result }

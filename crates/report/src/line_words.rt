@@ -19,7 +19,7 @@ use zones::Applied;
 pub enum LineWord<'a> {
     Text(&'a [u8]),
     /// Followed by a colon.
-    Named(&'a [u8]),
+    WithColon(&'a [u8]),
     /// The word, or `-`.
     Optional(Option<&'a [u8]>),
     /// The first word if the condition holds, otherwise the second.
@@ -95,7 +95,7 @@ fn put_word<W: Sink>(word: LineWord<'_>, page: &mut Page<'_, W>)
 {
     match word {
         LineWord::Text(text) | LineWord::Optional(Some(text)) => page.put(text),
-        LineWord::Named(text) => {
+        LineWord::WithColon(text) => {
             page.put(text);
             page.put(b":");
         }

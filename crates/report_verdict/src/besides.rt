@@ -53,7 +53,7 @@ fn put_supplier_line<'a>(
             }
             let supply = LineWord::Text(b"SUPPLY");
             let kind = LineWord::Text(need_text(kind));
-            let id = LineWord::Named(id);
+            let id = LineWord::WithColon(id);
             let by = LineWord::Text(by.as_bytes());
             let word = LineWord::Text(verdict_word(status));
             append_words(b"   ", &[supply, kind, id, by, word], text)

@@ -85,7 +85,7 @@ fn put_shares<'a>(
     }
     let code = LineWord::Text(test_text(test));
     let elem_type = LineWord::Text(type_text(elem_type));
-    let name = LineWord::Named(name.as_bytes());
+    let name = LineWord::WithColon(name.as_bytes());
     let with = LineWord::Text(with.as_bytes());
     let why = LineWord::Text(apart_text(apart));
     let words = [code, elem_type, name, with, why];

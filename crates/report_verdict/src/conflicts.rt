@@ -35,7 +35,7 @@ fn forbids(vers: &VerChoice<'_>, first: Id, second: Id) -> bool
     vers.npre(first).contains(&second)
 }
 
-// Adds the conflict if the condition holds.
+// Adds the conflict if the condition holds, and otherwise nothing. Each caller states both cases by one clause.
 fn push_conflict_if(
     is_so: bool,
     conflict: Conflict,

@@ -113,7 +113,7 @@ fn put_maker<'a>(
     }
     let code = LineWord::Text(test_text(test));
     let elem_type = LineWord::Text(type_text(elem_type));
-    let name = LineWord::Named(name.as_bytes());
+    let name = LineWord::WithColon(name.as_bytes());
     let word = LineWord::Text(word);
     let id = LineWord::Text(maker.id.as_bytes());
     let not_over = LineWord::Text(b"is not required or superseded by it");
@@ -155,7 +155,7 @@ fn put_owner<'a>(
     }
     let code = LineWord::Text(test_text(test));
     let elem_type = LineWord::Text(type_text(elem_type));
-    let name = LineWord::Named(name.as_bytes());
+    let name = LineWord::WithColon(name.as_bytes());
     let belongs = LineWord::Text(b"it belongs to");
     let owner = LineWord::Text(found.fmid.as_bytes());
     let words = [code, elem_type, name, belongs, owner];
@@ -199,7 +199,7 @@ fn put_missing_element(
     }
     let code = LineWord::Text(test_text(test));
     let elem_type = LineWord::Text(type_text(elem_type));
-    let name = LineWord::Named(name.as_bytes());
+    let name = LineWord::WithColon(name.as_bytes());
     let none = LineWord::Text(b"there is none to update");
     let words = [code, elem_type, name, none];
     append_words(b"   ", &words, text)

@@ -23,7 +23,7 @@ use report::{Fact, LineWord, ReportLine, Resolution, Status, append_words};
 use std::alloc::AllocError;
 use terms::NeedKind;
 
-// Whether the need is of this kind and for this id.
+// Whether the need is of this kind and for this id. Kinds are compared by their words in the report.
 fn matches_need(need: &OpenNeed, kind: NeedKind, id: &[u8]) -> bool
     ensures { result ≡ (bytes_eq (need_text need.now.kind) (need_text kind) && bytes_eq need.now.id id.now) }
 {
@@ -80,7 +80,7 @@ fn put_open_need<'a>(
     }
     let need_word = LineWord::Text(b"NEED");
     let kind = LineWord::Text(need_text(need.kind));
-    let id = LineWord::Named(need.id.as_bytes());
+    let id = LineWord::WithColon(need.id.as_bytes());
     let ids = LineWord::Ids(ids);
     let would = LineWord::Text(b"would supply it");
     let words = [need_word, kind, id, ids, would];
@@ -97,7 +97,7 @@ fn put_need_line<'a>(
 {
     let need_word = LineWord::Text(b"NEED");
     let kind = LineWord::Text(need_text(need.kind));
-    let id = LineWord::Named(need.id.as_bytes());
+    let id = LineWord::WithColon(need.id.as_bytes());
     let why = LineWord::Text(why);
     let words = [need_word, kind, id, why];
     append_words(b"   ", &words, text)
@@ -228,7 +228,7 @@ pub(crate) fn verdict_word(status: &Status) -> &'static [u8]
     }
 }
 
-// Appends why the id would fail, if its status says that it would.
+// Appends why the id would fail, if its status is FAILED.
 fn put_failure_if_any(
     id: Id,
     grounds: &Grounds<'_, '_>,

@@ -115,7 +115,7 @@ pub(crate) fn resolve_requisite(
     ensures { IfOk result (λ a. IsResolution (setting_in asking.now) asking.now.id requisite (answer_view a)) }
 {
     let Requisite { kind, id, .. } = requisite;
-    if asking.meets(kind, id) {
+    if asking.meets_need(kind, id) {
         return Ok(Resolution::Supplied(suppliers(alloc, asking, kind, id)?));
     }
     if is_waived(asking.scope.zone, asking.id, requisite) {

@@ -41,7 +41,7 @@ impl<'a, 'b> Asking<'a, 'b> {
     }
 
     /// Whether the zone meets the need, without what the DELETE of the id in question takes out.
-    pub(crate) fn meets(&self, kind: NeedKind, id: Id) -> bool
+    pub(crate) fn meets_need(&self, kind: NeedKind, id: Id) -> bool
         ensures { result ≡ is_met (left_in self.now) kind id }
     {
         self.left.meets(kind, id)

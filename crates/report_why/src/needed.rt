@@ -26,7 +26,7 @@ fn is_only_member(first: Id, rest: &[Id]) -> bool
     rest.iter().all(|id| first == *id)
 }
 
-// Adds the id if the condition holds.
+// Adds the id if the condition holds, and otherwise nothing. The caller states both cases by one clause.
 fn push_id_if(is_so: bool, id: Id, found: &mut Vec<Id>) -> Result<(), AllocError>
     ensures { OnOk result (found.new.items ≡ found.old.items ++ (if is_so then id ∷ [] else [])) }
 {

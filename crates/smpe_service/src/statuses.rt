@@ -3,7 +3,7 @@ ghost use Rattle.std.specs.Prelude.{◌≡◌, ◌++◌, map, IfOk, OnOk};
 ghost use Rattle.machine.specs.Installing.{installed_status, not_chosen_status};
 ghost use Rattle.report.specs.Views.{status_view};
 ghost use Rattle.judge_system.specs.Views.{why_failed};
-ghost use Rattle.smpe_service.specs.Statuses.{said, kept_status, kept_statuses, failed_statuses};
+ghost use Rattle.smpe_service.specs.Statuses.{id_and_status, kept_status, kept_statuses, failed_statuses};
 ghost use Rattle.smpe_service.specs.Statuses.{left_out_statuses, all_statuses};
 
 use fields::{Id, IdList};
@@ -53,7 +53,7 @@ fn push_kept(
     effective: &IdList,
     kept: &[Id],
 ) -> Result<(), AllocError>
-    ensures { OnOk result (map said statuses.new.items ≡ map said statuses.old.items
+    ensures { OnOk result (map id_and_status statuses.new.items ≡ map id_and_status statuses.old.items
         ++ kept_statuses kind effective.now kept.now) }
 {
     for id in kept {
@@ -67,7 +67,7 @@ fn push_failed(
     statuses: &mut Vec<(Id, Status)>,
     failed: Vec<(Id, Failure)>,
 ) -> Result<(), AllocError>
-    ensures { OnOk result (map said statuses.new.items ≡ map said statuses.old.items
+    ensures { OnOk result (map id_and_status statuses.new.items ≡ map id_and_status statuses.old.items
         ++ failed_statuses (map why_failed failed.items)) }
 {
     for (id, failure) in failed {
@@ -81,7 +81,7 @@ fn push_left_out(
     statuses: &mut Vec<(Id, Status)>,
     left_out: &[(Id, NotChosen)],
 ) -> Result<(), AllocError>
-    ensures { OnOk result (map said statuses.new.items ≡ map said statuses.old.items
+    ensures { OnOk result (map id_and_status statuses.new.items ≡ map id_and_status statuses.old.items
         ++ left_out_statuses left_out.now) }
 {
     for (id, why) in left_out {
@@ -100,7 +100,7 @@ pub(crate) fn install_statuses(
     failed: Vec<(Id, Failure)>,
     left_out: &[(Id, NotChosen)],
 ) -> Result<Vec<(Id, Status)>, AllocError>
-    ensures { IfOk result (λ found. map said found.items
+    ensures { IfOk result (λ found. map id_and_status found.items
         ≡ all_statuses kind effective.now kept.now (map why_failed failed.items) left_out.now) }
 {
     let mut found = Vec::new(alloc);

@@ -13,7 +13,7 @@ use std::collections::BTreeMap;
 use sysmods::GlobalZone;
 use terms::ElemType;
 
-/// For each element some SYSMODs that change it.
+/// For each element those of some SYSMODs that change it.
 type Changers = Lists<(ElemType, Name), Id>;
 
 // The types and names of the elements that the SYSMOD changes.
@@ -43,7 +43,7 @@ fn index_changers(alloc: Global, global: &GlobalZone, ids: &[Id]) -> Result<Chan
     Ok(changers)
 }
 
-// The SYSMODs that change an element that this one changes too.
+// The listed SYSMODs that change an element that this one changes too. One is repeated for each shared element.
 fn sharers_of(
     alloc: Global,
     global: &GlobalZone,

@@ -13,7 +13,7 @@ use judge_system::RequisiteOf;
 use std::alloc::{AllocError, Global};
 use terms::NeedKind;
 
-// Adds for each pair the need of the first for the second.
+// Adds a need of this kind for each pair: the first id needs the second.
 fn add_needs(
     needs: &mut Vec<RequisiteOf>,
     kind: NeedKind,

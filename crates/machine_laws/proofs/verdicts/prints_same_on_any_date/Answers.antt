@@ -4,7 +4,7 @@ use Rattle.terms.specs.Types.{Selection}
 use Rattle.machine_laws.specs.Clear.{selecting}
 use Rattle.machine_laws.proofs.AnyDate.{same_lines}
 use Rattle.machine_laws.proofs.Decided.{members_only}
-use Rattle.machine_laws.proofs.verdicts.prints_the_same.Goals as goal
+use Rattle.machine_laws.proofs.verdicts.prints_same_on_any_date.Goals as goal
 
 pub returns : goal.returns
 returns c = λ g zone related bypass ids groupextend is_global sel a date new lines is other b later newer more is'.

@@ -4,8 +4,8 @@ use Rattle.terms.proofs.Lists.{flat_next}
 use Rattle.terms.specs.Types.{Entry}
 use Rattle.report.specs.ErrorHolds.{open_on, open_in}
 use Rattle.report.proofs.OpenHolds.{open_entries}
-use Rattle.report.proofs.error_holds.open_errors.Goals.{then-is_current+in_ok-append_open_errors, else-is_current}
-use Rattle.report.proofs.error_holds.open_errors.Goals as goal
+use Rattle.report.proofs.error_holds.open_error_holds.Goals.{then-is_current+in_ok-append_open_error_holds, else-is_current}
+use Rattle.report.proofs.error_holds.open_error_holds.Goals as goal
 
 pub loop-entry-preserved : goal.loop-entry-preserved
 loop-entry-preserved c =
@@ -14,8 +14,8 @@ loop-entry-preserved c =
     let e = c.entry-item.result in
     let old = c.loop-entry.found.items in
     let one : c.if-is_current.found.items ≡ old ++ open_in g zone e = elim c.if-is_current.branch [
-      | then-is_current+in_ok-append_open_errors w ↦
-          rw w.found-is (w.in_ok-append_open_errors.ensures
+      | then-is_current+in_ok-append_open_error_holds w ↦
+          rw w.found-is (w.in_ok-append_open_error_holds.ensures
           ∙ ap (λ (x : Entry). old ++ open_on g zone x.id) c.entry.view_is
           ∙ ap (λ b. old ++ cond b (open_on g zone e.id) []) (sym (sym c.is_current.ensures ∙ w.if-is_current.true)))
       | else-is_current w ↦
