@@ -1,6 +1,6 @@
-//! Which kept SYSMODs take effect, and what these supersede. One search that starts at all kept ones finds every id that
-//! some kept one supersedes. Then one search starts at each SYSMOD that takes effect. So the time for a chain of SUP
-//! grows only with its length, whatever the order of its ids.
+//! Which kept SYSMODs take effect, and what these supersede. One search that starts at all kept ones finds every id
+//! that some kept one supersedes. Then one search starts at each SYSMOD that takes effect. So the time for a chain of
+//! SUP grows only with its length, whatever the order of its ids.
 ghost use Rattle.std.specs.Prelude.{◌≡◌, ◌↔◌, not, filter, Contains, IfOk, OnOk};
 ghost use Rattle.terms.specs.Types.{Id as AnId};
 ghost use Rattle.terms.specs.Choice.{sup_of};

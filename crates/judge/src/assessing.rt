@@ -26,7 +26,8 @@ pub(crate) fn assess(
     scope: &Scope<'_, '_>,
     related: Option<&Zone>,
 ) -> Result<Assessed, AllocError>
-    ensures assessment { IfOk result (λ a. IsInstallAssessed (setting_with scope.now (option_copied related.entry)) a.assessment) }
+    ensures assessment { IfOk result (λ a. IsInstallAssessed (setting_with scope.now (option_copied related.entry))
+        a.assessment) }
     ensures overs { IfOk result (λ a. AreOver (choice_of scope.now) a.overs) }
 {
     let Tested { tests, overs } = test_all(alloc, scope, related)?;

@@ -70,8 +70,8 @@ fn is_over_chain(
     }
 }
 
-// A place of the chain such that the claim is over all before it, found by halving. If the claim fits into the chain, it
-// is over none from that place on.
+// A place of the chain such that the claim is over all before it, found by halving. If the claim fits into the chain,
+// it is over none from that place on.
 fn search_place(
     alloc: Global,
     overs: &mut Overs<'_, '_>,

@@ -53,8 +53,8 @@ fn all_marked_deleted_by(
     Ok(all)
 }
 
-/// The faults of all candidates, given those of the tests of their own. `deleted` is set for those that pass these tests
-/// and that the DELETE of one that passes them takes out.
+/// The faults of all candidates, given those of the tests of their own. `deleted` is set for those that pass these
+/// tests and that the DELETE of one that passes them takes out.
 pub(crate) fn all_marked_deleted(
     alloc: Global,
     vers: &VerChoice<'_>,

@@ -56,8 +56,8 @@ fn needed_among(alloc: Global, needed: &IdList, ids: &[Id]) -> Result<Vec<Id>, A
         .collect(alloc)
 }
 
-// Some of the named ids that together supersede all that any of them supersedes: the highest one, and those that it does
-// not name in SUP itself. In cumulative service the highest one names all others, so only one is left.
+// Some of the named ids that together supersede all that any of them supersedes: the highest one, and those that it
+// does not name in SUP itself. In cumulative service the highest one names all others, so only one is left.
 fn sufficient_ids(alloc: Global, vers: &VerChoice<'_>, named: &[Id]) -> Result<Vec<Id>, AllocError>
     ensures { IfOk result (λ some. AreEnough (choice vers.now) named.now some.items) }
 {

@@ -60,8 +60,8 @@ fn is_current(entry: &Entry) -> bool
     entry.applied.is_some() && entry.supby.is_empty()
 }
 
-/// The ERROR holds that the zone leaves open on SYSMODs that are applied and not superseded, in the order of the entries
-/// and then of the reasons.
+/// The ERROR holds that the zone leaves open on SYSMODs that are applied and not superseded, in the order of the
+/// entries and then of the reasons.
 pub(crate) fn open_error_holds(
     alloc: Global,
     global: &GlobalZone,

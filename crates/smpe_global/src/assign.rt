@@ -102,8 +102,8 @@ pub(crate) fn receive_assign(
     assign: Assign,
     change: &mut GlobalChange,
 ) -> Result<(), AllocError>
-    ensures { OnOk result (IsTaken (Runs (AssignsId assign.source) global.old assign.to) global.old global.new change.old
-        change.new) }
+    ensures { OnOk result (IsTaken (Runs (AssignsId assign.source) global.old assign.to) global.old global.new
+        change.old change.new) }
 {
     let Assign { source, to } = assign;
     assign_ids(alloc, global, source, to.as_slice(), change)

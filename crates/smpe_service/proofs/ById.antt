@@ -24,7 +24,8 @@ pub sorted_map : (xs : List (Id × reported.Status)) → IsSortedByKey (λ p. p.
 sorted_map xs sorted = λ k e low below.
     let d : Id × reported.Status = (e.0, Applied) in
     let short : k + 1 < length xs = let n = length-map xs id_and_status in omega arith in
-    rw (get_or-map id_and_status xs (k + 1) d e short, get_or-map id_and_status xs k d e (omega arith)) (sorted k d low short)
+    rw (get_or-map id_and_status xs (k + 1) d e short, get_or-map id_and_status xs k d e (omega arith))
+    (sorted k d low short)
 
 -- sorted by ids without doubles, a list rises
 pub rises_by_id : {V : Type 0} (all found : List (Id × V)) → IsPermutation all found

@@ -15,10 +15,12 @@ returns-then-branch-2-clause-fits c ordered =
 
 pub returns-clause-fits : goal.returns-clause-fits
 returns-clause-fits c ordered =
-    let same = c.in_ok-is_below.ensures.same ∙ c.in_ok-is_below_chain_from.ensures.same ∙ c.in_ok-is_over_chain.ensures.same in
+    let same = c.in_ok-is_below.ensures.same ∙ c.in_ok-is_below_chain_from.ensures.same
+    ∙ c.in_ok-is_over_chain.ensures.same in
     record {
       within = c.in_ok-place.ensures.within;
       front = (rw same at c.in_ok-place.ensures.front) ordered;
-      back = (rw (c.in_ok-place.ensures.same ∙ same) at c.in_ok-is_below_chain_from-2.ensures.fits) c.if-not-branch-2.false
+      back = (rw (c.in_ok-place.ensures.same ∙ same) at c.in_ok-is_below_chain_from-2.ensures.fits)
+          c.if-not-branch-2.false
           ordered;
     }

@@ -22,7 +22,8 @@ returns-else-is_any_applied c =
       λ on. forbidden_listed g (choice view.vers.now) view.dels.now view.zone.now c.args.forbidders.now c.requires
           c.args.id (ap (list_any (is_applied (left_of view))) (sym c.listed.ensures)
           ∙ sym c.is_any_applied-else-is_any_applied.ensures ∙ on),
-      λ forbidden. c.is_any_applied-else-is_any_applied.ensures ∙ ap (list_any (is_applied (left_of view))) c.listed.ensures
+      λ forbidden. c.is_any_applied-else-is_any_applied.ensures ∙ ap (list_any (is_applied (left_of view)))
+          c.listed.ensures
           ∙ forbidden_else g (choice view.vers.now) view.dels.now view.zone.now c.args.forbidders.now c.requires
           c.attest.ensures c.args.id
           (ap (list_any (is_applied (left_of view))) (sym c.npre.ensures) ∙ sym c.is_any_applied.ensures

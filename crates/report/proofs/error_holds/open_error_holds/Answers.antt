@@ -4,7 +4,8 @@ use Rattle.terms.proofs.Lists.{flat_next}
 use Rattle.terms.specs.Types.{Entry}
 use Rattle.report.specs.ErrorHolds.{open_on, open_in}
 use Rattle.report.proofs.OpenHolds.{open_entries}
-use Rattle.report.proofs.error_holds.open_error_holds.Goals.{then-is_current+in_ok-append_open_error_holds, else-is_current}
+use Rattle.report.proofs.error_holds.open_error_holds.Goals.{then-is_current+in_ok-append_open_error_holds}
+use Rattle.report.proofs.error_holds.open_error_holds.Goals.{else-is_current}
 use Rattle.report.proofs.error_holds.open_error_holds.Goals as goal
 
 pub loop-entry-preserved : goal.loop-entry-preserved

@@ -13,7 +13,8 @@ pub loop-searched-preserved : goal.loop-searched-preserved
 loop-searched-preserved c =
     let old = c.loop-searched.seen.keys in
     let new = c.loop-by.seen.keys in
-    searching_next c.args.vers.now c.args.id old new c.loop-searched.searched c.index-as_slice-searched.result (omega arith)
+    searching_next c.args.vers.now c.args.id old new c.loop-searched.searched c.index-as_slice-searched.result
+    (omega arith)
     (rw c.as_slice.ensures.keys at c.index-as_slice-searched.is)
     (subst (λ l. AddsAll old l new) (take_all c.loop-by.by-index c.as_slice-by-items.result.now (omega arith)
     ∙ c.as_slice-by-items.ensures.value ∙ c.in_ok-above.ensures) c.loop-by.invariant) c.loop-searched.invariant

@@ -35,7 +35,8 @@ loop-item-preserved c =
       append_assoc at.yielded (x ∷ []) _ ∙ rw (← steps) at.invariant.0,
       subst (λ its. IsTaken (Runs takes old its) old now.global c.args.change.now now.change)
           (sym (map-append item_of at.yielded (x ∷ [])))
-          (more_taken takes old at.global now.global (items at.yielded) (item_of x) c.args.change.now at.change now.change
+          (more_taken takes old at.global now.global (items at.yielded) (item_of x) c.args.change.now at.change
+          now.change
           at.invariant.1 c.in_ok-receive_hold_item.ensures),
       let was = at.invariant.2 in
           let gone = c.in-Some.ensures.steps.1 in

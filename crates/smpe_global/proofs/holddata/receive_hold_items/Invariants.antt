@@ -10,5 +10,6 @@ use Rattle.smpe_global.proofs.holddata.receive_hold_items.Given as goal
 abbrev pub invariant-loop-item : goal.invariant-loop-item
 invariant-loop-item l =
     (l.yielded ++ into_iter_items l.item-iterator ≡ into_iter_items l.initial.item-iterator)
-    × IsTaken (Runs TakesHoldItem l.initial.global (items l.yielded)) l.initial.global l.global l.initial.change l.change
+    × IsTaken (Runs TakesHoldItem l.initial.global (items l.yielded)) l.initial.global l.global l.initial.change
+    l.change
     × (into_iter_len l.item-iterator ≡ length (into_iter_items l.item-iterator))

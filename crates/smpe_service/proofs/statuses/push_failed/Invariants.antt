@@ -8,5 +8,6 @@ use Rattle.smpe_service.proofs.statuses.push_failed.Given as goal
 abbrev pub invariant-loop-id : goal.invariant-loop-id
 invariant-loop-id l =
     (l.yielded ++ into_iter_items l.id-iterator ≡ into_iter_items l.initial.id-iterator)
-    × (map id_and_status l.statuses.items ≡ map id_and_status l.initial.statuses.items ++ failed_statuses (map why_failed l.yielded))
+    × (map id_and_status l.statuses.items ≡ map id_and_status l.initial.statuses.items
+    ++ failed_statuses (map why_failed l.yielded))
     × (into_iter_len l.id-iterator ≡ length (into_iter_items l.id-iterator))
