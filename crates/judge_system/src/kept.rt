@@ -7,7 +7,7 @@ ghost use Rattle.solve.specs.System.{holds};
 use fields::{Id, IdList};
 use std::alloc::{AllocError, Global};
 
-// Adds the id if its candidate is kept.
+// Adds the id if its flag says that it is kept.
 fn add_if_kept(ids: &mut Vec<Id>, is_kept: bool, id: Id) -> Result<(), AllocError>
     ensures { OnOk result (ids.new.items ≡ ids.old.items ++ (if is_kept then id ∷ [] else [])) }
 {

@@ -24,8 +24,8 @@ fn errsysmod_lines(
     if errors.is_empty() {
         return Ok(Vec::new(alloc));
     }
-    let cands = IdList::new(alloc);
-    let vers = choose(alloc, global, zone, &cands)?;
+    let none = IdList::new(alloc);
+    let vers = choose(alloc, global, zone, &none)?;
     let mut lines = Vec::new(alloc);
     for error in errors {
         let ids = resolvers(alloc, &vers, zone.srel(), error.reason)?;

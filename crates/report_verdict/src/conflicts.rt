@@ -217,8 +217,8 @@ fn push_clashes(
     push_partner_elements(scope, id, partner, found)
 }
 
-/// The conflicts of the id with the other candidates of a report with these lines: those on which its failure of J8 or
-/// J9 rests.
+/// The conflicts of the id with the other candidates of a report with these lines: those on which it rests that the id
+/// fails J8 (a DELETE takes out its chain) or J9 (it clashes with another candidate).
 pub fn conflicts_of(
     alloc: Global,
     scope: &Scope<'_, '_>,

@@ -151,7 +151,8 @@ fn is_among(ids: &[Id], id: Id) -> bool
     ids.contains(&id)
 }
 
-/// If the id fails J8, the other candidates whose DELETEs decide that.
+/// If the id fails J8 (a DELETE takes out its chain), the other candidates whose DELETEs decide that: those that fail
+/// at most tests that depend on others.
 pub(crate) fn deleters(alloc: Global, lines: &[ReportLine], id: Id) -> Result<Vec<Id>, AllocError>
     ensures { IfOk result (λ ids. ids.items ≡ deleters (map line_view lines.now) id) }
 {
@@ -163,7 +164,7 @@ pub(crate) fn deleters(alloc: Global, lines: &[ReportLine], id: Id) -> Result<Ve
     Ok(Vec::new(alloc))
 }
 
-/// If the id fails J9, the other candidates that fail it.
+/// If the id fails J9 (it clashes with another candidate), the other candidates that fail J9 too.
 pub(crate) fn clashing_ids(
     alloc: Global,
     lines: &[ReportLine],

@@ -37,9 +37,9 @@ pub(crate) fn assess(
         accepted,
         applied: applied.as_slice(),
     };
-    let cands = ids.as_slice();
+    let candidates = ids.as_slice();
     Ok(Assessment {
-        tests: all_failed_tests(alloc, &scope, cands)?,
+        tests: all_failed_tests(alloc, &scope, candidates)?,
         needs: needs_in_restore(alloc, &scope, ids)?,
         superseded: Vec::new(alloc),
         bypassed: Vec::new(alloc),

@@ -79,15 +79,15 @@ fn members_of_listed_groups(
 pub(crate) fn dependence_pairs(
     alloc: Global,
     scope: &RestoreScope<'_, '_>,
-    cands: &IdList,
+    candidates: &IdList,
 ) -> Result<Vec<(Id, Id)>, AllocError>
-    requires { All (λ x. IsTrue (is_applied scope.now.zone.now x)) cands.now }
-    ensures { IfOk result (λ pairs. HaveDep (restoring_of scope.now) cands.now pairs.items) }
+    requires { All (λ x. IsTrue (is_applied scope.now.zone.now x)) candidates.now }
+    ensures { IfOk result (λ pairs. HaveDep (restoring_of scope.now) candidates.now pairs.items) }
 {
     let mut pairs = Vec::new(alloc);
     for by in scope.applied {
         let groups = dependences_of(alloc, scope, *by)?;
-        let ids = members_of_listed_groups(alloc, cands, groups.as_slice())?;
+        let ids = members_of_listed_groups(alloc, candidates, groups.as_slice())?;
         for id in ids.as_slice() {
             pairs.push((*id, *by))?;
         }

@@ -64,15 +64,15 @@ fn sharers_of(
 pub(crate) fn element_pairs(
     alloc: Global,
     scope: &RestoreScope<'_, '_>,
-    cands: &IdList,
+    candidates: &IdList,
 ) -> Result<Vec<(Id, Id)>, AllocError>
-    ensures { IfOk result (λ pairs. HaveElem (restoring_of scope.now) cands.now pairs.items) }
+    ensures { IfOk result (λ pairs. HaveElem (restoring_of scope.now) candidates.now pairs.items) }
 {
     let global = scope.vers.global();
     let others = unaccepted_among(alloc, scope.accepted, scope.applied)?;
     let changers = index_changers(alloc, global, others.as_slice())?;
     let mut pairs = Vec::new(alloc);
-    for id in cands.as_slice() {
+    for id in candidates.as_slice() {
         let sharers = sharers_of(alloc, global, &changers, *id)?;
         for sharer in sharers.as_slice() {
             pairs.push((*id, *sharer))?;

@@ -10,7 +10,7 @@ use Rattle.undo.proofs.dependences.dependence_pairs.Goals as goal
 pub loop-by-preserved : goal.loop-by-preserved
 loop-by-preserved c =
     let r = restoring_of c.args.scope.now in
-    let listed = is_in c.args.cands.now in
+    let listed = is_in c.args.candidates.now in
     let by = c.by-item.result in
     let ids = c.as_slice-id-items.result.now in
     let are : ids ≡ all_within listed (dependences_of r by) =
@@ -25,7 +25,7 @@ loop-by-preserved c =
 
 pub returns : goal.returns
 returns c =
-    have_dep_holds (restoring_of c.args.scope.now) c.args.scope.now.form c.args.cands.now c.requires
+    have_dep_holds (restoring_of c.args.scope.now) c.args.scope.now.form c.args.candidates.now c.requires
     c.loop-by.pairs.items
-    (c.loop-by.invariant ∙ ap (flat_map (dependents (restoring_of c.args.scope.now) (is_in c.args.cands.now)))
+    (c.loop-by.invariant ∙ ap (flat_map (dependents (restoring_of c.args.scope.now) (is_in c.args.candidates.now)))
     (take_all c.loop-by.by-index c.args.scope.now.applied.now (omega arith) ∙ c.args.scope.now.has_applied))

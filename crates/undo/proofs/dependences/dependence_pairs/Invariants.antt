@@ -7,7 +7,7 @@ use Rattle.undo.proofs.dependences.dependence_pairs.Given as goal
 
 abbrev pub invariant-loop-by : goal.invariant-loop-by
 invariant-loop-by l =
-    l.pairs.items ≡ flat_map (dependents (restoring_of l.scope) (is_in l.cands)) (take l.by-index l.by-items)
+    l.pairs.items ≡ flat_map (dependents (restoring_of l.scope) (is_in l.candidates)) (take l.by-index l.by-items)
 
 abbrev pub invariant-loop-id : goal.invariant-loop-id
 invariant-loop-id l =

@@ -22,10 +22,10 @@ pub returns : goal.returns
 returns c =
     let all = c.in_ok-changers.changers in
     let found = c.loop-id.pairs.items in
-    let cands = c.args.cands.now in
+    let candidates = c.args.candidates.now in
     have_elem_holds (restoring_of c.args.scope.now) c.args.scope.now.form c.in_ok-others.others.items
     (rw c.args.scope.now.has_applied at c.in_ok-others.ensures) all
-    (rw (c.as_slice.ensures.value, c.global-global.ensures) at c.in_ok-changers.ensures) cands found
-    (subst (λ g. found ≡ flat_map (beside g all) cands) c.global-global.ensures
+    (rw (c.as_slice.ensures.value, c.global-global.ensures) at c.in_ok-changers.ensures) candidates found
+    (subst (λ g. found ≡ flat_map (beside g all) candidates) c.global-global.ensures
     (c.loop-id.invariant ∙ ap (flat_map (beside c.global-global.result.now all))
     (take_all c.loop-id.id-index c.as_slice-id-items.result.now (omega arith) ∙ c.as_slice-id-items.ensures.items)))
