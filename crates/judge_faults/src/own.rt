@@ -24,20 +24,26 @@ use sysmods_values::{ElemChange, Ver};
 use terms::{HoldKind, ZoneKind};
 use zones::{Scope, Zone, ZoneLess, fits, is_bypassed_hold};
 
-/// What a candidate fails by itself: a SYSTEM hold or a USER hold keeps it off, an NPRE forbids it, it changes an
-/// element that another SYSMOD owns (`foreign`) or that was made by a SYSMOD that it is not over (`lower`), it updates
-/// an element that does not exist (`bare`), ACCEPT takes it although it is not applied, two of its `++VER`s fit
-/// (`ambiguous`), or it has none of these and is deleted.
+/// What a candidate fails by itself, apart from clashes with other candidates.
 #[derive(Clone, Copy)]
 pub(crate) struct OwnFaults {
+    /// BYPASS does not cover a SYSTEM hold on it.
     pub(crate) system_held: bool,
+    /// BYPASS does not cover a USER hold on it.
     pub(crate) user_held: bool,
+    /// Its NPRE names an applied SYSMOD, or the NPRE of an applied function names it.
     pub(crate) forbidden: bool,
+    /// It changes an element that another function owns.
     pub(crate) foreign: bool,
+    /// It would regress an element: the element was made by a SYSMOD that it is not over.
     pub(crate) lower: bool,
+    /// It updates an element that does not exist.
     pub(crate) bare: bool,
+    /// ACCEPT takes it although the related target zone has not applied it.
     pub(crate) unapplied: bool,
+    /// Several of its `++VER`s fit.
     pub(crate) ambiguous: bool,
+    /// It has none of the other faults, and a DELETE takes out its chain.
     pub(crate) deleted: bool,
 }
 

@@ -6,7 +6,7 @@ use Rattle.terms.specs.Candidates.{is_installable}
 use Rattle.sysmods.specs.Choices.{choice}
 use Rattle.zones.specs.Scopes.{global_of}
 use Rattle.report.proofs.Superseding.{kept_of}
-use Rattle.report_why.proofs.answers.candidates.Goals as goal
+use Rattle.report_why.proofs.answers.installable_suppliers.Goals as goal
 
 pub serving_ids-requires : goal.serving_ids-requires
 serving_ids-requires c = c.args.asking.now.srel_is ∙ sym c.srel-srel.ensures
