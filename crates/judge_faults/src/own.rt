@@ -122,7 +122,8 @@ fn is_unapplied(zone: &Zone, related: Option<&Zone>, bypass: &Bypass, id: Id) ->
 // How many of the `++VER`s for the zone's SREL fit.
 fn fitting_count(zone: &Zone, candidates: &IdList, vers: &[Ver]) -> usize
     ensures { result
-        ≡ length (filter (fits zone.now (is_in candidates.now)) (filter (λ v. bytes_eq v.srel zone.now.srel) vers.now)) }
+        ≡ length (filter (fits zone.now (is_in candidates.now))
+        (filter (λ v. bytes_eq v.srel zone.now.srel) vers.now)) }
 {
     let srel = zone.srel();
     vers.iter()

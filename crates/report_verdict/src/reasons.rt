@@ -81,7 +81,12 @@ fn is_over(rank: Rank) -> bool
 }
 
 // Appends the line of a hold that decides the test and that BYPASS does not cover.
-fn put_hold(bypass: &Bypass, test: Test, hold: &Hold, text: &mut Vec<u8>) -> Result<(), AllocError>
+fn put_hold_reason(
+    bypass: &Bypass,
+    test: Test,
+    hold: &Hold,
+    text: &mut Vec<u8>,
+) -> Result<(), AllocError>
     ensures { OnOk result (text.new.items ≡ text.old.items ++ hold_reason bypass.now test hold.now) }
 {
     let stands = is_hold_test(test, hold.kind) && !is_bypassed_hold(bypass, hold);
@@ -97,7 +102,7 @@ fn put_hold(bypass: &Bypass, test: Test, hold: &Hold, text: &mut Vec<u8>) -> Res
 }
 
 // Appends the line of a SYSMOD that made the element, unless the id is over it. The word is `RMID` or `UMID`.
-fn put_maker<'a>(
+fn put_maker_reason<'a>(
     test: Test,
     elem_type: ElemType,
     name: &'a Name,
@@ -122,7 +127,7 @@ fn put_maker<'a>(
 }
 
 // Appends the lines of the SYSMODs that made the element and that the id is not over.
-fn put_makers<'a>(
+fn put_makers_reason<'a>(
     test: Test,
     elem_type: ElemType,
     name: &'a Name,
@@ -132,15 +137,15 @@ fn put_makers<'a>(
     ensures { OnOk result (text.new.items
         ≡ text.old.items ++ makers_reason test elem_type name.now (found_view found.now)) }
 {
-    put_maker(test, elem_type, name, b"RMID", &found.rmid, text)?;
+    put_maker_reason(test, elem_type, name, b"RMID", &found.rmid, text)?;
     for umid in found.umids.as_slice() {
-        put_maker(test, elem_type, name, b"UMID", umid, text)?;
+        put_maker_reason(test, elem_type, name, b"UMID", umid, text)?;
     }
     Ok(())
 }
 
 // Appends the owner of the element, if that is not the function of the id.
-fn put_owner<'a>(
+fn put_owner_reason<'a>(
     test: Test,
     elem_type: ElemType,
     name: &'a Name,
@@ -163,7 +168,7 @@ fn put_owner<'a>(
 }
 
 // Appends the lines of an element that the zone has, if they decide the test.
-fn put_existing_element<'a>(
+fn put_existing_element_reason<'a>(
     test: Test,
     elem_type: ElemType,
     name: &'a Name,
@@ -174,16 +179,16 @@ fn put_existing_element<'a>(
         ≡ text.old.items ++ there_reason test elem_type name.now (found_view found.now)) }
 {
     if is_owner_test(test) {
-        return put_owner(test, elem_type, name, found, text);
+        return put_owner_reason(test, elem_type, name, found, text);
     }
     if is_regression_test(test) {
-        return put_makers(test, elem_type, name, found, text);
+        return put_makers_reason(test, elem_type, name, found, text);
     }
     Ok(())
 }
 
 // Appends the line of an element that the zone does not have, if that decides the test.
-fn put_missing_element(
+fn put_missing_element_reason(
     test: Test,
     elem_type: ElemType,
     name: &Name,
@@ -206,7 +211,7 @@ fn put_missing_element(
 }
 
 // Appends the lines of an element that the id changes, if they decide the test.
-fn put_element<'a>(
+fn put_element_reason<'a>(
     test: Test,
     elem_type: ElemType,
     name: &'a Name,
@@ -218,13 +223,13 @@ fn put_element<'a>(
         ++ reason no_bypass test (ElementFact elem_type name.now replaces (option_map found_view found.now))) }
 {
     match found {
-        Some(found) => put_existing_element(test, elem_type, name, found, text),
-        None => put_missing_element(test, elem_type, name, replaces, text),
+        Some(found) => put_existing_element_reason(test, elem_type, name, found, text),
+        None => put_missing_element_reason(test, elem_type, name, replaces, text),
     }
 }
 
 // Appends the line of a `++VER` that fits, if that decides the test.
-fn put_ver(
+fn put_ver_reason(
     test: Test,
     number: usize,
     fmid: &Option<Id>,
@@ -250,7 +255,7 @@ fn put_ver(
 }
 
 // Appends the line of an id in DELETE that is in the id's own chain, if that decides the test.
-fn put_delete(test: Test, id: &Id, own: bool, text: &mut Vec<u8>) -> Result<(), AllocError>
+fn put_delete_reason(test: Test, id: &Id, own: bool, text: &mut Vec<u8>) -> Result<(), AllocError>
     ensures { OnOk result (text.new.items ≡ text.old.items ++ reason no_bypass test (DeleteFact id.now own)) }
 {
     let fails = is_delete_test(test) && own;
@@ -266,7 +271,7 @@ fn put_delete(test: Test, id: &Id, own: bool, text: &mut Vec<u8>) -> Result<(), 
 }
 
 // Appends the line of an applied SYSMOD that NPRE names, if that decides the test.
-fn put_npre(test: Test, id: &Id, applied: bool, text: &mut Vec<u8>) -> Result<(), AllocError>
+fn put_npre_reason(test: Test, id: &Id, applied: bool, text: &mut Vec<u8>) -> Result<(), AllocError>
     ensures { OnOk result (text.new.items ≡ text.old.items ++ reason no_bypass test (NpreFact id.now applied)) }
 {
     let fails = is_npre_test(test) && applied;
@@ -282,7 +287,7 @@ fn put_npre(test: Test, id: &Id, applied: bool, text: &mut Vec<u8>) -> Result<()
 }
 
 // Appends the line of an applied function whose NPRE names the id, if that decides the test.
-fn put_forbidden(test: Test, id: &Id, text: &mut Vec<u8>) -> Result<(), AllocError>
+fn put_forbidden_reason(test: Test, id: &Id, text: &mut Vec<u8>) -> Result<(), AllocError>
     ensures { OnOk result (text.new.items ≡ text.old.items ++ reason no_bypass test (ForbiddenFact id.now)) }
 {
     if !is_npre_test(test) {
@@ -312,19 +317,19 @@ fn put_reason(
             fmid,
             fits,
             counts,
-        } => put_ver(test, *number, fmid, *fits, *counts, text),
+        } => put_ver_reason(test, *number, fmid, *fits, *counts, text),
         Fact::Requisite { .. } => Ok(()),
-        Fact::Hold { hold, .. } => put_hold(bypass, test, hold, text),
+        Fact::Hold { hold, .. } => put_hold_reason(bypass, test, hold, text),
         Fact::Element {
             elem_type,
             name,
             replaces,
             found,
-        } => put_element(test, *elem_type, name, *replaces, found, text),
-        Fact::Delete { id, own } => put_delete(test, id, *own, text),
+        } => put_element_reason(test, *elem_type, name, *replaces, found, text),
+        Fact::Delete { id, own } => put_delete_reason(test, id, *own, text),
         Fact::Takes(_) => Ok(()),
-        Fact::Npre { id, applied } => put_npre(test, id, *applied, text),
-        Fact::Forbidden(id) => put_forbidden(test, id, text),
+        Fact::Npre { id, applied } => put_npre_reason(test, id, *applied, text),
+        Fact::Forbidden(id) => put_forbidden_reason(test, id, text),
         Fact::Needed(_) => Ok(()),
     }
 }

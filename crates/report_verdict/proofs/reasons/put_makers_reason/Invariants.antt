@@ -3,7 +3,7 @@ use Rattle.std.specs.Prelude.{codes}
 use Rattle.std.specs.List.{flat_map}
 use Rattle.report_verdict.specs.Verdict.{maker_reason}
 use Rattle.report.specs.FactViews.{maker_view}
-use Rattle.report_verdict.proofs.reasons.put_makers.Given as goal
+use Rattle.report_verdict.proofs.reasons.put_makers_reason.Given as goal
 
 abbrev pub invariant-loop-umid : goal.invariant-loop-umid
 invariant-loop-umid l =
