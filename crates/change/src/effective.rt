@@ -47,14 +47,14 @@ fn all_superseded(
 {
     let mut seen = IndexSet::new(alloc);
     for id in kept.as_slice() {
-        insert_sups(vers, *id, &mut seen)?;
+        insert_named_in_sup(vers, *id, &mut seen)?;
     }
     let mut searched = 0;
     while searched < seen.len() {
         let id = seen.as_slice()[searched];
         // What a kept one names has been seen already.
         if !kept.contains(id) {
-            insert_sups(vers, id, &mut seen)?;
+            insert_named_in_sup(vers, id, &mut seen)?;
         }
         searched += 1;
     }
@@ -62,7 +62,11 @@ fn all_superseded(
 }
 
 // Inserts the ids that the SYSMOD names in SUP.
-fn insert_sups(vers: &VerChoice<'_>, id: Id, seen: &mut IndexSet<Id>) -> Result<(), AllocError>
+fn insert_named_in_sup(
+    vers: &VerChoice<'_>,
+    id: Id,
+    seen: &mut IndexSet<Id>,
+) -> Result<(), AllocError>
     ensures { OnOk result (AddsAll seen.old.keys (sup_of (choice vers.now) id) seen.new.keys) }
 {
     for other in vers.sup(id) {

@@ -27,7 +27,7 @@ fn has_only_clashes(tests: TestSet) -> bool
 }
 
 // Adds the candidate, if it survives with these failed tests.
-fn add_survivor(found: &mut Vec<Id>, id: Id, tests: TestSet) -> Result<(), AllocError>
+fn add_if_survivor(found: &mut Vec<Id>, id: Id, tests: TestSet) -> Result<(), AllocError>
     ensures { OnOk result (found.new.items
         ≡ found.old.items ++ (if list_all is_clash (tests_of tests) then id ∷ [] else [])) }
 {
@@ -55,7 +55,7 @@ pub(crate) fn survivors(alloc: Global, ids: &IdList, sets: &[TestSet]) -> Result
     let mut found = Vec::new(alloc);
     for i in 0..ids.len() {
         let id = ids.as_slice()[i];
-        add_survivor(&mut found, id, test_set_at(sets, i))?;
+        add_if_survivor(&mut found, id, test_set_at(sets, i))?;
     }
     Ok(IdList::from_vec(found))
 }

@@ -47,7 +47,7 @@ fn left_out_status(why: NotChosen) -> Status
 }
 
 // Adds the statuses of the kept ids.
-fn push_kept(
+fn push_kept_statuses(
     statuses: &mut Vec<(Id, Status)>,
     kind: ZoneKind,
     effective: &IdList,
@@ -63,7 +63,7 @@ fn push_kept(
 }
 
 // Adds the statuses of the candidates that failed, each with why.
-fn push_failed(
+fn push_failed_statuses(
     statuses: &mut Vec<(Id, Status)>,
     failed: Vec<(Id, Failure)>,
 ) -> Result<(), AllocError>
@@ -77,7 +77,7 @@ fn push_failed(
 }
 
 // Adds the statuses of the ids that are no candidates.
-fn push_left_out(
+fn push_left_out_statuses(
     statuses: &mut Vec<(Id, Status)>,
     left_out: &[(Id, NotChosen)],
 ) -> Result<(), AllocError>
@@ -104,8 +104,8 @@ pub(crate) fn install_statuses(
         ≡ all_statuses kind effective.now kept.now (map why_failed failed.items) left_out.now) }
 {
     let mut found = Vec::new(alloc);
-    push_kept(&mut found, kind, effective, kept)?;
-    push_failed(&mut found, failed)?;
-    push_left_out(&mut found, left_out)?;
+    push_kept_statuses(&mut found, kind, effective, kept)?;
+    push_failed_statuses(&mut found, failed)?;
+    push_left_out_statuses(&mut found, left_out)?;
     Ok(found)
 }

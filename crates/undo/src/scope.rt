@@ -20,7 +20,7 @@ pub(crate) struct RestoreScope<'a, 'b> {
 }
 
 // Adds the id of the entry, if it is applied.
-fn push_applied_id(entry: &Entry, found: &mut Vec<Id>) -> Result<(), AllocError>
+fn push_id_if_applied(entry: &Entry, found: &mut Vec<Id>) -> Result<(), AllocError>
     ensures { OnOk result (found.new.items ≡ found.old.items
         ++ map (λ e. e.id) (filter (λ e. is_some e.applied) (entry.now ∷ []))) }
 {
@@ -37,7 +37,7 @@ pub fn applied_ids(alloc: Global, zone: &Zone) -> Result<Vec<Id>, AllocError>
 {
     let mut found = Vec::new(alloc);
     for entry in zone.entries() {
-        push_applied_id(entry, &mut found)?;
+        push_id_if_applied(entry, &mut found)?;
     }
     Ok(found)
 }

@@ -3,13 +3,15 @@ use Rattle.std.proofs.lemmas.List.{take_all}
 use Rattle.sysmods.specs.Choices.{choice}
 use Rattle.terms.proofs.Ids.{Contains_from_is_in}
 use Rattle.change.proofs.TakingEffect.{IsUnderWay, begun_next, seen_next, seen_begun, seen_all}
-use Rattle.change.proofs.effective.all_superseded.Goals.{then-not-contains+in_ok-insert_sups-2, else-not-contains}
+use Rattle.change.proofs.effective.all_superseded.Goals.{then-not-contains+in_ok-insert_named_in_sup-2}
+use Rattle.change.proofs.effective.all_superseded.Goals.{else-not-contains}
 use Rattle.change.proofs.effective.all_superseded.Goals as goal
 
 pub loop-id-preserved : goal.loop-id-preserved
 loop-id-preserved c =
     begun_next (choice c.args.vers.now) c.as_slice-id-items.result.now c.loop-id.id-index c.id-item.result
-    c.loop-id.seen.keys c.insert_sups.new.seen.keys (omega arith) c.id-item.is c.in_ok-insert_sups.ensures
+    c.loop-id.seen.keys c.insert_named_in_sup.new.seen.keys (omega arith) c.id-item.is
+    c.in_ok-insert_named_in_sup.ensures
     c.loop-id.invariant
 
 pub loop-searched-init : goal.loop-searched-init
@@ -30,10 +32,10 @@ loop-searched-preserved c =
     let y = c.index-as_slice-searched.result in
     let at = rw c.as_slice.ensures.keys at c.index-as_slice-searched.is in
     elim c.if-not-contains.branch [
-      | then-not-contains+in_ok-insert_sups-2 w ↦
+      | then-not-contains+in_ok-insert_named_in_sup-2 w ↦
           subst (λ seen. IsUnderWay by ids ids seen.keys (n + 1)) (sym w.seen-is)
-          (seen_next by ids old w.insert_sups-then-not-contains.new.seen.keys n y (omega arith) at
-          w.in_ok-insert_sups-2.ensures c.loop-searched.invariant)
+          (seen_next by ids old w.insert_named_in_sup-then-not-contains.new.seen.keys n y (omega arith) at
+          w.in_ok-insert_named_in_sup-2.ensures c.loop-searched.invariant)
       | else-not-contains w ↦
           subst (λ seen. IsUnderWay by ids ids seen.keys (n + 1)) (sym w.seen-is)
           (seen_begun by ids old n y (omega arith) at

@@ -1,6 +1,6 @@
 use Rattle.std.proofs.Common.{arith}
 use Rattle.sysmods.proofs.Growth.{adds_none, adds_next}
-use Rattle.change.proofs.effective.insert_sups.Goals as goal
+use Rattle.change.proofs.effective.insert_named_in_sup.Goals as goal
 
 pub loop-other-init : goal.loop-other-init
 loop-other-init c = adds_none c.args.seen.now.keys

@@ -1,6 +1,6 @@
 use Rattle.std.proofs.Common.{◌≡◌, ◌++◌, map, take}
 use Rattle.smpe_service.specs.Statuses.{id_and_status, kept_statuses}
-use Rattle.smpe_service.proofs.statuses.push_kept.Given as goal
+use Rattle.smpe_service.proofs.statuses.push_kept_statuses.Given as goal
 
 -- the kept ones so far
 abbrev pub invariant-loop-id : goal.invariant-loop-id
