@@ -7,13 +7,16 @@ use std::alloc::{AllocError, Global};
 use sysmods::VerChoice;
 use zones::{Entry, Zone};
 
-/// The `++VER`s that count, the target zone, its distribution zone, and the ids that are applied in the target zone.
-/// `applied_ids` finds these once for all that a RESTORE decides.
+/// The zones of a RESTORE, and what is looked up once for all that it decides.
 #[derive(Clone, Copy)]
 pub(crate) struct RestoreScope<'a, 'b> {
+    /// The `++VER`s that count.
     pub(crate) vers: &'a VerChoice<'b>,
+    /// The target zone.
     pub(crate) zone: &'a Zone,
+    /// The distribution zone of the target zone.
     pub(crate) accepted: &'a Zone,
+    /// The ids that are applied in the target zone, as `applied_ids` finds them.
     pub(crate) applied: &'a [Id],
     pub(crate) ghost has_applied: { applied.now ≡ applied_ids zone.now },
     pub(crate) ghost form: { IsZone zone.now },
