@@ -20,7 +20,8 @@ use sysmods::Overs;
 use zones::{Element, Zone, ZoneLess};
 
 /// The elements that these SYSMODs change, rising by type and name, as they are once all of the SYSMODs have taken
-/// effect on the zone less the deletions. Over orders those that change one element, and what they update exists.
+/// effect on the zone less the deletions. Of any two that change one element one is over the other, and what they
+/// update exists.
 pub(crate) fn elements_after(
     alloc: Global,
     overs: &mut Overs<'_, '_>,

@@ -47,7 +47,7 @@ pub(crate) fn remove_entry(
     zone_edits.remove_entry(id)
 }
 
-/// Adds those of the edits that change something.
+/// Adds those of these edits of elements that change something.
 pub(crate) fn edit_elements(
     zone: &Zone,
     edits: Vec<ElementEdit>,

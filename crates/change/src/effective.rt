@@ -1,6 +1,6 @@
-//! Which kept SYSMODs take effect, and what these supersede. One search from all kept ones finds what any of them
-//! supersedes. Then each one that takes effect is searched from. So the time for a chain of SUP grows only with its
-//! length, whatever the order of its ids.
+//! Which kept SYSMODs take effect, and what these supersede. One search that starts at all kept ones finds every id
+//! that some kept one supersedes. Then one search starts at each SYSMOD that takes effect. So the time for a chain of
+//! SUP grows only with its length, whatever the order of its ids.
 ghost use Rattle.std.specs.Prelude.{◌≡◌, ◌↔◌, not, filter, Contains, IfOk, OnOk};
 ghost use Rattle.terms.specs.Types.{Id as AnId};
 ghost use Rattle.terms.specs.Choice.{sup_of};
@@ -37,7 +37,7 @@ pub(crate) fn find_effective(
     Ok(Effective { ids, superseded })
 }
 
-// What any of the kept SYSMODs supersedes: what they name in SUP, what that names, and so on.
+// All ids that some kept SYSMOD supersedes: those that it names in SUP, those that these name, and so on.
 fn all_superseded(
     alloc: Global,
     vers: &VerChoice<'_>,
@@ -47,22 +47,26 @@ fn all_superseded(
 {
     let mut seen = IndexSet::new(alloc);
     for id in kept.as_slice() {
-        insert_sups(vers, *id, &mut seen)?;
+        insert_named_in_sup(vers, *id, &mut seen)?;
     }
-    let mut gone = 0;
-    while gone < seen.len() {
-        let id = seen.as_slice()[gone];
+    let mut searched = 0;
+    while searched < seen.len() {
+        let id = seen.as_slice()[searched];
         // What a kept one names has been seen already.
         if !kept.contains(id) {
-            insert_sups(vers, id, &mut seen)?;
+            insert_named_in_sup(vers, id, &mut seen)?;
         }
-        gone += 1;
+        searched += 1;
     }
     Ok(seen)
 }
 
 // Inserts the ids that the SYSMOD names in SUP.
-fn insert_sups(vers: &VerChoice<'_>, id: Id, seen: &mut IndexSet<Id>) -> Result<(), AllocError>
+fn insert_named_in_sup(
+    vers: &VerChoice<'_>,
+    id: Id,
+    seen: &mut IndexSet<Id>,
+) -> Result<(), AllocError>
     ensures { OnOk result (AddsAll seen.old.keys (sup_of (choice vers.now) id) seen.new.keys) }
 {
     for other in vers.sup(id) {

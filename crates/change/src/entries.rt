@@ -13,8 +13,8 @@ use sorted::lists::listed;
 use std::alloc::{AllocError, Global};
 use zones::{Applied, Entry, ZoneEdits};
 
-/// Puts the entries that the install makes of those that it may change. It does not put an entry that stays as it is,
-/// and removes one that is empty.
+/// Adds the edits of the entries that the install may change. An entry that stays as it is gets no edit, and one that
+/// has nothing left is removed.
 pub(crate) fn put_entries(
     alloc: Global,
     deleting: &Deleting,
@@ -92,7 +92,7 @@ fn is_unsupplied(deleting: &Deleting, plan: &Plan, id: Id) -> bool
         && !deleting.left.supplies(id)
 }
 
-// The entry of any other id: what is left of it, with more in SUPBY.
+// The entry of any other id: what is left of it, with the SYSMODs that take effect and supersede it added to SUPBY.
 fn other_entry(alloc: Global, deleting: &Deleting, plan: &Plan, id: Id) -> Result<Entry, AllocError>
     requires { AreDeletions deleting.now }
     ensures entry { IfOk result (IsOtherEntry deleting.now plan.now id) }

@@ -19,7 +19,7 @@ use text80::{Numbered, Update, merge};
 use zones::Element;
 
 /// The element after all these SYSMODs, which change it and each of which is over the earlier ones. The zone has it
-/// already, as `base`, or one of them replaces it.
+/// already, as `base`, or one of them replaces it. What happens before the last replacement does not matter.
 pub(crate) fn element_after(
     alloc: Global,
     vers: &VerChoice<'_>,
@@ -74,7 +74,8 @@ fn last_replacement(
     None
 }
 
-// What these SYSMODs make of the old element, if there is one.
+// What these SYSMODs make of the element with which they start, one after the other. Without such an element one of
+// them replaces it.
 fn fold_changes(
     alloc: Global,
     vers: &VerChoice<'_>,
@@ -112,7 +113,7 @@ fn change_of(global: &GlobalZone, id: Id, elem_type: ElemType, name: Name) -> &E
     global.change_of(id, elem_type, name).unwrap()
 }
 
-// The element after one statement that changes it. `old` is the element before. Without one, an update leaves none.
+// The element after one statement that changes it. `old` is the element before. Without it, an update makes none.
 fn apply_change(
     alloc: Global,
     owner: Id,

@@ -45,8 +45,8 @@ pub struct Installed {
     pub effective: IdList,
 }
 
-/// What the kept SYSMODs put into the zone and take out of it on this date. Any SYSMODs may be kept, if over orders
-/// those that change one element, and what they update exists or comes along. It fails only if memory runs out.
+/// What the kept SYSMODs put into the zone and take out of it on this date. Any SYSMODs may be kept, if of any two that
+/// change one element one is over the other, and if each element that they update exists or one of them replaces it.
 pub fn install(alloc: Global, installing: Installing<'_, '_>) -> Result<Installed, AllocError>
     requires order { (x y : AnId) → Contains installing.kept.now x → Contains installing.kept.now y → x ≢ y
         → ShareElement installing.overs.global.now x y
@@ -70,7 +70,8 @@ pub fn install(alloc: Global, installing: Installing<'_, '_>) -> Result<Installe
     })
 }
 
-// What an install puts into the zone and takes out of it, with its deletions and by its plan.
+// The edits of the zone: those of entries by the plan, and those of elements by the deletions and by what the SYSMODs
+// that take effect change.
 fn edits_of(
     alloc: Global,
     installing: Installing<'_, '_>,
@@ -136,7 +137,8 @@ fn element_edits(
     Ok(edits)
 }
 
-// Removes the elements whose owner's chain contains one of the deletions. Usually nothing is deleted.
+// Adds a removal of each element whose owner is deleted: the owner's chain contains one of the deletions. Usually
+// nothing is deleted.
 fn remove_deleted_elements(
     deleting: &Deleting,
     edits: &mut Table<ElementEdit>,
@@ -154,7 +156,7 @@ fn remove_deleted_elements(
     Ok(())
 }
 
-// Puts these elements.
+// Adds an edit that puts each of these elements. It replaces a removal of the same element.
 fn put_elements(elements: Vec<Element>, edits: &mut Table<ElementEdit>) -> Result<(), AllocError>
     ensures { OnOk result (edits.new ≡ with_elements edits.old elements.items) }
 {

@@ -1,4 +1,4 @@
-//! Pairs of ids: those of some first ids, and the second ids of each first one.
+//! Pairs of ids, selected or grouped by their first ids.
 ghost use Rattle.std.specs.Prelude.{◌≡◌, IfOk, filter};
 ghost use Rattle.terms.specs.Lookups.{is_in};
 ghost use Rattle.change.specs.Pairs.{AreGrouped};

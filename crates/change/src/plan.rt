@@ -1,4 +1,4 @@
-//! What an install does to entries.
+//! The plan of an install: which SYSMODs take effect, and which entries may change.
 ghost use Rattle.std.specs.Prelude.{◌↔◌, ◌++◌, Contains, IfOk, map};
 ghost use Rattle.terms.specs.Types.{Id as AnId};
 ghost use Rattle.change.specs.Deleting.{at_stake};
@@ -12,13 +12,16 @@ use sorted::lists::Lists;
 use std::alloc::{AllocError, Global};
 use zones::Zone;
 
-/// Which SYSMODs take effect, which ones supersede an id, which requisites of an id were bypassed, and which entries
-/// change.
+/// What an install does to the entries of its zone.
 #[derive(Drop)]
 pub(crate) struct Plan {
+    /// The SYSMODs that take effect.
     pub(crate) effective: IdList,
+    /// For each id, those of them that supersede it.
     pub(crate) superseders: Lists<Id, Id>,
+    /// For each id, its bypassed requisites.
     pub(crate) bypassed: Lists<Id, Id>,
+    /// The ids whose entries may change.
     pub(crate) touched: IdList,
     pub(crate) date: YyDdd,
 }
@@ -47,8 +50,8 @@ pub(crate) fn make_plan(
     })
 }
 
-// The ids whose entries may change: those that take effect, what they supersede, and if something is deleted all that
-// is deleted or has an entry. Usually nothing is.
+// The ids whose entries may change: those that take effect and those that they supersede. If something is deleted, also
+// the deletions and all ids with an entry. Usually nothing is deleted.
 fn touched_ids(
     alloc: Global,
     effective: &[Id],

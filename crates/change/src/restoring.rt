@@ -70,7 +70,7 @@ fn push_changed_keys(
     Ok(())
 }
 
-// Whether the entry's SYSMOD is kept and applied, or a kept one supersedes it.
+// Whether the entry loses something: its SYSMOD is applied and taken off, or one of those that supersede it is.
 fn loses_kept(kept: &IdList, entry: &Entry) -> bool
     ensures { result ≡ loses (is_in kept.now) entry.now }
 {
@@ -121,7 +121,7 @@ fn take_off(
     zone_edits.put_entry(less)
 }
 
-// The elements of these types and names become those of the other zone.
+// The elements of these types and names become those of the distribution zone.
 fn put_all_back(
     alloc: Global,
     zone: &Zone,
@@ -138,7 +138,8 @@ fn put_all_back(
     Ok(())
 }
 
-// The element becomes the one of the other zone, or goes if that has none. One that is the same in both stays.
+// The element becomes that of the distribution zone, or is removed if that zone has none. Nothing is edited if the two
+// are the same.
 fn put_back(
     alloc: Global,
     zone: &Zone,

@@ -15,7 +15,7 @@ use zones::{Scope, Zone};
 /// The assessment of the candidates, and the pairs of ids that the tests found to be over each other.
 #[derive(Drop)]
 pub(crate) struct Assessed {
-    pub(crate) said: Assessment,
+    pub(crate) assessment: Assessment,
     pub(crate) overs: KnownOvers,
 }
 
@@ -26,7 +26,8 @@ pub(crate) fn assess(
     scope: &Scope<'_, '_>,
     related: Option<&Zone>,
 ) -> Result<Assessed, AllocError>
-    ensures said { IfOk result (λ a. IsInstallAssessed (setting_with scope.now (option_copied related.entry)) a.said) }
+    ensures assessment { IfOk result (λ a. IsInstallAssessed (setting_with scope.now (option_copied related.entry))
+        a.assessment) }
     ensures overs { IfOk result (λ a. AreOver (choice_of scope.now) a.overs) }
 {
     let Tested { tests, overs } = test_all(alloc, scope, related)?;
@@ -36,7 +37,7 @@ pub(crate) fn assess(
     let superseded = superseded_pairs(alloc, scope.vers, scope.ids, needs.as_slice())?;
     let bypassed = bypassed_pairs(alloc, &conditions)?;
     Ok(Assessed {
-        said: Assessment {
+        assessment: Assessment {
             tests,
             needs,
             superseded,

@@ -41,7 +41,7 @@ pub fn install_system<'a>(
         dels: dels.as_slice(),
         bypass,
     };
-    let Assessed { said, overs } = assess(alloc, &scope, related)?;
-    let judged = Judged::new(alloc, ids, said, vers, overs)?;
+    let Assessed { assessment, overs } = assess(alloc, &scope, related)?;
+    let judged = Judged::new(alloc, ids, assessment, vers, overs)?;
     Ok(judged)
 }

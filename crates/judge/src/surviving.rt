@@ -12,7 +12,7 @@ use judge_system::TestSet;
 use std::alloc::{AllocError, Global};
 use terms::Test;
 
-// Whether it is the test that only survivors fail.
+// Whether it is the test for clashes with other candidates. Only survivors fail it.
 fn is_clash(test: Test) -> bool
     ensures { result ≡ is_clash test }
 {
@@ -27,7 +27,7 @@ fn has_only_clashes(tests: TestSet) -> bool
 }
 
 // Adds the candidate, if it survives with these failed tests.
-fn add_survivor(found: &mut Vec<Id>, id: Id, tests: TestSet) -> Result<(), AllocError>
+fn add_if_survivor(found: &mut Vec<Id>, id: Id, tests: TestSet) -> Result<(), AllocError>
     ensures { OnOk result (found.new.items
         ≡ found.old.items ++ (if list_all is_clash (tests_of tests) then id ∷ [] else [])) }
 {
@@ -37,7 +37,7 @@ fn add_survivor(found: &mut Vec<Id>, id: Id, tests: TestSet) -> Result<(), Alloc
     Ok(())
 }
 
-// The failed tests of the candidate at the place.
+// The failed tests of the candidate at the place, with a contract that names them as an item of the list.
 fn test_set_at(sets: &[TestSet], place: usize) -> TestSet
     requires { place < length sets.now }
     ensures { slice_get sets.now place ≡ Some result }
@@ -45,7 +45,7 @@ fn test_set_at(sets: &[TestSet], place: usize) -> TestSet
     sets[place]
 }
 
-/// The survivors among the candidates. `sets` has the tests that each candidate fails.
+/// The survivors among the candidates. `sets` has the tests that each candidate fails, in the order of the candidates.
 pub(crate) fn survivors(alloc: Global, ids: &IdList, sets: &[TestSet]) -> Result<IdList, AllocError>
     requires { length sets.now ≡ length ids.now }
     ensures rising { IfOk result (λ survivors. IsRising survivors) }
@@ -55,7 +55,7 @@ pub(crate) fn survivors(alloc: Global, ids: &IdList, sets: &[TestSet]) -> Result
     let mut found = Vec::new(alloc);
     for i in 0..ids.len() {
         let id = ids.as_slice()[i];
-        add_survivor(&mut found, id, test_set_at(sets, i))?;
+        add_if_survivor(&mut found, id, test_set_at(sets, i))?;
     }
     Ok(IdList::from_vec(found))
 }

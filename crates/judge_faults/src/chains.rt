@@ -53,8 +53,8 @@ fn is_below(
     overs.over(alloc, second.id, first.id)
 }
 
-// Whether the claim is over all of the chain.
-fn is_at_end(
+// Whether the claim is over all of the chain. It is if it is over the last one.
+fn is_over_chain(
     alloc: Global,
     overs: &mut Overs<'_, '_>,
     chain: &[Claim],
@@ -70,8 +70,8 @@ fn is_at_end(
     }
 }
 
-// A place of the chain such that the claim is over all before it. A claim that fits into the chain is over no other
-// one.
+// A place of the chain such that the claim is over all before it, found by halving. If the claim fits into the chain,
+// it is over none from that place on.
 fn search_place(
     alloc: Global,
     overs: &mut Overs<'_, '_>,
@@ -96,8 +96,8 @@ fn search_place(
     Ok(low)
 }
 
-// Whether the claim is below all of the chain from a place on.
-fn is_in_front(
+// Whether all claims of the chain from the place on are over this one.
+fn is_below_chain_from(
     alloc: Global,
     overs: &mut Overs<'_, '_>,
     chain: &[Claim],
@@ -128,10 +128,10 @@ pub(crate) fn place_in_chain(
         → FitsAt overs.old.global.now (choice overs.old) chain.now claim.now k)) }
     ensures same { overs.new ≡ overs.old }
 {
-    if is_at_end(alloc, overs, chain, claim)? {
+    if is_over_chain(alloc, overs, chain, claim)? {
         return Ok(Some(chain.len()));
     }
-    if is_in_front(alloc, overs, chain, 0, claim)? {
+    if is_below_chain_from(alloc, overs, chain, 0, claim)? {
         return Ok(Some(0));
     }
     let Some(first) = chain.first() else {
@@ -142,7 +142,7 @@ pub(crate) fn place_in_chain(
         return Ok(None);
     }
     let place = search_place(alloc, overs, chain, claim)?;
-    if !is_in_front(alloc, overs, chain, place, claim)? {
+    if !is_below_chain_from(alloc, overs, chain, place, claim)? {
         return Ok(None);
     }
     Ok(Some(place))

@@ -1,4 +1,4 @@
-//! The elements that candidates change which pass the tests of their own.
+//! The elements changed by candidates that pass the tests of their own.
 ghost use Rattle.std.specs.Prelude.{◌≡◌, ◌↔◌, length, IsTrue, IfOk};
 ghost use Rattle.judge_faults.specs.Claims.{AreClaims, AreGrouped};
 
@@ -8,7 +8,7 @@ use std::alloc::{AllocError, Global};
 use sysmods::GlobalZone;
 use terms::ElemType;
 
-/// A candidate, with its place, changes an element.
+/// That a candidate changes an element. `place` is the candidate's place in the list of candidates.
 #[derive(Clone, Copy)]
 pub(crate) struct Claim {
     pub(crate) element: (ElemType, Name),

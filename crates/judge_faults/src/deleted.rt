@@ -32,8 +32,9 @@ fn with_deleted(vers: &VerChoice<'_>, dels: &IdList, own: OwnFaults, id: Id) -> 
     }
 }
 
-// The faults of all candidates, with `deleted` for those that these deletions take out.
-fn all_with_deletions(
+// The faults of all candidates. `deleted` is set for those that pass the earlier tests and that these deletions take
+// out.
+fn all_marked_deleted_by(
     alloc: Global,
     vers: &VerChoice<'_>,
     dels: &IdList,
@@ -52,9 +53,9 @@ fn all_with_deletions(
     Ok(all)
 }
 
-/// The faults of all candidates, from those of the tests of their own, with `deleted` for those that the DELETEs take
-/// out.
-pub(crate) fn all_with_deleted(
+/// The faults of all candidates, given those of the tests of their own. `deleted` is set for those that pass these
+/// tests and that the DELETE of one that passes them takes out.
+pub(crate) fn all_marked_deleted(
     alloc: Global,
     vers: &VerChoice<'_>,
     ids: &[Id],
@@ -73,5 +74,5 @@ pub(crate) fn all_with_deleted(
         passing.push(ids[i])?;
     }
     let dels = IdList::from_vec(deletions(alloc, vers, passing.as_slice())?);
-    all_with_deletions(alloc, vers, &dels, ids, faults)
+    all_marked_deleted_by(alloc, vers, &dels, ids, faults)
 }

@@ -31,8 +31,8 @@ pub(crate) fn is_foreign(view: &ZoneLess<'_, '_>, owner: Id, changes: &[ElemChan
         .any(|change| is_foreign_at(view, owner, change))
 }
 
-// Whether some SYSMOD of the list is one that the candidate is not over.
-fn is_not_over_one(
+// Whether the candidate is not over all of these SYSMODs.
+fn is_not_over_all(
     alloc: Global,
     overs: &mut Overs<'_, '_>,
     id: Id,
@@ -49,8 +49,8 @@ fn is_not_over_one(
     Ok(false)
 }
 
-// Whether the candidate is not over the RMID or a UMID of the element: the element is of a higher level.
-fn is_lower(
+// Whether the candidate would regress the element: it is not over the RMID or not over a UMID.
+fn regresses_element(
     alloc: Global,
     overs: &mut Overs<'_, '_>,
     id: Id,
@@ -62,11 +62,11 @@ fn is_lower(
     if !overs.over(alloc, id, element.rmid)? {
         return Ok(true);
     }
-    is_not_over_one(alloc, overs, id, element.umids.as_slice())
+    is_not_over_all(alloc, overs, id, element.umids.as_slice())
 }
 
-// The same for the element of the statement in the view. If the view lacks it, the answer is no.
-fn is_lower_at(
+// Whether the candidate would regress the element of the statement. An element that the view lacks cannot be regressed.
+fn regresses_changed_element(
     alloc: Global,
     view: &ZoneLess<'_, '_>,
     overs: &mut Overs<'_, '_>,
@@ -78,13 +78,13 @@ fn is_lower_at(
     ensures same { overs.new ≡ overs.old }
 {
     match view.element(change.elem_type, change.name) {
-        Some(element) => is_lower(alloc, overs, id, element),
+        Some(element) => regresses_element(alloc, overs, id, element),
         None => Ok(false),
     }
 }
 
-/// Whether an element of these statements was made by a SYSMOD that the candidate is not over.
-pub(crate) fn is_lower_somewhere(
+/// Whether the candidate would regress an element of one of these statements.
+pub(crate) fn regresses_any_element(
     alloc: Global,
     view: &ZoneLess<'_, '_>,
     overs: &mut Overs<'_, '_>,
@@ -96,14 +96,14 @@ pub(crate) fn is_lower_somewhere(
     ensures same { overs.new ≡ overs.old }
 {
     for change in changes {
-        if is_lower_at(alloc, view, overs, id, change)? {
+        if regresses_changed_element(alloc, view, overs, id, change)? {
             return Ok(true);
         }
     }
     Ok(false)
 }
 
-// Whether this function is a candidate that replaces the element.
+// Whether the function `fmid` is a candidate that brings the element: it has a replacement of it.
 fn has_base(global: &GlobalZone, ids: &IdList, fmid: Option<Id>, change: &ElemChange) -> bool
     ensures { result ≡ has_base global.now ids.now fmid change.now }
 {
@@ -115,7 +115,8 @@ fn has_base(global: &GlobalZone, ids: &IdList, fmid: Option<Id>, change: &ElemCh
     }
 }
 
-// Whether the statement updates an element that the view lacks, and its function does not come along with a base.
+// Whether the statement updates an element that the view lacks, and the function that it updates is no candidate that
+// brings the element.
 fn is_bare_at(
     global: &GlobalZone,
     view: &ZoneLess<'_, '_>,
@@ -130,7 +131,7 @@ fn is_bare_at(
         && !has_base(global, ids, fmid, change)
 }
 
-/// Whether one of these statements updates an element that the view lacks, and no base of that comes with its function.
+/// Whether one of these statements updates an element that the view lacks and that the function does not bring along.
 pub(crate) fn has_bare_update(
     global: &GlobalZone,
     view: &ZoneLess<'_, '_>,

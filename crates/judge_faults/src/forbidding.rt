@@ -12,7 +12,7 @@ use indexmap::IndexSet;
 use std::alloc::{AllocError, Global};
 use sysmods::{Overs, VerChoice};
 
-// The place of the candidate, if it is one that passes the tests of its own.
+// The place of the id among the candidates, if it is one that passes the tests of its own.
 fn passing_place(ids: &[Id], faults: &[OwnFaults], id: Id) -> Option<usize>
     requires { AreCandidates ids.now faults.now }
     ensures { (n : ℕ) → (result ≡ Some n) ↔ PassesAt ids.now faults.now n id }
@@ -26,7 +26,8 @@ fn passing_place(ids: &[Id], faults: &[OwnFaults], id: Id) -> Option<usize>
     Some(place)
 }
 
-// Marks the candidate at the place and the one that it names, if that is another one and passes the tests of its own.
+// Marks the candidate `id`, at the place, and the one that it names, if that is another candidate and passes the tests
+// of its own.
 fn mark_named(
     ids: &[Id],
     faults: &[OwnFaults],
@@ -49,7 +50,8 @@ fn mark_named(
     Ok(())
 }
 
-// Marks the candidate at the place and those that it names in NPRE, if both pass the tests of their own.
+// If the candidate at the place passes the tests of its own, marks it together with each other one that it names in
+// NPRE and that passes them too.
 fn mark_by_npre(
     vers: &VerChoice<'_>,
     ids: &[Id],

@@ -15,7 +15,7 @@ ghost use Rattle.judge_faults.specs.Own.{IsLowerAt, HasFaults, passes_alone, pas
 ghost use Rattle.terms.specs.Beside.{Beside};
 ghost use Rattle.zones.specs.Gone.{left_of};
 
-use crate::element_tests::{has_bare_update, is_foreign, is_lower_somewhere};
+use crate::element_tests::{has_bare_update, is_foreign, regresses_any_element};
 use crate::forbidden::{Forbidders, forbidders, is_forbidden};
 use fields::{Bypass, Id, IdList};
 use std::alloc::{AllocError, Global};
@@ -24,20 +24,26 @@ use sysmods_values::{ElemChange, Ver};
 use terms::{HoldKind, ZoneKind};
 use zones::{Scope, Zone, ZoneLess, fits, is_bypassed_hold};
 
-/// What a candidate fails by itself: a SYSTEM hold or a USER hold keeps it off, an NPRE forbids it, it changes an
-/// element that another SYSMOD owns (`foreign`) or that was made by a SYSMOD that it is not over (`lower`), it updates
-/// an element that does not exist (`bare`), ACCEPT takes it although it is not applied, two of its `++VER`s fit
-/// (`ambiguous`), or it has none of these and is deleted.
+/// What a candidate fails by itself, apart from clashes with other candidates.
 #[derive(Clone, Copy)]
 pub(crate) struct OwnFaults {
+    /// BYPASS does not cover a SYSTEM hold on it.
     pub(crate) system_held: bool,
+    /// BYPASS does not cover a USER hold on it.
     pub(crate) user_held: bool,
+    /// Its NPRE names an applied SYSMOD, or the NPRE of an applied function names it.
     pub(crate) forbidden: bool,
+    /// It changes an element that another function owns.
     pub(crate) foreign: bool,
+    /// It would regress an element: the element was made by a SYSMOD that it is not over.
     pub(crate) lower: bool,
+    /// It updates an element that does not exist.
     pub(crate) bare: bool,
+    /// ACCEPT takes it although the related target zone has not applied it.
     pub(crate) unapplied: bool,
+    /// Several of its `++VER`s fit.
     pub(crate) ambiguous: bool,
+    /// It has none of the other faults, and a DELETE takes out its chain.
     pub(crate) deleted: bool,
 }
 
@@ -64,7 +70,7 @@ impl OwnFaults {
     }
 }
 
-// Whether a hold of this kind on the SYSMOD is not covered by BYPASS.
+// Whether the SYSMOD has a hold of this kind that BYPASS does not cover.
 fn has_standing_hold(global: &GlobalZone, bypass: &Bypass, kind: HoldKind, id: Id) -> bool
     ensures { result ≡ list_any (λ h. not (is_bypassed_hold bypass.now h)) (holds_of global.now kind id) }
 {
@@ -73,7 +79,7 @@ fn has_standing_hold(global: &GlobalZone, bypass: &Bypass, kind: HoldKind, id: I
         .any(|hold| !is_bypassed_hold(bypass, hold))
 }
 
-// Whether an element that the candidate changes was made by a SYSMOD that it is not over. BYPASS(ID) skips this test.
+// Whether the candidate would regress an element that it changes. BYPASS(ID) skips this test.
 fn has_regression(
     alloc: Global,
     view: &ZoneLess<'_, '_>,
@@ -89,11 +95,11 @@ fn has_regression(
     if bypass.same_id {
         return Ok(false);
     }
-    is_lower_somewhere(alloc, view, overs, id, changes)
+    regresses_any_element(alloc, view, overs, id, changes)
 }
 
-// Whether there is a related target zone and it has applied the SYSMOD.
-fn has_applied(related: Option<&Zone>, id: Id) -> bool
+// Whether the SYSMOD is applied in the related target zone. Without such a zone it is not.
+fn is_applied_in_target(related: Option<&Zone>, id: Id) -> bool
     ensures { result ≡ option_map_or (λ target. is_applied target id) (option_copied related.entry) false }
 {
     match related {
@@ -108,18 +114,21 @@ fn is_unapplied(zone: &Zone, related: Option<&Zone>, bypass: &Bypass, id: Id) ->
     ensures { result ≡ (is_distribution zone.now.kind && not bypass.now.applycheck && not
         (option_map_or (λ target. is_applied target id) (option_copied related.entry) false)) }
 {
-    zone.kind() == ZoneKind::Distribution && !bypass.applycheck && !has_applied(related, id)
+    zone.kind() == ZoneKind::Distribution
+        && !bypass.applycheck
+        && !is_applied_in_target(related, id)
 }
 
 // How many of the `++VER`s for the zone's SREL fit.
-fn fitting_count(zone: &Zone, cands: &IdList, vers: &[Ver]) -> usize
+fn fitting_count(zone: &Zone, candidates: &IdList, vers: &[Ver]) -> usize
     ensures { result
-        ≡ length (filter (fits zone.now (is_in cands.now)) (filter (λ v. bytes_eq v.srel zone.now.srel) vers.now)) }
+        ≡ length (filter (fits zone.now (is_in candidates.now))
+        (filter (λ v. bytes_eq v.srel zone.now.srel) vers.now)) }
 {
     let srel = zone.srel();
     vers.iter()
         .filter(|ver| ver.srel == srel)
-        .filter(|ver| fits(zone, cands, ver))
+        .filter(|ver| fits(zone, candidates, ver))
         .count()
 }
 
@@ -169,7 +178,7 @@ fn own_faults(
 }
 
 /// The faults of each candidate by itself.
-pub(crate) fn all_faults(
+pub(crate) fn all_own_faults(
     alloc: Global,
     scope: &Scope<'_, '_>,
     related: Option<&Zone>,
@@ -188,7 +197,7 @@ pub(crate) fn all_faults(
     Ok(faults)
 }
 
-/// What the candidate at the place fails by itself.
+/// What the candidate at the place fails by itself, with a contract that names it as an item of the list.
 pub(crate) fn own_faults_at(faults: &[OwnFaults], place: usize) -> OwnFaults
     requires { place < length faults.now }
     ensures { slice_get faults.now place ≡ Some result }

@@ -13,7 +13,7 @@ use indexmap::IndexSet;
 use std::alloc::{AllocError, Global};
 use sysmods::Overs;
 
-// Whether the two need no test: they are of one candidate, or both are marked.
+// Whether the two need no comparison: they are claims of one candidate, or both are marked already.
 fn is_settled(one: &Claim, other: &Claim, shared: &IndexSet<usize>) -> bool
     ensures settled { IsTrue result → (one.now.id ≡ other.now.id) ⊎ (Contains shared.now.keys one.now.place
         × Contains shared.now.keys other.now.place) }
@@ -96,8 +96,8 @@ fn add_claim(
     Ok(())
 }
 
-// Marks the claims on one element that clash.
-fn mark_run(
+// Marks the claims that clash with each other. All are on one element.
+fn mark_clashes(
     alloc: Global,
     overs: &mut Overs<'_, '_>,
     claims: &[Claim],
@@ -117,7 +117,7 @@ fn mark_run(
     Ok(())
 }
 
-// The end of the claims on one element that begin at the place.
+// The place after the last claim on the element of the claim at `start`.
 fn run_end(claims: &[Claim], start: usize) -> usize
     requires { start < length claims.now }
     ensures { IsRun claims.now start result }
@@ -149,7 +149,7 @@ pub(crate) fn shared_places(
     let mut start = 0;
     while start < claims.len() {
         let end = run_end(claims, start);
-        mark_run(alloc, overs, &claims[start..end], &mut shared)?;
+        mark_clashes(alloc, overs, &claims[start..end], &mut shared)?;
         start = end;
     }
     Ok(shared)

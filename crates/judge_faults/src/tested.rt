@@ -4,10 +4,10 @@ ghost use Rattle.zones.specs.Scopes.{setting_with};
 ghost use Rattle.judge_system.specs.TestSets.{tests_of};
 ghost use Rattle.judge_faults.specs.Failed.{AreFailedTests};
 
-use crate::deleted::all_with_deleted;
+use crate::deleted::all_marked_deleted;
 use crate::failed_tests::all_failed_tests;
 use crate::forbidding::clashing_places;
-use crate::own::all_faults;
+use crate::own::all_own_faults;
 use fields::Attest;
 use judge_system::TestSet;
 use std::alloc::{AllocError, Global};
@@ -34,8 +34,8 @@ pub fn test_all<'a, 'b>(
     scope.global().attest();
     let list = scope.ids.as_slice();
     let mut overs = Overs::new(alloc, scope.vers);
-    let alone = all_faults(alloc, scope, related, &mut overs)?;
-    let faults = all_with_deleted(alloc, scope.vers, list, alone.as_slice())?;
+    let alone = all_own_faults(alloc, scope, related, &mut overs)?;
+    let faults = all_marked_deleted(alloc, scope.vers, list, alone.as_slice())?;
     let clashing = clashing_places(alloc, &mut overs, list, faults.as_slice())?;
     let tests = all_failed_tests(alloc, faults.as_slice(), &clashing)?;
     Ok(Tested { tests, overs })

@@ -15,7 +15,8 @@ use sorted::lists::listed;
 use std::alloc::{AllocError, Global};
 use zones::{Scope, ZoneLess};
 
-/// What determines the requisites by `++IF` of the candidates: their scope, and the statements of applied SYSMODs.
+/// What determines the requisites by `++IF` of the candidates: their scope, and what applied SYSMODs state in their
+/// `++IF`s.
 #[derive(Drop)]
 pub struct Conditions<'a, 'b> {
     pub scope: Scope<'a, 'b>,

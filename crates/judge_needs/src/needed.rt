@@ -44,7 +44,7 @@ fn add_open_needs(
     )
 }
 
-// The requisites that the candidate's DELETE orphans, if it is a survivor.
+// The requisites that SYSMODs which stay applied lose by the candidate's DELETE, if the candidate is a survivor.
 fn orphaned_requisites(
     alloc: Global,
     scope: &Scope<'_, '_>,

@@ -23,7 +23,7 @@ pub(crate) struct StatedRequisite {
 /// For each function, the requisites that are stated for it.
 pub(crate) type Stated = Lists<Id, StatedRequisite>;
 
-// Adds requisites that the SYSMOD `by` states for the function.
+// Adds these requisites, which the SYSMOD `by` states for the function.
 fn add_requisites(
     alloc: Global,
     stated: &mut Stated,

@@ -56,8 +56,8 @@ fn needed_among(alloc: Global, needed: &IdList, ids: &[Id]) -> Result<Vec<Id>, A
         .collect(alloc)
 }
 
-// As few of the named ids as are easily found that together supersede all that any of them supersedes. It leaves out
-// those that the highest one names in SUP itself. In cumulative service the highest one names all others.
+// Some of the named ids that together supersede all that any of them supersedes: the highest one, and those that it
+// does not name in SUP itself. In cumulative service the highest one names all others, so only one is left.
 fn sufficient_ids(alloc: Global, vers: &VerChoice<'_>, named: &[Id]) -> Result<Vec<Id>, AllocError>
     ensures { IfOk result (λ some. AreEnough (choice vers.now) named.now some.items) }
 {
@@ -74,7 +74,7 @@ fn sufficient_ids(alloc: Global, vers: &VerChoice<'_>, named: &[Id]) -> Result<V
         .collect(alloc)
 }
 
-// Appends the needed ids that this SYSMOD supersedes. It searches for them only if they are not yet known.
+// Appends the needed ids that this SYSMOD supersedes. It searches for them only if they are not in `known`.
 fn append_needed_below(
     alloc: Global,
     vers: &VerChoice<'_>,

@@ -37,32 +37,32 @@ impl<'a> Judged<'a> {
     pub fn new(
         alloc: Global,
         ids: &IdList,
-        said: Assessment,
+        assessment: Assessment,
         vers: VerChoice<'a>,
         overs: KnownOvers,
     ) -> Result<Self, AllocError>
-        requires rows { length said.tests.items ≡ length ids.now }
-        requires of { All (λ w. Contains ids.now w.of) said.needs.items }
-        requires by { All (λ p. Contains ids.now p.0) said.superseded.items }
-        ensures numbered { IfOk result (λ j. IsNumberedAs ids.now said j) }
+        requires rows { length assessment.tests.items ≡ length ids.now }
+        requires of { All (λ w. Contains ids.now w.of) assessment.needs.items }
+        requires by { All (λ p. Contains ids.now p.0) assessment.superseded.items }
+        ensures numbered { IfOk result (λ j. IsNumberedAs ids.now assessment j) }
         ensures vers { IfOk result (λ j. j.vers ≡ vers.entry) }
         ensures overs { IfOk result (λ j. j.overs ≡ overs) }
     {
-        let eligible = eligible_flags(alloc, said.tests.as_slice())?;
+        let eligible = eligible_flags(alloc, assessment.tests.as_slice())?;
         let ids = number_ids(alloc, ids)?;
         let system = numbered_system(
             alloc,
             &ids,
-            said.superseded.as_slice(),
-            said.needs.as_slice(),
+            assessment.superseded.as_slice(),
+            assessment.needs.as_slice(),
             eligible,
         )?;
         Ok(Judged {
             system,
             ids,
-            tests: said.tests,
-            needs: said.needs,
-            bypassed: said.bypassed,
+            tests: assessment.tests,
+            needs: assessment.needs,
+            bypassed: assessment.bypassed,
             vers,
             overs,
         })

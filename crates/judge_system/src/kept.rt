@@ -7,7 +7,7 @@ ghost use Rattle.solve.specs.System.{holds};
 use fields::{Id, IdList};
 use std::alloc::{AllocError, Global};
 
-// Adds the id if its candidate is kept.
+// Adds the id if its flag says that it is kept.
 fn add_if_kept(ids: &mut Vec<Id>, is_kept: bool, id: Id) -> Result<(), AllocError>
     ensures { OnOk result (ids.new.items ≡ ids.old.items ++ (if is_kept then id ∷ [] else [])) }
 {
@@ -17,7 +17,7 @@ fn add_if_kept(ids: &mut Vec<Id>, is_kept: bool, id: Id) -> Result<(), AllocErro
     Ok(())
 }
 
-/// The ids of the kept candidates, by a flag for each place.
+/// The ids of the kept candidates. `flags` says of each candidate, by its place, whether it is kept.
 pub(crate) fn kept_ids(alloc: Global, ids: &[Id], flags: &[bool]) -> Result<IdList, AllocError>
     requires { length flags.now ≡ length ids.now }
     ensures { IfOk result (λ kept. (x : AnId) → Contains kept x

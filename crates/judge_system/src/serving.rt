@@ -12,7 +12,7 @@ use std::alloc::{AllocError, Global};
 use std::collections::BTreeSet;
 use terms::NeedKind;
 
-// The place of the id among the numbered ones: its number.
+// The place of the id among the candidates, if it is one. The place is its number.
 fn place_of(ids: &IndexSet<Id>, id: Id) -> Option<u32>
     requires { length ids.now.keys < 2 ^ 32 }
     ensures at { IfSome result (λ n. slice_get ids.now.keys n ≡ Some id) }
@@ -24,7 +24,7 @@ fn place_of(ids: &IndexSet<Id>, id: Id) -> Option<u32>
     }
 }
 
-/// The place of a numbered id.
+/// The place of a candidate.
 pub(crate) fn own_place(ids: &IndexSet<Id>, id: Id) -> u32
     requires few { length ids.now.keys < 2 ^ 32 }
     requires within { Contains ids.now.keys id }
@@ -45,7 +45,7 @@ fn own_pairs(alloc: Global, ids: &[Id]) -> Result<Vec<(Id, u32)>, AllocError>
     Ok(pairs)
 }
 
-// Adds what candidates supersede, each id with the place of the candidate.
+// Adds the ids that candidates supersede, each with the place of the candidate.
 fn add_superseded(
     ids: &IndexSet<Id>,
     superseded: &[(Id, Id)],
@@ -79,8 +79,9 @@ pub(crate) fn served_pairs(
     Ok(set)
 }
 
-// The places of the id and of its superseders: they serve a need that a superseder may serve.
-fn served_places(
+// The places of the id and of its superseders, as far as they are candidates. They serve a need that a superseder may
+// serve.
+fn own_and_superseding_places(
     alloc: Global,
     ids: &IndexSet<Id>,
     served: &BTreeSet<(Id, u32)>,
@@ -100,7 +101,7 @@ fn served_places(
     Ok(places)
 }
 
-// The only candidate that serves a need which no superseder serves: the id itself, if it is a candidate.
+// The place of the id itself, if it is a candidate. No other one serves a need that a superseder may not serve.
 fn own_places(alloc: Global, ids: &IndexSet<Id>, id: Id) -> Result<Vec<u32>, AllocError>
     requires few { length ids.now.keys < 2 ^ 32 }
     requires rising { IsRising ids.now.keys }
@@ -131,7 +132,7 @@ pub(crate) fn serving_places(
     ensures rising { IfOk result (λ any. AllPairs (λ a b. a < b) any.items) }
 {
     if kind.takes_superseder() {
-        served_places(alloc, ids, served, kind, id)
+        own_and_superseding_places(alloc, ids, served, kind, id)
     } else {
         own_places(alloc, ids, id)
     }

@@ -26,7 +26,7 @@ pub struct Assessment {
     pub bypassed: Vec<(Id, Id)>,
 }
 
-/// The need at a place.
+/// The need at a place, with a contract that names it as an item of the list.
 pub(crate) fn need_at(needs: &[RequisiteOf], place: usize) -> RequisiteOf
     requires { place < length needs.now }
     ensures { slice_get needs.now place ≡ Some result }

@@ -34,4 +34,4 @@ mod verdicts;
 
 pub use answers::{failures_are_caused, greatest_is_kept, one_answer, some_answer};
 pub use keeps::{choice_is_kept, one_ver_counts, stays_storable};
-pub use verdicts::{clear_is_applied, prints_the_same};
+pub use verdicts::{clear_is_applied, prints_same_on_any_date};

@@ -8,6 +8,6 @@ pub fn clear_is_applied()
 {}
 
 /// An APPLY or ACCEPT of given ids prints the same lines on any date.
-pub fn prints_the_same()
+pub fn prints_same_on_any_date()
     ensures { PrintsTheSame }
 {}

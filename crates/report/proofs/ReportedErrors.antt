@@ -23,7 +23,7 @@ use Rattle.machine.specs.Outcome as machine
 use Rattle.machine.specs.Errsysmods.{AreErrsysmods, Resolves, is_current, open_errors}
 use Rattle.report.specs.Views.{line_view}
 use Rattle.report.specs.declared.outcome.ReportLine.{ReportLine}
-use Rattle.report.specs.declared.error_holds.OpenError.{OpenError}
+use Rattle.report.specs.declared.error_holds.OpenErrorHold.{OpenErrorHold}
 use Rattle.report.specs.ErrorHolds.{an_open, open_on}
 use Rattle.report.specs.ErrsysmodLines.{AreLinesOf}
 use Rattle.report.proofs.Superseding.{received, sup_by}
@@ -100,7 +100,7 @@ module _ (g : Global) (zone : Zone) (is_global : IsGlobal g) where
           by [] at = absurd (true≢false (sym some ∙ ap (λ l. not (is_nil l)) at))
           by (v ∷ vs) at = received g zone.srel y v (subst (λ l. Contains l v) (sym at) (here v vs))
 
-  abbrev printed : OpenError → machine.Line
+  abbrev printed : OpenErrorHold → machine.Line
   printed o = machine.ErrsysmodLine o.id o.reason (resolvers o.reason)
 
   printed_on : (es : List Entry)
@@ -114,7 +114,7 @@ module _ (g : Global) (zone : Zone) (is_global : IsGlobal g) where
       (open_errors g zone e)) es)
       (map-map printed (λ h. an_open e.id h.reason) (open_errors g zone e))
 
-  pub are_errsysmods : (errors : List OpenError) (lines : List ReportLine)
+  pub are_errsysmods : (errors : List OpenErrorHold) (lines : List ReportLine)
       → errors ≡ flat_map (λ e. open_on g zone e.id) (filter is_current zone.entries)
       → AreLinesOf g zone errors lines → AreErrsysmods g zone (map line_view lines)
   are_errsysmods errors lines errors_are lines_are = record {

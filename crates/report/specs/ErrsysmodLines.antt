@@ -8,14 +8,14 @@ use Rattle.machine.specs.Errsysmods.{AreErrsysmods, Resolves}
 use Rattle.report.specs.declared.outcome.Outcome.{Outcome}
 use Rattle.report.specs.declared.outcome.ReportLine.{ReportLine}
 use Rattle.report.specs.Views.{line_view, outcome_view}
-use Rattle.report.specs.declared.error_holds.OpenError.{OpenError}
+use Rattle.report.specs.declared.error_holds.OpenErrorHold.{OpenErrorHold}
 
 -- the ids rise, and are those that resolve the reason
 abbrev pub AreResolvers : Global → Zone → Id → List Id → Type 0
 AreResolvers g zone reason ids = IsRising ids × ((y : Id) → Contains ids y ↔ Resolves g zone reason y)
 
 -- a line for each hold
-abbrev pub AreLinesOf : Global → Zone → List OpenError → List ReportLine → Type 0
+abbrev pub AreLinesOf : Global → Zone → List OpenErrorHold → List ReportLine → Type 0
 AreLinesOf g zone errors lines =
     (resolvers : Id → List Id) → ((reason : Id) → AreResolvers g zone reason (resolvers reason))
     → map line_view lines ≡ map (λ o. machine.ErrsysmodLine o.id o.reason (resolvers o.reason)) errors

@@ -16,8 +16,8 @@ abbrev pub applied_text : ZoneKind → Option Applied → Text
 applied_text kind applied = join_with_byte 32 (applied_words kind (option_map (λ a. a.date) applied))
 
 abbrev pub word_text : LineWord → Text
-word_text (word.Of text) = text.now
-word_text (word.Named text) = named text.now
+word_text (word.Text text) = text.now
+word_text (word.WithColon text) = named text.now
 word_text (word.Optional text) = optional_text (option_map (λ t. t.now) text)
 word_text (word.If holds first second) = if holds then first.now else second.now
 word_text (word.Left places text) = left_in places text.now

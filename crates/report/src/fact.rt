@@ -1,4 +1,4 @@
-//! What is told about an id.
+//! The facts about an id.
 
 use fields::{Id, IdList, Name};
 use std::marker::Model;
@@ -17,7 +17,7 @@ pub enum Standing {
     Missing,
 }
 
-/// Something that an id asks for, and the SYSMOD that states it; the function is that of an `++IF`.
+/// A requisite: the SYSMOD `by` asks for the id. The function is that of an `++IF`, if one states it.
 #[derive(Clone, Copy)]
 pub struct Requisite {
     pub kind: NeedKind,
@@ -36,7 +36,7 @@ impl Model for Requisite {
     ghost inverse = { λ r. record { kind = r.kind; by = r.by; function = r.function; id = r.id } };
 }
 
-/// The answer to something that is asked for.
+/// How a requisite is resolved.
 #[derive(Drop)]
 pub enum Resolution {
     /// These supply it.

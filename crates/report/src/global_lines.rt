@@ -16,18 +16,18 @@ pub(crate) fn put_global<W: Sink>(global: &GlobalZone, page: &mut Page<'_, W>)
 {
     for sysmod in global.sysmods() {
         let words = [
-            LineWord::Of(sysmod.id.as_bytes()),
+            LineWord::Text(sysmod.id.as_bytes()),
             LineWord::Left(8, kind_text(sysmod.kind)),
-            LineWord::Of(b"SOURCEID"),
+            LineWord::Text(b"SOURCEID"),
             LineWord::Sources(sysmod.sources.as_slice()),
         ];
         put_words(b"SYSMOD", &words, page);
     }
     for hold in global.holds() {
         let words = [
-            LineWord::Of(hold.id.as_bytes()),
+            LineWord::Text(hold.id.as_bytes()),
             LineWord::Left(6, hold_text(hold.kind)),
-            LineWord::Of(hold.reason.as_bytes()),
+            LineWord::Text(hold.reason.as_bytes()),
             LineWord::If(hold.internal, b"INTERNAL", b"EXTERNAL"),
         ];
         put_words(b"HOLD", &words, page);

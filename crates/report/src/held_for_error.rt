@@ -2,7 +2,7 @@
 ghost use Rattle.std.specs.Prelude.{IfOk};
 ghost use Rattle.report.specs.ErrsysmodLines.{AreLinesOf, IsReportOf};
 
-use crate::error_holds::{OpenError, open_errors};
+use crate::error_holds::{OpenErrorHold, open_error_holds};
 use crate::outcome::{Header, Outcome, ReportLine};
 use crate::superseders::resolvers;
 use fields::{Attest, IdList, Reason, ZoneName};
@@ -11,20 +11,21 @@ use sysmods::GlobalZone;
 use terms::CommandWord;
 use zones::{Zone, choose};
 
-// An ERRSYSMOD line for each open hold, with the SYSMODs that resolve its reason. Without holds it searches nothing.
+// An ERRSYSMOD line for each open hold, with the SYSMODs that resolve its reason. Without holds there is no search for
+// the `++VER`s that count.
 fn errsysmod_lines(
     alloc: Global,
     global: &GlobalZone,
     zone: &Zone,
-    errors: &[OpenError],
+    errors: &[OpenErrorHold],
 ) -> Result<Vec<ReportLine>, AllocError>
     ensures { IfOk result (λ lines. AreLinesOf global.now zone.now errors.now lines.items) }
 {
     if errors.is_empty() {
         return Ok(Vec::new(alloc));
     }
-    let cands = IdList::new(alloc);
-    let vers = choose(alloc, global, zone, &cands)?;
+    let none = IdList::new(alloc);
+    let vers = choose(alloc, global, zone, &none)?;
     let mut lines = Vec::new(alloc);
     for error in errors {
         let ids = resolvers(alloc, &vers, zone.srel(), error.reason)?;
@@ -47,7 +48,7 @@ pub fn errsysmods(
     ensures { IfOk result (IsReportOf zone_name global.now zone.now) }
 {
     global.attest();
-    let errors = open_errors(alloc, global, zone)?;
+    let errors = open_error_holds(alloc, global, zone)?;
     let lines = errsysmod_lines(alloc, global, zone, &errors)?;
     Ok(Outcome::Ran {
         header: Header {

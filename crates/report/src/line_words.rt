@@ -17,14 +17,14 @@ use zones::Applied;
 /// A word of a line.
 #[derive(Clone, Copy)]
 pub enum LineWord<'a> {
-    Of(&'a [u8]),
+    Text(&'a [u8]),
     /// Followed by a colon.
-    Named(&'a [u8]),
+    WithColon(&'a [u8]),
     /// The word, or `-`.
     Optional(Option<&'a [u8]>),
-    /// The first word if it is so, otherwise the second.
+    /// The first word if the condition holds, otherwise the second.
     If(bool, &'static [u8], &'static [u8]),
-    /// Padded with blanks to so many places.
+    /// Left-aligned, and padded with blanks to this many characters.
     Left(usize, &'a [u8]),
     Number(usize),
     /// Joined by commas, or `-`.
@@ -94,8 +94,8 @@ fn put_word<W: Sink>(word: LineWord<'_>, page: &mut Page<'_, W>)
     ensures { Paged W.Sink page.old page.new (word_text word.entry) }
 {
     match word {
-        LineWord::Of(text) | LineWord::Optional(Some(text)) => page.put(text),
-        LineWord::Named(text) => {
+        LineWord::Text(text) | LineWord::Optional(Some(text)) => page.put(text),
+        LineWord::WithColon(text) => {
             page.put(text);
             page.put(b":");
         }
@@ -117,8 +117,8 @@ fn put_word<W: Sink>(word: LineWord<'_>, page: &mut Page<'_, W>)
     }
 }
 
-/// Puts a line on the page that begins with `start`, with a blank before each word. A line that begins with blanks and
-/// then a word has one blank less in `start`.
+/// Puts a line on the page: `start`, and each word after a blank. For a line that is indented and begins with a word,
+/// `start` has one blank less than the line.
 pub(crate) fn put_words<W: Sink>(start: &[u8], words: &[LineWord<'_>], page: &mut Page<'_, W>)
     ensures paged { Paged W.Sink page.old page.new (words_line (start.now ∷ map word_text words.now)) }
     ensures some { 0 < length page.new.waiting.items }
@@ -131,7 +131,7 @@ pub(crate) fn put_words<W: Sink>(start: &[u8], words: &[LineWord<'_>], page: &mu
     page.put(b"\n");
 }
 
-// Writes such a line. After an error a beginning of it has gone out.
+// Writes the line that `put_words` puts on a page. After an error a beginning of it has gone out.
 fn write_words<W: Sink>(start: &[u8], words: &[LineWord<'_>], w: &mut W) -> Result<(), WriteFault>
     ensures sends { Sent W.Sink w.old w.new (words_line (start.now ∷ map word_text words.now)) }
     ensures fault { W.has_failed w.new ≡ is_err result }
@@ -141,7 +141,7 @@ fn write_words<W: Sink>(start: &[u8], words: &[LineWord<'_>], w: &mut W) -> Resu
     page.flush()
 }
 
-/// Appends such a line to a text.
+/// Appends the line that `put_words` puts on a page to a text.
 pub fn append_words(
     start: &[u8],
     words: &[LineWord<'_>],

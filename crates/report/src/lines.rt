@@ -29,7 +29,7 @@ pub(crate) fn put_header<W: Sink>(header: &Header, page: &mut Page<'_, W>)
     let word = word_text(header.word);
     let zone = LineWord::Optional(header.boundary.as_ref().map(|name| name.as_bytes()));
     if header.check {
-        put_words(word, &[zone, LineWord::Of(b"CHECK")], page);
+        put_words(word, &[zone, LineWord::Text(b"CHECK")], page);
         return;
     }
     put_words(word, &[zone], page);
@@ -41,10 +41,10 @@ fn put_fault<W: Sink>(word: &[u8], number: usize, code: StatementCode, page: &mu
         (words_line (codes "REFUSED" ∷ word.now ∷ codes "RECORD" ∷ decimal number ∷ statement_code_text code ∷ [])) }
 {
     let words = [
-        LineWord::Of(word),
-        LineWord::Of(b"RECORD"),
+        LineWord::Text(word),
+        LineWord::Text(b"RECORD"),
         LineWord::Number(number),
-        LineWord::Of(statement_code_text(code)),
+        LineWord::Text(statement_code_text(code)),
     ];
     put_words(b"REFUSED", &words, page);
 }
@@ -62,7 +62,7 @@ pub(crate) fn put_refusal<W: Sink>(refusal: &Refusal, page: &mut Page<'_, W>)
     }
 }
 
-// The text that follows the id in a status line.
+// The text that follows the id in a status line: a type, the kind of a hold, or `-`.
 fn place_text(place: &Place) -> &[u8]
     ensures { result.now ≡ place_text (place_view place.now) }
 {
@@ -119,7 +119,7 @@ fn put_tests<W: Sink>(tests: TestSet, page: &mut Page<'_, W>)
         (flat_map (λ t. detail_line (codes "TEST" ∷ test_text t ∷ [])) (tests_of tests)) }
 {
     for test in tests.iter() {
-        put_words(b"  TEST", &[LineWord::Of(test_text(test))], page);
+        put_words(b"  TEST", &[LineWord::Text(test_text(test))], page);
     }
 }
 
@@ -130,13 +130,13 @@ fn put_failure<W: Sink>(failure: &Failure, page: &mut Page<'_, W>)
     put_tests(failure.tests, page);
     for need in failure.needs.as_slice() {
         let words = [
-            LineWord::Of(need_text(need.kind)),
-            LineWord::Of(need.id.as_bytes()),
+            LineWord::Text(need_text(need.kind)),
+            LineWord::Text(need.id.as_bytes()),
         ];
         put_words(b"  NEED", &words, page);
     }
     for causer in failure.causers.as_slice() {
-        put_words(b"  CAUSER", &[LineWord::Of(causer.as_bytes())], page);
+        put_words(b"  CAUSER", &[LineWord::Text(causer.as_bytes())], page);
     }
 }
 
@@ -146,9 +146,9 @@ fn put_status<'a, W: Sink>(id: Id, place: &'a Place, status: &'a Status, page: &
         ∷ status_word (status_view status.now) ∷ status_detail (status_view status.now))) }
 {
     let place = LineWord::Left(8, place_text(place));
-    let word = LineWord::Of(status_word(status));
+    let word = LineWord::Text(status_word(status));
     match status_detail(status) {
-        Some(detail) => put_words(id.as_bytes(), &[place, word, LineWord::Of(detail)], page),
+        Some(detail) => put_words(id.as_bytes(), &[place, word, LineWord::Text(detail)], page),
         None => put_words(id.as_bytes(), &[place, word], page),
     }
 }
@@ -163,14 +163,17 @@ fn put_errsysmod<'a, W: Sink>(
 )
     ensures { Paged W.Sink page.old page.new (line_text (ErrsysmodLine id.now reason.now resolvers.now)) }
 {
-    let words = [LineWord::Of(id.as_bytes()), LineWord::Of(reason.as_bytes())];
+    let words = [
+        LineWord::Text(id.as_bytes()),
+        LineWord::Text(reason.as_bytes()),
+    ];
     put_words(b"ERRSYSMOD", &words, page);
     if resolvers.is_empty() {
-        put_words(b"  RESOLVER", &[LineWord::Of(b"-")], page);
+        put_words(b"  RESOLVER", &[LineWord::Text(b"-")], page);
         return;
     }
     for resolver in resolvers {
-        put_words(b"  RESOLVER", &[LineWord::Of(resolver.as_bytes())], page);
+        put_words(b"  RESOLVER", &[LineWord::Text(resolver.as_bytes())], page);
     }
 }
 

@@ -14,7 +14,7 @@ pub(crate) struct Page<'a, W> {
 }
 
 impl<'a, W: Sink> Page<'a, W> {
-    /// An empty page before a sink.
+    /// An empty page, whose bytes go to the sink.
     pub(crate) fn new(sink: &'a mut W) -> Page<'a, W>
         ensures same_reference { result.sink.ghost_name ≡ sink.entry.ghost_name }
         ensures sink { result.sink.now ≡ sink.old }

@@ -7,7 +7,7 @@ use crate::outcome::Place;
 use fields::Id;
 use sysmods::GlobalZone;
 
-/// The type of the SYSMOD, or that it is not received.
+/// What follows the id in its status line: the type of the SYSMOD, or that it is not received.
 pub fn place_of(global: &GlobalZone, id: Id) -> Place
     ensures { place_view result ≡ place_of global.now id }
 {

@@ -31,7 +31,7 @@ fn superseders_among(
         .collect(alloc)
 }
 
-// The received SYSMODs that name the id in SUP. It looks only at those that name it in some way.
+// The received SYSMODs that name the id in SUP. Only those that name it in some operand are examined.
 fn direct_superseders(
     alloc: Global,
     vers: &VerChoice<'_>,
@@ -46,7 +46,8 @@ fn direct_superseders(
     superseders_among(alloc, vers, id, namers.as_slice())
 }
 
-// The id, and all received SYSMODs that supersede it. It goes through each once.
+// The id, and all received SYSMODs that supersede it. The search grows a set from the id and goes through each member
+// once.
 fn id_and_superseders(
     alloc: Global,
     vers: &VerChoice<'_>,
@@ -59,19 +60,20 @@ fn id_and_superseders(
 {
     let mut seen = IndexSet::new(alloc);
     seen.insert(id)?;
-    let mut gone = 0;
-    while gone < seen.len() {
-        let above = direct_superseders(alloc, vers, srel, seen.as_slice()[gone])?;
+    let mut searched = 0;
+    while searched < seen.len() {
+        let above = direct_superseders(alloc, vers, srel, seen.as_slice()[searched])?;
         for by in above.as_slice() {
             seen.insert(*by)?;
         }
-        gone += 1;
+        searched += 1;
     }
     let ids = Vec::from_slice(alloc, seen.as_slice())?;
     Ok(ids)
 }
 
-/// The ids that serve a need for the id, received or not.
+/// The ids that serve a need for the id: the id itself, received or not, and its superseders if this kind of need takes
+/// one.
 pub fn serving_ids(
     alloc: Global,
     vers: &VerChoice<'_>,

@@ -17,7 +17,7 @@ use crate::zone_lines::put_zone;
 use fields::spelling::command_code_text;
 use terms::IdRefusal;
 
-// The return code of a line.
+// The return code of a line: 8 or 4 for what was not done, otherwise 0.
 fn line_code(line: &ReportLine) -> u8
     ensures code { result ≡ line_code (line_view line.now) }
     ensures most { result ≤ 12 }
@@ -49,7 +49,7 @@ fn put_lines<W: Sink>(lines: &[ReportLine], page: &mut Page<'_, W>) -> u8
     code
 }
 
-// Puts the last line of a report on the page.
+// Puts the last line of a report on the page: `RC` and the return code in two digits.
 fn put_code<W: Sink>(code: u8, page: &mut Page<'_, W>)
     requires { code ≤ 12 }
     ensures paged { Paged W.Sink page.old page.new (code_text code) }
@@ -91,9 +91,9 @@ fn put_outcome<W: Sink>(outcome: &Outcome<'_>, page: &mut Page<'_, W>) -> u8
         }
         Outcome::Control { number, code } => {
             let words = [
-                LineWord::Of(b"RECORD"),
+                LineWord::Text(b"RECORD"),
                 LineWord::Number(*number),
-                LineWord::Of(command_code_text(*code)),
+                LineWord::Text(command_code_text(*code)),
             ];
             put_words(b"CONTROL", &words, page);
             12

@@ -18,13 +18,13 @@ pub fn entry_words<'a>(kind: ZoneKind, entry: &'a Entry) -> [LineWord<'a>; 8]
     ensures { words_line (codes "ENTRY" ∷ map word_text result) ≡ entry_text kind entry.now }
 {
     [
-        LineWord::Of(entry.id.as_bytes()),
+        LineWord::Text(entry.id.as_bytes()),
         LineWord::Applied(kind, &entry.applied),
-        LineWord::Of(b"SUPBY"),
+        LineWord::Text(b"SUPBY"),
         LineWord::Ids(entry.supby.as_slice()),
-        LineWord::Of(b"DELBY"),
+        LineWord::Text(b"DELBY"),
         LineWord::Optional(entry.delby.as_ref().map(|id| id.as_bytes())),
-        LineWord::Of(b"WAIVED"),
+        LineWord::Text(b"WAIVED"),
         LineWord::Ids(entry.waived.as_slice()),
     ]
 }
@@ -36,21 +36,21 @@ fn put_element<W: Sink>(element: &Element, text: bool, page: &mut Page<'_, W>)
     let words = [
         LineWord::Left(5, type_text(element.elem_type)),
         LineWord::Left(8, element.name.as_bytes()),
-        LineWord::Of(b"FMID"),
-        LineWord::Of(element.fmid.as_bytes()),
-        LineWord::Of(b"RMID"),
-        LineWord::Of(element.rmid.as_bytes()),
-        LineWord::Of(b"UMID"),
+        LineWord::Text(b"FMID"),
+        LineWord::Text(element.fmid.as_bytes()),
+        LineWord::Text(b"RMID"),
+        LineWord::Text(element.rmid.as_bytes()),
+        LineWord::Text(b"UMID"),
         LineWord::Ids(element.umids.as_slice()),
-        LineWord::Of(b"DISTLIB"),
-        LineWord::Of(element.distlib.as_bytes()),
-        LineWord::Of(b"SYSLIB"),
-        LineWord::Of(element.syslib.as_bytes()),
+        LineWord::Text(b"DISTLIB"),
+        LineWord::Text(element.distlib.as_bytes()),
+        LineWord::Text(b"SYSLIB"),
+        LineWord::Text(element.syslib.as_bytes()),
     ];
     put_words(b"ELEM", &words, page);
     if text {
         for record in element.text.as_slice() {
-            put_words(b" ", &[LineWord::Of(record.bytes())], page);
+            put_words(b" ", &[LineWord::Text(record.bytes())], page);
         }
     }
 }

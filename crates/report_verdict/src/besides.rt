@@ -22,7 +22,7 @@ use sysmods_values::Hold;
 use terms::NeedKind;
 use zones::is_bypassed_hold;
 
-// Whether the status is one of a candidate.
+// Whether the status is that of a candidate: installed, superseded or failed.
 fn is_candidate(status: &Status) -> bool
     ensures { result ≡ is_candidate (status_view status.now) }
 {
@@ -51,11 +51,11 @@ fn put_supplier_line<'a>(
             if !is_about_it {
                 return Ok(());
             }
-            let supply = LineWord::Of(b"SUPPLY");
-            let kind = LineWord::Of(need_text(kind));
-            let id = LineWord::Named(id);
-            let by = LineWord::Of(by.as_bytes());
-            let word = LineWord::Of(verdict_word(status));
+            let supply = LineWord::Text(b"SUPPLY");
+            let kind = LineWord::Text(need_text(kind));
+            let id = LineWord::WithColon(id);
+            let by = LineWord::Text(by.as_bytes());
+            let word = LineWord::Text(verdict_word(status));
             append_words(b"   ", &[supply, kind, id, by, word], text)
         }
         ReportLine::Nothing => Ok(()),
@@ -63,7 +63,7 @@ fn put_supplier_line<'a>(
     }
 }
 
-// Appends what becomes of the SYSMOD `by`, which would supply the requisite, if a line is about it.
+// Appends what becomes of the SYSMOD `by`, which would supply the requisite, for each line that is about it.
 fn put_supplier<'a>(
     kind: NeedKind,
     id: &'a [u8],
@@ -169,9 +169,9 @@ fn put_bypassed_requisite(
     if !covered {
         return Ok(());
     }
-    let bypassed = LineWord::Of(b"BYPASSED");
-    let kind = LineWord::Of(need_text(requisite.kind));
-    let id = LineWord::Of(requisite.id.as_bytes());
+    let bypassed = LineWord::Text(b"BYPASSED");
+    let kind = LineWord::Text(need_text(requisite.kind));
+    let id = LineWord::Text(requisite.id.as_bytes());
     append_words(b"   ", &[bypassed, kind, id], text)
 }
 
@@ -198,15 +198,15 @@ fn put_bypassed_hold(
     if !is_bypassed_hold(bypass, hold) {
         return Ok(());
     }
-    let bypassed = LineWord::Of(b"BYPASSED");
-    let kind = LineWord::Of(hold_text(hold.kind));
-    let hold_word = LineWord::Of(b"hold");
-    let reason = LineWord::Of(hold.reason.as_bytes());
-    let (of_class, of_date) = (LineWord::Of(b"CLASS"), LineWord::Of(b"DATE"));
-    let class = LineWord::Of(class_text(&hold.class));
-    let date = LineWord::Of(date_text(&hold.date));
-    let of_comment = LineWord::Of(b"COMMENT");
-    let comment = LineWord::Of(comment_text(&hold.comment));
+    let bypassed = LineWord::Text(b"BYPASSED");
+    let kind = LineWord::Text(hold_text(hold.kind));
+    let hold_word = LineWord::Text(b"hold");
+    let reason = LineWord::Text(hold.reason.as_bytes());
+    let (of_class, of_date) = (LineWord::Text(b"CLASS"), LineWord::Text(b"DATE"));
+    let class = LineWord::Text(class_text(&hold.class));
+    let date = LineWord::Text(date_text(&hold.date));
+    let of_comment = LineWord::Text(b"COMMENT");
+    let comment = LineWord::Text(comment_text(&hold.comment));
     let words = [
         bypassed, kind, hold_word, reason, of_class, class, of_date, date, of_comment, comment,
     ];

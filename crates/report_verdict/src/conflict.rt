@@ -21,16 +21,16 @@ pub struct Partner {
 /// Something that keeps two candidates from being installed together.
 #[derive(Clone, Copy)]
 pub enum Conflict {
-    /// A candidate has an id of the chain in DELETE.
+    /// The candidate `by` names in DELETE the id, which is in the chain of FMIDs of the SYSMOD in question.
     Deletes {
         by: Id,
         id: Id,
     },
-    /// A candidate that NPRE names.
+    /// A candidate that the NPRE of the SYSMOD in question names.
     Forbids(Id),
-    /// A candidate whose NPRE names the id.
+    /// A candidate whose NPRE names the SYSMOD in question.
     ForbiddenBy(Id),
-    /// An element that a candidate changes too.
+    /// An element that the candidate `with` changes too, and why both may not change it.
     Shares {
         with: Id,
         elem_type: ElemType,

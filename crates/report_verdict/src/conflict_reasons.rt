@@ -19,12 +19,12 @@ fn put_deletes<'a>(test: Test, by: &'a Id, id: &'a Id, text: &mut Vec<u8>) -> Re
     if !is_delete_test(test) {
         return Ok(());
     }
-    let code = LineWord::Of(test_text(test));
-    let delete = LineWord::Of(b"DELETE");
-    let id = LineWord::Of(id.as_bytes());
-    let of = LineWord::Of(b"of");
-    let by = LineWord::Of(by.as_bytes());
-    let chain = LineWord::Of(b"is in its chain");
+    let code = LineWord::Text(test_text(test));
+    let delete = LineWord::Text(b"DELETE");
+    let id = LineWord::Text(id.as_bytes());
+    let of = LineWord::Text(b"of");
+    let by = LineWord::Text(by.as_bytes());
+    let chain = LineWord::Text(b"is in its chain");
     let words = [code, delete, id, of, by, chain];
     append_words(b"   ", &words, text)
 }
@@ -36,10 +36,10 @@ fn put_forbids(test: Test, id: &Id, text: &mut Vec<u8>) -> Result<(), AllocError
     if !is_clash_test(test) {
         return Ok(());
     }
-    let code = LineWord::Of(test_text(test));
-    let npre = LineWord::Of(b"NPRE");
-    let id = LineWord::Of(id.as_bytes());
-    let selected = LineWord::Of(b"is selected too");
+    let code = LineWord::Text(test_text(test));
+    let npre = LineWord::Text(b"NPRE");
+    let id = LineWord::Text(id.as_bytes());
+    let selected = LineWord::Text(b"is selected too");
     let words = [code, npre, id, selected];
     append_words(b"   ", &words, text)
 }
@@ -51,13 +51,14 @@ fn put_forbidden_by(test: Test, id: &Id, text: &mut Vec<u8>) -> Result<(), Alloc
     if !is_clash_test(test) {
         return Ok(());
     }
-    let code = LineWord::Of(test_text(test));
-    let id = LineWord::Of(id.as_bytes());
-    let forbids = LineWord::Of(b"is selected too and has it in NPRE");
+    let code = LineWord::Text(test_text(test));
+    let id = LineWord::Text(id.as_bytes());
+    let forbids = LineWord::Text(b"is selected too and has it in NPRE");
     let words = [code, id, forbids];
     append_words(b"   ", &words, text)
 }
 
+// The words for why two candidates may not change one element.
 fn apart_text(apart: Apart) -> &'static [u8]
     ensures { result.now ≡ apart_text apart }
 {
@@ -82,11 +83,11 @@ fn put_shares<'a>(
     if !is_clash_test(test) {
         return Ok(());
     }
-    let code = LineWord::Of(test_text(test));
-    let elem_type = LineWord::Of(type_text(elem_type));
-    let name = LineWord::Named(name.as_bytes());
-    let with = LineWord::Of(with.as_bytes());
-    let why = LineWord::Of(apart_text(apart));
+    let code = LineWord::Text(test_text(test));
+    let elem_type = LineWord::Text(type_text(elem_type));
+    let name = LineWord::WithColon(name.as_bytes());
+    let with = LineWord::Text(with.as_bytes());
+    let why = LineWord::Text(apart_text(apart));
     let words = [code, elem_type, name, with, why];
     append_words(b"   ", &words, text)
 }

@@ -35,8 +35,12 @@ fn forbids(vers: &VerChoice<'_>, first: Id, second: Id) -> bool
     vers.npre(first).contains(&second)
 }
 
-// Adds the conflict if the condition holds.
-fn push_if(is_so: bool, conflict: Conflict, found: &mut Vec<Conflict>) -> Result<(), AllocError>
+// Adds the conflict if the condition holds, and otherwise nothing. Each caller states both cases by one clause.
+fn push_conflict_if(
+    is_so: bool,
+    conflict: Conflict,
+    found: &mut Vec<Conflict>,
+) -> Result<(), AllocError>
     ensures { OnOk result (found.new.items ≡ found.old.items ++ (if is_so then conflict ∷ [] else [])) }
 {
     if is_so {
@@ -55,7 +59,7 @@ fn push_deletion(
 ) -> Result<(), AllocError>
     ensures { OnOk result (found.new.items ≡ found.old.items ++ deletion_of (setting_of scope.now) id by del) }
 {
-    push_if(
+    push_conflict_if(
         is_in_chain(scope.vers, id, del),
         Conflict::Deletes { by, id: del },
         found,
@@ -97,7 +101,7 @@ fn are_ordered(alloc: Global, vers: &VerChoice<'_>, x: Id, y: Id) -> Result<bool
     Ok(back)
 }
 
-// Why the two may not change one element, if they may not.
+// Why the two may not change one element. They may if they have one owner and one is over the other.
 fn why_apart(
     alloc: Global,
     scope: &Scope<'_, '_>,
@@ -115,7 +119,7 @@ fn why_apart(
     Ok(Some(Apart::Unordered))
 }
 
-// The candidates with which the id clashes.
+// The candidates with which the id clashes, each with why the two may not change one element.
 fn partners(
     alloc: Global,
     scope: &Scope<'_, '_>,
@@ -134,8 +138,8 @@ fn partners(
     Ok(partners)
 }
 
-// Adds the element if the other candidate changes it too.
-fn push_share(
+// Adds the conflict about the element of the statement, if the other candidate changes it too.
+fn push_shared_element(
     global: &GlobalZone,
     with: Id,
     apart: Apart,
@@ -152,11 +156,11 @@ fn push_share(
         name,
         apart,
     };
-    push_if(global.has_change(with, elem_type, name), share, found)
+    push_conflict_if(global.has_change(with, elem_type, name), share, found)
 }
 
-// Adds the elements that both change.
-fn push_shares(
+// Adds a conflict for each element that both change.
+fn push_shared_elements(
     scope: &Scope<'_, '_>,
     id: Id,
     with: Id,
@@ -169,13 +173,13 @@ fn push_shares(
     let global = scope.global();
     let changes = global.changes_of(id);
     for change in changes {
-        push_share(global, with, apart, change, found)?;
+        push_shared_element(global, with, apart, change, found)?;
     }
     Ok(())
 }
 
-// Adds the elements that the id and its partner both change, if they may not.
-fn push_partner_shares(
+// Adds a conflict for each element that the id and its partner both change, if they may not share one.
+fn push_partner_elements(
     scope: &Scope<'_, '_>,
     id: Id,
     partner: &Partner,
@@ -185,7 +189,7 @@ fn push_partner_shares(
         ≡ found.old.items ++ shares (setting_of scope.now) id partner.now.id partner.now.apart) }
 {
     match partner.apart {
-        Some(apart) => push_shares(scope, id, partner.id, apart, found),
+        Some(apart) => push_shared_elements(scope, id, partner.id, apart, found),
         None => Ok(()),
     }
 }
@@ -200,21 +204,21 @@ fn push_clashes(
     ensures { OnOk result (found.new.items ≡ found.old.items ++ clashes_with (setting_of scope.now) id partner.now) }
 {
     let with = partner.id;
-    push_if(
+    push_conflict_if(
         forbids(scope.vers, id, with),
         Conflict::Forbids(with),
         found,
     )?;
-    push_if(
+    push_conflict_if(
         forbids(scope.vers, with, id),
         Conflict::ForbiddenBy(with),
         found,
     )?;
-    push_partner_shares(scope, id, partner, found)
+    push_partner_elements(scope, id, partner, found)
 }
 
-/// The conflicts of the id with the other candidates of a report with these lines: those on which its failure of J8 or
-/// J9 rests.
+/// The conflicts of the id with the other candidates of a report with these lines: those on which it rests that the id
+/// fails J8 (a DELETE takes out its chain) or J9 (it clashes with another candidate).
 pub fn conflicts_of(
     alloc: Global,
     scope: &Scope<'_, '_>,

@@ -3,7 +3,8 @@ use crate::conflict::Conflict;
 use fields::Bypass;
 use report::{Fact, ReportLine};
 
-/// BYPASS, the facts of an id, its conflicts with the other candidates, and the lines of the report.
+/// What the words of a verdict about an id rest on: BYPASS, the facts of the id, its conflicts with the other
+/// candidates, and the lines of the report.
 #[derive(Clone, Copy)]
 pub struct Grounds<'a, 'b> {
     pub bypass: &'a Bypass,

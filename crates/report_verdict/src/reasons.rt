@@ -73,6 +73,7 @@ fn is_several_fit_test(test: Test) -> bool
     matches!(test, Test::SeveralFit)
 }
 
+// Whether the id is over the SYSMOD that made the element.
 fn is_over(rank: Rank) -> bool
     ensures { result ≡ is_over (rank_view rank) }
 {
@@ -80,23 +81,28 @@ fn is_over(rank: Rank) -> bool
 }
 
 // Appends the line of a hold that decides the test and that BYPASS does not cover.
-fn put_hold(bypass: &Bypass, test: Test, hold: &Hold, text: &mut Vec<u8>) -> Result<(), AllocError>
+fn put_hold_reason(
+    bypass: &Bypass,
+    test: Test,
+    hold: &Hold,
+    text: &mut Vec<u8>,
+) -> Result<(), AllocError>
     ensures { OnOk result (text.new.items ≡ text.old.items ++ hold_reason bypass.now test hold.now) }
 {
     let stands = is_hold_test(test, hold.kind) && !is_bypassed_hold(bypass, hold);
     if !stands {
         return Ok(());
     }
-    let code = LineWord::Of(test_text(test));
-    let kind = LineWord::Of(hold_text(hold.kind));
-    let hold_word = LineWord::Of(b"hold");
-    let reason = LineWord::Of(hold.reason.as_bytes());
+    let code = LineWord::Text(test_text(test));
+    let kind = LineWord::Text(hold_text(hold.kind));
+    let hold_word = LineWord::Text(b"hold");
+    let reason = LineWord::Text(hold.reason.as_bytes());
     let words = [code, kind, hold_word, reason];
     append_words(b"   ", &words, text)
 }
 
 // Appends the line of a SYSMOD that made the element, unless the id is over it. The word is `RMID` or `UMID`.
-fn put_maker<'a>(
+fn put_maker_reason<'a>(
     test: Test,
     elem_type: ElemType,
     name: &'a Name,
@@ -110,18 +116,18 @@ fn put_maker<'a>(
     if is_over(maker.rank) {
         return Ok(());
     }
-    let code = LineWord::Of(test_text(test));
-    let elem_type = LineWord::Of(type_text(elem_type));
-    let name = LineWord::Named(name.as_bytes());
-    let word = LineWord::Of(word);
-    let id = LineWord::Of(maker.id.as_bytes());
-    let not_over = LineWord::Of(b"is not required or superseded by it");
+    let code = LineWord::Text(test_text(test));
+    let elem_type = LineWord::Text(type_text(elem_type));
+    let name = LineWord::WithColon(name.as_bytes());
+    let word = LineWord::Text(word);
+    let id = LineWord::Text(maker.id.as_bytes());
+    let not_over = LineWord::Text(b"is not required or superseded by it");
     let words = [code, elem_type, name, word, id, not_over];
     append_words(b"   ", &words, text)
 }
 
 // Appends the lines of the SYSMODs that made the element and that the id is not over.
-fn put_makers<'a>(
+fn put_makers_reason<'a>(
     test: Test,
     elem_type: ElemType,
     name: &'a Name,
@@ -131,15 +137,15 @@ fn put_makers<'a>(
     ensures { OnOk result (text.new.items
         ≡ text.old.items ++ makers_reason test elem_type name.now (found_view found.now)) }
 {
-    put_maker(test, elem_type, name, b"RMID", &found.rmid, text)?;
+    put_maker_reason(test, elem_type, name, b"RMID", &found.rmid, text)?;
     for umid in found.umids.as_slice() {
-        put_maker(test, elem_type, name, b"UMID", umid, text)?;
+        put_maker_reason(test, elem_type, name, b"UMID", umid, text)?;
     }
     Ok(())
 }
 
 // Appends the owner of the element, if that is not the function of the id.
-fn put_owner<'a>(
+fn put_owner_reason<'a>(
     test: Test,
     elem_type: ElemType,
     name: &'a Name,
@@ -152,17 +158,17 @@ fn put_owner<'a>(
     if found.owned {
         return Ok(());
     }
-    let code = LineWord::Of(test_text(test));
-    let elem_type = LineWord::Of(type_text(elem_type));
-    let name = LineWord::Named(name.as_bytes());
-    let belongs = LineWord::Of(b"it belongs to");
-    let owner = LineWord::Of(found.fmid.as_bytes());
+    let code = LineWord::Text(test_text(test));
+    let elem_type = LineWord::Text(type_text(elem_type));
+    let name = LineWord::WithColon(name.as_bytes());
+    let belongs = LineWord::Text(b"it belongs to");
+    let owner = LineWord::Text(found.fmid.as_bytes());
     let words = [code, elem_type, name, belongs, owner];
     append_words(b"   ", &words, text)
 }
 
 // Appends the lines of an element that the zone has, if they decide the test.
-fn put_existing_element<'a>(
+fn put_existing_element_reason<'a>(
     test: Test,
     elem_type: ElemType,
     name: &'a Name,
@@ -173,16 +179,16 @@ fn put_existing_element<'a>(
         ≡ text.old.items ++ there_reason test elem_type name.now (found_view found.now)) }
 {
     if is_owner_test(test) {
-        return put_owner(test, elem_type, name, found, text);
+        return put_owner_reason(test, elem_type, name, found, text);
     }
     if is_regression_test(test) {
-        return put_makers(test, elem_type, name, found, text);
+        return put_makers_reason(test, elem_type, name, found, text);
     }
     Ok(())
 }
 
 // Appends the line of an element that the zone does not have, if that decides the test.
-fn put_missing_element(
+fn put_missing_element_reason(
     test: Test,
     elem_type: ElemType,
     name: &Name,
@@ -196,16 +202,16 @@ fn put_missing_element(
     if !fails {
         return Ok(());
     }
-    let code = LineWord::Of(test_text(test));
-    let elem_type = LineWord::Of(type_text(elem_type));
-    let name = LineWord::Named(name.as_bytes());
-    let none = LineWord::Of(b"there is none to update");
+    let code = LineWord::Text(test_text(test));
+    let elem_type = LineWord::Text(type_text(elem_type));
+    let name = LineWord::WithColon(name.as_bytes());
+    let none = LineWord::Text(b"there is none to update");
     let words = [code, elem_type, name, none];
     append_words(b"   ", &words, text)
 }
 
 // Appends the lines of an element that the id changes, if they decide the test.
-fn put_element<'a>(
+fn put_element_reason<'a>(
     test: Test,
     elem_type: ElemType,
     name: &'a Name,
@@ -217,13 +223,13 @@ fn put_element<'a>(
         ++ reason no_bypass test (ElementFact elem_type name.now replaces (option_map found_view found.now))) }
 {
     match found {
-        Some(found) => put_existing_element(test, elem_type, name, found, text),
-        None => put_missing_element(test, elem_type, name, replaces, text),
+        Some(found) => put_existing_element_reason(test, elem_type, name, found, text),
+        None => put_missing_element_reason(test, elem_type, name, replaces, text),
     }
 }
 
 // Appends the line of a `++VER` that fits, if that decides the test.
-fn put_ver(
+fn put_ver_reason(
     test: Test,
     number: usize,
     fmid: &Option<Id>,
@@ -238,58 +244,58 @@ fn put_ver(
     if !fails {
         return Ok(());
     }
-    let code = LineWord::Of(test_text(test));
-    let ver = LineWord::Of(b"VER");
+    let code = LineWord::Text(test_text(test));
+    let ver = LineWord::Text(b"VER");
     let number = LineWord::Number(number);
-    let of_fmid = LineWord::Of(b"FMID");
-    let fmid = LineWord::Of(id_text(fmid));
-    let fits_word = LineWord::Of(b"fits");
+    let of_fmid = LineWord::Text(b"FMID");
+    let fmid = LineWord::Text(id_text(fmid));
+    let fits_word = LineWord::Text(b"fits");
     let words = [code, ver, number, of_fmid, fmid, fits_word];
     append_words(b"   ", &words, text)
 }
 
 // Appends the line of an id in DELETE that is in the id's own chain, if that decides the test.
-fn put_delete(test: Test, id: &Id, own: bool, text: &mut Vec<u8>) -> Result<(), AllocError>
+fn put_delete_reason(test: Test, id: &Id, own: bool, text: &mut Vec<u8>) -> Result<(), AllocError>
     ensures { OnOk result (text.new.items ≡ text.old.items ++ reason no_bypass test (DeleteFact id.now own)) }
 {
     let fails = is_delete_test(test) && own;
     if !fails {
         return Ok(());
     }
-    let code = LineWord::Of(test_text(test));
-    let delete = LineWord::Of(b"DELETE");
-    let id = LineWord::Of(id.as_bytes());
-    let chain = LineWord::Of(b"is in its own chain");
+    let code = LineWord::Text(test_text(test));
+    let delete = LineWord::Text(b"DELETE");
+    let id = LineWord::Text(id.as_bytes());
+    let chain = LineWord::Text(b"is in its own chain");
     let words = [code, delete, id, chain];
     append_words(b"   ", &words, text)
 }
 
 // Appends the line of an applied SYSMOD that NPRE names, if that decides the test.
-fn put_npre(test: Test, id: &Id, applied: bool, text: &mut Vec<u8>) -> Result<(), AllocError>
+fn put_npre_reason(test: Test, id: &Id, applied: bool, text: &mut Vec<u8>) -> Result<(), AllocError>
     ensures { OnOk result (text.new.items ≡ text.old.items ++ reason no_bypass test (NpreFact id.now applied)) }
 {
     let fails = is_npre_test(test) && applied;
     if !fails {
         return Ok(());
     }
-    let code = LineWord::Of(test_text(test));
-    let npre = LineWord::Of(b"NPRE");
-    let id = LineWord::Of(id.as_bytes());
-    let applied_word = LineWord::Of(b"is applied");
+    let code = LineWord::Text(test_text(test));
+    let npre = LineWord::Text(b"NPRE");
+    let id = LineWord::Text(id.as_bytes());
+    let applied_word = LineWord::Text(b"is applied");
     let words = [code, npre, id, applied_word];
     append_words(b"   ", &words, text)
 }
 
 // Appends the line of an applied function whose NPRE names the id, if that decides the test.
-fn put_forbidden(test: Test, id: &Id, text: &mut Vec<u8>) -> Result<(), AllocError>
+fn put_forbidden_reason(test: Test, id: &Id, text: &mut Vec<u8>) -> Result<(), AllocError>
     ensures { OnOk result (text.new.items ≡ text.old.items ++ reason no_bypass test (ForbiddenFact id.now)) }
 {
     if !is_npre_test(test) {
         return Ok(());
     }
-    let code = LineWord::Of(test_text(test));
-    let id = LineWord::Of(id.as_bytes());
-    let forbids = LineWord::Of(b"is applied and has it in NPRE");
+    let code = LineWord::Text(test_text(test));
+    let id = LineWord::Text(id.as_bytes());
+    let forbids = LineWord::Text(b"is applied and has it in NPRE");
     let words = [code, id, forbids];
     append_words(b"   ", &words, text)
 }
@@ -311,19 +317,19 @@ fn put_reason(
             fmid,
             fits,
             counts,
-        } => put_ver(test, *number, fmid, *fits, *counts, text),
+        } => put_ver_reason(test, *number, fmid, *fits, *counts, text),
         Fact::Requisite { .. } => Ok(()),
-        Fact::Hold { hold, .. } => put_hold(bypass, test, hold, text),
+        Fact::Hold { hold, .. } => put_hold_reason(bypass, test, hold, text),
         Fact::Element {
             elem_type,
             name,
             replaces,
             found,
-        } => put_element(test, *elem_type, name, *replaces, found, text),
-        Fact::Delete { id, own } => put_delete(test, id, *own, text),
+        } => put_element_reason(test, *elem_type, name, *replaces, found, text),
+        Fact::Delete { id, own } => put_delete_reason(test, id, *own, text),
         Fact::Takes(_) => Ok(()),
-        Fact::Npre { id, applied } => put_npre(test, id, *applied, text),
-        Fact::Forbidden(id) => put_forbidden(test, id, text),
+        Fact::Npre { id, applied } => put_npre_reason(test, id, *applied, text),
+        Fact::Forbidden(id) => put_forbidden_reason(test, id, text),
         Fact::Needed(_) => Ok(()),
     }
 }
@@ -353,8 +359,8 @@ pub(crate) fn put_failed_test(
     ensures { OnOk result (text.new.items ≡ text.old.items ++ test_told (basis_of grounds.now) test) }
 {
     if is_target_test(test) {
-        let code = LineWord::Of(test_text(test));
-        let none = LineWord::Of(b"no related target zone has applied it");
+        let code = LineWord::Text(test_text(test));
+        let none = LineWord::Text(b"no related target zone has applied it");
         let words = [code, none];
         return append_words(b"   ", &words, text);
     }

@@ -27,28 +27,28 @@ pub(crate) fn is_clash_test(test: Test) -> bool
     matches!(test, Test::InClash)
 }
 
-// Whether other candidates may decide the test.
+// Whether the test depends on other candidates: on their DELETEs, or on clashes with them.
 fn is_test_of_others(test: Test) -> bool
     ensures { result ≡ by_others test }
 {
     is_delete_test(test) || is_clash_test(test)
 }
 
-// Whether a DELETE of an id of the chain decides one of the tests.
+// Whether the tests include the one that a DELETE of an id of the chain decides.
 fn has_delete_test(tests: TestSet) -> bool
     ensures { result ≡ list_any by_delete (tests_of tests) }
 {
     tests.chain_deleted
 }
 
-// Whether clashes with other candidates decide one of the tests.
+// Whether the tests include the one that clashes with other candidates decide.
 fn has_clash_test(tests: TestSet) -> bool
     ensures { result ≡ list_any by_clash (tests_of tests) }
 {
     tests.in_clash
 }
 
-// Whether other candidates may decide each of these tests.
+// Whether each of these tests depends on other candidates.
 fn are_tests_of_others(tests: TestSet) -> bool
     ensures { result ≡ list_all by_others (tests_of tests) }
 {
@@ -97,7 +97,7 @@ pub(crate) enum Saying {
 }
 
 // Whether the status of a candidate says so.
-fn line_says(saying: Saying, status: &Status) -> bool
+fn status_says(saying: Saying, status: &Status) -> bool
     ensures { result ≡ says saying (status_view status.now) }
 {
     match saying {
@@ -107,13 +107,13 @@ fn line_says(saying: Saying, status: &Status) -> bool
     }
 }
 
-// Adds the id of the line, if its status says so.
+// Adds the id of the line, if its status says so about that id.
 fn push_id_if(saying: Saying, line: &ReportLine, found: &mut Vec<Id>) -> Result<(), AllocError>
     ensures { OnOk result (found.new.items ≡ found.old.items ++ id_where (says saying) (line_view line.now)) }
 {
     match line {
         ReportLine::Status { id, status, .. } => {
-            if line_says(saying, status) {
+            if status_says(saying, status) {
                 found.push(*id)?;
             }
             Ok(())
@@ -134,7 +134,7 @@ fn ids_saying(alloc: Global, saying: Saying, lines: &[ReportLine]) -> Result<Vec
     Ok(found)
 }
 
-// These ids except `id`.
+// The other ids: these without `id`.
 fn without_id(alloc: Global, id: Id, ids: &[Id]) -> Result<Vec<Id>, AllocError>
     ensures { IfOk result (λ found. found.items ≡ others id ids.now) }
 {
@@ -144,13 +144,15 @@ fn without_id(alloc: Global, id: Id, ids: &[Id]) -> Result<Vec<Id>, AllocError>
         .collect(alloc)
 }
 
+// Whether the id is one of these.
 fn is_among(ids: &[Id], id: Id) -> bool
     ensures { result ≡ is_in ids.now id }
 {
     ids.contains(&id)
 }
 
-/// If the id fails J8, the other candidates whose DELETEs decide that.
+/// If the id fails J8 (a DELETE takes out its chain), the other candidates whose DELETEs decide that: those that fail
+/// at most tests that depend on others.
 pub(crate) fn deleters(alloc: Global, lines: &[ReportLine], id: Id) -> Result<Vec<Id>, AllocError>
     ensures { IfOk result (λ ids. ids.items ≡ deleters (map line_view lines.now) id) }
 {
@@ -162,7 +164,7 @@ pub(crate) fn deleters(alloc: Global, lines: &[ReportLine], id: Id) -> Result<Ve
     Ok(Vec::new(alloc))
 }
 
-/// If the id fails J9, the other candidates that fail it.
+/// If the id fails J9 (it clashes with another candidate), the other candidates that fail J9 too.
 pub(crate) fn clashing_ids(
     alloc: Global,
     lines: &[ReportLine],

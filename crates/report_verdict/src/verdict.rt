@@ -23,7 +23,7 @@ use report::{Fact, LineWord, ReportLine, Resolution, Status, append_words};
 use std::alloc::AllocError;
 use terms::NeedKind;
 
-// Whether the need is of this kind and for this id.
+// Whether the need is of this kind and for this id. Kinds are compared by their words in the report.
 fn matches_need(need: &OpenNeed, kind: NeedKind, id: &[u8]) -> bool
     ensures { result ≡ (bytes_eq (need_text need.now.kind) (need_text kind) && bytes_eq need.now.id id.now) }
 {
@@ -78,11 +78,11 @@ fn put_open_need<'a>(
     if ids.is_empty() {
         return put_need_line(need, b"no SYSMOD that supplies it is received", text);
     }
-    let need_word = LineWord::Of(b"NEED");
-    let kind = LineWord::Of(need_text(need.kind));
-    let id = LineWord::Named(need.id.as_bytes());
+    let need_word = LineWord::Text(b"NEED");
+    let kind = LineWord::Text(need_text(need.kind));
+    let id = LineWord::WithColon(need.id.as_bytes());
     let ids = LineWord::Ids(ids);
-    let would = LineWord::Of(b"would supply it");
+    let would = LineWord::Text(b"would supply it");
     let words = [need_word, kind, id, ids, would];
     append_words(b"   ", &words, text)
 }
@@ -95,10 +95,10 @@ fn put_need_line<'a>(
 ) -> Result<(), AllocError>
     ensures { OnOk result (text.new.items ≡ text.old.items ++ need_line (need_view need.now) (why.now ∷ [])) }
 {
-    let need_word = LineWord::Of(b"NEED");
-    let kind = LineWord::Of(need_text(need.kind));
-    let id = LineWord::Named(need.id.as_bytes());
-    let why = LineWord::Of(why);
+    let need_word = LineWord::Text(b"NEED");
+    let kind = LineWord::Text(need_text(need.kind));
+    let id = LineWord::WithColon(need.id.as_bytes());
+    let why = LineWord::Text(why);
     let words = [need_word, kind, id, why];
     append_words(b"   ", &words, text)
 }
@@ -142,8 +142,8 @@ fn put_causer(id: Id, causer: &Id, text: &mut Vec<u8>) -> Result<(), AllocError>
     if id == *causer {
         return Ok(());
     }
-    let word = LineWord::Of(b"CAUSER");
-    let causer = LineWord::Of(causer.as_bytes());
+    let word = LineWord::Text(b"CAUSER");
+    let causer = LineWord::Text(causer.as_bytes());
     append_words(b"   ", &[word, causer], text)
 }
 
@@ -228,7 +228,7 @@ pub(crate) fn verdict_word(status: &Status) -> &'static [u8]
     }
 }
 
-// Appends why the id would fail, if its status says that it would.
+// Appends why the id would fail, if its status is FAILED.
 fn put_failure_if_any(
     id: Id,
     grounds: &Grounds<'_, '_>,
@@ -254,7 +254,7 @@ fn put_status(
     ensures { OnOk result (text.new.items
         ≡ text.old.items ++ status_told id (basis_of grounds.now) (status_view status.now)) }
 {
-    append_words(b" ", &[LineWord::Of(verdict_word(status))], text)?;
+    append_words(b" ", &[LineWord::Text(verdict_word(status))], text)?;
     put_failure_if_any(id, grounds, status, text)?;
     put_suppliers_and_bypassed(grounds, status, text)
 }

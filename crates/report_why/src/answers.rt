@@ -89,8 +89,8 @@ fn is_installable(asking: &Asking<'_, '_>, id: Id) -> bool
     scope.vers.has_ver(id) && !scope.zone.supplies(id) && !scope.zone.is_deleted(id)
 }
 
-// The received SYSMODs that may be installed and that serve the need.
-fn candidates(
+// The received SYSMODs that may be installed and that would supply the id for this kind of need.
+fn installable_suppliers(
     alloc: Global,
     asking: &Asking<'_, '_>,
     kind: NeedKind,
@@ -115,13 +115,13 @@ pub(crate) fn resolve_requisite(
     ensures { IfOk result (λ a. IsResolution (setting_in asking.now) asking.now.id requisite (answer_view a)) }
 {
     let Requisite { kind, id, .. } = requisite;
-    if asking.meets(kind, id) {
+    if asking.meets_need(kind, id) {
         return Ok(Resolution::Supplied(suppliers(alloc, asking, kind, id)?));
     }
     if is_waived(asking.scope.zone, asking.id, requisite) {
         return Ok(Resolution::Waived);
     }
-    let serving = candidates(alloc, asking, kind, id)?;
+    let serving = installable_suppliers(alloc, asking, kind, id)?;
     if serving.contains(asking.id) {
         return Ok(Resolution::ByItself);
     }

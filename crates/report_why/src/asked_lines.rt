@@ -17,12 +17,12 @@ fn put_id_lines(word: &[u8], ids: &[Id], text: &mut Vec<u8>) -> Result<(), Alloc
     ensures { OnOk result (text.new.items ≡ text.old.items ++ id_lines word.now ids.now) }
 {
     if ids.is_empty() {
-        return append_words(b"   ", &[LineWord::Of(word), LineWord::Of(b"-")], text);
+        return append_words(b"   ", &[LineWord::Text(word), LineWord::Text(b"-")], text);
     }
     for id in ids {
         append_words(
             b"   ",
-            &[LineWord::Of(word), LineWord::Of(id.as_bytes())],
+            &[LineWord::Text(word), LineWord::Text(id.as_bytes())],
             text,
         )?;
     }
@@ -50,14 +50,14 @@ pub(crate) fn put_requisite(
     ensures { OnOk result (text.new.items
         ≡ text.old.items ++ fact_text (RequisiteFact requisite.now (answer_view answer.now))) }
 {
-    let kind = LineWord::Of(need_text(requisite.kind));
-    let id = LineWord::Of(requisite.id.as_bytes());
-    let by = LineWord::Of(requisite.by.as_bytes());
-    let answered = LineWord::Of(resolution_word(answer));
+    let kind = LineWord::Text(need_text(requisite.kind));
+    let id = LineWord::Text(requisite.id.as_bytes());
+    let by = LineWord::Text(requisite.by.as_bytes());
+    let answered = LineWord::Text(resolution_word(answer));
     match &requisite.function {
         Some(function) => {
-            let function = LineWord::Of(function.as_bytes());
-            let (fmid, stated) = (LineWord::Of(b"FMID"), LineWord::Of(b"BY"));
+            let function = LineWord::Text(function.as_bytes());
+            let (fmid, stated) = (LineWord::Text(b"FMID"), LineWord::Text(b"BY"));
             append_words(
                 b" ",
                 &[kind, id, fmid, function, stated, by, answered],
@@ -80,7 +80,10 @@ fn put_comment(comment: &Option<String>, text: &mut Vec<u8>) -> Result<(), Alloc
     match comment {
         Some(comment) => append_words(
             b"   ",
-            &[LineWord::Of(b"COMMENT"), LineWord::Of(comment.as_bytes())],
+            &[
+                LineWord::Text(b"COMMENT"),
+                LineWord::Text(comment.as_bytes()),
+            ],
             text,
         ),
         None => Ok(()),
@@ -97,14 +100,14 @@ pub(crate) fn put_hold(
         ≡ text.old.items ++ fact_text (HoldFact hold.now (option_map answer_view resolution.now))) }
 {
     let kind = LineWord::Left(6, hold_text(hold.kind));
-    let reason = LineWord::Of(hold.reason.as_bytes());
+    let reason = LineWord::Text(hold.reason.as_bytes());
     let mark = LineWord::If(hold.internal, b"INTERNAL", b"EXTERNAL");
-    let (of_class, of_date) = (LineWord::Of(b"CLASS"), LineWord::Of(b"DATE"));
-    let class = LineWord::Of(class_text(&hold.class));
-    let date = LineWord::Of(date_text(&hold.date));
+    let (of_class, of_date) = (LineWord::Text(b"CLASS"), LineWord::Text(b"DATE"));
+    let class = LineWord::Text(class_text(&hold.class));
+    let date = LineWord::Text(date_text(&hold.date));
     match resolution {
         Some(answer) => {
-            let answered = LineWord::Of(resolution_word(answer));
+            let answered = LineWord::Text(resolution_word(answer));
             let words = [kind, reason, mark, of_class, class, of_date, date, answered];
             append_words(b"  HOLD", &words, text)?;
             put_comment(&hold.comment, text)?;

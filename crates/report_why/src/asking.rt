@@ -9,15 +9,19 @@ ghost use Rattle.report.specs.Facts.{left_by};
 use fields::Id;
 use zones::{Scope, ZoneLess};
 
-/// The id, what an install of it alone looks at, its view of the zone (`seen`), the zone less what its own DELETE takes
-/// out (`left`), the ids that are applied, and the functions among them.
+/// The id in question, and where its facts are looked up.
 #[derive(Clone, Copy)]
 pub(crate) struct Asking<'a, 'b> {
+    /// What an install of the id alone looks at.
     pub(crate) scope: Scope<'a, 'b>,
     pub(crate) id: Id,
+    /// The id's view of the zone.
     pub(crate) seen: ZoneLess<'a, 'b>,
+    /// The zone less what the id's own DELETE takes out.
     pub(crate) left: ZoneLess<'a, 'b>,
+    /// The ids that are applied in the zone.
     pub(crate) applied: &'a [Id],
+    /// The functions among them.
     pub(crate) functions: &'a [Id],
     pub ghost zone_is: { IsZone scope.zone.now },
     pub ghost srel_is: { scope.vers.now.srel ≡ scope.zone.now.srel },

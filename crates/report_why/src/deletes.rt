@@ -22,7 +22,7 @@ fn is_in_chain(vers: &VerChoice<'_>, id: Id, other: Id) -> bool
     vers.chain_contains_any(id, &[other])
 }
 
-// The SYSMODs among these that the deletions take out of the zone.
+// The SYSMODs among these that the deletions of `less` take out of the zone.
 fn deleted_among(alloc: Global, less: &ZoneLess<'_, '_>, ids: &[Id]) -> Result<Vec<Id>, AllocError>
     ensures { IfOk result (λ taken. taken.items ≡ filter (is_gone less.now) ids.now) }
 {
@@ -35,7 +35,7 @@ fn deleted_among(alloc: Global, less: &ZoneLess<'_, '_>, ids: &[Id]) -> Result<V
         .collect(alloc)
 }
 
-/// The ids that its DELETE names, and the applied SYSMODs that this takes out.
+/// The ids that the DELETE of the SYSMOD names, and the applied SYSMODs that this DELETE takes out.
 pub(crate) fn delete_facts(
     alloc: Global,
     asking: &Asking<'_, '_>,

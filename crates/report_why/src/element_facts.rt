@@ -17,7 +17,7 @@ use sysmods::VerChoice;
 use sysmods_values::ElemChange;
 use zones::Element;
 
-// How the SYSMOD `id` is related to `other`, which made an element.
+// The SYSMOD `other`, which made an element, and how the SYSMOD `id` is related to it.
 fn maker(alloc: Global, vers: &VerChoice<'_>, id: Id, other: Id) -> Result<Maker, AllocError>
     ensures { IfOk result (λ m. IsMaker (choice vers.now) id other m) }
 {
@@ -62,7 +62,7 @@ fn element_in_zone(
     })
 }
 
-// The same of the element that this statement changes, if the zone has it.
+// What the zone has of the element that this statement changes, if it has the element.
 fn element_of_change(
     alloc: Global,
     asking: &Asking<'_, '_>,

@@ -15,10 +15,14 @@ use terms::ElemType;
 fn put_maker(word: &[u8], maker: Maker, text: &mut Vec<u8>) -> Result<(), AllocError>
     ensures { OnOk result (text.new.items ≡ text.old.items ++ maker_line word.now (maker_view maker)) }
 {
-    let id = LineWord::Of(maker.id.as_bytes());
+    let id = LineWord::Text(maker.id.as_bytes());
     append_words(
         b"   ",
-        &[LineWord::Of(word), id, LineWord::Of(rank_text(maker.rank))],
+        &[
+            LineWord::Text(word),
+            id,
+            LineWord::Text(rank_text(maker.rank)),
+        ],
         text,
     )
 }
@@ -37,15 +41,15 @@ pub(crate) fn put_element<'a>(
     let elem_type = LineWord::Left(5, type_text(elem_type));
     let name = LineWord::Left(8, name.as_bytes());
     let change = LineWord::If(replaces, b"REPLACES", b"UPDATES");
-    let fmid = LineWord::Of(b"FMID");
+    let fmid = LineWord::Text(b"FMID");
     let Some(found) = found else {
         return append_words(
             b"  ELEM",
-            &[elem_type, name, change, fmid, LineWord::Of(b"-")],
+            &[elem_type, name, change, fmid, LineWord::Text(b"-")],
             text,
         );
     };
-    let owner = LineWord::Of(found.fmid.as_bytes());
+    let owner = LineWord::Text(found.fmid.as_bytes());
     let owned = LineWord::If(found.owned, b"OWNED", b"NOTOWNED");
     append_words(
         b"  ELEM",

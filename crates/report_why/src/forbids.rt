@@ -25,13 +25,13 @@ fn forbidding_functions(alloc: Global, asking: &Asking<'_, '_>) -> Result<Vec<Id
     asking
         .functions
         .iter()
-        .filter(|by| asking.view_has(**by))
+        .filter(|by| asking.is_applied_in_view(**by))
         .filter(|by| is_forbidden_by(asking, **by))
         .copied()
         .collect(alloc)
 }
 
-/// What its NPRE names, and the applied functions that forbid it.
+/// The ids that the NPRE of the SYSMOD names, and the applied functions whose NPRE names the SYSMOD.
 pub(crate) fn npre_facts(
     alloc: Global,
     asking: &Asking<'_, '_>,
@@ -44,7 +44,7 @@ pub(crate) fn npre_facts(
     for id in named {
         facts.push(Fact::Npre {
             id: *id,
-            applied: asking.view_has(*id),
+            applied: asking.is_applied_in_view(*id),
         })?;
     }
     for by in forbidding.as_slice() {

@@ -73,7 +73,7 @@ fn hold_facts_of_kind<'a>(
     Ok(facts)
 }
 
-/// The holds on it, those for ERROR first.
+/// The holds on the id: ERROR, then SYSTEM, then USER.
 pub(crate) fn hold_facts<'a>(
     alloc: Global,
     asking: &Asking<'_, 'a>,

@@ -4,7 +4,7 @@ ghost use Rattle.std.specs.Prelude.{◌≡◌, ◌++◌, IfOk};
 use report::Fact;
 use std::alloc::AllocError;
 
-/// The facts of both lists. It takes them by value, so that its callers own only one list at a time.
+/// The facts of both lists. It consumes both, so a caller that joins several lists owns only one at a time.
 pub(crate) fn join_facts<'a>(
     first: Vec<Fact<'a>>,
     second: Vec<Fact<'a>>,

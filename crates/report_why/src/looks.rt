@@ -12,18 +12,18 @@ use terms::{ElemType, NeedKind};
 use zones::{Element, TakesOut};
 
 impl<'a, 'b> Asking<'a, 'b> {
-    /// Whether the id is applied in the view.
-    pub(crate) fn view_has(&self, id: Id) -> bool
+    /// Whether the SYSMOD is applied in the view of the id in question.
+    pub(crate) fn is_applied_in_view(&self, id: Id) -> bool
         ensures { result ≡ is_applied (view_in self.now) id }
     {
         self.seen.is_applied(id)
     }
 
-    /// Whether the function is applied in its view, or is the id itself.
+    /// Whether the function is applied in the view, or is one of the candidates.
     pub(crate) fn has_function(&self, id: Id) -> bool
         ensures { result ≡ is_there self.now id }
     {
-        self.view_has(id) || self.scope.ids.contains(id)
+        self.is_applied_in_view(id) || self.scope.ids.contains(id)
     }
 
     /// The element, if the view has it.
@@ -33,15 +33,15 @@ impl<'a, 'b> Asking<'a, 'b> {
         self.seen.element(elem_type, name)
     }
 
-    /// Whether the id is applied and the DELETE does not take it out.
+    /// Whether the SYSMOD is applied, and the DELETE of the id in question does not take it out.
     pub(crate) fn remains_applied(&self, id: Id) -> bool
         ensures { result ≡ is_applied (left_in self.now) id }
     {
         self.left.is_applied(id)
     }
 
-    /// Whether the zone less what the DELETE takes out meets the need.
-    pub(crate) fn meets(&self, kind: NeedKind, id: Id) -> bool
+    /// Whether the zone meets the need, without what the DELETE of the id in question takes out.
+    pub(crate) fn meets_need(&self, kind: NeedKind, id: Id) -> bool
         ensures { result ≡ is_met (left_in self.now) kind id }
     {
         self.left.meets_need(kind, id)

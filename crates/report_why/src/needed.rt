@@ -19,15 +19,15 @@ use sysmods::VerChoice;
 use undo::suppliers;
 use zones::{Zone, binding_requisites};
 
-// Whether all the others are the first one again.
+// Whether the group that begins with `first` has no other member. It may name that one several times.
 fn is_only_member(first: Id, rest: &[Id]) -> bool
     ensures { result ≡ list_all (bytes_eq first) rest.now }
 {
     rest.iter().all(|id| first == *id)
 }
 
-// Adds the id if the condition holds.
-fn push_if(is_so: bool, id: Id, found: &mut Vec<Id>) -> Result<(), AllocError>
+// Adds the id if the condition holds, and otherwise nothing. The caller states both cases by one clause.
+fn push_id_if(is_so: bool, id: Id, found: &mut Vec<Id>) -> Result<(), AllocError>
     ensures { OnOk result (found.new.items ≡ found.old.items ++ (if is_so then id ∷ [] else [])) }
 {
     if is_so {
@@ -36,14 +36,14 @@ fn push_if(is_so: bool, id: Id, found: &mut Vec<Id>) -> Result<(), AllocError>
     Ok(())
 }
 
-// Adds the only member of the group, if it has only one.
+// Adds the member of the group, if it has only one.
 fn push_only_member(group: &[Id], found: &mut Vec<Id>) -> Result<(), AllocError>
     ensures { OnOk result (found.new.items ≡ found.old.items ++ sole group.now) }
 {
     let Some((first, rest)) = group.split_first() else {
         return Ok(());
     };
-    push_if(is_only_member(*first, rest), *first, found)?;
+    push_id_if(is_only_member(*first, rest), *first, found)?;
     Ok(())
 }
 
@@ -60,7 +60,7 @@ fn push_only_supplier(
     push_only_member(group.as_slice(), found)
 }
 
-// The same for each of these requisites.
+// For each of these requisites, adds the SYSMOD that supplies it, if only one does.
 fn push_only_suppliers(
     alloc: Global,
     zone: &Zone,
@@ -142,7 +142,8 @@ fn push_needing(pair: &(Id, Id), id: Id, found: &mut Vec<Id>) -> Result<(), Allo
     Ok(())
 }
 
-/// The applied SYSMODs that need what it supplies, as a RESTORE of it alone finds them, by these pairs.
+/// The applied SYSMODs that need what the id supplies, as a RESTORE of it alone finds them. The pairs are those of
+/// `needed_pairs`.
 pub(crate) fn needed_facts(
     alloc: Global,
     pairs: &[(Id, Id)],

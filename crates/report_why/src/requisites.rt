@@ -40,7 +40,7 @@ fn push_requisites_of_kind(
     Ok(())
 }
 
-// Adds what an `++IF` of the SYSMOD `by` requires, with its function.
+// Adds each requisite of an `++IF` of the SYSMOD `by`, with the function for which it is stated.
 fn push_ifreqs(by: Id, condition: &IfReq, found: &mut Vec<Requisite>) -> Result<(), AllocError>
     ensures { OnOk result (found.new.items ≡ found.old.items ++ stated_by by condition.now) }
 {
@@ -55,7 +55,7 @@ fn push_ifreqs(by: Id, condition: &IfReq, found: &mut Vec<Requisite>) -> Result<
     Ok(())
 }
 
-// Adds what the id's own `++IF`s require whose function is applied, or is the id itself.
+// Adds the requisites of those of the id's own `++IF`s whose function is applied, or is the id itself.
 fn push_own_ifreqs(
     asking: &Asking<'_, '_>,
     conditions: &[IfReq],
@@ -90,11 +90,11 @@ fn push_ifreqs_for(
     Ok(())
 }
 
-// Whether it is another SYSMOD than the id, and applied in its view.
+// Whether `by` is applied in the view of the SYSMOD in question, and not that SYSMOD itself.
 fn is_other_applied(asking: &Asking<'_, '_>, by: Id) -> bool
     ensures { result ≡ (is_applied (view_in asking.now) by && not (bytes_eq asking.now.id by)) }
 {
-    asking.view_has(by) && asking.id != by
+    asking.is_applied_in_view(by) && asking.id != by
 }
 
 // Adds what the `++IF`s of other SYSMODs among these, which are applied in the view, require for the id as a function.

@@ -11,7 +11,7 @@ use sysmods::GlobalZone;
 use terms::Kind;
 use zones::Zone;
 
-// Whether its entry names SYSMODs that supersede it.
+// Whether the entry of the id names SYSMODs that supersede it.
 fn is_superseded(zone: &Zone, id: Id) -> bool
     ensures { result ≡ not (is_nil (supby_of zone.now id)) }
 {
@@ -21,7 +21,7 @@ fn is_superseded(zone: &Zone, id: Id) -> bool
     }
 }
 
-// The state of the id in the zone, or otherwise whether it is received.
+// The state of the id in the zone. If it has none there, whether it is received.
 fn standing(global: &GlobalZone, zone: &Zone, id: Id) -> Standing
     ensures { standing_view result ≡ standing global.now zone.now id }
 {

@@ -23,8 +23,8 @@ fn put_ver(
 {
     let words = [
         LineWord::Number(number),
-        LineWord::Of(b"FMID"),
-        LineWord::Of(id_text(fmid)),
+        LineWord::Text(b"FMID"),
+        LineWord::Text(id_text(fmid)),
         LineWord::If(fits, b"FITS", b"-"),
         LineWord::If(counts, b"COUNTS", b"-"),
     ];
@@ -38,7 +38,7 @@ fn put_fact(fact: &Fact<'_>, text: &mut Vec<u8>) -> Result<(), AllocError>
     match fact {
         Fact::Standing { id, kind, standing } => {
             let kind = LineWord::Left(8, kind_or_dash(*kind));
-            let standing = LineWord::Of(standing_text(*standing));
+            let standing = LineWord::Text(standing_text(*standing));
             append_words(id.as_bytes(), &[kind, standing], text)
         }
         Fact::Entry { kind, entry } => append_words(b"  ENTRY", &entry_words(*kind, entry), text),
@@ -58,15 +58,15 @@ fn put_fact(fact: &Fact<'_>, text: &mut Vec<u8>) -> Result<(), AllocError>
         } => put_element(*elem_type, name, *replaces, found, text),
         Fact::Delete { id, own } => {
             let chain = LineWord::If(*own, b"CHAIN", b"-");
-            append_words(b"  DELETE", &[LineWord::Of(id.as_bytes()), chain], text)
+            append_words(b"  DELETE", &[LineWord::Text(id.as_bytes()), chain], text)
         }
-        Fact::Takes(id) => append_words(b"  TAKES", &[LineWord::Of(id.as_bytes())], text),
+        Fact::Takes(id) => append_words(b"  TAKES", &[LineWord::Text(id.as_bytes())], text),
         Fact::Npre { id, applied } => {
             let applied = LineWord::If(*applied, b"APPLIED", b"-");
-            append_words(b"  NPRE", &[LineWord::Of(id.as_bytes()), applied], text)
+            append_words(b"  NPRE", &[LineWord::Text(id.as_bytes()), applied], text)
         }
-        Fact::Forbidden(id) => append_words(b"  FORBIDDEN", &[LineWord::Of(id.as_bytes())], text),
-        Fact::Needed(id) => append_words(b"  NEEDED", &[LineWord::Of(id.as_bytes())], text),
+        Fact::Forbidden(id) => append_words(b"  FORBIDDEN", &[LineWord::Text(id.as_bytes())], text),
+        Fact::Needed(id) => append_words(b"  NEEDED", &[LineWord::Text(id.as_bytes())], text),
     }
 }
 
@@ -80,7 +80,7 @@ pub fn put_facts(facts: &[Fact<'_>], text: &mut Vec<u8>) -> Result<(), AllocErro
     Ok(())
 }
 
-// 4 for an unknown id, otherwise 0.
+// The return code of one fact: 4 if it says that the id is unknown, otherwise 0.
 fn fact_code(fact: &Fact<'_>) -> u8
     ensures { result ≡ fact_code (fact_view fact.now) }
 {

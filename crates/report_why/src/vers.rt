@@ -29,7 +29,7 @@ fn ver_fact(scope: &Scope<'_, '_>, id: Id, ver: &Ver, number: usize) -> Fact<'st
     }
 }
 
-// Adds the `++VER` if it is for the zone's SREL.
+// Adds the `++VER` if it is for the zone's SREL. Its number counts only those.
 fn push_ver(
     scope: &Scope<'_, '_>,
     id: Id,
@@ -47,7 +47,7 @@ fn push_ver(
     Ok(())
 }
 
-/// Its `++VER`s for the zone's SREL.
+/// The `++VER`s of the id for the zone's SREL.
 pub(crate) fn ver_facts(
     alloc: Global,
     scope: &Scope<'_, '_>,

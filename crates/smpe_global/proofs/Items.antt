@@ -10,14 +10,14 @@ use Rattle.machine.specs.Runs.{Runs}
 use Rattle.machine.proofs.Joined.{runs_append, runs_one}
 use Rattle.report.specs.Views.{line_view}
 use Rattle.sysmods.specs.Edits.{after_edit, EachFits, after_edits, StatesThose}
-use Rattle.smpe_global.specs.declared.taken.Taken.{Taken}
+use Rattle.smpe_global.specs.declared.global_change.GlobalChange.{GlobalChange}
 use Rattle.smpe_global.specs.Edits.{IsOfReceive}
 use Rattle.smpe_global.specs.Taken.{IsTaken}
 use Rattle.smpe_global.proofs.Fitting.{fits_none, fits_append}
 use Rattle.smpe_global.proofs.Stating.{states_same, states_then}
 
 module _ {I : Type 0} (Takes : Global → I → Global → List machine.Line → Type 0) where
-  pub none_taken : (g : Global) (t : Taken) → IsTaken (Runs Takes g []) g g t t
+  pub none_taken : (g : Global) (t : GlobalChange) → IsTaken (Runs Takes g []) g g t t
   none_taken g t = record {
     own = [];
     edits_are = sym (append-nil t.edits.items);
@@ -31,7 +31,7 @@ module _ {I : Type 0} (Takes : Global → I → Global → List machine.Line →
   }
 
   -- one item more
-  pub more_taken : (g middle new : Global) (items : List I) (item : I) (first then last : Taken)
+  pub more_taken : (g middle new : Global) (items : List I) (item : I) (first then last : GlobalChange)
       → IsTaken (Runs Takes g items) g middle first then → IsTaken (Takes middle item) middle new then last
       → IsTaken (Runs Takes g (items ++ item ∷ [])) g new first last
   more_taken g middle new items item first then last front back = record {
@@ -57,7 +57,7 @@ module _ {I : Type 0} (Takes : Global → I → Global → List machine.Line →
       at_middle : (stated : Global) → StatesThose stated new → StatesThose stated middle
       at_middle stated states = states_then middle new stated back.stays states
 
-module _ (Prints : Global → List machine.Line → Type 0) (g new : Global) (none all : Taken)
+module _ (Prints : Global → List machine.Line → Type 0) (g new : Global) (none all : GlobalChange)
     (taken : IsTaken Prints g new none all) where
   -- where nothing stood before
   edits_own : none.edits.items ≡ [] → taken.own ≡ all.edits.items

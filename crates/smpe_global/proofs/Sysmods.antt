@@ -15,7 +15,7 @@ use Rattle.sysmods.specs.declared.refused.Refused.TheVariants as why
 use Rattle.sysmods.specs.Refused.{IsRefused}
 use Rattle.report.specs.declared.outcome.ReportLine.{ReportLine}
 use Rattle.report.specs.Views.{line_view}
-use Rattle.smpe_global.specs.declared.taken.Taken.{Taken}
+use Rattle.smpe_global.specs.declared.global_change.GlobalChange.{GlobalChange}
 use Rattle.sysmods.specs.declared.edit.GlobalEdit.{GlobalEdit}
 use Rattle.sysmods.specs.declared.edit.GlobalEdit.TheVariants.{PutHold, InsertSysmod}
 use Rattle.sysmods.specs.Edits.{AreSources, StatesThose, EachFits, after_edits}
@@ -46,7 +46,7 @@ refused_by g new s why.Memory status first told =
     let none : None ≡ Some status = told in absurd (cc none)
 
 -- whose line is told
-module _ (source : Option Text) (g new : Global) (s : Sysmod) (line : ReportLine) (was is : Taken)
+module _ (source : Option Text) (g new : Global) (s : Sysmod) (line : ReportLine) (was is : GlobalChange)
     (told : is.lines.items ≡ was.lines.items ++ line ∷ []) where
   pub sysmod_taken : (own : List GlobalEdit) → AreEditsOf (sourced source s) own
       → is.edits.items ≡ was.edits.items ++ own → IsSysmod (sourced source s)

@@ -6,13 +6,14 @@ use Rattle.report.specs.declared.outcome.ReportLine.{ReportLine}
 use Rattle.report.specs.Views.{line_view}
 use Rattle.sysmods.specs.declared.edit.GlobalEdit.{GlobalEdit}
 use Rattle.sysmods.specs.Edits.{StatesThose, EachFits, after_edits}
-use Rattle.smpe_global.specs.declared.taken.Taken.{Taken}
+use Rattle.smpe_global.specs.declared.global_change.GlobalChange.{GlobalChange}
 use Rattle.smpe_global.specs.Edits.{IsOfReceive}
 
 -- The global zone g has become new, in which the statements of SYSMODs stay, and these lines are printed about it. The
 -- edits are RECEIVE's. Over any global zone that contains the statements of those of new, they fit and lead there too.
 -- Edits and lines follow those that were there.
-pub record IsTaken (Prints : Global → List machine.Line → Type 0) (g new : Global) (was is : Taken) : Type 0 where
+pub record IsTaken (Prints : Global → List machine.Line → Type 0) (g new : Global)
+    (was is : GlobalChange) : Type 0 where
   pub own : List GlobalEdit
   pub edits_are : is.edits.items ≡ was.edits.items ++ own
   pub lines : List ReportLine

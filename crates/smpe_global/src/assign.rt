@@ -8,7 +8,7 @@ ghost use Rattle.report.specs.Views.{status_view};
 ghost use Rattle.smpe_global.specs.Edits.{head_of, source_edits};
 ghost use Rattle.smpe_global.specs.Taken.{IsTaken};
 
-use crate::taken::Taken;
+use crate::global_change::GlobalChange;
 use fields::{Attest, Id, Source};
 use mcs::Assign;
 use report::{ReportLine, Status, place_of};
@@ -16,7 +16,7 @@ use std::alloc::{AllocError, Global};
 use sysmods::{GlobalEdit, GlobalZone};
 use sysmods_values::Sysmod;
 
-// The SYSMOD with its sources, but without its statements, which have rows of their own that stay.
+// The SYSMOD with its sources, but without its statements: these have rows of their own, which the edit leaves alone.
 fn sysmod_head(alloc: Global, sysmod: &Sysmod) -> Result<Sysmod, AllocError>
     ensures { IfOk result (λ head. head ≡ head_of sysmod.now) }
 {
@@ -62,15 +62,15 @@ fn assign_id(
     global: &mut GlobalZone,
     source: Source,
     id: Id,
-    taken: &mut Taken,
+    change: &mut GlobalChange,
 ) -> Result<(), AllocError>
-    ensures { OnOk result (IsTaken (AssignsId source global.old id) global.old global.new taken.old taken.new) }
+    ensures { OnOk result (IsTaken (AssignsId source global.old id) global.old global.new change.old change.new) }
 {
     global.attest();
     let place = place_of(global, id);
     let received = global.assign(source, id)?;
-    push_source_edit(alloc, &mut taken.edits, global, id)?;
-    taken.lines.push(ReportLine::Status {
+    push_source_edit(alloc, &mut change.edits, global, id)?;
+    change.lines.push(ReportLine::Status {
         id,
         place,
         status: assign_status(source, received),
@@ -78,33 +78,33 @@ fn assign_id(
     Ok(())
 }
 
-// Gives the source to one id after another.
+// Gives the source to these ids, in their order.
 fn assign_ids(
     alloc: Global,
     global: &mut GlobalZone,
     source: Source,
     ids: &[Id],
-    taken: &mut Taken,
+    change: &mut GlobalChange,
 ) -> Result<(), AllocError>
-    ensures { OnOk result (IsTaken (Runs (AssignsId source) global.old ids.now) global.old global.new taken.old
-        taken.new) }
+    ensures { OnOk result (IsTaken (Runs (AssignsId source) global.old ids.now) global.old global.new change.old
+        change.new) }
 {
     for id in ids {
-        assign_id(alloc, global, source, *id, taken)?;
+        assign_id(alloc, global, source, *id, change)?;
     }
     Ok(())
 }
 
 /// Gives the source of an `++ASSIGN` to its ids, in their order.
-pub(crate) fn take_assign(
+pub(crate) fn receive_assign(
     alloc: Global,
     global: &mut GlobalZone,
     assign: Assign,
-    taken: &mut Taken,
+    change: &mut GlobalChange,
 ) -> Result<(), AllocError>
-    ensures { OnOk result (IsTaken (Runs (AssignsId assign.source) global.old assign.to) global.old global.new taken.old
-        taken.new) }
+    ensures { OnOk result (IsTaken (Runs (AssignsId assign.source) global.old assign.to) global.old global.new
+        change.old change.new) }
 {
     let Assign { source, to } = assign;
-    assign_ids(alloc, global, source, to.as_slice(), taken)
+    assign_ids(alloc, global, source, to.as_slice(), change)
 }

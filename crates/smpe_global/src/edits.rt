@@ -7,7 +7,8 @@ use std::alloc::{AllocError, Global};
 use sysmods::GlobalEdit;
 use sysmods_values::Sysmod;
 
-/// The edits that write a received SYSMOD and its holds.
+/// The edits that write a received SYSMOD and its holds. They do not carry its statements, which the store finds in the
+/// new global zone.
 pub(crate) fn sysmod_edits(alloc: Global, sysmod: &Sysmod) -> Result<Vec<GlobalEdit>, AllocError>
     ensures { IfOk result (λ edits. AreEditsOf sysmod.now edits.items) }
 {

@@ -13,7 +13,7 @@ ghost use Rattle.smpe_global.specs.External.{IsExternal};
 ghost use Rattle.mcs.specs.HoldItems.{item_of, items};
 ghost use Rattle.smpe_global.specs.Taken.{IsTaken};
 
-use crate::taken::Taken;
+use crate::global_change::GlobalChange;
 use fields::{Id, Reason};
 use mcs::{HoldItem, Release};
 use report::{Place, ReportLine, Status};
@@ -22,7 +22,8 @@ use sysmods::{GlobalEdit, GlobalZone, Placed, ReleaseError};
 use sysmods_values::Hold;
 use terms::{HoldKind, IdRefusal};
 
-// A copy of the hold, marked as internal if the hold of its key is.
+// A copy of the hold for the tables, marked as internal if the global zone has an internal hold of the same id, kind
+// and reason.
 fn marked_copy(global: &GlobalZone, hold: &Hold) -> Result<Hold, AllocError>
     ensures { IfOk result (λ copy. copy ≡ marked (hold_of global.now hold.now.id hold.now.kind hold.now.reason)
         hold.now) }
@@ -43,7 +44,7 @@ fn marked_copy(global: &GlobalZone, hold: &Hold) -> Result<Hold, AllocError>
     })
 }
 
-// The status of a hold: held, or replaced if there was one of its key.
+// The status of a hold: held, or replaced if there was one of the same id, kind and reason.
 fn hold_status(placed: Placed, reason: Reason) -> Status
     ensures { (replaces : Bool) → placed ≡ (if replaces then Placed.Replaced else Placed.New)
         → status_view result ≡ (if replaces then Replaced reason else Held reason) }
@@ -54,19 +55,23 @@ fn hold_status(placed: Placed, reason: Reason) -> Status
     }
 }
 
-// Puts a hold into the global zone, in place of one of its key, and adds its line and its edit.
-fn take_hold(global: &mut GlobalZone, hold: Hold, taken: &mut Taken) -> Result<(), AllocError>
+// Puts a hold into the global zone, in place of one of the same id, kind and reason, and adds its line and its edit.
+fn receive_hold(
+    global: &mut GlobalZone,
+    hold: Hold,
+    change: &mut GlobalChange,
+) -> Result<(), AllocError>
     requires { hold.internal ≡ false }
-    ensures { OnOk result (IsTaken (TakesHoldItem global.old (terms.AHold hold)) global.old global.new taken.old
-        taken.new) }
+    ensures { OnOk result (IsTaken (TakesHoldItem global.old (terms.AHold hold)) global.old global.new change.old
+        change.new) }
 {
     let id = hold.id;
     let kind = hold.kind;
     let reason = hold.reason;
     let copy = marked_copy(global, &hold)?;
     let placed = global.hold(hold)?;
-    taken.edits.push(GlobalEdit::PutHold(copy))?;
-    taken.lines.push(ReportLine::Status {
+    change.edits.push(GlobalEdit::PutHold(copy))?;
+    change.lines.push(ReportLine::Status {
         id,
         place: Place::Hold(kind),
         status: hold_status(placed, reason),
@@ -103,20 +108,20 @@ fn push_release_edit(
 }
 
 // Releases a hold, unless it is internal, and adds the line and the edit.
-fn take_release(
+fn receive_release(
     global: &mut GlobalZone,
     release: Release,
-    taken: &mut Taken,
+    change: &mut GlobalChange,
 ) -> Result<(), AllocError>
-    ensures { OnOk result (IsTaken (TakesHoldItem global.old (terms.ARelease release)) global.old global.new taken.old
-        taken.new) }
+    ensures { OnOk result (IsTaken (TakesHoldItem global.old (terms.ARelease release)) global.old global.new change.old
+        change.new) }
 {
     let id = release.id;
     let kind = release.kind;
     let reason = release.reason;
     let answer = global.release(id, kind, reason);
-    push_release_edit(&mut taken.edits, answer, id, kind, reason)?;
-    taken.lines.push(ReportLine::Status {
+    push_release_edit(&mut change.edits, answer, id, kind, reason)?;
+    change.lines.push(ReportLine::Status {
         id,
         place: Place::Hold(kind),
         status: release_status(answer, reason),
@@ -124,44 +129,44 @@ fn take_release(
     Ok(())
 }
 
-// Takes one item of a hold file.
-fn take_hold_item(
+// Puts the hold of an item into the global zone, or releases one.
+fn receive_hold_item(
     global: &mut GlobalZone,
     item: HoldItem,
-    taken: &mut Taken,
+    change: &mut GlobalChange,
 ) -> Result<(), AllocError>
     requires { IsExternal (item_of item) }
-    ensures { OnOk result (IsTaken (TakesHoldItem global.old (item_of item)) global.old global.new taken.old
-        taken.new) }
+    ensures { OnOk result (IsTaken (TakesHoldItem global.old (item_of item)) global.old global.new change.old
+        change.new) }
 {
     match item {
-        HoldItem::Hold(hold) => take_hold(global, hold, taken),
-        HoldItem::Release(release) => take_release(global, release, taken),
+        HoldItem::Hold(hold) => receive_hold(global, hold, change),
+        HoldItem::Release(release) => receive_release(global, release, change),
     }
 }
 
-// Takes the items of a hold file, in their order.
-fn take_hold_items(
+// Receives the items of a hold file, in their order.
+fn receive_hold_items(
     global: &mut GlobalZone,
     found: Vec<HoldItem>,
-    taken: &mut Taken,
+    change: &mut GlobalChange,
 ) -> Result<(), AllocError>
     requires { All IsExternal (items found.items) }
-    ensures { OnOk result (IsTaken (Runs TakesHoldItem global.old (items found.items)) global.old global.new taken.old
-        taken.new) }
+    ensures { OnOk result (IsTaken (Runs TakesHoldItem global.old (items found.items)) global.old global.new change.old
+        change.new) }
 {
     for item in found {
-        take_hold_item(global, item, taken)?;
+        receive_hold_item(global, item, change)?;
     }
     Ok(())
 }
 
-/// Takes the items of a hold file, in their order. After an error the global zone may have some of them.
+/// Receives the items of a hold file, in their order. After an error the global zone may have some of them.
 pub fn receive_holds(
     alloc: Global,
     global: &mut GlobalZone,
     found: Vec<HoldItem>,
-) -> Result<Taken, AllocError>
+) -> Result<GlobalChange, AllocError>
     requires { All IsExternal (items found.items) }
     ensures runs { IfOk result (λ t. Runs TakesHoldItem global.old (items found.items) global.new
         (map line_view t.lines.items)) }
@@ -172,7 +177,7 @@ pub fn receive_holds(
     ensures edits { IfOk result (λ t. (stated : AGlobal) → StatesThose stated global.new
         → after_edits stated t.edits.items global.old ≡ global.new) }
 {
-    let mut taken = Taken::new(alloc);
-    take_hold_items(global, found, &mut taken)?;
-    Ok(taken)
+    let mut change = GlobalChange::new(alloc);
+    receive_hold_items(global, found, &mut change)?;
+    Ok(change)
 }

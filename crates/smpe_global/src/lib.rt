@@ -8,13 +8,13 @@
 
 mod assign;
 mod edits;
+mod global_change;
 mod holddata;
 mod ptfin;
 mod rejected;
 mod removals;
-mod taken;
 
+pub use global_change::GlobalChange;
 pub use holddata::receive_holds;
 pub use ptfin::receive;
-pub use rejected::{Rejected, reject};
-pub use taken::Taken;
+pub use rejected::reject;

@@ -10,9 +10,9 @@ ghost use Rattle.sysmods.specs.Edits.{StatesThose, EachFits, after_edits};
 ghost use Rattle.smpe_global.specs.Edits.{IsOfReceive, answer_of};
 ghost use Rattle.smpe_global.specs.Taken.{IsTaken};
 
-use crate::assign::take_assign;
+use crate::assign::receive_assign;
 use crate::edits::sysmod_edits;
-use crate::taken::Taken;
+use crate::global_change::GlobalChange;
 use fields::Source;
 use mcs::Item;
 use report::{Place, ReportLine, Status};
@@ -31,7 +31,7 @@ fn with_source(mut sysmod: Sysmod, source: &Option<Source>) -> Result<Sysmod, Al
     Ok(sysmod)
 }
 
-// The status of a SYSMOD that RECEIVE has taken in or refused.
+// The status of a SYSMOD, received or refused. A refusal because memory ran out is no status, but an error.
 fn receive_status(answer: Result<(), Refused>) -> Result<Status, AllocError>
     ensures { IfOk result (λ status. (new : AGlobal)
         → option_map receive_status (answer_of new answer) ≡ Some (status_view status)) }
@@ -46,75 +46,75 @@ fn receive_status(answer: Result<(), Refused>) -> Result<Status, AllocError>
     }
 }
 
-// Receives a SYSMOD, with the source that the command adds, and adds its line. If it is not refused, adds its edits.
-fn take_sysmod(
+// Receives a SYSMOD, with the source that the command adds, and adds its line. Adds its edits unless it is refused.
+fn receive_sysmod(
     alloc: Global,
     global: &mut GlobalZone,
     sysmod: Sysmod,
     source: &Option<Source>,
-    taken: &mut Taken,
+    change: &mut GlobalChange,
 ) -> Result<(), AllocError>
-    ensures { OnOk result (IsTaken (TakesItem source.now global.old (ASysmod sysmod)) global.old global.new taken.old
-        taken.new) }
+    ensures { OnOk result (IsTaken (TakesItem source.now global.old (ASysmod sysmod)) global.old global.new change.old
+        change.new) }
 {
     let sysmod = with_source(sysmod, source)?;
     let id = sysmod.id;
     let kind = sysmod.kind;
     let mut edits = sysmod_edits(alloc, &sysmod)?;
     let answer = global.receive(alloc, sysmod);
-    taken.lines.push(ReportLine::Status {
+    change.lines.push(ReportLine::Status {
         id,
         place: Place::Kind(kind),
         status: receive_status(answer)?,
     })?;
     match answer {
-        Ok(()) => taken.edits.append(&mut edits),
+        Ok(()) => change.edits.append(&mut edits),
         Err(_) => Ok(()),
     }
 }
 
-// Takes one item of a PTFIN.
-fn take_item(
+// Receives the SYSMOD of an item, or gives its source to the ids of an `++ASSIGN`.
+fn receive_item(
     alloc: Global,
     global: &mut GlobalZone,
     item: Item,
     source: &Option<Source>,
-    taken: &mut Taken,
+    change: &mut GlobalChange,
 ) -> Result<(), AllocError>
-    ensures { OnOk result (IsTaken (TakesItem source.now global.old (item_of item)) global.old global.new taken.old
-        taken.new) }
+    ensures { OnOk result (IsTaken (TakesItem source.now global.old (item_of item)) global.old global.new change.old
+        change.new) }
 {
     match item {
-        Item::Sysmod(sysmod) => take_sysmod(alloc, global, sysmod, source, taken),
-        Item::Assign(assign) => take_assign(alloc, global, assign, taken),
+        Item::Sysmod(sysmod) => receive_sysmod(alloc, global, sysmod, source, change),
+        Item::Assign(assign) => receive_assign(alloc, global, assign, change),
     }
 }
 
-// Takes the items of a PTFIN, in their order.
-fn take_items(
+// Receives the items of a PTFIN, in their order.
+fn receive_items(
     alloc: Global,
     global: &mut GlobalZone,
     found: Vec<Item>,
     source: &Option<Source>,
-    taken: &mut Taken,
+    change: &mut GlobalChange,
 ) -> Result<(), AllocError>
     ensures { OnOk result (IsTaken (Runs (TakesItem source.now) global.old (items found.items)) global.old global.new
-        taken.old taken.new) }
+        change.old change.new) }
 {
     for item in found {
-        take_item(alloc, global, item, source, taken)?;
+        receive_item(alloc, global, item, source, change)?;
     }
     Ok(())
 }
 
-/// Takes the items in, in their order, and adds the source to each SYSMOD that is received. After an error the global
-/// zone may have some of them.
+/// Receives the items of a PTFIN, in their order, and adds the source to each SYSMOD that is received. After an error
+/// the global zone may have some of them.
 pub fn receive(
     alloc: Global,
     global: &mut GlobalZone,
     found: Vec<Item>,
     source: Option<Source>,
-) -> Result<Taken, AllocError>
+) -> Result<GlobalChange, AllocError>
     ensures runs { IfOk result (λ t. Runs (TakesItem source) global.old (items found.items) global.new
         (map line_view t.lines.items)) }
     ensures receives { IfOk result (λ t. All IsOfReceive t.edits.items) }
@@ -128,7 +128,7 @@ pub fn receive(
         Some(source) => !source.as_bytes().is_empty(),
         None => true,
     });
-    let mut taken = Taken::new(alloc);
-    take_items(alloc, global, found, &source, &mut taken)?;
-    Ok(taken)
+    let mut change = GlobalChange::new(alloc);
+    receive_items(alloc, global, found, &source, &mut change)?;
+    Ok(change)
 }

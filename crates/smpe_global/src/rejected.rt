@@ -12,7 +12,8 @@ ghost use Rattle.sysmods.specs.Edits.{EachFits, after_edits};
 ghost use Rattle.smpe_global.specs.Edits.{IsOfReject};
 ghost use Rattle.smpe_global.specs.Rejections.{AppliesAlike, IsAnswered, IsRejected};
 
-use crate::removals::push_removals;
+use crate::global_change::GlobalChange;
+use crate::removals::push_sysmod_removal;
 use fields::{Attest, Id, IdList, ZoneName};
 use indexmap::IndexMap;
 use report::{ReportLine, Status, place_of};
@@ -21,21 +22,15 @@ use sysmods::{GlobalEdit, GlobalZone};
 use terms::IdRefusal;
 use zones::Zone;
 
-/// What a REJECT writes, in order, and its lines.
-#[derive(Drop)]
-pub struct Rejected {
-    pub edits: Vec<GlobalEdit>,
-    pub lines: Vec<ReportLine>,
-}
-
-// Whether some zone has the SYSMOD applied.
-fn is_applied(zones: &IndexMap<ZoneName, Zone>, id: Id) -> bool
+// Whether the SYSMOD is applied in one of the zones.
+fn is_applied_somewhere(zones: &IndexMap<ZoneName, Zone>, id: Id) -> bool
     ensures { result ≡ list_any (λ zone. is_applied zone id) (values zones.now) }
 {
     zones.values().any(|zone| zone.is_applied(id))
 }
 
-// Takes a SYSMOD out of the global zone and adds its edits, or refuses that if it is not received or is applied.
+// Takes a SYSMOD out of the global zone and adds the edits for that. Refuses it if it is not received, or is applied
+// in a zone.
 fn remove_sysmod(
     global: &mut GlobalZone,
     zones: &IndexMap<ZoneName, Zone>,
@@ -48,10 +43,10 @@ fn remove_sysmod(
     if !global.is_received(id) {
         return Ok(Status::Refused(IdRefusal::UnknownSysmod));
     }
-    if is_applied(zones, id) {
+    if is_applied_somewhere(zones, id) {
         return Ok(Status::Refused(IdRefusal::AppliedSomewhere));
     }
-    push_removals(edits, global, id)?;
+    push_sysmod_removal(edits, global, id)?;
     let _ = global.reject(id);
     Ok(Status::Rejected)
 }
@@ -61,7 +56,7 @@ fn reject_id(
     global: &mut GlobalZone,
     zones: &IndexMap<ZoneName, Zone>,
     id: Id,
-    rejected: &mut Rejected,
+    rejected: &mut GlobalChange,
 ) -> Result<(), AllocError>
     ensures { OnOk result (IsRejected zones.now global.old id global.new rejected.old.edits.items
         rejected.new.edits.items rejected.old.lines.items rejected.new.lines.items) }
@@ -80,7 +75,7 @@ pub fn reject(
     global: &mut GlobalZone,
     zones: &IndexMap<ZoneName, Zone>,
     ids: &IdList,
-) -> Result<Rejected, AllocError>
+) -> Result<GlobalChange, AllocError>
     ensures runs { IfOk result (λ r. (named : List NamedZone) → AppliesAlike zones.now named
         → Runs (RejectsId named) global.old ids.now global.new (map line_view r.lines.items)) }
     ensures rejects { IfOk result (λ r. All IsOfReject r.edits.items) }
@@ -89,7 +84,7 @@ pub fn reject(
     ensures names { IsUnique bytes_eq zones.now }
 {
     prove!(zones.len() < usize::MAX);
-    let mut rejected = Rejected {
+    let mut rejected = GlobalChange {
         edits: Vec::new(alloc),
         lines: Vec::new(alloc),
     };

@@ -10,7 +10,7 @@ use sysmods::{GlobalEdit, GlobalZone};
 use terms::HoldKind;
 
 // Appends the edits that remove the internal holds on a SYSMOD.
-fn push_hold_removals(
+fn push_internal_hold_removals(
     edits: &mut Vec<GlobalEdit>,
     global: &GlobalZone,
     id: Id,
@@ -26,8 +26,9 @@ fn push_hold_removals(
     Ok(())
 }
 
-/// Appends the edits that remove a SYSMOD and the internal holds on it from the tables.
-pub(crate) fn push_removals(
+/// Appends the edits that remove a SYSMOD and the internal holds on it from the tables. External holds stay: they come
+/// from hold files, not from the SYSMOD.
+pub(crate) fn push_sysmod_removal(
     edits: &mut Vec<GlobalEdit>,
     global: &GlobalZone,
     id: Id,
@@ -35,5 +36,5 @@ pub(crate) fn push_removals(
     ensures { OnOk result (edits.new.items ≡ edits.old.items ++ edits_of global.now id) }
 {
     edits.push(GlobalEdit::RemoveSysmod(id))?;
-    push_hold_removals(edits, global, id)
+    push_internal_hold_removals(edits, global, id)
 }

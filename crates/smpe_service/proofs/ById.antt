@@ -16,15 +16,16 @@ use Rattle.terms.proofs.Apart.{AreApart, apart_from_length}
 use Rattle.terms.proofs.Pairs.{pairs_unmap}
 use Rattle.report.specs.declared.outcome.Status as reported
 use Rattle.report.specs.declared.outcome.Status.TheVariants.{Applied}
-use Rattle.smpe_service.specs.Statuses.{said}
+use Rattle.smpe_service.specs.Statuses.{id_and_status}
 
 -- a list that is sorted by its ids is so however its statuses are seen
 pub sorted_map : (xs : List (Id × reported.Status)) → IsSortedByKey (λ p. p.0) (slice_cmp nat_cmp) xs
-    → IsSortedByKey (λ p. p.0) (slice_cmp nat_cmp) (map said xs)
+    → IsSortedByKey (λ p. p.0) (slice_cmp nat_cmp) (map id_and_status xs)
 sorted_map xs sorted = λ k e low below.
     let d : Id × reported.Status = (e.0, Applied) in
-    let short : k + 1 < length xs = let n = length-map xs said in omega arith in
-    rw (get_or-map said xs (k + 1) d e short, get_or-map said xs k d e (omega arith)) (sorted k d low short)
+    let short : k + 1 < length xs = let n = length-map xs id_and_status in omega arith in
+    rw (get_or-map id_and_status xs (k + 1) d e short, get_or-map id_and_status xs k d e (omega arith))
+    (sorted k d low short)
 
 -- sorted by ids without doubles, a list rises
 pub rises_by_id : {V : Type 0} (all found : List (Id × V)) → IsPermutation all found

@@ -14,8 +14,8 @@ use Rattle.report.specs.declared.outcome.Status as reported
 use Rattle.report.specs.Views.{status_view}
 
 -- an id with its status, as contracts see it
-abbrev pub said : Id × reported.Status → Id × Status
-said p = (p.0, status_view p.1)
+abbrev pub id_and_status : Id × reported.Status → Id × Status
+id_and_status p = (p.0, status_view p.1)
 
 -- the status of a kept id: installed in this kind of zone if it takes effect, otherwise superseded
 abbrev pub kept_status : ZoneKind → List Id → Id → Status

@@ -60,7 +60,8 @@ pub fn apply(
     Ok(InstallChange { delta, lines })
 }
 
-// Installs the kept SYSMODs of those that were judged, with those of their requisites that BYPASS covers.
+// Installs the kept ones of the candidates that were judged. Each waives those of its requisites that BYPASS covers and
+// nothing supplies.
 fn install_judged(
     alloc: Global,
     judged: Judged<'_>,
@@ -88,7 +89,8 @@ fn install_judged(
     install_kept(alloc, &vers, overs, zone, kept, bypassed.as_slice(), date)
 }
 
-// Installs the kept SYSMODs by these `++VER`s, with the pairs of ids that are known to be over each other.
+// Installs the kept SYSMODs by these `++VER`s. It goes on with the pairs of ids that were found to be over each other
+// when the candidates were tested, so that no pair is searched for again.
 fn install_kept(
     alloc: Global,
     vers: &VerChoice<'_>,

@@ -4,7 +4,7 @@ ghost use Rattle.machine.specs.Outcome.{StatusLine};
 ghost use Rattle.machine.specs.Receiving.{place_of};
 ghost use Rattle.report.specs.Views.{line_view, status_view};
 ghost use Rattle.judge_system.specs.Views.{why_failed};
-ghost use Rattle.smpe_service.specs.Statuses.{all_statuses, said, status_line, IsById, AreById};
+ghost use Rattle.smpe_service.specs.Statuses.{all_statuses, id_and_status, status_line, IsById, AreById};
 
 use crate::statuses::install_statuses;
 use fields::{Id, IdList};
@@ -16,7 +16,7 @@ use terms::{NotChosen, ZoneKind};
 
 // The statuses in the order of their ids.
 fn sorted_by_id(mut statuses: Vec<(Id, Status)>) -> Vec<(Id, Status)>
-    ensures { IsById (map said statuses.items) (map said result.items) }
+    ensures { IsById (map id_and_status statuses.items) (map id_and_status result.items) }
 {
     statuses.sort_unstable_by_key(|status| status.0);
     statuses
@@ -40,7 +40,7 @@ fn status_lines(
     statuses: Vec<(Id, Status)>,
 ) -> Result<Vec<ReportLine>, AllocError>
     ensures { IfOk result (λ lines. map line_view lines.items ≡ map (status_line global.now)
-        (map said statuses.items)) }
+        (map id_and_status statuses.items)) }
 {
     let mut lines = Vec::new(alloc);
     for (id, status) in statuses {
@@ -49,13 +49,13 @@ fn status_lines(
     Ok(lines)
 }
 
-// The lines of these ids, by id.
+// The lines of these ids, in the order of their ids.
 fn lines_by_id(
     alloc: Global,
     global: &GlobalZone,
     statuses: Vec<(Id, Status)>,
 ) -> Result<Vec<ReportLine>, AllocError>
-    ensures { IfOk result (λ lines. AreById global.now (map said statuses.items) (map line_view lines.items)) }
+    ensures { IfOk result (λ lines. AreById global.now (map id_and_status statuses.items) (map line_view lines.items)) }
 {
     status_lines(alloc, global, sorted_by_id(statuses))
 }

@@ -3,7 +3,7 @@ ghost use Rattle.std.specs.Prelude.{◌≡◌, ◌++◌, map, IfOk, OnOk};
 ghost use Rattle.machine.specs.Installing.{installed_status, not_chosen_status};
 ghost use Rattle.report.specs.Views.{status_view};
 ghost use Rattle.judge_system.specs.Views.{why_failed};
-ghost use Rattle.smpe_service.specs.Statuses.{said, kept_status, kept_statuses, failed_statuses};
+ghost use Rattle.smpe_service.specs.Statuses.{id_and_status, kept_status, kept_statuses, failed_statuses};
 ghost use Rattle.smpe_service.specs.Statuses.{left_out_statuses, all_statuses};
 
 use fields::{Id, IdList};
@@ -47,13 +47,13 @@ fn left_out_status(why: NotChosen) -> Status
 }
 
 // Adds the statuses of the kept ids.
-fn push_kept(
+fn push_kept_statuses(
     statuses: &mut Vec<(Id, Status)>,
     kind: ZoneKind,
     effective: &IdList,
     kept: &[Id],
 ) -> Result<(), AllocError>
-    ensures { OnOk result (map said statuses.new.items ≡ map said statuses.old.items
+    ensures { OnOk result (map id_and_status statuses.new.items ≡ map id_and_status statuses.old.items
         ++ kept_statuses kind effective.now kept.now) }
 {
     for id in kept {
@@ -63,11 +63,11 @@ fn push_kept(
 }
 
 // Adds the statuses of the candidates that failed, each with why.
-fn push_failed(
+fn push_failed_statuses(
     statuses: &mut Vec<(Id, Status)>,
     failed: Vec<(Id, Failure)>,
 ) -> Result<(), AllocError>
-    ensures { OnOk result (map said statuses.new.items ≡ map said statuses.old.items
+    ensures { OnOk result (map id_and_status statuses.new.items ≡ map id_and_status statuses.old.items
         ++ failed_statuses (map why_failed failed.items)) }
 {
     for (id, failure) in failed {
@@ -77,11 +77,11 @@ fn push_failed(
 }
 
 // Adds the statuses of the ids that are no candidates.
-fn push_left_out(
+fn push_left_out_statuses(
     statuses: &mut Vec<(Id, Status)>,
     left_out: &[(Id, NotChosen)],
 ) -> Result<(), AllocError>
-    ensures { OnOk result (map said statuses.new.items ≡ map said statuses.old.items
+    ensures { OnOk result (map id_and_status statuses.new.items ≡ map id_and_status statuses.old.items
         ++ left_out_statuses left_out.now) }
 {
     for (id, why) in left_out {
@@ -100,12 +100,12 @@ pub(crate) fn install_statuses(
     failed: Vec<(Id, Failure)>,
     left_out: &[(Id, NotChosen)],
 ) -> Result<Vec<(Id, Status)>, AllocError>
-    ensures { IfOk result (λ found. map said found.items
+    ensures { IfOk result (λ found. map id_and_status found.items
         ≡ all_statuses kind effective.now kept.now (map why_failed failed.items) left_out.now) }
 {
     let mut found = Vec::new(alloc);
-    push_kept(&mut found, kind, effective, kept)?;
-    push_failed(&mut found, failed)?;
-    push_left_out(&mut found, left_out)?;
+    push_kept_statuses(&mut found, kind, effective, kept)?;
+    push_failed_statuses(&mut found, failed)?;
+    push_left_out_statuses(&mut found, left_out)?;
     Ok(found)
 }

@@ -20,7 +20,7 @@ use crate::receive_files::{ReceiveItems, read_files};
 use crate::session::Session;
 use fields::{ReceiveWhat, Source};
 use report::{Header, Outcome};
-use smpe_global::{Taken, receive, receive_holds};
+use smpe_global::{GlobalChange, receive, receive_holds};
 use sqlite::Alter;
 use std::alloc::{AllocError, Global};
 use store::{Change, Store, StoreError};
@@ -34,20 +34,20 @@ fn receive_found_items(
     global: &mut GlobalZone,
     found: ReceiveItems,
     source: Option<Source>,
-) -> Result<Taken, AllocError>
+) -> Result<GlobalChange, AllocError>
     requires { All IsExternal (hold_items found.holds.items) }
     ensures form { IfSome source IsSource }
     ensures taken { IfOk result (λ t. AreTaken source (items found.items.items) (hold_items found.holds.items)
         global.old global.new t.edits.items (map line_view t.lines.items)) }
 {
-    let Taken {
+    let GlobalChange {
         mut edits,
         mut lines,
     } = receive(alloc, global, found.items, source)?;
     let mut more = receive_holds(alloc, global, found.holds)?;
     edits.append(&mut more.edits)?;
     lines.append(&mut more.lines)?;
-    Ok(Taken { edits, lines })
+    Ok(GlobalChange { edits, lines })
 }
 
 impl Session {
@@ -78,7 +78,7 @@ impl Session {
             Ok(found) => found,
             Err(refusal) => return Ok(Outcome::Refused { header, refusal }),
         };
-        let Taken { edits, lines } = receive_found_items(
+        let GlobalChange { edits, lines } = receive_found_items(
             alloc,
             &mut self.global,
             found,

@@ -14,7 +14,7 @@ use crate::commit::commit_change;
 use crate::session::Session;
 use fields::IdList;
 use report::{Header, Outcome};
-use smpe_global::{Rejected, reject};
+use smpe_global::{GlobalChange, reject};
 use sqlite::Alter;
 use std::alloc::Global;
 use store::{Change, Store, StoreError};
@@ -57,7 +57,7 @@ impl Session {
             return Ok(Outcome::Refused { header, refusal });
         }
         self.load_all_zones(store)?;
-        let Rejected { edits, lines } = reject(alloc, &mut self.global, &self.zones, ids)?;
+        let GlobalChange { edits, lines } = reject(alloc, &mut self.global, &self.zones, ids)?;
         commit_change(
             store,
             &Change::Global(&self.global, edits),

@@ -3,8 +3,8 @@
 //! from them the lines of the facts of the ids, each with what an APPLY or ACCEPT that selects it, alone or with the
 //! others, would print about it, in words, and the program's status, or a refusal if there is no such zone.
 //! `read_bypass` reads the BYPASS of a question. Two laws of `machine_laws` say more: what such an APPLY prints is the
-//! same on any date (`prints_the_same`), and an id that no fact blocks is applied (`clear_is_applied`). Every call that
-//! allocates returns an error if memory runs out; no contract says when.
+//! same on any date (`prints_same_on_any_date`), and an id that no fact blocks is applied (`clear_is_applied`). Every
+//! call that allocates returns an error if memory runs out; no contract says when.
 #![tactic(auto)]
 
 mod bypass_text;

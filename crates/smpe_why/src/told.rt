@@ -265,6 +265,6 @@ fn refuse_unknown_zone(alloc: Global) -> Result<Told, AllocError>
     ensures { IfOk result (λ answer. (answer.text.items ≡ refused_text NoZone) × (answer.status ≡ 12)) }
 {
     let mut text = Vec::new(alloc);
-    append_words(b"REFUSED", &[LineWord::Of(b"Cm2")], &mut text)?;
+    append_words(b"REFUSED", &[LineWord::Text(b"Cm2")], &mut text)?;
     Ok(Told { text, status: 12 })
 }

@@ -25,10 +25,10 @@ pub(crate) fn assess(
     ids: &IdList,
 ) -> Result<Assessment, AllocError>
     requires { All (λ x. IsTrue (is_applied zone.now x)) ids.now }
-    ensures assessed { IfOk result (λ said. (list : List AnId)
+    ensures assessed { IfOk result (λ assessment. (list : List AnId)
         → ids.now ≡ restore_candidates (restoring vers.now zone.now accepted.now) list
-        → IsRestoreAssessed (restoring vers.now zone.now accepted.now) list ids.now said) }
-    ensures rising { IfOk result (λ said. IsRising ids.now) }
+        → IsRestoreAssessed (restoring vers.now zone.now accepted.now) list ids.now assessment) }
+    ensures rising { IfOk result (λ assessment. IsRising ids.now) }
 {
     let applied = applied_ids(alloc, zone)?;
     let scope = RestoreScope {
@@ -37,9 +37,9 @@ pub(crate) fn assess(
         accepted,
         applied: applied.as_slice(),
     };
-    let cands = ids.as_slice();
+    let candidates = ids.as_slice();
     Ok(Assessment {
-        tests: all_failed_tests(alloc, &scope, cands)?,
+        tests: all_failed_tests(alloc, &scope, candidates)?,
         needs: needs_in_restore(alloc, &scope, ids)?,
         superseded: Vec::new(alloc),
         bypassed: Vec::new(alloc),

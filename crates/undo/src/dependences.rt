@@ -58,7 +58,7 @@ fn are_listed(list: &IdList, ids: &[Id]) -> bool
     ids.iter().all(|id| list.contains(*id))
 }
 
-// The members of the groups that lie in the list as a whole.
+// The members of those groups all of whose members are in the list.
 fn members_of_listed_groups(
     alloc: Global,
     list: &IdList,
@@ -76,18 +76,18 @@ fn members_of_listed_groups(
 }
 
 /// Pairs of a candidate and an applied SYSMOD that depends on it, that is, on a group whose members are all candidates.
-pub(crate) fn dep_pairs(
+pub(crate) fn dependence_pairs(
     alloc: Global,
     scope: &RestoreScope<'_, '_>,
-    cands: &IdList,
+    candidates: &IdList,
 ) -> Result<Vec<(Id, Id)>, AllocError>
-    requires { All (λ x. IsTrue (is_applied scope.now.zone.now x)) cands.now }
-    ensures { IfOk result (λ pairs. HaveDep (restoring_of scope.now) cands.now pairs.items) }
+    requires { All (λ x. IsTrue (is_applied scope.now.zone.now x)) candidates.now }
+    ensures { IfOk result (λ pairs. HaveDep (restoring_of scope.now) candidates.now pairs.items) }
 {
     let mut pairs = Vec::new(alloc);
     for by in scope.applied {
         let groups = dependences_of(alloc, scope, *by)?;
-        let ids = members_of_listed_groups(alloc, cands, groups.as_slice())?;
+        let ids = members_of_listed_groups(alloc, candidates, groups.as_slice())?;
         for id in ids.as_slice() {
             pairs.push((*id, *by))?;
         }

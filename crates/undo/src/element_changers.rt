@@ -13,7 +13,7 @@ use std::collections::BTreeMap;
 use sysmods::GlobalZone;
 use terms::ElemType;
 
-/// For each element some SYSMODs that change it.
+/// For each element those of some SYSMODs that change it.
 type Changers = Lists<(ElemType, Name), Id>;
 
 // The types and names of the elements that the SYSMOD changes.
@@ -43,7 +43,7 @@ fn index_changers(alloc: Global, global: &GlobalZone, ids: &[Id]) -> Result<Chan
     Ok(changers)
 }
 
-// The SYSMODs that change an element that this one changes too.
+// The listed SYSMODs that change an element that this one changes too. One is repeated for each shared element.
 fn sharers_of(
     alloc: Global,
     global: &GlobalZone,
@@ -61,18 +61,18 @@ fn sharers_of(
 }
 
 /// Pairs of a candidate and an applied, unaccepted SYSMOD that changes an element of it. The two may be the same.
-pub(crate) fn elem_pairs(
+pub(crate) fn element_pairs(
     alloc: Global,
     scope: &RestoreScope<'_, '_>,
-    cands: &IdList,
+    candidates: &IdList,
 ) -> Result<Vec<(Id, Id)>, AllocError>
-    ensures { IfOk result (λ pairs. HaveElem (restoring_of scope.now) cands.now pairs.items) }
+    ensures { IfOk result (λ pairs. HaveElem (restoring_of scope.now) candidates.now pairs.items) }
 {
     let global = scope.vers.global();
     let others = unaccepted_among(alloc, scope.accepted, scope.applied)?;
     let changers = index_changers(alloc, global, others.as_slice())?;
     let mut pairs = Vec::new(alloc);
-    for id in cands.as_slice() {
+    for id in candidates.as_slice() {
         let sharers = sharers_of(alloc, global, &changers, *id)?;
         for sharer in sharers.as_slice() {
             pairs.push((*id, *sharer))?;

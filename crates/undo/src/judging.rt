@@ -30,8 +30,8 @@ pub fn restore_system<'a>(
     let ids = &candidates.ids;
     let none = IdList::new(alloc);
     let vers = choose(alloc, global, zone, &none)?;
-    let said = assess(alloc, &vers, zone, accepted, ids)?;
+    let assessment = assess(alloc, &vers, zone, accepted, ids)?;
     let overs = Overs::new(alloc, &vers).into_known();
-    let judged = Judged::new(alloc, ids, said, vers, overs)?;
+    let judged = Judged::new(alloc, ids, assessment, vers, overs)?;
     Ok(judged)
 }

@@ -4,8 +4,8 @@ ghost use Rattle.terms.specs.Lookups.{is_applied};
 ghost use Rattle.undo.specs.Scopes.{restoring_of};
 ghost use Rattle.undo.specs.Needed.{pair_need, AreNeeds};
 
-use crate::dependences::dep_pairs;
-use crate::element_changers::elem_pairs;
+use crate::dependences::dependence_pairs;
+use crate::element_changers::element_pairs;
 use crate::pairs::member_pairs;
 use crate::scope::RestoreScope;
 use fields::{Id, IdList};
@@ -13,7 +13,7 @@ use judge_system::RequisiteOf;
 use std::alloc::{AllocError, Global};
 use terms::NeedKind;
 
-// Adds for each pair the need of the first for the second.
+// Adds a need of this kind for each pair: the first id needs the second.
 fn add_needs(
     needs: &mut Vec<RequisiteOf>,
     kind: NeedKind,
@@ -40,8 +40,8 @@ pub(crate) fn needs_in_restore(
     requires { All (λ x. IsTrue (is_applied scope.now.zone.now x)) ids.now }
     ensures { IfOk result (λ needs. AreNeeds (restoring_of scope.now) ids.now needs.items) }
 {
-    let elem = member_pairs(ids, elem_pairs(alloc, scope, ids)?);
-    let dep = member_pairs(ids, dep_pairs(alloc, scope, ids)?);
+    let elem = member_pairs(ids, element_pairs(alloc, scope, ids)?);
+    let dep = member_pairs(ids, dependence_pairs(alloc, scope, ids)?);
     let mut needs = Vec::new(alloc);
     add_needs(&mut needs, NeedKind::Elem, elem.as_slice())?;
     add_needs(&mut needs, NeedKind::Dep, dep.as_slice())?;

@@ -8,7 +8,7 @@ use std::alloc::{AllocError, Global};
 use sysmods_values::ElemChange;
 use terms::ElemType;
 
-/// A SYSMOD, or an element.
+/// A member of GROUP's list: a SYSMOD, or an element.
 #[derive(Clone, Copy, PartialEq, Eq, PartialOrd, Ord)]
 pub(crate) enum Node {
     Sysmod(Id),
@@ -21,7 +21,7 @@ impl Field for Node {
     ghost exact = { exact_nodes };
 }
 
-/// Once the list contains all of `these`, it contains `that`.
+/// A step by which GROUP's list grows: once the list contains all of `these`, it contains `that`.
 #[derive(Drop)]
 pub(crate) struct Step {
     pub(crate) these: Vec<Node>,

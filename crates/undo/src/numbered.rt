@@ -52,7 +52,7 @@ fn rules_of_steps(
 {
     let start = start_flags(alloc, ids, table.as_slice())?;
     let mut rules = Rules::new(alloc, start.as_slice())?;
-    // So the places in the table are numbers.
+    // `size` is a `u32`, so all places in the table fit into 32 bits.
     let _ = rules.size();
     for step in steps {
         rules.add_rule(rule_of(alloc, table, step)?)?;
@@ -60,7 +60,7 @@ fn rules_of_steps(
     Ok(rules)
 }
 
-// The ids of those SYSMODs of the table that have a flag.
+// The ids of the SYSMODs of the table whose flag is set.
 fn flagged_ids(alloc: Global, table: &[Node], flags: &[bool]) -> Result<Vec<Id>, AllocError>
     requires { length flags.now ≡ length table.now }
     ensures { IfOk result (λ found. AreFlagged table.now flags.now (length table.now) found.items) }
@@ -79,7 +79,7 @@ fn flagged_ids(alloc: Global, table: &[Node], flags: &[bool]) -> Result<Vec<Id>,
     Ok(found)
 }
 
-/// The ids of the SYSMODs that the steps reach from GROUP's ids, with these ids.
+/// GROUP's ids, and the ids of the SYSMODs that the steps reach from them.
 pub(crate) fn reached_ids(alloc: Global, ids: &IdList, steps: &[Step]) -> Result<IdList, AllocError>
     ensures { IfOk result (λ found. AreReached ids.now (as_steps steps.now) found) }
 {

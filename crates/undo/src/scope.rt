@@ -7,20 +7,23 @@ use std::alloc::{AllocError, Global};
 use sysmods::VerChoice;
 use zones::{Entry, Zone};
 
-/// The `++VER`s that count, the target zone, its distribution zone, and the ids that are applied in the target zone.
-/// `applied_ids` finds these once for all that a RESTORE decides.
+/// The zones of a RESTORE, and what is looked up once for all that it decides.
 #[derive(Clone, Copy)]
 pub(crate) struct RestoreScope<'a, 'b> {
+    /// The `++VER`s that count.
     pub(crate) vers: &'a VerChoice<'b>,
+    /// The target zone.
     pub(crate) zone: &'a Zone,
+    /// The distribution zone of the target zone.
     pub(crate) accepted: &'a Zone,
+    /// The ids that are applied in the target zone, as `applied_ids` finds them.
     pub(crate) applied: &'a [Id],
     pub(crate) ghost has_applied: { applied.now ≡ applied_ids zone.now },
     pub(crate) ghost form: { IsZone zone.now },
 }
 
-// Pushes the id of the entry, if the zone has applied it.
-fn push_applied_id(entry: &Entry, found: &mut Vec<Id>) -> Result<(), AllocError>
+// Adds the id of the entry, if it is applied.
+fn push_id_if_applied(entry: &Entry, found: &mut Vec<Id>) -> Result<(), AllocError>
     ensures { OnOk result (found.new.items ≡ found.old.items
         ++ map (λ e. e.id) (filter (λ e. is_some e.applied) (entry.now ∷ []))) }
 {
@@ -37,7 +40,7 @@ pub fn applied_ids(alloc: Global, zone: &Zone) -> Result<Vec<Id>, AllocError>
 {
     let mut found = Vec::new(alloc);
     for entry in zone.entries() {
-        push_applied_id(entry, &mut found)?;
+        push_id_if_applied(entry, &mut found)?;
     }
     Ok(found)
 }

@@ -9,7 +9,7 @@ use crate::scope::{RestoreScope, unaccepted_among};
 use fields::Id;
 use std::alloc::{AllocError, Global};
 
-// Adds the step from a group to the SYSMOD that depends on it, unless the group is empty.
+// Adds the step from a group to the SYSMOD `by`, which depends on it. An empty group leads nowhere.
 fn push_step_from_group(
     alloc: Global,
     ids: &[Id],

@@ -25,22 +25,22 @@ fn is_alike(zone: &Zone, other: &Zone, id: Id) -> bool
     }
 }
 
-// Whether one of the SYSMODs is not alike in the two zones.
-fn any_unlike(zone: &Zone, other: &Zone, ids: &[Id]) -> bool
+// Whether one of the SYSMODs is not applied in both zones by the `++VER` of one number.
+fn is_any_unlike(zone: &Zone, other: &Zone, ids: &[Id]) -> bool
     ensures { result ≡ list_any (λ y. not (is_alike zone.now other.now y)) ids.now }
 {
     ids.iter().any(|id| !is_alike(zone, other, *id))
 }
 
-// Whether the RMID and each UMID of the element are alike in the two zones.
+// Whether both zones have applied the RMID and each UMID of the element, each by the `++VER` of one number.
 fn are_alike(zone: &Zone, other: &Zone, element: &Element) -> bool
     ensures { result ≡ are_alike zone.now other.now element.now }
 {
-    is_alike(zone, other, element.rmid) && !any_unlike(zone, other, element.umids.as_slice())
+    is_alike(zone, other, element.rmid) && !is_any_unlike(zone, other, element.umids.as_slice())
 }
 
-// Whether the target zone can take in the element of the distribution zone. An RMID or UMID that is alike in both zones
-// is applied, so among the ids that must be applied only the FMID is left to test.
+// Whether the element of the distribution zone may come back to the target zone. An RMID or UMID that is alike in both
+// zones is applied, so among the ids that must be applied only the FMID is left to test.
 #[tactic(auto, using(crate::proofs::Testing::returns_by))]
 fn may_return(scope: &RestoreScope<'_, '_>, element: &Element) -> bool
     ensures { result ≡ may_return (restoring_of scope.now) element.now }
@@ -48,7 +48,7 @@ fn may_return(scope: &RestoreScope<'_, '_>, element: &Element) -> bool
     scope.zone.is_applied(element.fmid) && are_alike(scope.zone, scope.accepted, element)
 }
 
-// Whether the distribution zone has the element of the statement, and the target zone cannot take it in.
+// Whether the distribution zone has the element of the statement at a level that may not come back to the target zone.
 fn is_at_other_level(scope: &RestoreScope<'_, '_>, change: &ElemChange) -> bool
     ensures { result ≡ is_behind (restoring_of scope.now) change.now }
 {
@@ -58,7 +58,7 @@ fn is_at_other_level(scope: &RestoreScope<'_, '_>, change: &ElemChange) -> bool
     }
 }
 
-// Whether the target zone cannot take in one of the elements.
+// Whether one of these statements is for an element of such another level.
 fn is_any_at_other_level(scope: &RestoreScope<'_, '_>, changes: &[ElemChange]) -> bool
     ensures { result ≡ list_any (is_behind (restoring_of scope.now)) changes.now }
 {

@@ -6,8 +6,8 @@ use Rattle.change.proofs.effective.all_superseded.Given as goal
 abbrev pub invariant-loop-id : goal.invariant-loop-id
 invariant-loop-id l = IsUnderWay (choice l.vers) l.id-items (take l.id-index l.id-items) l.seen.keys 0
 
-abbrev pub invariant-loop-gone : goal.invariant-loop-gone
-invariant-loop-gone l = IsUnderWay (choice l.vers) l.kept l.kept l.seen.keys l.gone
+abbrev pub invariant-loop-searched : goal.invariant-loop-searched
+invariant-loop-searched l = IsUnderWay (choice l.vers) l.kept l.kept l.seen.keys l.searched
 
-abbrev pub decreases-loop-gone : goal.decreases-loop-gone
-decreases-loop-gone l = 2 ^ 63 - l.gone
+abbrev pub decreases-loop-searched : goal.decreases-loop-searched
+decreases-loop-searched l = 2 ^ 63 - l.searched

@@ -12,8 +12,8 @@ use Rattle.judge.proofs.SaidOf.{install_judged}
 use Rattle.judge.proofs.Survivors.{survivors_are}
 use Rattle.judge.proofs.assessing.assess.Goals as goal
 
-pub returns-clause-said : goal.returns-clause-said
-returns-clause-said c =
+pub returns-clause-assessment : goal.returns-clause-assessment
+returns-clause-assessment c =
     let scope = c.args.scope.now in
     let related = option_copied c.args.related in
     let s : Setting = setting_with scope related in

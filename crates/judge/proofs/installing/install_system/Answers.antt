@@ -14,9 +14,9 @@ use Rattle.judge.proofs.installing.install_system.Goals as goal
 
 pub new-requires-clause-rows : goal.new-requires-clause-rows
 new-requires-clause-rows c =
-    let said = c.in_ok-said.field-0.said in
-    sym (length-map said.tests.items tests_of)
-    ∙ rows_of _ _ _ _ _ _ _ _ c.in_ok-said.ensures.said.are_judged
+    let assessment = c.in_ok-assessment.field-0.assessment in
+    sym (length-map assessment.tests.items tests_of)
+    ∙ rows_of _ _ _ _ _ _ _ _ c.in_ok-assessment.ensures.assessment.are_judged
 
 pub returns-clause-judged : goal.returns-clause-judged
 returns-clause-judged c =
@@ -27,7 +27,7 @@ returns-clause-judged c =
     subst (λ s. IsInstallJudged s j)
     (same_setting zone related ids c.args.bypass.now c.args.global.now c.in_ok-vers.vers.global.now
     (choice c.in_ok-vers.vers) c.in_ok-vers.ensures.global c.in_ok-vers.ensures.counting)
-    (install_numbered _ c.in_ok-said.field-0.said c.in_ok-said.ensures.said
+    (install_numbered _ c.in_ok-assessment.field-0.assessment c.in_ok-assessment.ensures.assessment
     (rw c.as_slice.ensures.items at c.as_slice.ensures.rising) j c.in_ok-judged.ensures.numbered)
 
 pub returns-clause-numbers : goal.returns-clause-numbers
@@ -36,4 +36,4 @@ returns-clause-numbers c = ap number_in c.in_ok-judged.ensures.vers ∙ c.in_ok-
 pub returns-clause-overs : goal.returns-clause-overs
 returns-clause-overs c =
     subst₂ (λ (v : VerChoice) (known : List (Id × Id)). AreOver (choice v) known) (sym c.in_ok-judged.ensures.vers)
-    (sym c.in_ok-judged.ensures.overs) c.in_ok-said.ensures.overs
+    (sym c.in_ok-judged.ensures.overs) c.in_ok-assessment.ensures.overs

@@ -14,11 +14,11 @@ loop-i-preserved c =
     let sets = c.args.sets.now in
     let i = c.loop-i.i in
     survivors_next ids (map tests_of sets) i c.index-as_slice-i.result (tests_of c.test_set_at.result)
-    c.loop-i.found.items c.add_survivor.new.found.items
+    c.loop-i.found.items c.add_if_survivor.new.found.items
     (slice_get_read ids (length ids) i c.index-as_slice-i.result refl (omega arith)
     (rw c.as_slice.ensures.items at c.index-as_slice-i.is))
     (slice_get-map tests_of sets i ∙ ap (option_map tests_of) c.test_set_at.ensures)
-    c.in_ok-add_survivor.ensures c.loop-i.invariant
+    c.in_ok-add_if_survivor.ensures c.loop-i.invariant
 
 pub loop-i-init : goal.loop-i-init
 loop-i-init c =

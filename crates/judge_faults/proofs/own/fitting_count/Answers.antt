@@ -9,7 +9,7 @@ use Rattle.judge_faults.proofs.own.fitting_count.Goals as goal
 pub returns : goal.returns
 returns c =
     count_from_yields_List _ _ c.count.ensures.ran
-    (YieldsList-from_filter _ (fits c.args.zone.now (is_in c.args.cands.now))
+    (YieldsList-from_filter _ (fits c.args.zone.now (is_in c.args.candidates.now))
     (YieldsList-at c.filter-2.ensures.source (YieldsList-from_filter _ (λ v. bytes_eq v.srel c.args.zone.now.srel)
     (YieldsList-at c.filter.ensures.source (YieldsList-from_slice _ c.iter.ensures.rest)) c.filter.ensures.closure
     (λ x b q k. search (rules, tests)))) c.filter-2.ensures.closure (λ x b q k. search (rules, tests)))

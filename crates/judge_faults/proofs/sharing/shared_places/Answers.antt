@@ -13,12 +13,12 @@ loop-start-preserved c =
     let end = c.run_end-end.result in
     let grouped = rw (← c.as_slice-claims.ensures.value) at c.in_ok-all.ensures.grouped in
     record {
-      same = c.in_ok-mark_run.ensures.same ∙ c.loop-start.invariant.same;
+      same = c.in_ok-mark_clashes.ensures.same ∙ c.loop-start.invariant.same;
       within = c.run_end-end.ensures.within;
       split = split_next claims start end grouped c.run_end-end.ensures c.loop-start.invariant.split;
       marks = run_next c.args.overs.now.global.now (choice c.args.overs.now) claims start end c.loop-start.shared.keys
-          c.mark_run.new.shared.keys c.run_end-end.ensures c.loop-start.invariant.split
-          (rw c.loop-start.invariant.same at c.in_ok-mark_run.ensures.marks)
+          c.mark_clashes.new.shared.keys c.run_end-end.ensures c.loop-start.invariant.split
+          (rw c.loop-start.invariant.same at c.in_ok-mark_clashes.ensures.marks)
           c.loop-start.invariant.marks;
     }
 

@@ -6,7 +6,7 @@ use Rattle.terms.proofs.Lists.{front_more}
 use Rattle.terms.proofs.RisingAlike.{rises_only}
 use Rattle.machine.specs.Outcome as machine
 use Rattle.report.specs.Views.{line_view}
-use Rattle.report.specs.declared.error_holds.OpenError.{OpenError}
+use Rattle.report.specs.declared.error_holds.OpenErrorHold.{OpenErrorHold}
 use Rattle.report.proofs.Superseding.{resolves_as}
 use Rattle.report.proofs.held_for_error.errsysmod_lines.Goals as goal
 
@@ -18,11 +18,11 @@ loop-error-preserved c resolvers are =
     let i = c.loop-error.error-index in
     let o = c.error-item.result in
     let items = c.as_slice.result.now in
-    let printed : OpenError → machine.Line = λ o. machine.ErrsysmodLine o.id o.reason (resolvers o.reason) in
+    let printed : OpenErrorHold → machine.Line = λ o. machine.ErrsysmodLine o.id o.reason (resolvers o.reason) in
     let below : i < length errors = omega arith in
     let told =
     resolves_as g zone c.in_ok-vers.vers o.reason c.in_ok-vers.ensures.global c.in_ok-vers.ensures.srel
-    (c.in_ok-vers.ensures.counting ∙ ap (counting g zone) c.new-cands.ensures) in
+    (c.in_ok-vers.ensures.counting ∙ ap (counting g zone) c.new-none.ensures) in
     let reason_is : c.unwrap.result ≡ o.reason = search rules in
     let same : items ≡ resolvers o.reason =
     rises_only nat_list_cmp_total (λ x. x) items (resolvers o.reason) c.as_slice.ensures.rising (are o.reason).0

@@ -9,18 +9,19 @@ pub loop-by-preserved : goal.loop-by-preserved
 loop-by-preserved c =
     adds_next _ _ _ _ _ _ (omega arith) c.by-item.is c.in_ok-insert-2.ensures.keys c.loop-by.invariant
 
-pub loop-gone-preserved : goal.loop-gone-preserved
-loop-gone-preserved c =
-    let old = c.loop-gone.seen.keys in
+pub loop-searched-preserved : goal.loop-searched-preserved
+loop-searched-preserved c =
+    let old = c.loop-searched.seen.keys in
     let new = c.loop-by.seen.keys in
-    searching_next c.args.vers.now c.args.id old new c.loop-gone.gone c.index-as_slice-gone.result (omega arith)
-    (rw c.as_slice.ensures.keys at c.index-as_slice-gone.is)
+    searching_next c.args.vers.now c.args.id old new c.loop-searched.searched c.index-as_slice-searched.result
+    (omega arith)
+    (rw c.as_slice.ensures.keys at c.index-as_slice-searched.is)
     (subst (λ l. AddsAll old l new) (take_all c.loop-by.by-index c.as_slice-by-items.result.now (omega arith)
-    ∙ c.as_slice-by-items.ensures.value ∙ c.in_ok-above.ensures) c.loop-by.invariant) c.loop-gone.invariant
+    ∙ c.as_slice-by-items.ensures.value ∙ c.in_ok-above.ensures) c.loop-by.invariant) c.loop-searched.invariant
 
 pub returns : goal.returns
 returns c = λ y.
     subst (λ l. Contains l y ↔ Belongs c.args.vers.now c.args.id y)
     (sym (c.in_ok-ids.ensures.items ∙ c.as_slice-2.ensures.keys))
-    (searching_last c.args.vers.now c.args.id c.loop-gone.seen.keys c.loop-gone.gone (omega arith)
-    c.loop-gone.invariant y)
+    (searching_last c.args.vers.now c.args.id c.loop-searched.seen.keys c.loop-searched.searched (omega arith)
+    c.loop-searched.invariant y)

@@ -11,7 +11,7 @@ pub returns-then-contains : goal.returns-then-contains
 returns-then-contains c =
     let a = c.args.asking.now in (
       subst (λ (r : Requisite). IsFalse (is_met (left_in a) r.kind r.id)) c.requisite.view_is
-          (sym c.if-meets.ensures),
+          (sym c.if-meets_need.ensures),
       sym c.if-is_waived.ensures,
       subst (λ (r : Requisite). MayServe (setting_in a) r.kind r.id a.id) c.requisite.view_is
           ((c.in_ok-serving.ensures.1 a.id).0 (Contains_from_is_in c.in_ok-serving.serving a.id
@@ -22,7 +22,7 @@ pub returns : goal.returns
 returns c =
     let a = c.args.asking.now in (
       subst (λ (r : Requisite). IsFalse (is_met (left_in a) r.kind r.id)) c.requisite.view_is
-          (sym c.if-meets.ensures),
+          (sym c.if-meets_need.ensures),
       sym c.if-is_waived.ensures,
       λ may. true≢false (sym (is_in_from_Contains c.in_ok-serving.serving a.id
           ((c.in_ok-serving.ensures.1 a.id).1

@@ -8,6 +8,6 @@ returns c =
     let first = c.in-Some.first.now in
     let rest = c.in-Some.rest.now in
     let ids : c.args.group.now ≡ first ∷ rest = search rules in
-    c.in_ok-push_if.ensures
+    c.in_ok-push_id_if.ensures
     ∙ ap (λ b. c.args.found.now.items ++ (if b then first ∷ [] else [])) c.is_only_member.ensures
     ∙ ap (λ g. c.args.found.now.items ++ sole g) (sym ids)

@@ -7,7 +7,7 @@ use Rattle.smpe_global.proofs.Items.{none_taken, more_taken}
 use Rattle.smpe_global.proofs.assign.assign_ids.Goals as goal
 
 pub loop-id-init : goal.loop-id-init
-loop-id-init c = none_taken (AssignsId c.args.source) c.args.global.now c.args.taken.now
+loop-id-init c = none_taken (AssignsId c.args.source) c.args.global.now c.args.change.now
 
 pub loop-id-preserved : goal.loop-id-preserved
 loop-id-preserved c =
@@ -21,6 +21,6 @@ loop-id-preserved c =
     let below : i < length ids = omega arith in
     let longer : take (i + 1) ids ≡ take i ids ++ x ∷ [] = take_more ids i x below
     ∙ ap (λ y. take i ids ++ y ∷ []) (sym c.id-item.is) in
-    subst (λ xs. IsTaken (Runs takes old xs) old now.global c.args.taken.now now.taken) (sym longer)
-    (more_taken takes old at.global now.global (take i ids) x c.args.taken.now at.taken now.taken at.invariant
+    subst (λ xs. IsTaken (Runs takes old xs) old now.global c.args.change.now now.change) (sym longer)
+    (more_taken takes old at.global now.global (take i ids) x c.args.change.now at.change now.change at.invariant
     c.in_ok-assign_id.ensures)

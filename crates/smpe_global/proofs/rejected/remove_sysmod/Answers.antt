@@ -15,12 +15,12 @@ returns-then-not-is_received c =
     (list_any (λ zone. is_applied zone c.args.id) (values zones)) UnknownSysmod (Refused refusal.UnknownSysmod)
     (sym c.is_received.ensures ∙ c.if-not-is_received.true) refl refl refl
 
-pub returns-then-is_applied : goal.returns-then-is_applied
-returns-then-is_applied c =
+pub returns-then-is_applied_somewhere : goal.returns-then-is_applied_somewhere
+returns-then-is_applied_somewhere c =
     left_in c.args.zones.now c.args.global.now c.args.id c.args.edits.now.items true true AppliedSomewhere
     (Refused refusal.AppliedSomewhere)
     (sym c.is_received.ensures ∙ c.if-not-is_received.false)
-    (sym c.is_applied.ensures ∙ c.if-is_applied.true) refl refl
+    (sym c.is_applied_somewhere.ensures ∙ c.if-is_applied_somewhere.true) refl refl
 
 pub returns : goal.returns
 returns c =
@@ -28,7 +28,7 @@ returns c =
     let x = c.args.id in
     let there : is_received g x ≡ true = sym c.is_received.ensures ∙ c.if-not-is_received.false in
     let free : list_any (λ zone. is_applied zone x) (values c.args.zones.now) ≡ false =
-    sym c.is_applied.ensures ∙ c.if-is_applied.false in
-    taken_out c.args.zones.now g x c.reject.new.self c.args.edits.now.items c.push_removals.new.edits.items
-    c.attest.ensures there free c.in_ok-push_removals.ensures
+    sym c.is_applied_somewhere.ensures ∙ c.if-is_applied_somewhere.false in
+    taken_out c.args.zones.now g x c.reject.new.self c.args.edits.now.items c.push_sysmod_removal.new.edits.items
+    c.attest.ensures there free c.in_ok-push_sysmod_removal.ensures
     (on_ok _ c.reject.result (c.reject.ensures.received.1 there) c.reject.ensures.ok)

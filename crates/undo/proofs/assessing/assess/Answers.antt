@@ -13,9 +13,9 @@ returns-clause-assessed c = λ list are.
     let rows = c.in_ok-all_failed_tests.field-0.items in
     rw c.new.ensures.items
     (are_judged r c.in_ok-applied.ensures.form list c.args.ids.now are (map tests_of rows)
-    (ap (map tests_of) (rw c.as_slice-cands.ensures.items at c.in_ok-all_failed_tests.ensures)
+    (ap (map tests_of) (rw c.as_slice-candidates.ensures.items at c.in_ok-all_failed_tests.ensures)
     ∙ map-map tests_of (failed_tests r) c.args.ids.now)
     c.in_ok-needs_in_restore.field-0.items c.in_ok-needs_in_restore.ensures)
 
 pub returns-clause-rising : goal.returns-clause-rising
-returns-clause-rising c = subst IsRising c.as_slice-cands.ensures.items c.as_slice-cands.ensures.rising
+returns-clause-rising c = subst IsRising c.as_slice-candidates.ensures.items c.as_slice-candidates.ensures.rising

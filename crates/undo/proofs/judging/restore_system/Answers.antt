@@ -14,26 +14,26 @@ use Rattle.undo.proofs.Settings.{restoring_is}
 use Rattle.undo.proofs.judging.restore_system.Goals as goal
 
 -- they are their own candidates
-own_said : (r : Restoring) (ids : List Id) (said : Assessment)
-    → ((list : List Id) → ids ≡ restore_candidates r list → IsRestoreAssessed r list ids said)
-    → All (λ x. IsTrue (is_applied r.zone x)) ids → IsRestoreAssessed r ids ids said
-own_said r ids said says applied = says ids (sym (filter_all (is_applied r.zone) ids applied))
+own_said : (r : Restoring) (ids : List Id) (assessment : Assessment)
+    → ((list : List Id) → ids ≡ restore_candidates r list → IsRestoreAssessed r list ids assessment)
+    → All (λ x. IsTrue (is_applied r.zone x)) ids → IsRestoreAssessed r ids ids assessment
+own_said r ids assessment says applied = says ids (sym (filter_all (is_applied r.zone) ids applied))
 
 pub new-requires-2-clause-rows : goal.new-requires-2-clause-rows
 new-requires-2-clause-rows c =
-    sym (length-map c.in_ok-said.said.tests.items tests_of)
+    sym (length-map c.in_ok-assessment.assessment.tests.items tests_of)
     ∙ rows_of _ _ _ _ _ _ _ _ (own_said (restoring c.in_ok-vers.vers c.args.zone.now c.args.accepted.now)
-    c.args.candidates.now.ids c.in_ok-said.said c.in_ok-said.ensures.assessed c.requires)
+    c.args.candidates.now.ids c.in_ok-assessment.assessment c.in_ok-assessment.ensures.assessed c.requires)
 
 pub new-requires-2-clause-of : goal.new-requires-2-clause-of
 new-requires-2-clause-of c =
     (own_said (restoring c.in_ok-vers.vers c.args.zone.now c.args.accepted.now) c.args.candidates.now.ids
-    c.in_ok-said.said c.in_ok-said.ensures.assessed c.requires).of
+    c.in_ok-assessment.assessment c.in_ok-assessment.ensures.assessed c.requires).of
 
 pub new-requires-2-clause-by : goal.new-requires-2-clause-by
 new-requires-2-clause-by c =
     (own_said (restoring c.in_ok-vers.vers c.args.zone.now c.args.accepted.now) c.args.candidates.now.ids
-    c.in_ok-said.said c.in_ok-said.ensures.assessed c.requires).by
+    c.in_ok-assessment.assessment c.in_ok-assessment.ensures.assessed c.requires).by
 
 pub returns : goal.returns
 returns c = λ list are.
@@ -45,6 +45,6 @@ returns c = λ list are.
     let setting = restoring_is c.in_ok-vers.vers g zone accepted c.in_ok-vers.ensures.global
     (c.in_ok-vers.ensures.counting ∙ ap (counting g zone) c.new-none.ensures) in
     subst (λ r. IsRestoreJudged r list ids j) setting
-    (judged_of _ _ _ _ ids c.in_ok-said.said
-    (c.in_ok-said.ensures.assessed list (subst (λ r. ids ≡ restore_candidates r list) (sym setting) are))
-    c.in_ok-said.ensures.rising j c.in_ok-judged.ensures.numbered)
+    (judged_of _ _ _ _ ids c.in_ok-assessment.assessment
+    (c.in_ok-assessment.ensures.assessed list (subst (λ r. ids ≡ restore_candidates r list) (sym setting) are))
+    c.in_ok-assessment.ensures.rising j c.in_ok-judged.ensures.numbered)

@@ -7,9 +7,9 @@ use Rattle.undo.proofs.needed.needs_in_restore.Goals as goal
 
 pub returns : goal.returns
 returns c =
-    are_needs (restoring_of c.args.scope.now) c.args.ids.now c.requires c.in_ok-elem_pairs.field-0.items
-    c.in_ok-dep_pairs.field-0.items c.member_pairs-elem.result.items c.member_pairs-dep.result.items
-    c.in_ok-elem_pairs.ensures c.in_ok-dep_pairs.ensures c.member_pairs-elem.ensures
+    are_needs (restoring_of c.args.scope.now) c.args.ids.now c.requires c.in_ok-element_pairs.field-0.items
+    c.in_ok-dependence_pairs.field-0.items c.member_pairs-elem.result.items c.member_pairs-dep.result.items
+    c.in_ok-element_pairs.ensures c.in_ok-dependence_pairs.ensures c.member_pairs-elem.ensures
     c.member_pairs-dep.ensures c.add_needs-2.new.needs.items
     (rw (c.as_slice.ensures.value, c.as_slice-2.ensures.value, c.new-needs.ensures.items) at
     (c.in_ok-add_needs-2.ensures

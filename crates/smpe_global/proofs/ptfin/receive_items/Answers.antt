@@ -1,0 +1,32 @@
+use Rattle.std.proofs.Common.{◌≡◌, ◌∷◌, [], length, refl, sym, ap, ◌∙◌, subst, append_assoc, arith, rules}
+use Rattle.std.specs.Vec.Iter.{into_iter_items}
+use Rattle.std.proofs.lemmas.List.{map-append}
+use Rattle.machine.specs.Runs.{Runs}
+use Rattle.machine.specs.Receiving.{TakesItem}
+use Rattle.mcs.specs.Files.{item_of, items}
+use Rattle.smpe_global.specs.Taken.{IsTaken}
+use Rattle.smpe_global.proofs.Items.{none_taken, more_taken}
+use Rattle.smpe_global.proofs.ptfin.receive_items.Goals as goal
+
+pub loop-item-init : goal.loop-item-init
+loop-item-init c = (refl, none_taken (TakesItem c.args.source.now) c.args.global.now c.args.change.now, search rules)
+
+pub loop-item-preserved : goal.loop-item-preserved
+loop-item-preserved c =
+    let at = c.loop-item in
+    let x = c.in-Some.item in
+    let takes = TakesItem c.args.source.now in
+    let old = c.args.global.now in
+    let now = c.receive_item.new in
+    let steps : into_iter_items at.item-iterator ≡ x ∷ into_iter_items c.next.new.self = c.in-Some.ensures.steps.0 in (
+      append_assoc at.yielded (x ∷ []) _ ∙ rw (← steps) at.invariant.0,
+      subst (λ its. IsTaken (Runs takes old its) old now.global c.args.change.now now.change)
+          (sym (map-append item_of at.yielded (x ∷ [])))
+          (more_taken takes old at.global now.global (items at.yielded) (item_of x) c.args.change.now at.change
+          now.change
+          at.invariant.1 c.in_ok-receive_item.ensures),
+      let was = at.invariant.2 in
+          let gone = c.in-Some.ensures.steps.1 in
+          let short = ap length steps in
+          omega arith,
+    )

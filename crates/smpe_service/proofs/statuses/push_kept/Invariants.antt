@@ -1,9 +1,0 @@
-use Rattle.std.proofs.Common.{◌≡◌, ◌++◌, map, take}
-use Rattle.smpe_service.specs.Statuses.{said, kept_statuses}
-use Rattle.smpe_service.proofs.statuses.push_kept.Given as goal
-
--- the kept ones so far
-abbrev pub invariant-loop-id : goal.invariant-loop-id
-invariant-loop-id l =
-    map said l.statuses.items ≡ map said l.initial.statuses.items
-    ++ kept_statuses l.kind l.effective (take l.id-index l.kept)

@@ -1,8 +1,0 @@
-use Rattle.std.proofs.Common.{◌≡◌, ◌++◌, map, take}
-use Rattle.smpe_service.specs.Statuses.{said, left_out_statuses}
-use Rattle.smpe_service.proofs.statuses.push_left_out.Given as goal
-
--- those left out so far
-abbrev pub invariant-loop-id : goal.invariant-loop-id
-invariant-loop-id l =
-    map said l.statuses.items ≡ map said l.initial.statuses.items ++ left_out_statuses (take l.id-index l.left_out)
