@@ -12,7 +12,7 @@ ghost use Rattle.sqlite.specs.declared.error.Error.{Error};
 
 use crate::host::{DatabaseBytes, Host};
 use crate::job_files::JobFiles;
-use crate::memory_files::connect;
+use crate::memory_files::connect_in_memory;
 use crate::questions::answer_and_write;
 use crate::service_set::greatest_status;
 use fields::{Bypass, Id, YyDdd, ZoneName};
@@ -139,7 +139,7 @@ fn rehearse_over_bytes<O: Sink>(
     ensures { TriesBytes ⟦<Memory as Disk>⟧ O.Sink zone ids.now bytes.now.db.items bytes.now.log.items
         (map job_of jobs.now) out.old result out.new }
 {
-    let conn = connect(alloc, bytes.db.as_slice(), bytes.log.as_slice())?;
+    let conn = connect_in_memory(alloc, bytes.db.as_slice(), bytes.log.as_slice())?;
     rehearse_over_connection(alloc, conn, jobs, zone, ids, out)
 }
 

@@ -9,7 +9,7 @@ ghost use Rattle.smpe_command.specs.Database.{JobOver};
 ghost use Rattle.smpe_command.specs.Serving.{Serves, ServesList, ServesMigrate, ServesRun, ServesVerify, ServesZone};
 ghost use Rattle.smpe_command.specs.Serving.{job_told, status_told};
 
-use crate::careful::look_if_careful;
+use crate::careful::check_commands_if_careful;
 use crate::checks::serve_check;
 use crate::database::{migrate_database, run_job_in_database, verify_database};
 use crate::host::Host;
@@ -125,7 +125,7 @@ fn serve_run<'a, H: Host, O: Sink>(
         out.new }
 {
     let files = read_files(alloc, host, Some(cntl), ptfin.as_deref(), hold.as_deref())?;
-    look_if_careful(alloc, host, is_careful, db, files.cntl.as_slice())?;
+    check_commands_if_careful(alloc, host, is_careful, db, files.cntl.as_slice())?;
     job_status(run_files(alloc, host, db, date, &files, out))
 }
 

@@ -13,7 +13,7 @@ use store::StoreError;
 
 /// Connects to the database that files with these bytes hold. The files are in memory, and what is written stays there.
 /// The error is what the store makes of the database's error.
-pub(crate) fn connect(
+pub(crate) fn connect_in_memory(
     alloc: Global,
     db: &[u8],
     log: &[u8],

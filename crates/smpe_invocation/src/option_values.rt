@@ -57,7 +57,11 @@ pub(crate) fn has_flag(found: &ArgMatches<'_>, id: &str) -> bool
 }
 
 /// A copy of the text of an option that must be there, as of a file's name.
-pub(crate) fn copy_text(alloc: Global, found: &ArgMatches<'_>, id: &str) -> Result<String, ArgFault>
+pub(crate) fn copy_required_text(
+    alloc: Global,
+    found: &ArgMatches<'_>,
+    id: &str,
+) -> Result<String, ArgFault>
     ensures ok { IfOk result (λ text. HasText id.now (rows_of (found_of found.now)) (string_bytes text)) }
     ensures err { IfErr result (λ e. Excludes e ((text : Text) × HasText id.now (rows_of (found_of found.now)) text)) }
 {
@@ -109,7 +113,7 @@ pub(crate) fn read_database(alloc: Global, found: &ArgMatches<'_>) -> Result<Dat
     ensures err { IfErr result (λ e. Excludes e ((db : DatabaseFile) × HasDatabase (rows_of (found_of found.now)) db)) }
 {
     let wait = read_wait(found)?;
-    let name = copy_text(alloc, found, "db")?;
+    let name = copy_required_text(alloc, found, "db")?;
     Ok(DatabaseFile { name, wait })
 }
 

@@ -3,7 +3,7 @@
 ghost use Rattle.std.specs.Prelude.{IsTrue};
 
 use crate::checked::{Ended, check_found, run_over};
-use smpe::reopened;
+use smpe::reopen;
 use smpe_play::{connected, installed_files};
 use sqlite::{Connection, FileStore, Files, Options};
 use sqlite_disk::{Crash, Disk, Fuse};
@@ -29,7 +29,7 @@ fn run_on<D: Crash + Drop>(
     match Connection::open_files(alloc, files, Options::new(1)) {
         Ok(conn) => {
             let (conn, how) = run_over(alloc, conn, report)?;
-            match reopened(alloc, conn, Options::new(1)) {
+            match reopen(alloc, conn, Options::new(1)) {
                 Ok(store) => Ok((store.close(), how)),
                 Err((_files, error)) => Err(Fail::from(error)),
             }

@@ -21,7 +21,7 @@ use terms::CommandWord;
 impl Session {
     /// Whether SET may name the zone: it is GLOBAL or it exists. The call loads it, unless the session has it already.
     /// Returns `Memory` if memory runs out, `Fault` if the database fails, and `NoState` if its rows stand for no zone.
-    pub(crate) fn seek_zone<S: Alter>(
+    pub(crate) fn ensure_zone_loaded<S: Alter>(
         &mut self,
         store: &mut Store<S>,
         name: ZoneName,
@@ -61,7 +61,7 @@ impl Session {
             boundary: Some(name),
             check: false,
         };
-        if !self.seek_zone(store, name)? {
+        if !self.ensure_zone_loaded(store, name)? {
             return Ok(Outcome::Refused {
                 header,
                 refusal: Refusal::NoZone,

@@ -5,7 +5,7 @@ ghost use Rattle.terms.specs.Choice.{npre_of};
 ghost use Rattle.terms.specs.Over.{chain};
 ghost use Rattle.sysmods.specs.Choices.{choice};
 ghost use Rattle.smpe_verify.specs.FirstBreach.{not_applied, not_supplied, applied_in, deleted_in};
-ghost use Rattle.smpe_verify.specs.FirstBreach.{support_fault, peace_fault, applied_fault, entry_fault};
+ghost use Rattle.smpe_verify.specs.FirstBreach.{support_fault, npre_or_chain_fault, applied_fault, entry_fault};
 
 use crate::breach::EntryFault;
 use fields::Id;
@@ -86,7 +86,7 @@ fn support_fault(
 // The fault if the applied SYSMOD is a function and an id in its NPRE is applied, or else if its chain has a deleted
 // id; `None` if neither is so.
 fn npre_or_chain_fault(vers: &VerChoice<'_>, zone: &Zone, id: Id) -> Option<EntryFault>
-    ensures { result ≡ peace_fault vers.now.global.now (choice vers.now) zone.now id }
+    ensures { result ≡ npre_or_chain_fault vers.now.global.now (choice vers.now) zone.now id }
 {
     if let Some(npre) = applied_npre(vers, zone, id) {
         return Some(EntryFault::NpreApplied(npre));

@@ -8,9 +8,9 @@ use Rattle.cntl.specs.declared.command.Command.{Command}
 use Rattle.smpe_command.specs.Careful.{IsDefined, IsFirstUndefined, LooksAt}
 use Rattle.smpe_command.specs.Database.{NamesOver}
 use Rattle.smpe_command.proofs.SetZones.{named, some_named}
-use Rattle.smpe_command.proofs.careful.look_ahead.Given.{Over}
-use Rattle.smpe_command.proofs.careful.look_ahead.Goals.{After-first_undefined_zone}
-use Rattle.smpe_command.proofs.careful.look_ahead.Goals as goal
+use Rattle.smpe_command.proofs.careful.check_commands.Given.{Over}
+use Rattle.smpe_command.proofs.careful.check_commands.Goals.{After-first_undefined_zone}
+use Rattle.smpe_command.proofs.careful.check_commands.Goals as goal
 
 -- the commands and the names that were looked at
 looks : (g : Over) (c : After-first_undefined_zone g) → LooksAt g.H.Host g.H.Disk.Store c.args.host.now

@@ -2,7 +2,7 @@ use Rattle.std.proofs.Common.{◌∙◌, refl, sym, rules}
 use Rattle.smpe_session.proofs.Seeking.{some_updated, sought_loaded}
 use Rattle.smpe_zones.proofs.Keeping.{still_kept}
 use Rattle.smpe_session.proofs.Using.{nothing, answered, handed_on, load_uses, short}
-use Rattle.smpe_session.proofs.session.Session.seek_zone.Goals as goal
+use Rattle.smpe_session.proofs.session.Session.ensure_zone_loaded.Goals as goal
 
 pub returns-then-is_global-clause-uses : goal.returns-then-is_global-clause-uses
 returns-then-is_global-clause-uses g c = answered nothing (λ own none. absurd none)

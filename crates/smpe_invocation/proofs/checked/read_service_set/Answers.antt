@@ -1,6 +1,6 @@
 use Rattle.std.specs.String.{string_bytes}
 use Rattle.smpe_invocation.proofs.Excluding.{handed_on}
-use Rattle.smpe_invocation.proofs.checked.service_set.Goals as goal
+use Rattle.smpe_invocation.proofs.checked.read_service_set.Goals as goal
 
 pub returns-in_err-commands-clause-err : goal.returns-in_err-commands-clause-err
 returns-in_err-commands-clause-err c =

@@ -1,7 +1,7 @@
 use Rattle.std.proofs.Common.{rules}
 use Rattle.clap.specs.Words.{found_of, rows_of}
 use Rattle.smpe_invocation.proofs.Excluding.{handed_on, dated_in, named_in}
-use Rattle.smpe_invocation.proofs.checked.command_job.Goals as goal
+use Rattle.smpe_invocation.proofs.checked.read_command_job.Goals as goal
 
 pub returns-in_err-date-clause-err : goal.returns-in_err-date-clause-err
 returns-in_err-date-clause-err c =

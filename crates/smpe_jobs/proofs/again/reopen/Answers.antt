@@ -1,7 +1,7 @@
 use Rattle.std.proofs.Common.{arith}
 use Rattle.sqlite.specs.Files.{over_files}
 use Rattle.smpe_jobs.proofs.Found.{goes_on}
-use Rattle.smpe_jobs.proofs.again.reopened.Goals as goal
+use Rattle.smpe_jobs.proofs.again.reopen.Goals as goal
 
 pub returns-in-Ok : goal.returns-in-Ok
 returns-in-Ok g c clean =

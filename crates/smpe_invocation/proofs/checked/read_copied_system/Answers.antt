@@ -1,6 +1,6 @@
 use Rattle.clap.specs.Words.{found_of, rows_of}
 use Rattle.smpe_invocation.proofs.Excluding.{handed_on, copied_in}
-use Rattle.smpe_invocation.proofs.checked.copied_system.Goals as goal
+use Rattle.smpe_invocation.proofs.checked.read_copied_system.Goals as goal
 
 pub returns-in_err-zone-clause-err : goal.returns-in_err-zone-clause-err
 returns-in_err-zone-clause-err c =

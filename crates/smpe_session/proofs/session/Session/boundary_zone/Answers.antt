@@ -1,6 +1,6 @@
 use Rattle.std.proofs.Common.{◌≡◌, ◌≢◌, ◌∙◌, rules, sym}
 use Rattle.smpe_session.proofs.Places.{kind_nowhere, kind_fits, kind_other, kind_global}
-use Rattle.smpe_session.proofs.session.Session.place.Goals as goal
+use Rattle.smpe_session.proofs.session.Session.boundary_zone.Goals as goal
 
 pub returns-in_default-clause-has : goal.returns-in_default-clause-has
 returns-in_default-clause-has c = λ s is inventory. kind_nowhere s c.args.kind (sym is.boundary ∙ c.in_default.is)

@@ -1,6 +1,6 @@
 use Rattle.clap.specs.Words.{found_of, rows_of}
 use Rattle.smpe_invocation.proofs.Excluding.{handed_on, empty_in}
-use Rattle.smpe_invocation.proofs.checked.empty_system.Goals as goal
+use Rattle.smpe_invocation.proofs.checked.read_empty_system.Goals as goal
 
 pub returns-in_err-srel-clause-err : goal.returns-in_err-srel-clause-err
 returns-in_err-srel-clause-err c =

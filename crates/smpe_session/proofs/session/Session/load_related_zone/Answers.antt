@@ -5,7 +5,7 @@ use Rattle.smpe_session.proofs.RelatedZone.{not_target, related_target, related_
 use Rattle.smpe_session.proofs.RelatedZone.{related_some}
 use Rattle.smpe_session.proofs.Stepping.{unmoved_since}
 use Rattle.smpe_session.proofs.Using.{nothing, after, answered, handed_on, load_uses}
-use Rattle.smpe_session.proofs.session.Session.seek_related.Goals as goal
+use Rattle.smpe_session.proofs.session.Session.load_related_zone.Goals as goal
 
 pub returns-then-eq : goal.returns-then-eq
 returns-then-eq g c =
@@ -37,20 +37,21 @@ returns-in_default-target_name g c =
       loaded.1,
     ))
 
-pub returns-in_err-seek_zone : goal.returns-in_err-seek_zone
-returns-in_err-seek_zone g c = handed_on c.from_residual-in_err-seek_zone.ensures.1
-    (after (load_uses c.in_ok-heads.ensures) c.in_err-seek_zone.ensures.uses)
-    (λ s inventory both is. unmoved_since g.S.Store c.args.store.now c.zone_heads.new.self c.seek_zone.new.store s
-    (load_uses c.zone_heads.ensures).goes.follows c.in_err-seek_zone.field-0.0 (both.1 both.0.1 is))
+pub returns-in_err-ensure_zone_loaded : goal.returns-in_err-ensure_zone_loaded
+returns-in_err-ensure_zone_loaded g c = handed_on c.from_residual-in_err-ensure_zone_loaded.ensures.1
+    (after (load_uses c.in_ok-heads.ensures) c.in_err-ensure_zone_loaded.ensures.uses)
+    (λ s inventory both is. unmoved_since g.S.Store c.args.store.now c.zone_heads.new.self
+    c.ensure_zone_loaded.new.store s (load_uses c.zone_heads.ensures).goes.follows c.in_err-ensure_zone_loaded.field-0.0 (both.1 both.0.1 is))
 
 pub returns : goal.returns
 returns g c =
     let other : c.args.kind ≢ Target = search rules in
-    answered (after (load_uses c.in_ok-heads.ensures) c.in_ok-seek_zone.ensures.uses) (λ own none. absurd none)
+    answered (after (load_uses c.in_ok-heads.ensures) c.in_ok-ensure_zone_loaded.ensures.uses) (λ own none. absurd none)
     (λ s inventory both is.
     let sought = both.1 both.0.1 is in (
       not_target c.args.kind other (related_some s c.in-Some.name (sym is.boundary ∙ c.in-Some.is)
-          c.as_slice.result.now (c.as_slice.ensures.value ∙ both.0.0) c.seek_zone.new.self c.in-Some-target_name.target
-          c.in_ok-seek_zone.field-0 inventory c.in-Some-target_name.ensures sought.0),
+          c.as_slice.result.now (c.as_slice.ensures.value ∙ both.0.0) c.ensure_zone_loaded.new.self
+          c.in-Some-target_name.target
+          c.in_ok-ensure_zone_loaded.field-0 inventory c.in-Some-target_name.ensures sought.0),
       sought.1,
     ))
