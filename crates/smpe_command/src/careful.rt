@@ -1,4 +1,4 @@
-//! What is looked at before a careful job runs.
+//! The check of its commands before a careful job runs.
 ghost use Rattle.std.specs.Prelude.{◌≡◌, ◌↔◌, ◌∷◌, [], None, IsTrue, All, map, IfSome};
 ghost use Rattle.std.specs.String.{string_bytes};
 ghost use Rattle.cntl.specs.Views.{command_of};
@@ -12,8 +12,9 @@ use fields::ZoneName;
 use smpe::{DatabaseFile, Fault, JobError};
 use std::alloc::Global;
 
-/// Looks ahead in the commands, if the job is to be careful. The error says why nothing runs: `NoCommand`, `NoZone` for
-/// the first zone that is not defined, or `Job` if memory runs out or the database cannot be used.
+/// Checks the commands of a careful job before it runs; any other job runs unchecked. The error says why nothing runs:
+/// `NoCommand`, `NoZone` for the first zone that is not defined, or `Job` if memory runs out or the database cannot be
+/// used.
 pub(crate) fn check_commands_if_careful<'a, H: Host>(
     alloc: Global,
     host: &mut H,
@@ -31,8 +32,8 @@ pub(crate) fn check_commands_if_careful<'a, H: Host>(
     }
 }
 
-// Reads the commands, and finds out whether there are any and whether each zone that they name is defined. The errors
-// are those of `check_commands_if_careful`. A file that has a fault is let through.
+// Checks that there are commands and that each zone that a SET names is defined. The errors are those of
+// `check_commands_if_careful`. A file that has a fault passes, because the job itself reports the fault.
 fn check_commands<'a, H: Host>(
     alloc: Global,
     host: &mut H,
@@ -44,7 +45,6 @@ fn check_commands<'a, H: Host>(
     let commands = match read_cntl(alloc, cntl) {
         Ok(commands) => commands,
         Err(CntlError::Memory) => return Err(Fault::Job(JobError::Memory)),
-        // (the job itself reports the fault of the file)
         Err(CntlError::Fault { .. }) => return Ok(()),
     };
     if commands.is_empty() {

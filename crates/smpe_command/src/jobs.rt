@@ -1,4 +1,4 @@
-//! What the words ask for is done.
+//! One function for each subcommand, which does what it asks for.
 ghost use Rattle.std.specs.Prelude.{◌≡◌, [], ◌∷◌, Some, Result, option_map};
 ghost use Rattle.std.specs.String.{string_bytes};
 ghost use Rattle.machine.specs.Machine.{RunFiles};
@@ -74,11 +74,11 @@ pub(crate) fn serve<'a, H: Host, O: Sink>(
     }
 }
 
-/// The status of a job. Its error becomes a fault of the program.
-pub(crate) fn job_status<'a>(code: Result<u8, JobError>) -> Result<u8, Fault<'a>>
-    ensures { result ≡ job_told code }
+/// The status of a job, whose error becomes a fault of the program.
+pub(crate) fn job_status<'a>(status: Result<u8, JobError>) -> Result<u8, Fault<'a>>
+    ensures { result ≡ job_told status }
 {
-    Ok(code?)
+    Ok(status?)
 }
 
 // Defines a zone, writes how that ended, and returns the status.
@@ -106,8 +106,8 @@ fn serve_zone<H: Host, O: Sink>(
     Ok(write_zone_line(name, &answer, out)?)
 }
 
-// Runs the commands of a file, and returns the status. The files are read before the database is opened, also if the
-// job is careful.
+// Runs the commands of a file, and returns the status. All files are read before the database is opened. That is true
+// of a careful job too, whose commands are checked in between.
 fn serve_run<'a, H: Host, O: Sink>(
     alloc: Global,
     host: &mut H,

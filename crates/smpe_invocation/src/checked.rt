@@ -16,7 +16,7 @@ use crate::option_values::{
 use clap::ArgMatches;
 use std::alloc::Global;
 
-/// The system to check in: a copy of a database if `--db` is given, otherwise an empty one.
+/// Reads in which system to check: in a copy of a database if `--db` is given, otherwise in an empty one.
 pub(crate) fn read_checked_system(
     alloc: Global,
     found: &ArgMatches<'_>,
@@ -32,7 +32,7 @@ pub(crate) fn read_checked_system(
     }
 }
 
-// An empty system has an SREL, and none of the options of a copy.
+// Reads the empty system to check in, which has an SREL. Returns `BadOperand` if an option of a copy is given.
 fn read_empty_system(found: &ArgMatches<'_>) -> Result<CheckedSystem, ArgFault>
     requires { Lacks (codes "db") (rows_of (found_of found.now)) }
     ensures ok { IfOk result (HasSystem (rows_of (found_of found.now))) }
@@ -47,7 +47,8 @@ fn read_empty_system(found: &ArgMatches<'_>) -> Result<CheckedSystem, ArgFault>
     }
 }
 
-// A copy of a database has a zone and the ids to ask about, and no SREL.
+// Reads the copy of a database to check in, with its zone and the ids to ask about. Returns `BadOperand` if an SREL is
+// given.
 fn read_copied_system(alloc: Global, found: &ArgMatches<'_>) -> Result<CheckedSystem, ArgFault>
     requires { ¬ (Lacks (codes "db") (rows_of (found_of found.now))) }
     ensures ok { IfOk result (HasSystem (rows_of (found_of found.now))) }
@@ -63,7 +64,7 @@ fn read_copied_system(alloc: Global, found: &ArgMatches<'_>) -> Result<CheckedSy
     Ok(CheckedSystem::Copied(SystemCopy { db, zone, ids }))
 }
 
-// The file of commands and the date of their job, if `--cntl` is given. Without it, `--date` is not read.
+// Reads the file of commands and the date of their job, if `--cntl` is given. Without it, `--date` is not read.
 fn read_command_job(alloc: Global, found: &ArgMatches<'_>) -> Result<Option<CommandJob>, ArgFault>
     ensures ok { IfOk result (HasCommands (rows_of (found_of found.now))) }
     ensures err { IfErr result (λ e. Excludes e ((commands : Option CommandJob)
@@ -77,7 +78,7 @@ fn read_command_job(alloc: Global, found: &ArgMatches<'_>) -> Result<Option<Comm
     Ok(Some(CommandJob { cntl, date }))
 }
 
-/// The names of the files of the service set that is checked.
+/// Reads the names of the files of the service set that is checked.
 pub(crate) fn read_service_set(
     alloc: Global,
     found: &ArgMatches<'_>,

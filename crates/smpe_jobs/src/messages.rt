@@ -185,8 +185,8 @@ fn write_undefined_zone<W: Sink>(name: &ZoneName, w: &mut W) -> Result<(), Write
     write_all(b"\n", w)
 }
 
-// Writes the line of a fault, or nothing for an error of `clap`. It stands apart from `write_fault_line` because its
-// arms, like the calls in them, end without a status.
+// Writes the line of a fault, or nothing for an error of `clap`, whose text the caller shows. It stands apart from
+// `write_fault_line` because the calls in its arms return no status.
 fn write_fault<W: Sink>(fault: &Fault<'_>, w: &mut W) -> Result<(), WriteFault>
     ensures sends { Sent W.Sink w.old w.new (fault_text fault.now) }
     ensures fault { W.has_failed w.old ≡ false → W.has_failed w.new ≡ is_err result }

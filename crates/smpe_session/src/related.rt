@@ -13,10 +13,10 @@ use store::{Store, StoreError};
 use terms::ZoneKind;
 
 impl Session {
-    /// The name of the other zone at which a command for zones of this kind looks, or `None` if there is none. ACCEPT,
-    /// for distribution zones, looks at the target zone whose related zone is that of the boundary, and APPLY, for
-    /// target zones, at none. The call loads the zone. Returns `Memory` if memory runs out, `Fault` if the database
-    /// fails, and `NoState` if the rows of zones stand for none.
+    /// Loads the other zone at which an install into zones of this kind looks, and returns its name, or `None` if there
+    /// is no such zone. ACCEPT, for distribution zones, looks at the target zone whose related zone is that of the
+    /// boundary, and APPLY, for target zones, at none. The errors are `Memory` if memory runs out, `Fault` if the
+    /// database fails, and `NoState` if the rows of zones stand for none.
     pub fn load_related_zone<S: Alter>(
         &mut self,
         store: &mut Store<S>,
@@ -39,9 +39,9 @@ impl Session {
         Ok(Some(target))
     }
 
-    /// The name of the zone to which that of the boundary is related, or `None` if there is none. The call loads that
-    /// zone. Returns `Memory` if memory runs out, `Fault` if the database fails, and `NoState` if its rows stand for
-    /// none.
+    /// Loads the distribution zone to which the target zone of the boundary is related, and returns its name, or `None`
+    /// if there is no such zone. The errors are `Memory` if memory runs out, `Fault` if the database fails, and
+    /// `NoState` if its rows stand for none.
     pub fn load_distribution_zone<S: Alter>(
         &mut self,
         store: &mut Store<S>,

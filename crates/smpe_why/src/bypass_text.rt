@@ -35,8 +35,8 @@ fn fill_record(column: usize, file: &mut Vec<u8>) -> Result<(), AllocError>
     Ok(())
 }
 
-// Writes the byte after `column` columns of a record, and ends the record after a blank or a comma. Returns how many
-// columns of the record are written then.
+// Appends the byte after `column` columns of a record, and ends the record after a blank or a comma. Returns how many
+// columns of the current record are written then: 0 if it was ended.
 fn append_byte(byte: u8, column: usize, file: &mut Vec<u8>) -> Result<usize, AllocError>
     requires { column < TEXT_COLUMNS }
     ensures column { IfOk result (λ next. next ≡ (if is_blank byte then 0 else column + 1)) }

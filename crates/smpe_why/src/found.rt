@@ -44,7 +44,7 @@ pub fn load_zones<S: Alter>(store: &mut Store<S>, name: ZoneName) -> Result<Load
     })
 }
 
-// The name of the other zone at which an install into this zone looks: for a distribution zone the first zone that
+// The name of the target zone at which an install into this zone looks: for a distribution zone, the first zone that
 // names it as its related zone, if there is one. `None` for a target zone, and if the zone does not exist.
 fn related_target_name(heads: &[ZoneHead], name: ZoneName, zone: &Option<Zone>) -> Option<ZoneName>
     ensures { result ≡ related_target_name heads.now name zone.now }

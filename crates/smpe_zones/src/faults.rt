@@ -21,7 +21,7 @@ fn head_named(heads: &[ZoneHead], name: ZoneName) -> Option<&ZoneHead>
     heads.iter().find(|head| head.name == name)
 }
 
-// Whether the zone of the head is related to the zone of this name.
+// Whether the zone of the head names the zone of this name as its related zone.
 fn is_related_to(head: &ZoneHead, name: ZoneName) -> bool
     ensures { result ≡ is_related_to name head.now }
 {
@@ -31,7 +31,7 @@ fn is_related_to(head: &ZoneHead, name: ZoneName) -> bool
     }
 }
 
-// Whether some zone is related to the zone of this name.
+// Whether some zone names the zone of this name as its related zone.
 fn is_any_related_to(heads: &[ZoneHead], name: ZoneName) -> bool
     ensures { result ≡ list_any (is_related_to name) heads.now }
 {
@@ -107,6 +107,7 @@ pub(crate) fn first_fault(
     ensures name { IsZoneName name }
     ensures srel { IsSrel srel }
 {
+    // (for the clause `srel`: the length of an SREL, which its type promises)
     prove!(srel.as_bytes().len() == 4);
     if is_name_taken(heads, name) {
         return Some(ZoneFault::NameTaken);
