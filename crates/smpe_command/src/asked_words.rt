@@ -8,8 +8,8 @@ ghost use Rattle.smpe_command.specs.Asking.{IsAsked, IsUnasked, shown};
 use smpe::{ArgFault, Invocation, invocation};
 use std::alloc::{AllocError, Global};
 
-/// Reads what the words ask for. Returns `Clap` if `clap` refuses the words, `BadOperand` if it takes them and one has a
-/// bad form or is not UTF-8, and `Memory` if memory runs out.
+/// Reads what the words ask for. Returns `Clap` if `clap` refuses the words, `BadOperand` if it takes them and one has
+/// a bad form or is not UTF-8, and `Memory` if memory runs out.
 pub(crate) fn read_words(alloc: Global, words: &[Vec<u8>]) -> Result<Invocation, ArgFault>
     ensures ok { IfOk result (IsAsked (map (λ word. word.items) words.now)) }
     ensures err { IfErr result (IsUnasked (map (λ word. word.items) words.now)) }

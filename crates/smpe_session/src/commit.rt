@@ -11,8 +11,8 @@ use sqlite::Alter;
 use store::{Change, Store, StoreError};
 
 /// Commits the change, and returns this answer to it. The answer passes through the call because the clause `uses` says
-/// which state the tables stand for once it is given. Returns `Memory` if memory runs out, and `Fault` if the disk fails
-/// or the database refuses a row.
+/// which state the tables stand for once it is given. Returns `Memory` if memory runs out, and `Fault` if the disk
+/// fails or the database refuses a row.
 pub(crate) fn commit_change<S: Alter, T: Drop>(
     store: &mut Store<S>,
     change: &Change<'_>,

@@ -26,8 +26,8 @@ loop-name-preserved g c = answered (after c.loop-name.invariant c.in_ok-ensure_z
       (
         before.0.0,
         sought_more s c.loop-name.self c.ensure_zone_loaded.new.self c.as_slice-name-items.result.now
-            c.loop-name.name-index c.name-item.result c.in_ok-ensure_zone_loaded.field-0 c.loop-name-test.true c.name-item.is
-            c.in_ok-ensure_zone_loaded.ensures.stay before.0.1 found.0,
+            c.loop-name.name-index c.name-item.result c.in_ok-ensure_zone_loaded.field-0 c.loop-name-test.true
+            c.name-item.is c.in_ok-ensure_zone_loaded.ensures.stay before.0.1 found.0,
       ),
       found.1,
     ))

@@ -41,7 +41,8 @@ pub returns-in_err-ensure_zone_loaded : goal.returns-in_err-ensure_zone_loaded
 returns-in_err-ensure_zone_loaded g c = handed_on c.from_residual-in_err-ensure_zone_loaded.ensures.1
     (after (load_uses c.in_ok-heads.ensures) c.in_err-ensure_zone_loaded.ensures.uses)
     (λ s inventory both is. unmoved_since g.S.Store c.args.store.now c.zone_heads.new.self
-    c.ensure_zone_loaded.new.store s (load_uses c.zone_heads.ensures).goes.follows c.in_err-ensure_zone_loaded.field-0.0 (both.1 both.0.1 is))
+    c.ensure_zone_loaded.new.store s (load_uses c.zone_heads.ensures).goes.follows
+    c.in_err-ensure_zone_loaded.field-0.0 (both.1 both.0.1 is))
 
 pub returns : goal.returns
 returns g c =
