@@ -43,13 +43,13 @@ pub(crate) fn rehearse_in_copy<H: Host, O: Sink>(
     match commands {
         Some(commands) => {
             let cntl = files.cntl.as_slice();
-            rehearse_commands(alloc, host, copy, commands.date, receive, cntl, files, out)
+            rehearse_commands_in_copy(alloc, host, copy, commands.date, receive, cntl, files, out)
         }
         None => {
             let cntl = apply_commands(alloc, copy.zone)?;
             // Nothing that an APPLY with CHECK prints has the job's date.
             let date = YyDdd::new(2000, 1);
-            rehearse_commands(
+            rehearse_commands_in_copy(
                 alloc,
                 host,
                 copy,
@@ -79,8 +79,8 @@ fn apply_commands(alloc: Global, zone: ZoneName) -> Result<Vec<u8>, AllocError>
 }
 
 // Makes the two jobs, RECEIVE and the commands, runs them in the copy of the database, and asks about the ids. Returns
-// the greatest status, as do the three steps after the reading of the copy.
-fn rehearse_commands<'a, H: Host, O: Sink>(
+// the greatest status of the jobs and the answer. So do the calls below that run the jobs.
+fn rehearse_commands_in_copy<'a, H: Host, O: Sink>(
     alloc: Global,
     host: &mut H,
     copy: &SystemCopy,

@@ -159,8 +159,8 @@ fn run_in_store<S: Alter + Drop>(
     Ok((store.close(), how))
 }
 
-/// A failure, unless the zones that the job left are those after some first commands, and each reported command is among
-/// these.
+/// A failure, unless the zones that the job left are those after some first commands, and each reported command is
+/// among these.
 pub(crate) fn check_zones_left<S: Alter + Drop>(
     alloc: Global,
     conn: Connection<S>,

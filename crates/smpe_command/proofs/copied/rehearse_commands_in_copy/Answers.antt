@@ -3,7 +3,7 @@ use Rattle.machine.specs.Machine as machine
 use Rattle.machine.specs.Machine.{RunFiles}
 use Rattle.sqlite_disk.specs.contracts.memory.MemoryDisk.TheImpl.{ghosts as memory_disk}
 use Rattle.smpe_command.specs.Copied.{TriesBytes, TriesCopied}
-use Rattle.smpe_command.proofs.copied.rehearse_commands.Goals as goal
+use Rattle.smpe_command.proofs.copied.rehearse_commands_in_copy.Goals as goal
 
 pub returns : goal.returns
 returns g c =

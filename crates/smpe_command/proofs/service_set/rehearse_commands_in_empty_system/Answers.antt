@@ -9,7 +9,7 @@ use Rattle.machine.specs.Machine.{NewZone, RunFiles}
 use Rattle.smpe_zones.specs.Definitions.{definition}
 use Rattle.smpe_jobs.specs.Ending.{answer_of}
 use Rattle.smpe_command.specs.ServiceSet.{JobsInMemory}
-use Rattle.smpe_command.proofs.service_set.rehearse_commands_in_memory.Goals as goal
+use Rattle.smpe_command.proofs.service_set.rehearse_commands_in_empty_system.Goals as goal
 
 pub returns : goal.returns
 returns g c =
