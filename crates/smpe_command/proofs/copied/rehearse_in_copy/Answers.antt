@@ -10,8 +10,8 @@ returns-in-Some g c = rw c.in-Some.is (inr (
   subst (λ (cntl : List _). TriesCopied g.H.Host memory_disk g.O.Sink c.args.host.now c.args.copy.now
       c.args.out.now (copy_jobs c.in-Some.commands.date cntl
       (record { ptfin = c.args.files.now.ptfin.items; holds = c.args.files.now.hold.items }))
-      c.rehearse_commands_in_copy.result c.rehearse_commands_in_copy.new.host c.rehearse_commands_in_copy.new.out) c.as_slice-cntl.ensures.value
-      c.rehearse_commands_in_copy.ensures,
+      c.rehearse_commands_in_copy.result c.rehearse_commands_in_copy.new.host c.rehearse_commands_in_copy.new.out)
+      c.as_slice-cntl.ensures.value c.rehearse_commands_in_copy.ensures,
 ))
 
 pub returns : goal.returns
