@@ -16,6 +16,9 @@ use smpe_zones::ZoneFault;
 use store::StoreError;
 use thiserror::Error;
 
+/// The status of a program that ends with a fault.
+pub const FAULT_STATUS: u8 = 16;
+
 // The status of a program whose zone was refused.
 const REFUSED_STATUS: u8 = 12;
 
@@ -96,9 +99,6 @@ pub fn write_migrated_line<W: Sink>(w: &mut W) -> Result<u8, WriteFault>
     write_all(b"SCHEMA 3\n", w)?;
     Ok(0)
 }
-
-/// The status of a program that ends with a fault.
-pub const FAULT_STATUS: u8 = 16;
 
 /// The faults of the program.
 #[derive(Debug, Drop, Error)]

@@ -2,7 +2,7 @@
 
 use crate::cards::{BEGINNING, Case, JobStep};
 use crate::disks::{in_memory, new_files, open_store, reopen_files};
-use crate::rows::lines_of;
+use crate::rows::query_lines;
 use crate::running::{define_both, job_over, run_printing};
 use scripts::{card_file, compare, first_difference, put_cards};
 use smpe::{Answer, JobError};
