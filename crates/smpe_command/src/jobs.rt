@@ -21,6 +21,7 @@ use smpe::{
     DatabaseFile, Fault, Invocation, Job, JobError, list_commands, status_of, write_migrated_line,
     write_zone_line,
 };
+use smpe_verify::describe_verification;
 use sqlite_disk::{Disk, Memory};
 use std::alloc::Global;
 use terms::ZoneKind;
@@ -199,7 +200,7 @@ fn serve_verify<H: Host, O: Sink>(
         out.new }
 {
     let verification = verify_database(alloc, host, db)?;
-    let answer = smpe_verify::describe_verification(alloc, verification)?;
+    let answer = describe_verification(alloc, verification)?;
     write_all(answer.text.as_slice(), out)?;
     Ok(answer.status)
 }
