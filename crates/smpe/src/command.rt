@@ -17,7 +17,7 @@ use std::alloc::Global;
 use store::{Store, StoreError};
 use terms::ZoneKind;
 
-// The answer of a command that has nothing to say but its outcome, or the error of the command.
+// The result of a command that reports its outcome, as each command but LIST does, or its error.
 fn wrap_outcome(outcome: Result<Outcome<'static>, StoreError>) -> Result<Performed, StoreError>
     ensures { result ≡ told outcome.entry }
 {

@@ -55,9 +55,9 @@ pub(crate) fn install<S: Alter>(
         (install_command kind install.now) ended) result }
     ensures header { IfOk result (TellsOutcomeOf (install_command kind install.now)) }
 {
-    let related = session.seek_related(store, kind)?;
+    let related = session.load_related_zone(store, kind)?;
     let header = install_header(kind, session.boundary, install.check);
-    let place = match session.place(kind) {
+    let place = match session.boundary_zone(kind) {
         Ok(place) => place,
         Err(refusal) => return Ok(Outcome::Refused { header, refusal }),
     };

@@ -19,7 +19,7 @@ pub use jobs::run_jobs;
 pub use smpe_invocation::{ArgFault, CommandJob, DatabaseFile, Invocation, invocation};
 pub use smpe_jobs::{
     Answer, FAULT_STATUS, Fault, Job, JobError, define_zone, ends_closed, list_commands,
-    next_open_finds, reopened, status_of, two_commands, write_fault_line, write_migrated_line,
+    next_open_finds, reopen, status_of, two_commands, write_fault_line, write_migrated_line,
     write_zone_line,
 };
 pub use smpe_zones::{ZoneError, ZoneFault};

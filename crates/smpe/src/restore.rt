@@ -33,13 +33,13 @@ pub(crate) fn restore<S: Alter>(
         ended) result }
     ensures header { IfOk result (TellsOutcomeOf (Restore (restore_list_of list.now) check)) }
 {
-    let distribution_name = session.seek_accepted(store)?;
+    let distribution_name = session.load_distribution_zone(store)?;
     let header = Header {
         word: CommandWord::Restore,
         boundary: session.boundary,
         check,
     };
-    let place = match session.place(ZoneKind::Target) {
+    let place = match session.boundary_zone(ZoneKind::Target) {
         Ok(place) => place,
         Err(refusal) => return Ok(Outcome::Refused { header, refusal }),
     };

@@ -54,11 +54,11 @@ module _ {H D : Type 0} (host : HostGhosts H D) (g : Ghosts D) (h : H) (db : Tex
       ⊎ ((why : StoreError) × NamesOver host g h db (Err why) after × (error ≡ job_error why))
   IsRefused _ after = ⊥
 
-  abbrev pub LooksAhead : Result (Unit {0}) Fault → H → Type 0
-  LooksAhead (Ok done) after = MayRun after
-  LooksAhead (Err fault) after = IsRefused fault after
+  abbrev pub ChecksCommands : Result (Unit {0}) Fault → H → Type 0
+  ChecksCommands (Ok done) after = MayRun after
+  ChecksCommands (Err fault) after = IsRefused fault after
 
   -- so only if the job is to be careful
-  abbrev pub LooksIf : Bool → Result (Unit {0}) Fault → H → Type 0
-  LooksIf true r after = LooksAhead r after
-  LooksIf false r after = (r ≡ Ok tt) × (after ≡ h)
+  abbrev pub ChecksIfCareful : Bool → Result (Unit {0}) Fault → H → Type 0
+  ChecksIfCareful true r after = ChecksCommands r after
+  ChecksIfCareful false r after = (r ≡ Ok tt) × (after ≡ h)

@@ -32,7 +32,7 @@ use Rattle.smpe_why.specs.Telling.{Inquiry}
 use Rattle.smpe_why.specs.declared.found.LoadedZones.{LoadedZones}
 use Rattle.smpe_verify.specs.declared.verification.Verification.{Verification}
 use Rattle.smpe_command.specs.declared.host.Host.{Ghosts as HostGhosts}
-use Rattle.smpe_command.specs.Careful.{LooksIf}
+use Rattle.smpe_command.specs.Careful.{ChecksIfCareful}
 use Rattle.smpe_command.specs.Copied.{TriesCopy}
 use Rattle.smpe_command.specs.Database.{FoundOver, JobOver, MigratesOver, VerifiedOver}
 use Rattle.smpe_command.specs.Reading.{ReadsAll}
@@ -72,8 +72,8 @@ module _ {H D O : Type 0} (host : HostGhosts H D) (g : Ghosts D) (sink : SinkGho
     -- A careful job runs, or is refused and nothing runs. Another one runs.
     abbrev pub RunsIf : Bool → Text → List ℕ → Files → Result ℕ Fault → H → O → Type 0
     RunsIf careful date cntl files r after out' =
-        ((fault : Fault) × LooksIf host g h db cntl careful (Err fault) after × (r ≡ Err fault) × (out' ≡ out))
-        ⊎ ((m : H) × LooksIf host g h db cntl careful (Ok tt) m × (answer : Result Answer JobError)
+        ((fault : Fault) × ChecksIfCareful host g h db cntl careful (Err fault) after × (r ≡ Err fault) × (out' ≡ out))
+        ⊎ ((m : H) × ChecksIfCareful host g h db cntl careful (Ok tt) m × (answer : Result Answer JobError)
         × JobOver host g sink m db (RunFiles date cntl files) out answer after out' × (r ≡ status_told answer))
 
     -- A listing is the job of its two commands, on any date, or memory ran out for these.

@@ -8,8 +8,8 @@ ghost use Rattle.smpe_command.specs.Asking.{IsAsked, IsUnasked, shown};
 use smpe::{ArgFault, Invocation, invocation};
 use std::alloc::{AllocError, Global};
 
-/// Reads what the words ask for. Returns `Clap` if `clap` does not take the words, `BadOperand` if one of those that it
-/// takes has not its form or is not UTF-8, and `Memory` if memory runs out.
+/// Reads what the words ask for. Returns `Clap` if `clap` refuses the words, `BadOperand` if it takes them and one has
+/// a bad form or is not UTF-8, and `Memory` if memory runs out.
 pub(crate) fn read_words(alloc: Global, words: &[Vec<u8>]) -> Result<Invocation, ArgFault>
     ensures ok { IfOk result (IsAsked (map (λ word. word.items) words.now)) }
     ensures err { IfErr result (IsUnasked (map (λ word. word.items) words.now)) }
@@ -17,7 +17,7 @@ pub(crate) fn read_words(alloc: Global, words: &[Vec<u8>]) -> Result<Invocation,
     let texts = lossy_texts(alloc, words)?;
     let views = borrow_texts(alloc, texts.as_slice())?;
     let request = invocation(alloc, views.as_slice())?;
-    if are_text(words) {
+    if are_utf8(words) {
         Ok(request)
     } else {
         drop(request);
@@ -48,11 +48,11 @@ fn borrow_texts<'a>(alloc: Global, texts: &'a [String]) -> Result<Vec<&'a str>, 
 }
 
 // Whether all words are UTF-8.
-fn are_text(words: &[Vec<u8>]) -> bool
+fn are_utf8(words: &[Vec<u8>]) -> bool
     ensures { IsTrue result ↔ All (λ word. IsUtf8 word.items) words.now }
 {
     for word in words {
-        if !is_text(word.as_slice()) {
+        if !is_utf8(word.as_slice()) {
             return false;
         }
     }
@@ -60,7 +60,7 @@ fn are_text(words: &[Vec<u8>]) -> bool
 }
 
 // Whether the word is UTF-8.
-fn is_text(word: &[u8]) -> bool
+fn is_utf8(word: &[u8]) -> bool
     ensures { IsTrue result ↔ IsUtf8 word.now }
 {
     str::from_utf8(word).is_ok()

@@ -1,8 +1,9 @@
-//! What is looked at before a careful job runs.
+//! The check of its commands before a careful job runs.
 ghost use Rattle.std.specs.Prelude.{◌≡◌, ◌↔◌, ◌∷◌, [], None, IsTrue, All, map, IfSome};
 ghost use Rattle.std.specs.String.{string_bytes};
 ghost use Rattle.cntl.specs.Views.{command_of};
-ghost use Rattle.smpe_command.specs.Careful.{IsDefined, IsFirstUndefined, LooksAhead, LooksIf, zone_set, zones_set};
+ghost use Rattle.smpe_command.specs.Careful.{ChecksCommands, ChecksIfCareful, IsDefined, IsFirstUndefined, zone_set};
+ghost use Rattle.smpe_command.specs.Careful.{zones_set};
 
 use crate::database::load_zone_names;
 use crate::host::Host;
@@ -11,38 +12,39 @@ use fields::ZoneName;
 use smpe::{DatabaseFile, Fault, JobError};
 use std::alloc::Global;
 
-/// Looks ahead in the commands, if the job is to be careful. The error says why nothing runs: `NoCommand`, `NoZone` for
-/// the first zone that is not defined, or `Job` if memory runs out or the database cannot be used.
-pub(crate) fn look_if_careful<'a, H: Host>(
+/// Checks the commands of a careful job before it runs; any other job runs unchecked. The error says why nothing runs:
+/// `NoCommand`, `NoZone` for the first zone that is not defined, or `Job` if memory runs out or the database cannot be
+/// used.
+pub(crate) fn check_commands_if_careful<'a, H: Host>(
     alloc: Global,
     host: &mut H,
     is_careful: bool,
     db: &DatabaseFile,
     cntl: &[u8],
 ) -> Result<(), Fault<'a>>
-    ensures { LooksIf H.Host H.Disk.Store host.old (string_bytes db.now.name) cntl.now is_careful result host.new }
+    ensures { ChecksIfCareful H.Host H.Disk.Store host.old (string_bytes db.now.name) cntl.now is_careful result
+        host.new }
 {
     if is_careful {
-        look_ahead(alloc, host, db, cntl)
+        check_commands(alloc, host, db, cntl)
     } else {
         Ok(())
     }
 }
 
-// Reads the commands, and finds out whether there are any and whether each zone that they name is defined. The errors
-// are those of `look_if_careful`. A file that has a fault is let through.
-fn look_ahead<'a, H: Host>(
+// Checks that there are commands and that each zone that a SET names is defined. The errors are those of
+// `check_commands_if_careful`. A file that has a fault passes, because the job itself reports the fault.
+fn check_commands<'a, H: Host>(
     alloc: Global,
     host: &mut H,
     db: &DatabaseFile,
     cntl: &[u8],
 ) -> Result<(), Fault<'a>>
-    ensures { LooksAhead H.Host H.Disk.Store host.old (string_bytes db.now.name) cntl.now result host.new }
+    ensures { ChecksCommands H.Host H.Disk.Store host.old (string_bytes db.now.name) cntl.now result host.new }
 {
     let commands = match read_cntl(alloc, cntl) {
         Ok(commands) => commands,
         Err(CntlError::Memory) => return Err(Fault::Job(JobError::Memory)),
-        // (the job itself reports the fault of the file)
         Err(CntlError::Fault { .. }) => return Ok(()),
     };
     if commands.is_empty() {

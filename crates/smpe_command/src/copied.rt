@@ -12,7 +12,7 @@ ghost use Rattle.sqlite.specs.declared.error.Error.{Error};
 
 use crate::host::{DatabaseBytes, Host};
 use crate::job_files::JobFiles;
-use crate::memory_files::connect;
+use crate::memory_files::connect_in_memory;
 use crate::questions::answer_and_write;
 use crate::service_set::greatest_status;
 use fields::{Bypass, Id, YyDdd, ZoneName};
@@ -43,13 +43,13 @@ pub(crate) fn rehearse_in_copy<H: Host, O: Sink>(
     match commands {
         Some(commands) => {
             let cntl = files.cntl.as_slice();
-            rehearse_commands(alloc, host, copy, commands.date, receive, cntl, files, out)
+            rehearse_commands_in_copy(alloc, host, copy, commands.date, receive, cntl, files, out)
         }
         None => {
             let cntl = apply_commands(alloc, copy.zone)?;
             // Nothing that an APPLY with CHECK prints has the job's date.
             let date = YyDdd::new(2000, 1);
-            rehearse_commands(
+            rehearse_commands_in_copy(
                 alloc,
                 host,
                 copy,
@@ -79,8 +79,8 @@ fn apply_commands(alloc: Global, zone: ZoneName) -> Result<Vec<u8>, AllocError>
 }
 
 // Makes the two jobs, RECEIVE and the commands, runs them in the copy of the database, and asks about the ids. Returns
-// the greatest status, as do the three steps after the reading of the copy.
-fn rehearse_commands<'a, H: Host, O: Sink>(
+// the greatest status of the jobs and the answer. So do the calls below that run the jobs.
+fn rehearse_commands_in_copy<'a, H: Host, O: Sink>(
     alloc: Global,
     host: &mut H,
     copy: &SystemCopy,
@@ -139,7 +139,7 @@ fn rehearse_over_bytes<O: Sink>(
     ensures { TriesBytes ⟦<Memory as Disk>⟧ O.Sink zone ids.now bytes.now.db.items bytes.now.log.items
         (map job_of jobs.now) out.old result out.new }
 {
-    let conn = connect(alloc, bytes.db.as_slice(), bytes.log.as_slice())?;
+    let conn = connect_in_memory(alloc, bytes.db.as_slice(), bytes.log.as_slice())?;
     rehearse_over_connection(alloc, conn, jobs, zone, ids, out)
 }
 

@@ -66,7 +66,8 @@ pub trait Host {
             self.new) }
         ensures err { IfErr result (λ error. refuses self.old (string_bytes db.now.name) error self.new) };
 
-    /// Closes the connection, if there is one, and takes it out of the option.
+    /// Closes the connection, if there is one, and takes it out of the option. (By value, the connection could not be
+    /// closed by an impl over the system's files: that has no proof.)
     fn close(&mut self, conn: &mut Option<Connection<Self::Disk>>)
         ensures closed { IfSome conn.old (λ conn. closes self.old conn self.new) }
         ensures taken { conn.new ≡ None };

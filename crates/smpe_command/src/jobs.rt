@@ -1,4 +1,4 @@
-//! What the words ask for is done.
+//! One function for each subcommand, which does what it asks for.
 ghost use Rattle.std.specs.Prelude.{◌≡◌, [], ◌∷◌, Some, Result, option_map};
 ghost use Rattle.std.specs.String.{string_bytes};
 ghost use Rattle.machine.specs.Machine.{RunFiles};
@@ -9,7 +9,7 @@ ghost use Rattle.smpe_command.specs.Database.{JobOver};
 ghost use Rattle.smpe_command.specs.Serving.{Serves, ServesList, ServesMigrate, ServesRun, ServesVerify, ServesZone};
 ghost use Rattle.smpe_command.specs.Serving.{job_told, status_told};
 
-use crate::careful::look_if_careful;
+use crate::careful::check_commands_if_careful;
 use crate::checks::serve_check;
 use crate::database::{migrate_database, run_job_in_database, verify_database};
 use crate::host::Host;
@@ -21,6 +21,7 @@ use smpe::{
     DatabaseFile, Fault, Invocation, Job, JobError, list_commands, status_of, write_migrated_line,
     write_zone_line,
 };
+use smpe_verify::describe_verification;
 use sqlite_disk::{Disk, Memory};
 use std::alloc::Global;
 use terms::ZoneKind;
@@ -74,11 +75,11 @@ pub(crate) fn serve<'a, H: Host, O: Sink>(
     }
 }
 
-/// The status of a job. Its error becomes a fault of the program.
-pub(crate) fn job_status<'a>(code: Result<u8, JobError>) -> Result<u8, Fault<'a>>
-    ensures { result ≡ job_told code }
+/// The status of a job, whose error becomes a fault of the program.
+pub(crate) fn job_status<'a>(status: Result<u8, JobError>) -> Result<u8, Fault<'a>>
+    ensures { result ≡ job_told status }
 {
-    Ok(code?)
+    Ok(status?)
 }
 
 // Defines a zone, writes how that ended, and returns the status.
@@ -106,8 +107,8 @@ fn serve_zone<H: Host, O: Sink>(
     Ok(write_zone_line(name, &answer, out)?)
 }
 
-// Runs the commands of a file, and returns the status. The files are read before the database is opened, also if the
-// job is careful.
+// Runs the commands of a file, and returns the status. All files are read before the database is opened. That is true
+// of a careful job too, whose commands are checked in between.
 fn serve_run<'a, H: Host, O: Sink>(
     alloc: Global,
     host: &mut H,
@@ -125,7 +126,7 @@ fn serve_run<'a, H: Host, O: Sink>(
         out.new }
 {
     let files = read_files(alloc, host, Some(cntl), ptfin.as_deref(), hold.as_deref())?;
-    look_if_careful(alloc, host, is_careful, db, files.cntl.as_slice())?;
+    check_commands_if_careful(alloc, host, is_careful, db, files.cntl.as_slice())?;
     job_status(run_files(alloc, host, db, date, &files, out))
 }
 
@@ -199,7 +200,7 @@ fn serve_verify<H: Host, O: Sink>(
         out.new }
 {
     let verification = verify_database(alloc, host, db)?;
-    let answer = smpe_verify::describe_verification(alloc, verification)?;
+    let answer = describe_verification(alloc, verification)?;
     write_all(answer.text.as_slice(), out)?;
     Ok(answer.status)
 }

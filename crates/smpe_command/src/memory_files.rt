@@ -11,9 +11,9 @@ use sqlite_disk::{Disk, Memory};
 use std::alloc::Global;
 use store::StoreError;
 
-/// Connects to the database that files with these bytes hold. The files are in memory, and what is written stays there.
-/// The error is what the store makes of the database's error.
-pub(crate) fn connect(
+/// Connects to a copy in memory of a database whose file and log have these bytes. What is written stays in memory. The
+/// error is what the store makes of the database's error.
+pub(crate) fn connect_in_memory(
     alloc: Global,
     db: &[u8],
     log: &[u8],

@@ -57,7 +57,8 @@ fn answer_refused_words<H: Host, E: Sink>(host: &mut H, fault: ArgFault, err: &m
     report_fault(host, &Fault::Arg(fault), err)
 }
 
-// Reports a fault on standard error, and returns its status, even if nothing can be written there.
+// Reports a fault on standard error, and returns its status, even if nothing can be written there. Only `clap`'s errors
+// have a text of their own, which is shown in place of a line.
 fn report_fault<H: Host, E: Sink>(host: &mut H, fault: &Fault<'_>, err: &mut E) -> u8
     ensures { Tells H.Host E.Sink host.old err.old fault.now result host.new err.new }
 {

@@ -32,20 +32,28 @@ pub(crate) fn rehearse_in_empty_system<O: Sink>(
     match commands {
         Some(commands) => {
             let cntl = files.cntl.as_slice();
-            rehearse_commands_in_memory(alloc, srel, commands.date, receive, cntl, files, out)
+            rehearse_commands_in_empty_system(alloc, srel, commands.date, receive, cntl, files, out)
         }
         None => {
             let apply = b"APPLY FUNCTIONS PTFS GROUPEXTEND CHECK.";
             let cntl = two_commands(alloc, b"SET BDY(TGT).", apply)?;
             // Nothing that an APPLY with CHECK prints has the job's date.
             let date = YyDdd::new(2000, 1);
-            rehearse_commands_in_memory(alloc, srel, date, receive, cntl.as_slice(), files, out)
+            rehearse_commands_in_empty_system(
+                alloc,
+                srel,
+                date,
+                receive,
+                cntl.as_slice(),
+                files,
+                out,
+            )
         }
     }
 }
 
 // Defines the zones, receives the set and runs the commands in an empty system.
-fn rehearse_commands_in_memory<'a, O: Sink>(
+fn rehearse_commands_in_empty_system<'a, O: Sink>(
     alloc: Global,
     srel: Srel,
     date: YyDdd,

@@ -8,32 +8,32 @@ use Rattle.clap.specs.declared.builder.value_parser.ValueParser.{ValueParser}
 use Rattle.clap.specs.declared.builder.value_parser.ValueParser.TheVariants.{Names}
 
 -- `--id TEXT`, which is optional
-abbrev pub option : Text → Rule
-option id = record (new_rule id) { long = Some id }
+abbrev pub optional_arg : Text → Rule
+optional_arg id = record (new_rule id) { long = Some id }
 
 -- `--id`, which takes no value
-abbrev pub flag : Text → Rule
-flag id = record (option id) { action = Some SetTrue }
+abbrev pub flag_arg : Text → Rule
+flag_arg id = record (optional_arg id) { action = Some SetTrue }
 
 -- one that is optional and may be repeated
-abbrev pub several : Text → Rule
-several id = record (option id) { action = Some Append }
+abbrev pub optional_repeated_arg : Text → Rule
+optional_repeated_arg id = record (optional_arg id) { action = Some Append }
 
 -- `--id TEXT`, which is required
-abbrev pub needed : Text → Rule
-needed id = record (option id) { required = true }
+abbrev pub required_arg : Text → Rule
+required_arg id = record (optional_arg id) { required = true }
 
 -- the same, which may be repeated
-abbrev pub repeated : Text → Rule
-repeated id = record (needed id) { action = Some Append }
+abbrev pub required_repeated_arg : Text → Rule
+required_repeated_arg id = record (required_arg id) { action = Some Append }
 
 -- it takes a kind of zones, as it is spelled
 abbrev pub IsKindParser : ValueParser → Type 0
 IsKindParser kinds = (names : _) × (kinds ≡ Names names)
     × (map (λ name. name.now) names.now ≡ codes "target" ∷ codes "distribution" ∷ [])
 
-abbrev pub kind_option : ValueParser → Rule
-kind_option kinds = record (needed (codes "kind")) { parser = Some kinds }
+abbrev pub kind_arg : ValueParser → Rule
+kind_arg kinds = record (required_arg (codes "kind")) { parser = Some kinds }
 
 -- a subcommand with these options
 abbrev pub with_options : Text → List Rule → Shape
@@ -45,33 +45,35 @@ IsSubcommand shape c = (app_of c ≡ record { top = shape; subs = [] }) × ((fie
 
 -- `--db F [--wait SECONDS]`, and these after them
 abbrev pub database_options : List Rule → List Rule
-database_options more = needed (codes "db") ∷ option (codes "wait") ∷ more
+database_options more = required_arg (codes "db") ∷ optional_arg (codes "wait") ∷ more
 
 -- `zone --db F [--wait SECONDS] --name Z --kind target|distribution --srel S [--related Z]`
 abbrev pub zone_shape : ValueParser → Shape
-zone_shape kinds = with_options (codes "zone") (database_options (needed (codes "name") ∷ kind_option kinds
-    ∷ needed (codes "srel") ∷ option (codes "related") ∷ []))
+zone_shape kinds = with_options (codes "zone") (database_options (required_arg (codes "name") ∷ kind_arg kinds
+    ∷ required_arg (codes "srel") ∷ optional_arg (codes "related") ∷ []))
 
 -- `run --db F [--wait SECONDS] --date YYYY-MM-DD --cntl F [--ptfin F] [--hold F] [--careful]`
 abbrev pub run_shape : Shape
-run_shape = with_options (codes "run") (database_options (needed (codes "date") ∷ needed (codes "cntl")
-    ∷ option (codes "ptfin") ∷ option (codes "hold") ∷ flag (codes "careful") ∷ []))
+run_shape = with_options (codes "run") (database_options (required_arg (codes "date") ∷ required_arg (codes "cntl")
+    ∷ optional_arg (codes "ptfin") ∷ optional_arg (codes "hold") ∷ flag_arg (codes "careful") ∷ []))
 
 -- `list --db F [--wait SECONDS] --zone Z`
 abbrev pub list_shape : Shape
-list_shape = with_options (codes "list") (database_options (needed (codes "zone") ∷ []))
+list_shape = with_options (codes "list") (database_options (required_arg (codes "zone") ∷ []))
 
 -- `why --db F [--wait SECONDS] --zone Z --id ID [--id ID].. [--together] [--group] [--bypass LIST]`
 abbrev pub why_shape : Shape
-why_shape = with_options (codes "why") (database_options (needed (codes "zone") ∷ repeated (codes "id")
-    ∷ flag (codes "together") ∷ flag (codes "group") ∷ option (codes "bypass") ∷ []))
+why_shape = with_options (codes "why") (database_options (required_arg (codes "zone")
+    ∷ required_repeated_arg (codes "id") ∷ flag_arg (codes "together") ∷ flag_arg (codes "group")
+    ∷ optional_arg (codes "bypass") ∷ []))
 
 -- `check --ptfin F [--hold F] [--cntl F --date YYYY-MM-DD]` with `--srel S`, or with `--db F [--wait SECONDS] --zone Z
 -- [--why ID]..`
 abbrev pub check_shape : Shape
 check_shape = with_options (codes "check")
-    (option (codes "srel") ∷ option (codes "db") ∷ option (codes "wait") ∷ option (codes "zone") ∷ several (codes "why")
-    ∷ needed (codes "ptfin") ∷ option (codes "hold") ∷ option (codes "cntl") ∷ option (codes "date") ∷ [])
+    (optional_arg (codes "srel") ∷ optional_arg (codes "db") ∷ optional_arg (codes "wait") ∷ optional_arg (codes "zone")
+    ∷ optional_repeated_arg (codes "why") ∷ required_arg (codes "ptfin") ∷ optional_arg (codes "hold")
+    ∷ optional_arg (codes "cntl") ∷ optional_arg (codes "date") ∷ [])
 
 -- `migrate --db F [--wait SECONDS]`
 abbrev pub migrate_shape : Shape

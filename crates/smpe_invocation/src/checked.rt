@@ -10,14 +10,14 @@ ghost use Rattle.smpe_invocation.specs.declared.asked.ServiceSet.{ServiceSet};
 use crate::asked::{CheckedSystem, CommandJob, ServiceSet, SystemCopy};
 use crate::fault::ArgFault;
 use crate::option_values::{
-    copy_optional_text, copy_text, lacks, read_database, read_job_date, read_optional_ids,
+    copy_optional_text, copy_required_text, lacks, read_database, read_job_date, read_optional_ids,
     read_srel, read_zone_name,
 };
 use clap::ArgMatches;
 use std::alloc::Global;
 
-/// The system to check in: a copy of a database if `--db` is given, otherwise an empty one.
-pub(crate) fn checked_system(
+/// Reads in which system to check: in a copy of a database if `--db` is given, otherwise in an empty one.
+pub(crate) fn read_checked_system(
     alloc: Global,
     found: &ArgMatches<'_>,
 ) -> Result<CheckedSystem, ArgFault>
@@ -26,14 +26,14 @@ pub(crate) fn checked_system(
         × HasSystem (rows_of (found_of found.now)) system)) }
 {
     if lacks(found, "db") {
-        empty_system(found)
+        read_empty_system(found)
     } else {
-        copied_system(alloc, found)
+        read_copied_system(alloc, found)
     }
 }
 
-// An empty system has an SREL, and none of the options of a copy.
-fn empty_system(found: &ArgMatches<'_>) -> Result<CheckedSystem, ArgFault>
+// Reads the empty system to check in, which has an SREL. Returns `BadOperand` if an option of a copy is given.
+fn read_empty_system(found: &ArgMatches<'_>) -> Result<CheckedSystem, ArgFault>
     requires { Lacks (codes "db") (rows_of (found_of found.now)) }
     ensures ok { IfOk result (HasSystem (rows_of (found_of found.now))) }
     ensures err { IfErr result (λ e. Excludes e ((system : CheckedSystem)
@@ -47,8 +47,9 @@ fn empty_system(found: &ArgMatches<'_>) -> Result<CheckedSystem, ArgFault>
     }
 }
 
-// A copy of a database has a zone and the ids to ask about, and no SREL.
-fn copied_system(alloc: Global, found: &ArgMatches<'_>) -> Result<CheckedSystem, ArgFault>
+// Reads the copy of a database to check in, with its zone and the ids to ask about. Returns `BadOperand` if an SREL is
+// given.
+fn read_copied_system(alloc: Global, found: &ArgMatches<'_>) -> Result<CheckedSystem, ArgFault>
     requires { ¬ (Lacks (codes "db") (rows_of (found_of found.now))) }
     ensures ok { IfOk result (HasSystem (rows_of (found_of found.now))) }
     ensures err { IfErr result (λ e. Excludes e ((system : CheckedSystem)
@@ -63,8 +64,8 @@ fn copied_system(alloc: Global, found: &ArgMatches<'_>) -> Result<CheckedSystem,
     Ok(CheckedSystem::Copied(SystemCopy { db, zone, ids }))
 }
 
-// The file of commands and the date of their job, if `--cntl` is given. Without it, `--date` is not read.
-fn command_job(alloc: Global, found: &ArgMatches<'_>) -> Result<Option<CommandJob>, ArgFault>
+// Reads the file of commands and the date of their job, if `--cntl` is given. Without it, `--date` is not read.
+fn read_command_job(alloc: Global, found: &ArgMatches<'_>) -> Result<Option<CommandJob>, ArgFault>
     ensures ok { IfOk result (HasCommands (rows_of (found_of found.now))) }
     ensures err { IfErr result (λ e. Excludes e ((commands : Option CommandJob)
         × HasCommands (rows_of (found_of found.now)) commands)) }
@@ -73,18 +74,21 @@ fn command_job(alloc: Global, found: &ArgMatches<'_>) -> Result<Option<CommandJo
         return Ok(None);
     }
     let date = read_job_date(found)?;
-    let cntl = copy_text(alloc, found, "cntl")?;
+    let cntl = copy_required_text(alloc, found, "cntl")?;
     Ok(Some(CommandJob { cntl, date }))
 }
 
-/// The names of the files of the service set that is checked.
-pub(crate) fn service_set(alloc: Global, found: &ArgMatches<'_>) -> Result<ServiceSet, ArgFault>
+/// Reads the names of the files of the service set that is checked.
+pub(crate) fn read_service_set(
+    alloc: Global,
+    found: &ArgMatches<'_>,
+) -> Result<ServiceSet, ArgFault>
     ensures ok { IfOk result (HasServiceSet (rows_of (found_of found.now))) }
     ensures err { IfErr result (λ e. Excludes e ((set : ServiceSet)
         × HasServiceSet (rows_of (found_of found.now)) set)) }
 {
-    let commands = command_job(alloc, found)?;
-    let ptfin = copy_text(alloc, found, "ptfin")?;
+    let commands = read_command_job(alloc, found)?;
+    let ptfin = copy_required_text(alloc, found, "ptfin")?;
     let hold = copy_optional_text(alloc, found, "hold")?;
     Ok(ServiceSet {
         ptfin,

@@ -3,9 +3,10 @@ ghost use Rattle.std.specs.Prelude.{◌≡◌, [], false, codes, IfOk};
 ghost use Rattle.clap.specs.Words.{app_of, rule_of};
 ghost use Rattle.clap.specs.declared.builder.value_parser.ValueParser.{ValueParser};
 ghost use Rattle.smpe_invocation.specs.CommandLine.{IsCommandLine, IsKindParser, IsSubcommand, check_shape};
-ghost use Rattle.smpe_invocation.specs.CommandLine.{database_options, flag, kind_option, list_shape, migrate_shape};
-ghost use Rattle.smpe_invocation.specs.CommandLine.{needed, option, repeated, run_shape, several, verify_shape};
-ghost use Rattle.smpe_invocation.specs.CommandLine.{why_shape, with_options, zone_shape};
+ghost use Rattle.smpe_invocation.specs.CommandLine.{database_options, flag_arg, kind_arg, list_shape, migrate_shape};
+ghost use Rattle.smpe_invocation.specs.CommandLine.{optional_arg, optional_repeated_arg, required_arg};
+ghost use Rattle.smpe_invocation.specs.CommandLine.{required_repeated_arg, run_shape, verify_shape, why_shape};
+ghost use Rattle.smpe_invocation.specs.CommandLine.{with_options, zone_shape};
 
 use clap::{Arg, ArgAction, Command};
 use std::alloc::{AllocError, Global};
@@ -195,7 +196,7 @@ fn verify_command<'a>(alloc: Global) -> Result<Command<'a>, AllocError>
 
 // `--kind`, which takes one of `KINDS`.
 fn kind_arg<'a>(alloc: Global) -> Arg<'a>
-    ensures rule { (kinds : ValueParser) × IsKindParser kinds × (rule_of result ≡ kind_option kinds) }
+    ensures rule { (kinds : ValueParser) × IsKindParser kinds × (rule_of result ≡ kind_arg kinds) }
     ensures global { result.global ≡ false }
 {
     required_arg(alloc, "kind", "The zone's kind").value_parser(KINDS.as_slice())
@@ -203,7 +204,7 @@ fn kind_arg<'a>(alloc: Global) -> Arg<'a>
 
 // `--wait`, which each command over a database has.
 fn wait_arg<'a>(alloc: Global) -> Arg<'a>
-    ensures rule { rule_of result ≡ option (codes "wait") }
+    ensures rule { rule_of result ≡ optional_arg (codes "wait") }
     ensures global { result.global ≡ false }
 {
     optional_arg(
@@ -215,7 +216,7 @@ fn wait_arg<'a>(alloc: Global) -> Arg<'a>
 
 // An option with a value, without which `clap` refuses the words.
 fn required_arg<'a>(alloc: Global, id: &'a str, help: &'a str) -> Arg<'a>
-    ensures rule { rule_of result ≡ needed id.entry.now }
+    ensures rule { rule_of result ≡ required_arg id.entry.now }
     ensures global { result.global ≡ false }
 {
     optional_arg(alloc, id, help).required(true)
@@ -223,7 +224,7 @@ fn required_arg<'a>(alloc: Global, id: &'a str, help: &'a str) -> Arg<'a>
 
 // A required option that may be stated more than once.
 fn required_repeated_arg<'a>(alloc: Global, id: &'a str, help: &'a str) -> Arg<'a>
-    ensures rule { rule_of result ≡ repeated id.entry.now }
+    ensures rule { rule_of result ≡ required_repeated_arg id.entry.now }
     ensures global { result.global ≡ false }
 {
     required_arg(alloc, id, help).action(ArgAction::Append)
@@ -231,7 +232,7 @@ fn required_repeated_arg<'a>(alloc: Global, id: &'a str, help: &'a str) -> Arg<'
 
 // An option that may be stated more than once, or not at all.
 fn optional_repeated_arg<'a>(alloc: Global, id: &'a str, help: &'a str) -> Arg<'a>
-    ensures rule { rule_of result ≡ several id.entry.now }
+    ensures rule { rule_of result ≡ optional_repeated_arg id.entry.now }
     ensures global { result.global ≡ false }
 {
     optional_arg(alloc, id, help).action(ArgAction::Append)
@@ -239,7 +240,7 @@ fn optional_repeated_arg<'a>(alloc: Global, id: &'a str, help: &'a str) -> Arg<'
 
 // An option without a value.
 fn flag_arg<'a>(alloc: Global, id: &'a str, help: &'a str) -> Arg<'a>
-    ensures rule { rule_of result ≡ flag id.entry.now }
+    ensures rule { rule_of result ≡ flag_arg id.entry.now }
     ensures global { result.global ≡ false }
 {
     optional_arg(alloc, id, help).action(ArgAction::SetTrue)
@@ -247,7 +248,7 @@ fn flag_arg<'a>(alloc: Global, id: &'a str, help: &'a str) -> Arg<'a>
 
 // An option with a value, which may be left out.
 fn optional_arg<'a>(alloc: Global, id: &'a str, help: &'a str) -> Arg<'a>
-    ensures rule { rule_of result ≡ option id.entry.now }
+    ensures rule { rule_of result ≡ optional_arg id.entry.now }
     ensures global { result.global ≡ false }
 {
     Arg::new(alloc, id).long(id).help(help)

@@ -46,14 +46,14 @@ fn calendar_day(text: &str) -> Option<Date>
     text.parse().ok()
 }
 
-// Tells whether the text is YYYY-MM-DD, of digits.
+// Whether the text is YYYY-MM-DD, of digits.
 fn has_date_form(text: &[u8]) -> bool
     ensures { IsTrue result ↔ HasDateForm text.now }
 {
     text.len() == 10 && text[4] == b'-' && text[7] == b'-' && has_date_digits(text)
 }
 
-// Tells whether the places of the year, the month and the day have only digits.
+// Whether the places of the year, the month and the day have only digits.
 fn has_date_digits(text: &[u8]) -> bool
     requires { length text.now ≡ 10 }
     ensures { IsTrue result ↔ HasDateDigits text.now }

@@ -6,12 +6,12 @@ ghost use Rattle.smpe_invocation.specs.Values.{HasValues, HasWhyOptions};
 ghost use Rattle.smpe_invocation.specs.declared.asked.Invocation.{Invocation};
 
 use crate::asked::{Invocation, WhyOptions};
-use crate::checked::{checked_system, service_set};
+use crate::checked::{read_checked_system, read_service_set};
 use crate::command::command_line;
 use crate::fault::ArgFault;
 use crate::option_values::{
-    copy_optional_text, copy_text, has_flag, read_database, read_job_date, read_kind, read_related,
-    read_required_ids, read_srel, read_zone_name,
+    copy_optional_text, copy_required_text, has_flag, read_database, read_job_date, read_kind,
+    read_related, read_required_ids, read_srel, read_zone_name,
 };
 use clap::ArgMatches;
 use std::alloc::{AllocError, Global};
@@ -86,7 +86,7 @@ fn run_invocation(alloc: Global, found: &ArgMatches<'_>) -> Result<Invocation, A
 {
     let date = read_job_date(found)?;
     let db = read_database(alloc, found)?;
-    let cntl = copy_text(alloc, found, "cntl")?;
+    let cntl = copy_required_text(alloc, found, "cntl")?;
     let ptfin = copy_optional_text(alloc, found, "ptfin")?;
     let hold = copy_optional_text(alloc, found, "hold")?;
     Ok(Invocation::Run {
@@ -116,7 +116,7 @@ fn why_invocation(alloc: Global, found: &ArgMatches<'_>) -> Result<Invocation, A
 {
     let zone = read_zone_name(found, "zone")?;
     let ids = read_required_ids(alloc, found)?;
-    let options = why_options(alloc, found)?;
+    let options = read_why_options(alloc, found)?;
     let db = read_database(alloc, found)?;
     Ok(Invocation::Why {
         db,
@@ -127,7 +127,7 @@ fn why_invocation(alloc: Global, found: &ArgMatches<'_>) -> Result<Invocation, A
 }
 
 // How `why` judges the ids. All of these options may be left out.
-fn why_options(alloc: Global, found: &ArgMatches<'_>) -> Result<WhyOptions, AllocError>
+fn read_why_options(alloc: Global, found: &ArgMatches<'_>) -> Result<WhyOptions, AllocError>
     ensures { IfOk result (HasWhyOptions (rows_of (found_of found.now))) }
 {
     let bypass = copy_optional_text(alloc, found, "bypass")?;
@@ -143,8 +143,8 @@ fn check_invocation(alloc: Global, found: &ArgMatches<'_>) -> Result<Invocation,
     ensures err { IfErr result (λ e. Excludes e ((invocation : Invocation)
         × HasValues (codes "check", rows_of (found_of found.now)) invocation)) }
 {
-    let system = checked_system(alloc, found)?;
-    let set = service_set(alloc, found)?;
+    let system = read_checked_system(alloc, found)?;
+    let set = read_service_set(alloc, found)?;
     Ok(Invocation::Check { system, set })
 }
 

@@ -31,7 +31,7 @@ fn option_text<'a>(found: &ArgMatches<'a>, id: &str) -> Option<&'a str>
     found.get_str(id)
 }
 
-// The text of an option that must be there.
+// The text of an option that must be there, or `BadOperand`.
 fn required_text<'a>(found: &ArgMatches<'a>, id: &str) -> Result<&'a str, ArgFault>
     ensures ok { IfOk result (λ text. HasText id.now (rows_of (found_of found.now)) text.now) }
     ensures err { IfErr result (λ e. Excludes e ((text : Text) × HasText id.now (rows_of (found_of found.now)) text)) }
@@ -39,14 +39,14 @@ fn required_text<'a>(found: &ArgMatches<'a>, id: &str) -> Result<&'a str, ArgFau
     option_text(found, id).ok_or(ArgFault::BadOperand)
 }
 
-/// Tells whether the words do not have the option.
+/// Whether the words do not have the option.
 pub(crate) fn lacks(found: &ArgMatches<'_>, id: &str) -> bool
     ensures { IsTrue result ↔ Lacks id.now (rows_of (found_of found.now)) }
 {
     option_text(found, id).is_none()
 }
 
-/// Tells whether the flag is set. `clap` gives a flag the text `true` or `false`.
+/// Whether the flag is set. `clap` gives a flag the text `true` or `false`.
 pub(crate) fn has_flag(found: &ArgMatches<'_>, id: &str) -> bool
     ensures { HasFlag id.now (rows_of (found_of found.now)) result }
 {
@@ -57,7 +57,11 @@ pub(crate) fn has_flag(found: &ArgMatches<'_>, id: &str) -> bool
 }
 
 /// A copy of the text of an option that must be there, as of a file's name.
-pub(crate) fn copy_text(alloc: Global, found: &ArgMatches<'_>, id: &str) -> Result<String, ArgFault>
+pub(crate) fn copy_required_text(
+    alloc: Global,
+    found: &ArgMatches<'_>,
+    id: &str,
+) -> Result<String, ArgFault>
     ensures ok { IfOk result (λ text. HasText id.now (rows_of (found_of found.now)) (string_bytes text)) }
     ensures err { IfErr result (λ e. Excludes e ((text : Text) × HasText id.now (rows_of (found_of found.now)) text)) }
 {
@@ -109,7 +113,7 @@ pub(crate) fn read_database(alloc: Global, found: &ArgMatches<'_>) -> Result<Dat
     ensures err { IfErr result (λ e. Excludes e ((db : DatabaseFile) × HasDatabase (rows_of (found_of found.now)) db)) }
 {
     let wait = read_wait(found)?;
-    let name = copy_text(alloc, found, "db")?;
+    let name = copy_required_text(alloc, found, "db")?;
     Ok(DatabaseFile { name, wait })
 }
 
@@ -160,7 +164,8 @@ fn read_id(text: &str) -> Result<Id, ArgFault>
     Id::read(text.as_bytes()).ok_or(ArgFault::BadOperand)
 }
 
-// Its contract says only what a push without an error leaves, which is all that the loop of `read_ids` needs.
+// Appends an id. Its contract says only what a push without an error leaves, which is all that the loop of `read_ids`
+// needs.
 fn push_id(id: Id, ids: &mut Vec<Id>) -> Result<(), AllocError>
     ensures { OnOk result (ids.new.items ≡ ids.old.items ++ id ∷ []) }
 {

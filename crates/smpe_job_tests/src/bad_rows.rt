@@ -5,7 +5,7 @@ use crate::checked::CHECKED;
 use fields::Srel;
 use scripts::compare;
 use smpe::{JobError, ZoneError, define_zone};
-use smpe_play::{in_memory, installed, opened, run_step, zone_name};
+use smpe_play::{in_memory, installed, open_store, run_step, zone_name};
 use sqlite::{Alter, Connection};
 use std::alloc::Global;
 use std::test::Fail;
@@ -56,7 +56,7 @@ const DEFINED_ROWS: &[&str] = &[
 ];
 
 // A database in which the function is installed and then one row is damaged.
-fn spoilt<S: Alter + Drop>(
+fn damaged<S: Alter + Drop>(
     alloc: Global,
     conn: Connection<S>,
     bad: &str,
@@ -66,20 +66,24 @@ fn spoilt<S: Alter + Drop>(
     Ok(conn)
 }
 
-// All rows of it once these statements are run.
-fn rows_written<S: Alter + Drop>(
+// All rows of a damaged database after these statements.
+fn rows_after_statements<S: Alter + Drop>(
     alloc: Global,
     conn: Connection<S>,
     bad: &str,
     written: &[&str],
 ) -> Result<String, Fail> {
-    let mut conn = spoilt(alloc, conn, bad)?;
+    let mut conn = damaged(alloc, conn, bad)?;
     run_all(&mut conn, written)?;
     all_lines(alloc, &mut conn)
 }
 
 // Runs the job, which must report this and then end by `Sf3`.
-fn run_job_over<S: Alter>(alloc: Global, store: &mut Store<S>, wanted: &str) -> Result<(), Fail> {
+fn run_until_bad_row<S: Alter>(
+    alloc: Global,
+    store: &mut Store<S>,
+    wanted: &str,
+) -> Result<(), Fail> {
     let mut report = Vec::new(alloc);
     match run_step(alloc, store, &CHECKED, &mut report)? {
         Err(JobError::Store(StoreError::NoState)) => compare(
@@ -92,8 +96,8 @@ fn run_job_over<S: Alter>(alloc: Global, store: &mut Store<S>, wanted: &str) -> 
     }
 }
 
-// Defines a zone, which must succeed, or must end by `Sf3`.
-fn define_over<S: Alter>(store: &mut Store<S>, is_defined: bool) -> Result<(), Fail> {
+// Defines a zone, which must succeed if `is_defined`, and must end by `Sf3` otherwise.
+fn check_definition<S: Alter>(store: &mut Store<S>, is_defined: bool) -> Result<(), Fail> {
     let name = zone_name(b"NEW1")?;
     let srel = Srel::read(b"Z038").ok_or("no SREL")?;
     match define_zone(store, name, ZoneKind::Distribution, srel, None) {
@@ -113,30 +117,31 @@ enum Act {
     Define(bool),
 }
 
-fn act_on<S: Alter>(alloc: Global, store: &mut Store<S>, act: Act) -> Result<(), Fail> {
+// Performs the act over the store, and checks how it ends.
+fn perform_act<S: Alter>(alloc: Global, store: &mut Store<S>, act: Act) -> Result<(), Fail> {
     match act {
-        Act::Run(report) => run_job_over(alloc, store, report),
-        Act::Define(is_defined) => define_over(store, is_defined),
+        Act::Run(report) => run_until_bad_row(alloc, store, report),
+        Act::Define(is_defined) => check_definition(store, is_defined),
     }
 }
 
-// All rows after it.
-fn rows_behind<S: Alter + Drop>(
+// All rows of a damaged database after this act.
+fn rows_after_act<S: Alter + Drop>(
     alloc: Global,
     conn: Connection<S>,
     bad: &str,
     act: Act,
 ) -> Result<String, Fail> {
-    let mut store = opened(alloc, spoilt(alloc, conn, bad)?, bad)?;
-    act_on(alloc, &mut store, act)?;
+    let mut store = open_store(alloc, damaged(alloc, conn, bad)?, bad)?;
+    perform_act(alloc, &mut store, act)?;
     all_lines(alloc, &mut store.close())
 }
 
-// After each of these edits it leaves the rows as these statements do.
-fn check_each(alloc: Global, edits: &[&str], act: Act, written: &[&str]) -> Result<(), Fail> {
+// After each of these edits, the act must leave the rows as these statements do.
+fn check_each_edit(alloc: Global, edits: &[&str], act: Act, written: &[&str]) -> Result<(), Fail> {
     for bad in edits {
-        let got = rows_behind(alloc, in_memory(alloc)?, bad, act)?;
-        let wanted = rows_written(alloc, in_memory(alloc)?, bad, written)?;
+        let got = rows_after_act(alloc, in_memory(alloc)?, bad, act)?;
+        let wanted = rows_after_statements(alloc, in_memory(alloc)?, bad, written)?;
         compare(bad, got.as_bytes(), wanted.as_str())?;
     }
     Ok(())
@@ -144,14 +149,14 @@ fn check_each(alloc: Global, edits: &[&str], act: Act, written: &[&str]) -> Resu
 
 #[test]
 fn a_job_that_meets_bad_rows_changes_no_other(rt: HostRuntime) -> Result<(), Fail> {
-    check_each(rt.alloc(), GLOBAL, Act::Run(""), &[])?;
-    check_each(rt.alloc(), TARGET, Act::Run(RECEIVED), RECEIVED_ROWS)?;
-    check_each(rt.alloc(), ZONES, Act::Run(RECEIVED), RECEIVED_ROWS)
+    check_each_edit(rt.alloc(), GLOBAL, Act::Run(""), &[])?;
+    check_each_edit(rt.alloc(), TARGET, Act::Run(RECEIVED), RECEIVED_ROWS)?;
+    check_each_edit(rt.alloc(), ZONES, Act::Run(RECEIVED), RECEIVED_ROWS)
 }
 
 #[test]
 fn a_definition_that_meets_bad_rows_changes_no_other(rt: HostRuntime) -> Result<(), Fail> {
-    check_each(rt.alloc(), GLOBAL, Act::Define(true), DEFINED_ROWS)?;
-    check_each(rt.alloc(), TARGET, Act::Define(true), DEFINED_ROWS)?;
-    check_each(rt.alloc(), ZONES, Act::Define(false), &[])
+    check_each_edit(rt.alloc(), GLOBAL, Act::Define(true), DEFINED_ROWS)?;
+    check_each_edit(rt.alloc(), TARGET, Act::Define(true), DEFINED_ROWS)?;
+    check_each_edit(rt.alloc(), ZONES, Act::Define(false), &[])
 }

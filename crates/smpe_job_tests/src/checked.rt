@@ -2,7 +2,7 @@
 
 use scripts::compare;
 use smpe::JobError;
-use smpe_play::{FIX, JOB, JobStep, opened, run_step};
+use smpe_play::{FIX, JOB, JobStep, open_store, run_step};
 use sqlite::{Alter, Connection};
 use std::alloc::Global;
 use std::test::Fail;
@@ -59,7 +59,7 @@ const ZONES: [&str; 3] = [
 ];
 
 /// How many commands have their whole reports in so many bytes.
-pub(crate) fn whole_reports(len: usize) -> usize {
+pub(crate) fn count_whole_reports(len: usize) -> usize {
     let mut left = len;
     let mut count: usize = 0;
     for report in REPORTS {
@@ -72,8 +72,8 @@ pub(crate) fn whole_reports(len: usize) -> usize {
     count
 }
 
-/// How many of so many first commands have committed something.
-pub(crate) fn commits_of(commands: usize) -> usize {
+/// How many of so many first commands commit something.
+pub(crate) fn count_commits(commands: usize) -> usize {
     match commands {
         0 | 1 => 0,
         2..=4 => 1,
@@ -82,7 +82,7 @@ pub(crate) fn commits_of(commands: usize) -> usize {
 }
 
 /// A failure if this is not a beginning of the whole report.
-pub(crate) fn is_beginning(report: &[u8]) -> Result<(), Fail> {
+pub(crate) fn check_beginning(report: &[u8]) -> Result<(), Fail> {
     let mut left = report;
     for text in REPORTS {
         let len = text.len().min(left.len());
@@ -95,8 +95,8 @@ pub(crate) fn is_beginning(report: &[u8]) -> Result<(), Fail> {
     compare("behind the whole report", left, "")
 }
 
-/// After how many of the two commits the zones of the store are as they are found: at least so many.
-pub(crate) fn performed<S: Alter>(
+/// After how many of the two commits the store's zones look as they do. A failure if these are fewer than `least`.
+pub(crate) fn find_commits<S: Alter>(
     alloc: Global,
     store: &mut Store<S>,
     least: usize,
@@ -121,8 +121,8 @@ pub(crate) enum Ended {
     Stopped,
 }
 
-/// A job or an opening succeeds, or ends by a fault of the store or because memory ran out.
-pub(crate) fn stopped_by(error: StoreError) -> Result<Ended, Fail> {
+/// How a run ended that this error stopped. A failure, unless it is a fault of the store or memory ran out.
+pub(crate) fn ended_by(error: StoreError) -> Result<Ended, Fail> {
     match error {
         StoreError::Fault | StoreError::Memory => Ok(Ended::Stopped),
         other => Err(Fail::from(other)),
@@ -130,7 +130,7 @@ pub(crate) fn stopped_by(error: StoreError) -> Result<Ended, Fail> {
 }
 
 /// Opens the store over the connection, runs the job and appends what it prints. Returns the connection as it is.
-pub(crate) fn run_over<S: Alter + Drop>(
+pub(crate) fn open_and_run<S: Alter + Drop>(
     alloc: Global,
     conn: Connection<S>,
     report: &mut Vec<u8>,
@@ -139,12 +139,13 @@ pub(crate) fn run_over<S: Alter + Drop>(
         return Err(Fail::from("a transaction is under way"));
     }
     match Store::open(alloc, conn) {
-        Ok(store) => run_in(alloc, store, report),
-        Err((conn, error)) => Ok((conn, stopped_by(error)?)),
+        Ok(store) => run_in_store(alloc, store, report),
+        Err((conn, error)) => Ok((conn, ended_by(error)?)),
     }
 }
 
-fn run_in<S: Alter + Drop>(
+// Runs the job over the store, appends what it prints, and closes the store.
+fn run_in_store<S: Alter + Drop>(
     alloc: Global,
     mut store: Store<S>,
     report: &mut Vec<u8>,
@@ -152,24 +153,24 @@ fn run_in<S: Alter + Drop>(
     let how = match run_step(alloc, &mut store, &CHECKED, report)? {
         Ok(_) => Ended::Well,
         Err(JobError::Memory) => Ended::Stopped,
-        Err(JobError::Store(error)) => stopped_by(error)?,
+        Err(JobError::Store(error)) => ended_by(error)?,
         Err(other) => return Err(Fail::from(other)),
     };
     Ok((store.close(), how))
 }
 
-/// The zones over the connection, opened again, are those after a beginning of the commands that includes each reported
-/// one.
-pub(crate) fn check_found<S: Alter + Drop>(
+/// A failure, unless the zones that the job left are those after some first commands, and each reported command is
+/// among these.
+pub(crate) fn check_zones_left<S: Alter + Drop>(
     alloc: Global,
     conn: Connection<S>,
     report: &[u8],
     how: Ended,
 ) -> Result<(), Fail> {
-    is_beginning(report)?;
-    let reported = whole_reports(report.len());
-    let mut store = opened(alloc, conn, "what the job left")?;
-    let _count = performed(alloc, &mut store, commits_of(reported))?;
+    check_beginning(report)?;
+    let reported = count_whole_reports(report.len());
+    let mut store = open_store(alloc, conn, "what the job left")?;
+    let _count = find_commits(alloc, &mut store, count_commits(reported))?;
     if how == Ended::Well && reported < REPORTS.len() {
         return Err(Fail::new(format_args!("it ended well after {reported} reports")));
     }

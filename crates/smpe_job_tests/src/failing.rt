@@ -2,9 +2,9 @@
 
 ghost use Rattle.std.specs.Prelude.{IsTrue};
 
-use crate::checked::{Ended, check_found, run_over};
-use smpe::reopened;
-use smpe_play::{connected, installed_files};
+use crate::checked::{Ended, check_zones_left, open_and_run};
+use smpe::reopen;
+use smpe_play::{installed_files, open_files};
 use sqlite::{Connection, FileStore, Files, Options};
 use sqlite_disk::{Crash, Disk, Fuse};
 use std::alloc::Global;
@@ -17,8 +17,8 @@ enum Fused {
     Database,
 }
 
-// Runs the job over files, and opens these again once the disks are back.
-fn run_on<D: Crash + Drop>(
+// Runs the job over files whose disks may fail, and opens the files again once the disks are back.
+fn run_and_reopen<D: Crash + Drop>(
     alloc: Global,
     files: Files<D>,
     report: &mut Vec<u8>,
@@ -28,8 +28,8 @@ fn run_on<D: Crash + Drop>(
 {
     match Connection::open_files(alloc, files, Options::new(1)) {
         Ok(conn) => {
-            let (conn, how) = run_over(alloc, conn, report)?;
-            match reopened(alloc, conn, Options::new(1)) {
+            let (conn, how) = open_and_run(alloc, conn, report)?;
+            match reopen(alloc, conn, Options::new(1)) {
                 Ok(store) => Ok((store.close(), how)),
                 Err((_files, error)) => Err(Fail::from(error)),
             }
@@ -38,24 +38,25 @@ fn run_on<D: Crash + Drop>(
             let mut files = left.into_files();
             files.log.crash();
             files.db.crash();
-            Ok((connected(alloc, files)?, Ended::Stopped))
+            Ok((open_files(alloc, files)?, Ended::Stopped))
         }
     }
 }
 
-// The job over disks that may fail in it, and what is found once they are back.
-fn check_on<D: Crash + Drop>(alloc: Global, files: Files<D>) -> Result<Ended, Fail>
+// Runs the job over files whose disks may fail, and checks what is stored once they are back. Returns how the job
+// ended.
+fn check_over_files<D: Crash + Drop>(alloc: Global, files: Files<D>) -> Result<Ended, Fail>
     requires log { IsTrue (D.Disk.is_usable files.log) }
     requires db { IsTrue (D.Disk.is_usable files.db) }
 {
     let mut report = Vec::new(alloc);
-    let (conn, how) = run_on(alloc, files, &mut report)?;
-    check_found(alloc, conn, report.as_slice(), how)?;
+    let (conn, how) = run_and_reopen(alloc, files, &mut report)?;
+    check_zones_left(alloc, conn, report.as_slice(), how)?;
     Ok(how)
 }
 
-// The same with one of the connection's disks failing at the next of so many calls.
-fn check_over<D: Crash + Drop>(
+// Runs and checks the job over the connection's files, with one of their disks failing after so many calls.
+fn check_with_fuse<D: Crash + Drop>(
     alloc: Global,
     conn: Connection<FileStore<D>>,
     fused: Fused,
@@ -69,16 +70,17 @@ fn check_over<D: Crash + Drop>(
         Ok(Files { log, db }) => {
             let log = Fuse::new(log, in_log);
             let db = Fuse::new(db, in_db);
-            check_on(alloc, Files { log, db })
+            check_over_files(alloc, Files { log, db })
         }
         Err((error, _store)) => Err(Fail::from(error)),
     }
 }
 
-// The same over disks on which the function is installed, with more and more calls until none fails.
-fn check_each(alloc: Global, fused: Fused) -> Result<(), Fail> {
+// Runs and checks the job with a disk that fails at its first call, at its second and so on, until the job ends without
+// a failure. Each run is over new disks on which the function is installed.
+fn check_each_call(alloc: Global, fused: Fused) -> Result<(), Fail> {
     for calls in 0..10_000u64 {
-        if check_over(alloc, installed_files(alloc)?, fused, calls)? == Ended::Well {
+        if check_with_fuse(alloc, installed_files(alloc)?, fused, calls)? == Ended::Well {
             return Ok(());
         }
     }
@@ -87,10 +89,10 @@ fn check_each(alloc: Global, fused: Fused) -> Result<(), Fail> {
 
 #[test]
 fn a_failing_log_leaves_no_command_in_part(rt: HostRuntime) -> Result<(), Fail> {
-    check_each(rt.alloc(), Fused::Log)
+    check_each_call(rt.alloc(), Fused::Log)
 }
 
 #[test]
 fn a_failing_database_leaves_no_command_in_part(rt: HostRuntime) -> Result<(), Fail> {
-    check_each(rt.alloc(), Fused::Database)
+    check_each_call(rt.alloc(), Fused::Database)
 }

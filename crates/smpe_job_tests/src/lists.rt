@@ -5,8 +5,8 @@ use report::Out;
 use scripts::{card_file, compare, put_cards};
 use smpe::{Answer, Job, ZoneFault, list_commands, run_job, two_commands};
 use smpe_play::{
-    FIX, FUNCTION, FUNCTION_RECEIVED, ListWanted, RECEIVE, in_memory, job_over, opened, play_jobs,
-    zone_name,
+    FIX, FUNCTION, FUNCTION_RECEIVED, ListWanted, RECEIVE, in_memory, job_over, open_store,
+    play_jobs, zone_name,
 };
 use sqlite::Alter;
 use std::alloc::Global;
@@ -14,7 +14,8 @@ use std::test::Fail;
 use store::Store;
 use terms::ZoneKind;
 
-fn zone<'a>(name: ZoneName, kind: ZoneKind, srel: Srel, related: Option<ZoneName>) -> Job<'a> {
+// A job that defines a zone.
+fn zone_job<'a>(name: ZoneName, kind: ZoneKind, srel: Srel, related: Option<ZoneName>) -> Job<'a> {
     Job::Zone {
         name,
         kind,
@@ -23,16 +24,21 @@ fn zone<'a>(name: ZoneName, kind: ZoneKind, srel: Srel, related: Option<ZoneName
     }
 }
 
-fn srel(text: &[u8]) -> Result<Srel, Fail> {
+fn read_srel(text: &[u8]) -> Result<Srel, Fail> {
     Ok(Srel::read(text).ok_or("no SREL")?)
 }
 
-// Runs the jobs in each way, and compares what they print and return.
-fn run(alloc: Global, jobs: &[Job<'_>], report: &str, answers: &[Answer]) -> Result<(), Fail> {
+// A failure, unless the jobs print and return this, in whichever of the ways of `play_jobs` they are run.
+fn check_jobs(
+    alloc: Global,
+    jobs: &[Job<'_>],
+    report: &str,
+    answers: &[Answer],
+) -> Result<(), Fail> {
     play_jobs(alloc, jobs, ListWanted { report, answers })
 }
 
-// Two jobs after the definitions of three zones.
+// Runs two jobs, a RECEIVE and an install, after the definitions of three zones.
 fn define_and_run<'a>(
     alloc: Global,
     receive: &'a [u8],
@@ -40,21 +46,21 @@ fn define_and_run<'a>(
     install: &'a [u8],
 ) -> Result<(), Fail> {
     let permanent = zone_name(b"DLB1")?;
-    let system = srel(b"Z038")?;
+    let system = read_srel(b"Z038")?;
     let other = zone_name(b"DLB2")?;
     let jobs = [
-        zone(permanent, ZoneKind::Distribution, system, None),
-        zone(
+        zone_job(permanent, ZoneKind::Distribution, system, None),
+        zone_job(
             zone_name(b"TGT1")?,
             ZoneKind::Target,
             system,
             Some(permanent),
         ),
-        zone(other, ZoneKind::Distribution, srel(b"C150")?, None),
+        zone_job(other, ZoneKind::Distribution, read_srel(b"C150")?, None),
         job_over(receive, ptfin, b""),
         job_over(install, b"", b""),
     ];
-    run(
+    check_jobs(
         alloc,
         &jobs,
         "SET GLOBAL\nRC 00\nRECEIVE GLOBAL\nHAA1100 FUNCTION RECEIVED\nUA00024 PTF      RECEIVED\nRC 00\n\
@@ -94,24 +100,24 @@ fn zones_are_refused(rt: HostRuntime) -> Result<(), Fail> {
     let missing = zone_name(b"DLB2")?;
     let running = zone_name(b"TGT1")?;
     let second = zone_name(b"TGT2")?;
-    let system = srel(b"Z038")?;
-    let other_system = srel(b"C150")?;
+    let system = read_srel(b"Z038")?;
+    let other_system = read_srel(b"C150")?;
     let jobs = [
-        zone(permanent, ZoneKind::Distribution, system, None),
+        zone_job(permanent, ZoneKind::Distribution, system, None),
         // The name exists already, or is GLOBAL.
-        zone(permanent, ZoneKind::Distribution, system, None),
-        zone(global, ZoneKind::Distribution, system, None),
+        zone_job(permanent, ZoneKind::Distribution, system, None),
+        zone_job(global, ZoneKind::Distribution, system, None),
         // There is no related zone, it is missing, or there may be none.
-        zone(running, ZoneKind::Target, system, None),
-        zone(running, ZoneKind::Target, system, Some(missing)),
-        zone(missing, ZoneKind::Distribution, system, Some(permanent)),
+        zone_job(running, ZoneKind::Target, system, None),
+        zone_job(running, ZoneKind::Target, system, Some(missing)),
+        zone_job(missing, ZoneKind::Distribution, system, Some(permanent)),
         // It has another SREL.
-        zone(running, ZoneKind::Target, other_system, Some(permanent)),
-        zone(running, ZoneKind::Target, system, Some(permanent)),
+        zone_job(running, ZoneKind::Target, other_system, Some(permanent)),
+        zone_job(running, ZoneKind::Target, system, Some(permanent)),
         // It has a target zone already.
-        zone(second, ZoneKind::Target, system, Some(permanent)),
+        zone_job(second, ZoneKind::Target, system, Some(permanent)),
     ];
-    run(
+    check_jobs(
         alloc,
         &jobs,
         "",
@@ -132,7 +138,7 @@ fn zones_are_refused(rt: HostRuntime) -> Result<(), Fail> {
 #[test]
 fn the_sixty_fifth_zone_is_refused(rt: HostRuntime) -> Result<(), Fail> {
     let alloc = rt.alloc();
-    let srel = srel(b"Z038")?;
+    let srel = read_srel(b"Z038")?;
     let mut jobs = Vec::with_capacity(alloc, 65)?;
     for number in 0..65u8 {
         let job: Job<'static> = Job::Zone {
@@ -147,10 +153,10 @@ fn the_sixty_fifth_zone_is_refused(rt: HostRuntime) -> Result<(), Fail> {
     }
     let mut answers = [Answer::Defined; 65];
     answers[64] = Answer::Refused(ZoneFault::TooMany);
-    run(alloc, jobs.as_slice(), "", &answers)
+    check_jobs(alloc, jobs.as_slice(), "", &answers)
 }
 
-// The return code of a job over the store, which must print this.
+// Runs a RECEIVE by itself over the store, which must print this. Returns its return code.
 fn run_alone<S: Alter>(alloc: Global, store: &mut Store<S>, wanted: &str) -> Result<u8, Fail> {
     let cntl = card_file(alloc, RECEIVE)?;
     let ptfin = card_file(alloc, FUNCTION)?;
@@ -165,7 +171,7 @@ fn run_alone<S: Alter>(alloc: Global, store: &mut Store<S>, wanted: &str) -> Res
 #[test]
 fn a_job_goes_alone(rt: HostRuntime) -> Result<(), Fail> {
     let alloc = rt.alloc();
-    let mut store = opened(alloc, in_memory(alloc)?, "a job alone")?;
+    let mut store = open_store(alloc, in_memory(alloc)?, "a job alone")?;
     assert_eq!(rt; run_alone(alloc, &mut store, FUNCTION_RECEIVED.report)?, 0);
     Ok(())
 }

@@ -23,17 +23,19 @@ const ZONES: &[(Answer, u8, &str)] = &[
     (Answer::Code(8), 8, ""),
 ];
 
-fn told(status: u8, wanted: u8) -> Result<(), Fail> {
+// A failure, unless the status is the one that is wanted.
+fn check_status(status: u8, wanted: u8) -> Result<(), Fail> {
     if status == wanted {
         return Ok(());
     }
     Err(Fail::new(format_args!("got status {status}, wanted {wanted}")))
 }
 
-fn zone_is_told(alloc: Global, answer: &Answer, status: u8, line: &str) -> Result<(), Fail> {
+// A failure, unless this answer to a definition has this status and line.
+fn check_zone_line(alloc: Global, answer: &Answer, status: u8, line: &str) -> Result<(), Fail> {
     let name = ZoneName::read(b"DLB1").ok_or("no name of a zone")?;
     let mut bytes: Vec<u8> = Vec::new(alloc);
-    told(
+    check_status(
         write_zone_line(name, answer, &mut Out::new(&mut bytes))?,
         status,
     )?;
@@ -43,7 +45,7 @@ fn zone_is_told(alloc: Global, answer: &Answer, status: u8, line: &str) -> Resul
 #[test]
 fn zones_have_their_lines(rt: HostRuntime) -> Result<(), Fail> {
     for (answer, status, line) in ZONES {
-        zone_is_told(rt.alloc(), answer, *status, line)?;
+        check_zone_line(rt.alloc(), answer, *status, line)?;
     }
     Ok(())
 }
@@ -51,13 +53,14 @@ fn zones_have_their_lines(rt: HostRuntime) -> Result<(), Fail> {
 #[test]
 fn a_migration_has_its_line(rt: HostRuntime) -> Result<(), Fail> {
     let mut bytes: Vec<u8> = Vec::new(rt.alloc());
-    told(write_migrated_line(&mut Out::new(&mut bytes))?, 0)?;
+    check_status(write_migrated_line(&mut Out::new(&mut bytes))?, 0)?;
     compare("the line of a migration", bytes.as_slice(), "SCHEMA 3\n")
 }
 
-fn fault_is_told(alloc: Global, fault: &Fault<'_>, line: &str) -> Result<(), Fail> {
+// A failure, unless the fault has this line and the status 16.
+fn check_fault_line(alloc: Global, fault: &Fault<'_>, line: &str) -> Result<(), Fail> {
     let mut bytes: Vec<u8> = Vec::new(alloc);
-    told(write_fault_line(fault, &mut Out::new(&mut bytes))?, 16)?;
+    check_status(write_fault_line(fault, &mut Out::new(&mut bytes))?, 16)?;
     compare("the line of a fault", bytes.as_slice(), line)
 }
 
@@ -69,10 +72,10 @@ fn faults_have_their_lines(rt: HostRuntime) -> Result<(), Fail> {
         (JobError::Store(StoreError::NoState), "smpe: store Sf3\n"),
         (JobError::Write, "smpe: write\n"),
     ] {
-        fault_is_told(alloc, &Fault::Job(error), line)?;
+        check_fault_line(alloc, &Fault::Job(error), line)?;
     }
     let bad = Fault::Arg(ArgFault::BadOperand);
-    fault_is_told(alloc, &bad, "smpe: bad operand\n")?;
+    check_fault_line(alloc, &bad, "smpe: bad operand\n")?;
     let unread = Fault::CannotRead("cards");
-    fault_is_told(alloc, &unread, "smpe: cannot read cards\n")
+    check_fault_line(alloc, &unread, "smpe: cannot read cards\n")
 }

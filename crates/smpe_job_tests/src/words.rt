@@ -129,7 +129,8 @@ const BAD: &[&str] = &[
     "migrate --db F --wait s",
 ];
 
-fn words<'a>(alloc: Global, line: &'a str) -> Result<Vec<&'a str>, Fail> {
+// The words of a command line: the program's name, and then the words of the line.
+fn split_words<'a>(alloc: Global, line: &'a str) -> Result<Vec<&'a str>, Fail> {
     let mut words = Vec::new(alloc);
     words.push("smpe")?;
     for word in line.split(' ') {
@@ -140,7 +141,8 @@ fn words<'a>(alloc: Global, line: &'a str) -> Result<Vec<&'a str>, Fail> {
     Ok(words)
 }
 
-fn shown(alloc: Global, invocation: &Invocation) -> Result<String, Fail> {
+// The values of an invocation, with a blank between two and `-` for one that is absent.
+fn invocation_text(alloc: Global, invocation: &Invocation) -> Result<String, Fail> {
     match invocation {
         Invocation::Zone {
             db,
@@ -155,7 +157,7 @@ fn shown(alloc: Global, invocation: &Invocation) -> Result<String, Fail> {
                 Some(related) => std::str::from_utf8(related.as_bytes())?,
                 None => "-",
             };
-            let db = place(alloc, db)?;
+            let db = database_text(alloc, db)?;
             Ok(format!(in alloc; "{db} {name} {kind:?} {srel} {related}")?)
         }
         Invocation::Run {
@@ -166,7 +168,7 @@ fn shown(alloc: Global, invocation: &Invocation) -> Result<String, Fail> {
             hold,
             careful,
         } => {
-            let db = place(alloc, db)?;
+            let db = database_text(alloc, db)?;
             let how = if *careful { "careful" } else { "-" };
             let date = std::str::from_utf8(date.as_bytes())?;
             let ptfin = ptfin.as_ref().map_or("-", |text| text.as_str());
@@ -175,7 +177,7 @@ fn shown(alloc: Global, invocation: &Invocation) -> Result<String, Fail> {
         }
         Invocation::List { db, zone } => {
             let zone = std::str::from_utf8(zone.as_bytes())?;
-            let db = place(alloc, db)?;
+            let db = database_text(alloc, db)?;
             Ok(format!(in alloc; "{db} {zone}")?)
         }
         Invocation::Why {
@@ -185,29 +187,31 @@ fn shown(alloc: Global, invocation: &Invocation) -> Result<String, Fail> {
             options,
         } => {
             let zone = std::str::from_utf8(zone.as_bytes())?;
-            let ids = listed(alloc, ids.as_slice())?;
-            let options = asked(alloc, options)?;
-            let db = place(alloc, db)?;
+            let ids = ids_text(alloc, ids.as_slice())?;
+            let options = why_options_text(alloc, options)?;
+            let db = database_text(alloc, db)?;
             Ok(format!(in alloc; "{db} {zone} {ids} {options}")?)
         }
         Invocation::Check { system, set } => {
-            let system = checked(alloc, system)?;
-            let set = service(alloc, set)?;
+            let system = system_text(alloc, system)?;
+            let set = service_set_text(alloc, set)?;
             Ok(format!(in alloc; "{system} {set}")?)
         }
-        Invocation::Migrate { db } => place(alloc, db),
-        Invocation::Verify { db } => place(alloc, db),
+        Invocation::Migrate { db } => database_text(alloc, db),
+        Invocation::Verify { db } => database_text(alloc, db),
     }
 }
 
-fn asked(alloc: Global, options: &WhyOptions) -> Result<String, Fail> {
+// How `why` judges the ids, in the words of its options.
+fn why_options_text(alloc: Global, options: &WhyOptions) -> Result<String, Fail> {
     let together = if options.together { "together" } else { "-" };
     let group = if options.group { "group" } else { "-" };
     let bypass = options.bypass.as_ref().map_or("-", |text| text.as_str());
     Ok(format!(in alloc; "{together} {group} {bypass}")?)
 }
 
-fn checked(alloc: Global, system: &CheckedSystem) -> Result<String, Fail> {
+// The SREL of an empty system, or the database, the zone and the ids of a copy.
+fn system_text(alloc: Global, system: &CheckedSystem) -> Result<String, Fail> {
     match system {
         CheckedSystem::Empty(srel) => Ok(String::from_str(
             alloc,
@@ -215,15 +219,16 @@ fn checked(alloc: Global, system: &CheckedSystem) -> Result<String, Fail> {
         )?),
         CheckedSystem::Copied(copy) => {
             let zone = std::str::from_utf8(copy.zone.as_bytes())?;
-            let db = place(alloc, &copy.db)?;
-            let ids = listed(alloc, copy.ids.as_slice())?;
+            let db = database_text(alloc, &copy.db)?;
+            let ids = ids_text(alloc, copy.ids.as_slice())?;
             let ids = if ids.is_empty() { "-" } else { ids.as_str() };
             Ok(format!(in alloc; "{db} {zone} {ids}")?)
         }
     }
 }
 
-fn service(alloc: Global, set: &ServiceSet) -> Result<String, Fail> {
+// The files of a service set, and the date of its commands.
+fn service_set_text(alloc: Global, set: &ServiceSet) -> Result<String, Fail> {
     let ptfin = set.ptfin.as_str();
     let hold = set.hold.as_ref().map_or("-", |text| text.as_str());
     let (cntl, date) = match &set.commands {
@@ -236,13 +241,15 @@ fn service(alloc: Global, set: &ServiceSet) -> Result<String, Fail> {
     Ok(format!(in alloc; "{ptfin} {hold} {cntl} {date}")?)
 }
 
-fn place(alloc: Global, db: &DatabaseFile) -> Result<String, Fail> {
+// The name of a database, and the seconds to wait for it.
+fn database_text(alloc: Global, db: &DatabaseFile) -> Result<String, Fail> {
     let name = db.name.as_str();
     let wait = db.wait;
     Ok(format!(in alloc; "{name}:{wait}")?)
 }
 
-fn listed(alloc: Global, ids: &[Id]) -> Result<String, Fail> {
+// The ids, with a comma between two.
+fn ids_text(alloc: Global, ids: &[Id]) -> Result<String, Fail> {
     let mut text = String::new(alloc);
     for id in ids {
         if !text.is_empty() {
@@ -253,25 +260,27 @@ fn listed(alloc: Global, ids: &[Id]) -> Result<String, Fail> {
     Ok(text)
 }
 
-fn read(alloc: Global, line: &str) -> Result<String, Fail> {
-    let words = words(alloc, line)?;
+// What reading the words of the line returns: the values of the invocation, or which fault there is.
+fn reading_text(alloc: Global, line: &str) -> Result<String, Fail> {
+    let words = split_words(alloc, line)?;
     match invocation(alloc, words.as_slice()) {
-        Ok(invocation) => shown(alloc, &invocation),
+        Ok(invocation) => invocation_text(alloc, &invocation),
         Err(ArgFault::Memory) => Ok(String::from_str(alloc, "memory")?),
         Err(ArgFault::Clap(_)) => Ok(String::from_str(alloc, "clap")?),
         Err(ArgFault::BadOperand) => Ok(String::from_str(alloc, "bad operand")?),
     }
 }
 
-fn check(alloc: Global, line: &str, wanted: &str) -> Result<(), Fail> {
-    let got = read(alloc, line)?;
+// A failure, unless reading the line returns this.
+fn check_reading(alloc: Global, line: &str, wanted: &str) -> Result<(), Fail> {
+    let got = reading_text(alloc, line)?;
     compare(line, got.as_bytes(), wanted)
 }
 
 #[test]
 fn words_are_read_as_what_they_ask_for(rt: HostRuntime) -> Result<(), Fail> {
     for (line, wanted) in ASKED {
-        check(rt.alloc(), line, wanted)?;
+        check_reading(rt.alloc(), line, wanted)?;
     }
     Ok(())
 }
@@ -279,16 +288,17 @@ fn words_are_read_as_what_they_ask_for(rt: HostRuntime) -> Result<(), Fail> {
 #[test]
 fn other_words_are_refused(rt: HostRuntime) -> Result<(), Fail> {
     for line in CLAP {
-        check(rt.alloc(), line, "clap")?;
+        check_reading(rt.alloc(), line, "clap")?;
     }
     for line in BAD {
-        check(rt.alloc(), line, "bad operand")?;
+        check_reading(rt.alloc(), line, "bad operand")?;
     }
     Ok(())
 }
 
-fn answer_of_clap(alloc: Global, line: &str) -> Result<String, Fail> {
-    let words = words(alloc, line)?;
+// The text that `clap` has for the words of the line in place of an invocation.
+fn clap_text(alloc: Global, line: &str) -> Result<String, Fail> {
+    let words = split_words(alloc, line)?;
     match invocation(alloc, words.as_slice()) {
         Ok(_) => Err(Fail::new(format_args!("{line} asks for a job"))),
         Err(fault) => Ok(format!(in alloc; "{fault}")?),
@@ -297,6 +307,6 @@ fn answer_of_clap(alloc: Global, line: &str) -> Result<String, Fail> {
 
 #[test]
 fn the_version_is_told(rt: HostRuntime) -> Result<(), Fail> {
-    let got = answer_of_clap(rt.alloc(), "--version")?;
+    let got = clap_text(rt.alloc(), "--version")?;
     compare("smpe --version", got.as_bytes(), "smpe 1.0.0\n")
 }

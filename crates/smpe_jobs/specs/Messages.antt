@@ -38,16 +38,16 @@ answer_status (Code n) = n
 answer_status Defined = 0
 answer_status (NotDefined why) = 12
 
-abbrev pub store_text : StoreError → Text
-store_text store.Fault = codes "store Sf1"
-store_text store.OtherSchema = codes "store Sf2"
-store_text store.NoState = codes "store Sf3"
-store_text store.Memory = codes "out of memory"
+abbrev pub store_error_text : StoreError → Text
+store_error_text store.Fault = codes "store Sf1"
+store_error_text store.OtherSchema = codes "store Sf2"
+store_error_text store.NoState = codes "store Sf3"
+store_error_text store.Memory = codes "out of memory"
 
-abbrev pub job_text : JobError → Text
-job_text job.Memory = codes "out of memory"
-job_text (job.Store why) = store_text why
-job_text job.Write = codes "write"
+abbrev pub job_error_text : JobError → Text
+job_error_text job.Memory = codes "out of memory"
+job_error_text (job.Store why) = store_error_text why
+job_error_text job.Write = codes "write"
 
 -- a line of the program
 abbrev pub program_line : Text → Text
@@ -55,7 +55,7 @@ program_line text = codes "smpe: " ++ (text ++ 10 ∷ [])
 
 -- the line of a fault; if `clap` refused the words, its own text takes the place of the line
 abbrev pub fault_text : Fault → Text
-fault_text (Job why) = program_line (job_text why)
+fault_text (Job why) = program_line (job_error_text why)
 fault_text (Arg arg.Memory) = program_line (codes "out of memory")
 fault_text (Arg (arg.Clap own)) = []
 fault_text (Arg arg.BadOperand) = program_line (codes "bad operand")

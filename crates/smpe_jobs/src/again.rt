@@ -31,10 +31,10 @@ fn reconnect<D: Crash + Drop>(
     }
 }
 
-/// The store opened again after jobs, even if a fault shut the connection: takes apart what is left of it, brings its
-/// disks back, and opens the store over their files. The error returns the files: `Memory` if memory runs out, `Fault`
-/// if the disks fail, and any other one if the tables were not the store's.
-pub fn reopened<D: Crash + Drop>(
+/// Opens the store again after jobs, even if a fault shut the connection: takes apart what is left of it, brings its
+/// disks back, and opens the store over their files. The error returns the files, with `Memory` if memory runs out,
+/// `Fault` if the disks fail, and any other one if the tables were not the store's.
+pub fn reopen<D: Crash + Drop>(
     alloc: Global,
     conn: Connection<FileStore<D>>,
     options: Options,

@@ -14,7 +14,7 @@ mod list_job;
 mod messages;
 mod zone_definition;
 
-pub use again::reopened;
+pub use again::reopen;
 pub use error::JobError;
 pub use jobs::{Answer, Job};
 pub use law::{ends_closed, next_open_finds};

@@ -7,6 +7,12 @@ ghost use Rattle.smpe_jobs.specs.ListJob.{list_records, two_records};
 use fields::ZoneName;
 use std::alloc::{AllocError, Global};
 
+// The columns of a record.
+const RECORD_COLUMNS: usize = 80;
+
+// The columns of two records.
+const TWO_RECORDS: usize = 160;
+
 /// The command file that lists a zone: `SET BDY(zone).` and `LIST.`, a record each. Returns an error if memory runs
 /// out.
 pub fn list_commands(alloc: Global, zone: ZoneName) -> Result<Vec<u8>, AllocError>
@@ -28,8 +34,8 @@ pub fn two_commands(alloc: Global, first: &[u8], second: &[u8]) -> Result<Vec<u8
 {
     let mut file = Vec::new(alloc);
     file.extend_from_slice(first)?;
-    file.resize(80, b' ')?;
+    file.resize(RECORD_COLUMNS, b' ')?;
     file.extend_from_slice(second)?;
-    file.resize(160, b' ')?;
+    file.resize(TWO_RECORDS, b' ')?;
     Ok(file)
 }

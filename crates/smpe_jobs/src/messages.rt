@@ -4,8 +4,8 @@ ghost use Rattle.report.specs.Sent.{Sent};
 ghost use Rattle.machine.specs.Machine.{Defined, NotDefined};
 ghost use Rattle.smpe_zones.specs.Definitions.{fault_of};
 ghost use Rattle.smpe_jobs.specs.Ending.{answer_of};
-ghost use Rattle.smpe_jobs.specs.Messages.{answer_status, fault_status, fault_text, job_text, migrated_text};
-ghost use Rattle.smpe_jobs.specs.Messages.{program_line, refused_text, store_text, zone_fault_text, zone_text};
+ghost use Rattle.smpe_jobs.specs.Messages.{answer_status, fault_status, fault_text, job_error_text, migrated_text};
+ghost use Rattle.smpe_jobs.specs.Messages.{program_line, refused_text, store_error_text, zone_fault_text, zone_text};
 
 use crate::error::JobError;
 use crate::jobs::Answer;
@@ -15,6 +15,9 @@ use smpe_invocation::ArgFault;
 use smpe_zones::ZoneFault;
 use store::StoreError;
 use thiserror::Error;
+
+/// The status of a program that ends with a fault.
+pub const FAULT_STATUS: u8 = 16;
 
 // The status of a program whose zone was refused.
 const REFUSED_STATUS: u8 = 12;
@@ -97,9 +100,6 @@ pub fn write_migrated_line<W: Sink>(w: &mut W) -> Result<u8, WriteFault>
     Ok(0)
 }
 
-/// The status of a program that ends with a fault.
-pub const FAULT_STATUS: u8 = 16;
-
 /// The faults of the program.
 #[derive(Debug, Drop, Error)]
 pub enum Fault<'a> {
@@ -133,8 +133,8 @@ impl From<JobError> for Fault<'_> {
 
 // The text of a store's error. No job ends with `Memory` here, because `From<StoreError>` makes it `JobError::Memory`.
 // But `JobError` is public, so a caller can build the pair, and its text is that of `JobError::Memory`.
-fn store_text(error: StoreError) -> &'static [u8]
-    ensures { result.now ≡ store_text error }
+fn store_error_text(error: StoreError) -> &'static [u8]
+    ensures { result.now ≡ store_error_text error }
 {
     match error {
         StoreError::Fault => b"store Sf1",
@@ -145,12 +145,12 @@ fn store_text(error: StoreError) -> &'static [u8]
 }
 
 // The text of a job's error, after `smpe: `.
-fn job_text(error: JobError) -> &'static [u8]
-    ensures { result.now ≡ job_text error }
+fn job_error_text(error: JobError) -> &'static [u8]
+    ensures { result.now ≡ job_error_text error }
 {
     match error {
         JobError::Memory => b"out of memory",
-        JobError::Store(error) => store_text(error),
+        JobError::Store(error) => store_error_text(error),
         JobError::Write => b"write",
     }
 }
@@ -185,15 +185,15 @@ fn write_undefined_zone<W: Sink>(name: &ZoneName, w: &mut W) -> Result<(), Write
     write_all(b"\n", w)
 }
 
-// Writes the line of a fault, or nothing for an error of `clap`. It stands apart from `write_fault_line` because its
-// arms, like the calls in them, end without a status.
+// Writes the line of a fault, or nothing for an error of `clap`, whose text the caller shows. It stands apart from
+// `write_fault_line` because the calls in its arms return no status.
 fn write_fault<W: Sink>(fault: &Fault<'_>, w: &mut W) -> Result<(), WriteFault>
     ensures sends { Sent W.Sink w.old w.new (fault_text fault.now) }
     ensures fault { W.has_failed w.old ≡ false → W.has_failed w.new ≡ is_err result }
     ensures after { 0 < length (fault_text fault.now) → W.has_failed w.new ≡ is_err result }
 {
     match fault {
-        Fault::Job(error) => write_line(job_text(*error), w),
+        Fault::Job(error) => write_line(job_error_text(*error), w),
         Fault::Arg(ArgFault::Memory) => write_line(b"out of memory", w),
         Fault::Arg(ArgFault::BadOperand) => write_line(b"bad operand", w),
         Fault::Arg(ArgFault::Clap(_)) => Ok(()),

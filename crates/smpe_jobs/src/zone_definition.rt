@@ -13,9 +13,10 @@ use sqlite::Alter;
 use store::Store;
 use terms::ZoneKind;
 
-/// Adds a zone without entries. Returns `Refused` with the first that applies of `NameTaken`, `WrongRelated`,
-/// `OtherSrel` and `TooMany`, `Memory` if memory runs out, and `Store` with `Fault` if the database fails, or with
-/// `NoState` if the rows of zones stand for none.
+/// Adds a zone without entries. This is `smpe_zones::define_zone` with two promises more: what it leaves follows from
+/// the store before it (`follows`), and closed zones stay closed (`closed`). Returns `Refused` with the first that
+/// applies of `NameTaken`, `WrongRelated`, `OtherSrel` and `TooMany`, `Memory` if memory runs out, and `Store` with
+/// `Fault` if the database fails, or with `NoState` if the rows of zones stand for none.
 pub fn define_zone<S: Alter>(
     store: &mut Store<S>,
     name: ZoneName,

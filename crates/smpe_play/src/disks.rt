@@ -9,7 +9,7 @@ use std::test::Fail;
 use store::Store;
 
 /// A connection to the database in the files.
-pub fn connected<D: Disk + Drop>(
+pub fn open_files<D: Disk + Drop>(
     alloc: Global,
     files: Files<D>,
 ) -> Result<Connection<FileStore<D>>, Fail>
@@ -26,7 +26,7 @@ pub fn connected<D: Disk + Drop>(
 pub fn new_files(alloc: Global) -> Result<Connection<FileStore<Memory>>, Fail> {
     let log = Memory::new(alloc);
     let db = Memory::new(alloc);
-    connected(alloc, Files { log, db })
+    open_files(alloc, Files { log, db })
 }
 
 /// A connection to a new database in memory.
@@ -35,18 +35,18 @@ pub fn in_memory(alloc: Global) -> Result<Connection<MemStore>, Fail> {
 }
 
 /// Closes the files and opens them again.
-pub(crate) fn reopened(
+pub(crate) fn reopen_files(
     alloc: Global,
     conn: Connection<FileStore<Memory>>,
 ) -> Result<Connection<FileStore<Memory>>, Fail> {
     match conn.close_files() {
-        Ok(files) => connected(alloc, files),
+        Ok(files) => open_files(alloc, files),
         Err((error, _store)) => Err(Fail::from(error)),
     }
 }
 
 /// A store over the connection. A failure begins with the name.
-pub fn opened<S: Alter + Drop>(
+pub fn open_store<S: Alter + Drop>(
     alloc: Global,
     conn: Connection<S>,
     name: &str,

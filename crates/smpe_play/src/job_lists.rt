@@ -1,6 +1,6 @@
 //! Running lists of jobs over new databases in which no zone is defined.
 
-use crate::disks::{in_memory, new_files, opened, reopened};
+use crate::disks::{in_memory, new_files, open_store, reopen_files};
 use crate::running::run_printing;
 use scripts::compare;
 use smpe::{Answer, Job};
@@ -17,21 +17,21 @@ pub struct ListWanted<'a> {
 }
 
 // Runs the jobs in one call over a store that is opened for them, and appends what they print and return.
-fn run_over<S: Alter + Drop>(
+fn run_in_store<S: Alter + Drop>(
     alloc: Global,
     conn: Connection<S>,
     jobs: &[Job<'_>],
     report: &mut Vec<u8>,
     answers: &mut Vec<Answer>,
 ) -> Result<Connection<S>, Fail> {
-    let mut store = opened(alloc, conn, "a list of jobs")?;
+    let mut store = open_store(alloc, conn, "a list of jobs")?;
     let got = run_printing(alloc, &mut store, jobs, report)?;
     answers.extend_from_slice(got.as_slice())?;
     Ok(store.close())
 }
 
 // A failure, unless this is what the jobs printed and returned.
-fn check(
+fn check_jobs(
     alloc: Global,
     disk: &str,
     report: &[u8],
@@ -45,8 +45,8 @@ fn check(
     compare(disk, got.as_bytes(), wanted.as_str())
 }
 
-// Runs the jobs in one call.
-fn run_together<S: Alter + Drop>(
+// Runs the jobs in one call, and checks what they print and return.
+fn run_in_one_call<S: Alter + Drop>(
     alloc: Global,
     conn: Connection<S>,
     disk: &str,
@@ -54,43 +54,43 @@ fn run_together<S: Alter + Drop>(
     wanted: ListWanted<'_>,
 ) -> Result<(), Fail> {
     let (mut report, mut answers) = (Vec::new(alloc), Vec::new(alloc));
-    drop(run_over(alloc, conn, jobs, &mut report, &mut answers)?);
-    check(alloc, disk, report.as_slice(), answers.as_slice(), wanted)
+    drop(run_in_store(alloc, conn, jobs, &mut report, &mut answers)?);
+    check_jobs(alloc, disk, report.as_slice(), answers.as_slice(), wanted)
 }
 
 // Runs each job in a call of its own, over a store in memory that is opened for it.
-fn run_each(alloc: Global, jobs: &[Job<'_>], wanted: ListWanted<'_>) -> Result<(), Fail> {
+fn run_each_in_memory(alloc: Global, jobs: &[Job<'_>], wanted: ListWanted<'_>) -> Result<(), Fail> {
     let (mut report, mut answers) = (Vec::new(alloc), Vec::new(alloc));
     let mut conn = in_memory(alloc)?;
     for job in jobs {
-        conn = run_over(alloc, conn, slice::from_ref(job), &mut report, &mut answers)?;
+        conn = run_in_store(alloc, conn, slice::from_ref(job), &mut report, &mut answers)?;
     }
     let disk = "in memory, opened for each";
-    check(alloc, disk, report.as_slice(), answers.as_slice(), wanted)
+    check_jobs(alloc, disk, report.as_slice(), answers.as_slice(), wanted)
 }
 
 // Runs each job in a call of its own, over files that are closed and opened before it.
-fn run_closed(alloc: Global, jobs: &[Job<'_>], wanted: ListWanted<'_>) -> Result<(), Fail> {
+fn run_each_on_disks(alloc: Global, jobs: &[Job<'_>], wanted: ListWanted<'_>) -> Result<(), Fail> {
     let (mut report, mut answers) = (Vec::new(alloc), Vec::new(alloc));
     let mut conn = new_files(alloc)?;
     for job in jobs {
-        conn = run_over(
+        conn = run_in_store(
             alloc,
-            reopened(alloc, conn)?,
+            reopen_files(alloc, conn)?,
             slice::from_ref(job),
             &mut report,
             &mut answers,
         )?;
     }
     let disk = "on disks that are closed and opened before each";
-    check(alloc, disk, report.as_slice(), answers.as_slice(), wanted)
+    check_jobs(alloc, disk, report.as_slice(), answers.as_slice(), wanted)
 }
 
 /// Runs the jobs in memory and on disks in memory: in one call, and each in a call over a store that is opened for it.
 /// A failure says in which of these ways.
 pub fn play_jobs(alloc: Global, jobs: &[Job<'_>], wanted: ListWanted<'_>) -> Result<(), Fail> {
-    run_together(alloc, in_memory(alloc)?, "in memory", jobs, wanted)?;
-    run_each(alloc, jobs, wanted)?;
-    run_together(alloc, new_files(alloc)?, "on disks", jobs, wanted)?;
-    run_closed(alloc, jobs, wanted)
+    run_in_one_call(alloc, in_memory(alloc)?, "in memory", jobs, wanted)?;
+    run_each_in_memory(alloc, jobs, wanted)?;
+    run_in_one_call(alloc, new_files(alloc)?, "on disks", jobs, wanted)?;
+    run_each_on_disks(alloc, jobs, wanted)
 }

@@ -19,8 +19,8 @@ fn put_lines<S: Alter>(
     Ok(())
 }
 
-/// The rows that each query finds, a line each, with a line of two hyphens behind those of each query.
-pub fn lines_of<S: Alter>(
+/// The rows that each query finds, a line each, with a line of two hyphens after those of each query.
+pub fn query_lines<S: Alter>(
     alloc: Global,
     conn: &mut Connection<S>,
     queries: &[&str],

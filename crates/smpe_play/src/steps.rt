@@ -1,8 +1,8 @@
 //! Playing cases, step by step.
 
 use crate::cards::{BEGINNING, Case, JobStep};
-use crate::disks::{in_memory, new_files, opened, reopened};
-use crate::rows::lines_of;
+use crate::disks::{in_memory, new_files, open_store, reopen_files};
+use crate::rows::query_lines;
 use crate::running::{define_both, job_over, run_printing};
 use scripts::{card_file, compare, first_difference, put_cards};
 use smpe::{Answer, JobError};
@@ -20,7 +20,8 @@ pub struct StepPlace {
     pub disk: &'static str,
 }
 
-fn ptfin_of(alloc: Global, step: &JobStep) -> Result<Vec<u8>, Fail> {
+// The bytes of a step's PTFIN.
+fn step_ptfin(alloc: Global, step: &JobStep) -> Result<Vec<u8>, Fail> {
     let mut bytes = Vec::new(alloc);
     for sysmod in step.ptfin {
         put_cards(&mut bytes, sysmod)?;
@@ -37,14 +38,19 @@ pub fn run_step<S: Alter>(
     report: &mut Vec<u8>,
 ) -> Result<Result<Vec<Answer>, JobError>, Fail> {
     let cntl = card_file(alloc, step.cntl)?;
-    let ptfin = ptfin_of(alloc, step)?;
+    let ptfin = step_ptfin(alloc, step)?;
     let hold = card_file(alloc, step.hold)?;
     let jobs = [job_over(cntl.as_slice(), ptfin.as_slice(), hold.as_slice())];
     Ok(run_printing(alloc, store, &jobs, report))
 }
 
 // A failure, unless the step printed and returned what it must.
-fn check(step: &JobStep, place: StepPlace, report: &[u8], answers: &[Answer]) -> Result<(), Fail> {
+fn check_step(
+    step: &JobStep,
+    place: StepPlace,
+    report: &[u8],
+    answers: &[Answer],
+) -> Result<(), Fail> {
     let code = match answers {
         [Answer::Code(code)] => Some(*code),
         _ => None,
@@ -60,7 +66,7 @@ fn check(step: &JobStep, place: StepPlace, report: &[u8], answers: &[Answer]) ->
     )))
 }
 
-/// Something that is played over a store, and fails where it does not come to what it must.
+/// Something that is played over a store, and fails unless it ends as it must.
 pub trait Plays {
     /// Plays it. A failure begins with what the place shows.
     fn play_at<S: Alter>(
@@ -81,7 +87,7 @@ impl Plays for JobStep {
     ) -> Result<(), Fail> {
         let mut report = Vec::new(alloc);
         match run_step(alloc, store, self, &mut report)? {
-            Ok(answers) => check(self, place, report.as_slice(), answers.as_slice()),
+            Ok(answers) => check_step(self, place, report.as_slice(), answers.as_slice()),
             Err(error) => {
                 let (shows, disk, name) = (place.shows, place.disk, self.name);
                 Err(Fail::new(format_args!("{shows}: {name} {disk}: {error:?}")))
@@ -109,14 +115,14 @@ pub fn play<S: Alter>(alloc: Global, store: &mut Store<S>, step: &JobStep) -> Re
     step.play_at(alloc, store, StepPlace { shows, disk: "" })
 }
 
-// A store over a new database with both zones, in which these steps were played.
-fn begun<S: Alter + Drop>(
+// Makes a store over a new database with both zones, and plays these steps in it.
+fn begin_store<S: Alter + Drop>(
     alloc: Global,
     conn: Connection<S>,
     before: &[JobStep],
     place: StepPlace,
 ) -> Result<Store<S>, Fail> {
-    let mut store = opened(alloc, conn, place.shows)?;
+    let mut store = open_store(alloc, conn, place.shows)?;
     define_both(alloc, &mut store)?;
     play_all(alloc, &mut store, before, place)?;
     Ok(store)
@@ -125,36 +131,36 @@ fn begun<S: Alter + Drop>(
 /// A store over a new database with both zones, in which the function is applied.
 pub fn installed<S: Alter + Drop>(alloc: Global, conn: Connection<S>) -> Result<Store<S>, Fail> {
     let shows = "the function is applied";
-    begun(alloc, conn, BEGINNING, StepPlace { shows, disk: "" })
+    begin_store(alloc, conn, BEGINNING, StepPlace { shows, disk: "" })
 }
 
-// Plays steps over one store.
-fn play_over<S: Alter + Drop, P: Plays>(
+// Plays steps over one store, after those with which it begins.
+fn play_in_one_store<S: Alter + Drop, P: Plays>(
     alloc: Global,
     conn: Connection<S>,
     before: &[JobStep],
     steps: &[P],
     place: StepPlace,
 ) -> Result<Connection<S>, Fail> {
-    let mut store = begun(alloc, conn, before, place)?;
+    let mut store = begin_store(alloc, conn, before, place)?;
     play_all(alloc, &mut store, steps, place)?;
     Ok(store.close())
 }
 
-// Plays a step over a store that is opened for it.
-fn play_anew<S: Alter + Drop, P: Plays>(
+// Opens a store for a step, and plays the step over it.
+fn play_in_opened_store<S: Alter + Drop, P: Plays>(
     alloc: Global,
     conn: Connection<S>,
     step: &P,
     place: StepPlace,
 ) -> Result<Connection<S>, Fail> {
-    let mut store = opened(alloc, conn, place.shows)?;
+    let mut store = open_store(alloc, conn, place.shows)?;
     step.play_at(alloc, &mut store, place)?;
     Ok(store.close())
 }
 
 // Plays steps in memory, each over a store that is opened for it.
-fn play_each<P: Plays>(
+fn play_each_in_memory<P: Plays>(
     alloc: Global,
     before: &[JobStep],
     steps: &[P],
@@ -162,15 +168,15 @@ fn play_each<P: Plays>(
 ) -> Result<Connection<MemStore>, Fail> {
     let disk = "in memory, opened for each";
     let place = StepPlace { shows, disk };
-    let mut conn = begun(alloc, in_memory(alloc)?, before, place)?.close();
+    let mut conn = begin_store(alloc, in_memory(alloc)?, before, place)?.close();
     for step in steps {
-        conn = play_anew(alloc, conn, step, place)?;
+        conn = play_in_opened_store(alloc, conn, step, place)?;
     }
     Ok(conn)
 }
 
 // Plays steps over files, which are closed and opened again before each.
-fn play_closed<P: Plays>(
+fn play_each_on_disks<P: Plays>(
     alloc: Global,
     before: &[JobStep],
     steps: &[P],
@@ -178,16 +184,16 @@ fn play_closed<P: Plays>(
 ) -> Result<Connection<FileStore<Memory>>, Fail> {
     let disk = "on disks that are closed and opened before it";
     let place = StepPlace { shows, disk };
-    let mut conn = begun(alloc, new_files(alloc)?, before, place)?.close();
+    let mut conn = begin_store(alloc, new_files(alloc)?, before, place)?.close();
     for step in steps {
-        conn = play_anew(alloc, reopened(alloc, conn)?, step, place)?;
+        conn = play_in_opened_store(alloc, reopen_files(alloc, conn)?, step, place)?;
     }
     Ok(conn)
 }
 
 /// Files in which the function is applied, closed and reopened before each job.
 pub fn installed_files(alloc: Global) -> Result<Connection<FileStore<Memory>>, Fail> {
-    play_closed(alloc, &[], BEGINNING, "the function is applied")
+    play_each_on_disks(alloc, &[], BEGINNING, "the function is applied")
 }
 
 /// The rows that steps leave, as these queries find them.
@@ -210,7 +216,7 @@ fn check_rows<S: Alter + Drop>(
     shows: &str,
     rows: RowsLeft<'_>,
 ) -> Result<(), Fail> {
-    let got = lines_of(alloc, &mut conn, rows.queries)?;
+    let got = query_lines(alloc, &mut conn, rows.queries)?;
     compare(shows, got.as_bytes(), rows.wanted)
 }
 
@@ -229,29 +235,35 @@ fn play_steps<P: Plays>(
     };
     check_rows(
         alloc,
-        play_over(alloc, in_memory(alloc)?, before, steps, place)?,
+        play_in_one_store(alloc, in_memory(alloc)?, before, steps, place)?,
         shows,
         rows,
     )?;
-    check_rows(alloc, play_each(alloc, before, steps, shows)?, shows, rows)?;
+    check_rows(
+        alloc,
+        play_each_in_memory(alloc, before, steps, shows)?,
+        shows,
+        rows,
+    )?;
     let place = StepPlace {
         shows,
         disk: "on disks",
     };
     check_rows(
         alloc,
-        play_over(alloc, new_files(alloc)?, before, steps, place)?,
+        play_in_one_store(alloc, new_files(alloc)?, before, steps, place)?,
         shows,
         rows,
     )?;
     check_rows(
         alloc,
-        play_closed(alloc, before, steps, shows)?,
+        play_each_on_disks(alloc, before, steps, shows)?,
         shows,
         rows,
     )
 }
 
+// Plays each case over a database in which these steps were played before.
 fn play_after(alloc: Global, before: &[JobStep], cases: &[Case]) -> Result<(), Fail> {
     for case in cases {
         play_steps(alloc, before, case.steps, case.shows, UNSEEN)?;
@@ -265,17 +277,17 @@ pub fn play_cases(alloc: Global, cases: &[Case]) -> Result<(), Fail> {
     play_after(alloc, &[], cases)
 }
 
-/// Plays each case so, over a database in which the function is applied.
+/// Plays each case as `play_cases` does, but over a database in which the function is applied.
 pub fn play_installed(alloc: Global, cases: &[Case]) -> Result<(), Fail> {
     play_after(alloc, BEGINNING, cases)
 }
 
-/// Plays steps so that are made, over a database in which the function is applied.
+/// Plays steps that a test makes, over a database in which the function is applied, in the ways of `play_cases`.
 pub fn play_made<P: Plays>(alloc: Global, steps: &[P], shows: &'static str) -> Result<(), Fail> {
     play_steps(alloc, BEGINNING, steps, shows, UNSEEN)
 }
 
-/// The same with the rows that they must leave.
+/// Plays steps as `play_made` does, and compares the rows that they leave.
 pub fn play_rows<P: Plays>(
     alloc: Global,
     steps: &[P],

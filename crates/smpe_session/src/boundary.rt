@@ -42,7 +42,7 @@ pub struct BoundaryZone<'a> {
 impl Session {
     /// The zone of the boundary, if it is of this kind. Returns `NoBoundary` if there is no boundary, and `WrongKind`
     /// if it is GLOBAL or of another kind.
-    pub fn place(&self, kind: ZoneKind) -> Result<BoundaryZone<'_>, Refusal>
+    pub fn boundary_zone(&self, kind: ZoneKind) -> Result<BoundaryZone<'_>, Refusal>
         ensures named { IfOk result (λ v. self.now.boundary ≡ Some v.name) }
         ensures has { (s : State) → IsSessionOf s self.now → IsInventory (kept s)
             → HasPlace s self.now kind (λ v. v.name) (λ v. v.zone.now) result }

@@ -10,8 +10,9 @@ ghost use Rattle.smpe_session.specs.Uses.{UsesStore};
 use sqlite::Alter;
 use store::{Change, Store, StoreError};
 
-/// The answer, once the change that leads from one state to another is committed. Returns `Memory` if memory runs out,
-/// and `Fault` if the disk fails or the database refuses a row.
+/// Commits the change, and returns this answer to it. The answer passes through the call because the clause `uses` says
+/// which state the tables stand for once it is given. Returns `Memory` if memory runs out, and `Fault` if the disk
+/// fails or the database refuses a row.
 pub(crate) fn commit_change<S: Alter, T: Drop>(
     store: &mut Store<S>,
     change: &Change<'_>,

@@ -29,7 +29,7 @@ impl Session {
     {
         let names = store.zone_names()?;
         for name in names.as_slice() {
-            self.seek_zone(store, *name)?;
+            self.ensure_zone_loaded(store, *name)?;
         }
         Ok(())
     }

@@ -13,11 +13,11 @@ use store::{Store, StoreError};
 use terms::ZoneKind;
 
 impl Session {
-    /// The name of the other zone at which a command for zones of this kind looks, or `None` if there is none. ACCEPT,
-    /// for distribution zones, looks at the target zone whose related zone is that of the boundary, and APPLY, for
-    /// target zones, at none. The call loads the zone. Returns `Memory` if memory runs out, `Fault` if the database
-    /// fails, and `NoState` if the rows of zones stand for none.
-    pub fn seek_related<S: Alter>(
+    /// Loads the other zone at which an install into zones of this kind looks, and returns its name, or `None` if there
+    /// is no such zone. ACCEPT, for distribution zones, looks at the target zone whose related zone is that of the
+    /// boundary, and APPLY, for target zones, at none. The errors are `Memory` if memory runs out, `Fault` if the
+    /// database fails, and `NoState` if the rows of zones stand for none.
+    pub fn load_related_zone<S: Alter>(
         &mut self,
         store: &mut Store<S>,
         kind: ZoneKind,
@@ -35,14 +35,14 @@ impl Session {
         let Some(target) = target_name(heads.as_slice(), name) else {
             return Ok(None);
         };
-        self.seek_zone(store, target)?;
+        self.ensure_zone_loaded(store, target)?;
         Ok(Some(target))
     }
 
-    /// The name of the zone to which that of the boundary is related, or `None` if there is none. The call loads that
-    /// zone. Returns `Memory` if memory runs out, `Fault` if the database fails, and `NoState` if its rows stand for
-    /// none.
-    pub fn seek_accepted<S: Alter>(
+    /// Loads the distribution zone to which the target zone of the boundary is related, and returns its name, or `None`
+    /// if there is no such zone. The errors are `Memory` if memory runs out, `Fault` if the database fails, and
+    /// `NoState` if its rows stand for none.
+    pub fn load_distribution_zone<S: Alter>(
         &mut self,
         store: &mut Store<S>,
     ) -> Result<Option<ZoneName>, StoreError>
@@ -52,7 +52,7 @@ impl Session {
         let Some(accepted) = self.zone_at(self.boundary).and_then(|zone| zone.related()) else {
             return Ok(None);
         };
-        self.seek_zone(store, accepted)?;
+        self.ensure_zone_loaded(store, accepted)?;
         Ok(Some(accepted))
     }
 }

@@ -19,9 +19,10 @@ use store::{Store, StoreError};
 use terms::CommandWord;
 
 impl Session {
-    /// Whether SET may name the zone: it is GLOBAL or it exists. The call loads it, unless the session has it already.
-    /// Returns `Memory` if memory runs out, `Fault` if the database fails, and `NoState` if its rows stand for no zone.
-    pub(crate) fn seek_zone<S: Alter>(
+    /// Loads the zone of this name, unless it is GLOBAL or the session has it already. Returns `false` if there is no
+    /// such zone. The errors are `Memory` if memory runs out, `Fault` if the database fails, and `NoState` if the rows
+    /// of the zone stand for none.
+    pub(crate) fn ensure_zone_loaded<S: Alter>(
         &mut self,
         store: &mut Store<S>,
         name: ZoneName,
@@ -61,7 +62,7 @@ impl Session {
             boundary: Some(name),
             check: false,
         };
-        if !self.seek_zone(store, name)? {
+        if !self.ensure_zone_loaded(store, name)? {
             return Ok(Outcome::Refused {
                 header,
                 refusal: Refusal::NoZone,

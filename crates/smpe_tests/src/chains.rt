@@ -23,29 +23,29 @@ enum Chain {
 }
 
 // The `++VER` of the PTF of this number.
-fn ver(alloc: Global, chain: Chain, k: u32) -> Result<String, Fail> {
-    let (operand, other) = match (chain, k) {
+fn ptf_ver(alloc: Global, chain: Chain, number: u32) -> Result<String, Fail> {
+    let (operand, other) = match (chain, number) {
         (Chain::Back, 1) => return Ok(format!(in alloc; "++VER(Z038) FMID(HAA1100).")?),
-        (Chain::Back, _) => ("PRE", k.saturating_sub(1)),
+        (Chain::Back, _) => ("PRE", number.saturating_sub(1)),
         (Chain::Circle, LEN) => ("REQ", 1),
-        (Chain::Circle, _) => ("REQ", k.saturating_add(1)),
-        (Chain::Open, _) => ("PRE", k.saturating_add(1)),
+        (Chain::Circle, _) => ("REQ", number.saturating_add(1)),
+        (Chain::Open, _) => ("PRE", number.saturating_add(1)),
     };
     Ok(format!(in alloc; "++VER(Z038) FMID(HAA1100) {operand}(UB{other:05}).")?)
 }
 
 // Appends the PTF of this number.
-fn put_ptf(alloc: Global, bytes: &mut Vec<u8>, chain: Chain, k: u32) -> Result<(), Fail> {
-    let ver = ver(alloc, chain, k)?;
-    let cards = format!(in alloc; "++PTF(UB{k:05}).\n{ver}")?;
+fn append_ptf(alloc: Global, bytes: &mut Vec<u8>, chain: Chain, number: u32) -> Result<(), Fail> {
+    let ver = ptf_ver(alloc, chain, number)?;
+    let cards = format!(in alloc; "++PTF(UB{number:05}).\n{ver}")?;
     put_cards(bytes, cards.as_str())
 }
 
 // The PTFs of a chain, from this number on.
-fn ptfin(alloc: Global, chain: Chain, first: u32) -> Result<Vec<u8>, Fail> {
+fn chain_from(alloc: Global, chain: Chain, first: u32) -> Result<Vec<u8>, Fail> {
     let mut bytes = Vec::new(alloc);
-    for k in first..=LEN {
-        put_ptf(alloc, &mut bytes, chain, k)?;
+    for number in first..=LEN {
+        append_ptf(alloc, &mut bytes, chain, number)?;
     }
     Ok(bytes)
 }
@@ -61,28 +61,35 @@ enum Said {
     OpenEnd,
 }
 
-fn said_of(alloc: Global, said: Said, k: u32) -> Result<String, Fail> {
-    let (needed, causer) = match (said, k) {
-        (Said::Received, _) => return Ok(format!(in alloc; "UB{k:05} PTF      RECEIVED\n")?),
-        (Said::Applied, _) => return Ok(format!(in alloc; "UB{k:05} PTF      APPLIED\n")?),
+// The lines of a report about the PTF of this number.
+fn ptf_lines(alloc: Global, said: Said, number: u32) -> Result<String, Fail> {
+    let (needed, causer) = match (said, number) {
+        (Said::Received, _) => return Ok(format!(in alloc; "UB{number:05} PTF      RECEIVED\n")?),
+        (Said::Applied, _) => return Ok(format!(in alloc; "UB{number:05} PTF      APPLIED\n")?),
         (Said::HeldFirst, 1) => {
             let text = "UB00001 PTF      FAILED\n  TEST J2\n  CAUSER UB00001\n";
             return Ok(String::from_str(alloc, text)?);
         }
-        (Said::HeldFirst, _) => (k.saturating_sub(1), 1),
-        (Said::OpenEnd, _) => (k.saturating_add(1), LEN),
+        (Said::HeldFirst, _) => (number.saturating_sub(1), 1),
+        (Said::OpenEnd, _) => (number.saturating_add(1), LEN),
     };
     Ok(format!(in alloc;
-        "UB{k:05} PTF      FAILED\n  NEED PRE UB{needed:05}\n  CAUSER UB{causer:05}\n"
+        "UB{number:05} PTF      FAILED\n  NEED PRE UB{needed:05}\n  CAUSER UB{causer:05}\n"
     )?)
 }
 
 // A report of these first lines, of lines for each PTF from this number on, and of these last lines.
-fn report(alloc: Global, front: &str, said: Said, first: u32, back: &str) -> Result<String, Fail> {
+fn chain_report(
+    alloc: Global,
+    front: &str,
+    said: Said,
+    first: u32,
+    back: &str,
+) -> Result<String, Fail> {
     let mut text = String::new(alloc);
     text.push_str(front)?;
-    for k in first..=LEN {
-        text.push_str(said_of(alloc, said, k)?.as_str())?;
+    for number in first..=LEN {
+        text.push_str(ptf_lines(alloc, said, number)?.as_str())?;
     }
     text.push_str(back)?;
     Ok(text)
@@ -141,18 +148,18 @@ const RECEIVED: &str = "SET GLOBAL\nRC 00\nRECEIVE GLOBAL\n";
 
 // Receives a chain over a store in which the function is applied.
 fn receive_chain<S: Alter>(alloc: Global, store: &mut Store<S>, links: Links) -> Result<(), Fail> {
-    let ptfs = ptfin(alloc, links.chain, 1)?;
+    let ptfs = chain_from(alloc, links.chain, 1)?;
     let hold = card_file(alloc, links.hold)?;
-    let wanted = report(alloc, RECEIVED, Said::Received, 1, links.held)?;
+    let wanted = chain_report(alloc, RECEIVED, Said::Received, 1, links.held)?;
     let (name, cntl) = (links.shows, "SET BDY(GLOBAL).\nRECEIVE.");
     let (ptfs, hold, wanted) = (ptfs.as_slice(), hold.as_slice(), wanted.as_str());
     run_job(alloc, store, name, cntl, ptfs, hold, wanted)
 }
 
-// Applies it.
+// Applies the chain, over the store in which it was received.
 fn apply_chain<S: Alter>(alloc: Global, store: &mut Store<S>, links: Links) -> Result<(), Fail> {
     let front = "SET TGT1\nRC 00\nAPPLY TGT1\n";
-    let wanted = report(alloc, front, links.said, 1, links.code)?;
+    let wanted = chain_report(alloc, front, links.said, 1, links.code)?;
     let (name, cntl, wanted) = (links.shows, links.apply, wanted.as_str());
     run_job(alloc, store, name, cntl, b"", b"", wanted)
 }
@@ -198,14 +205,14 @@ const CLOSING: JobStep = JobStep {
 /// All but the first PTF of a chain come in, and then the first, which would close a loop.
 #[derive(Clone, Copy)]
 enum LoopJob {
-    Most,
+    AllButFirst,
     First,
 }
 
 // Receives all but the first PTF of a chain.
-fn receive_most<S: Alter>(alloc: Global, store: &mut Store<S>) -> Result<(), Fail> {
-    let ptfs = ptfin(alloc, Chain::Back, 2)?;
-    let wanted = report(alloc, RECEIVED, Said::Received, 2, "RC 00\n")?;
+fn receive_all_but_first<S: Alter>(alloc: Global, store: &mut Store<S>) -> Result<(), Fail> {
+    let ptfs = chain_from(alloc, Chain::Back, 2)?;
+    let wanted = chain_report(alloc, RECEIVED, Said::Received, 2, "RC 00\n")?;
     let (ptfs, wanted) = (ptfs.as_slice(), wanted.as_str());
     run_job(alloc, store, "the chain", RECEIVE, ptfs, b"", wanted)
 }
@@ -218,7 +225,7 @@ impl Plays for LoopJob {
         place: StepPlace,
     ) -> Result<(), Fail> {
         match self {
-            LoopJob::Most => receive_most(alloc, store),
+            LoopJob::AllButFirst => receive_all_but_first(alloc, store),
             LoopJob::First => CLOSING.play_at(alloc, store, place),
         }
     }
@@ -226,6 +233,6 @@ impl Plays for LoopJob {
 
 #[test]
 fn a_chain_of_thousands_is_not_closed(rt: HostRuntime) -> Result<(), Fail> {
-    let jobs = [LoopJob::Most, LoopJob::First];
+    let jobs = [LoopJob::AllButFirst, LoopJob::First];
     play_made(rt.alloc(), &jobs, "a chain that would close")
 }

@@ -11,17 +11,17 @@ use std::test::Fail;
 use store::Store;
 
 // Appends so many ids, a card each.
-fn put_ids(alloc: Global, bytes: &mut Vec<u8>, count: u32) -> Result<(), Fail> {
-    for k in 1..=count {
-        put_cards(bytes, format!(in alloc; "UB{k:05}")?.as_str())?;
+fn append_ids(alloc: Global, bytes: &mut Vec<u8>, count: u32) -> Result<(), Fail> {
+    for number in 1..=count {
+        put_cards(bytes, format!(in alloc; "UB{number:05}")?.as_str())?;
     }
     Ok(())
 }
 
 // A PTF whose `++VER` is good except for its PRE of 1,001 ids.
-fn long_list(alloc: Global) -> Result<Vec<u8>, Fail> {
+fn ptf_with_long_list(alloc: Global) -> Result<Vec<u8>, Fail> {
     let mut bytes = card_file(alloc, "++PTF(UA00001).\n++VER(Z038) FMID(HAA1100) PRE(")?;
-    put_ids(alloc, &mut bytes, 1_001)?;
+    append_ids(alloc, &mut bytes, 1_001)?;
     put_cards(&mut bytes, ").")?;
     Ok(bytes)
 }
@@ -37,7 +37,7 @@ impl Plays for LongList {
         store: &mut Store<S>,
         _place: StepPlace,
     ) -> Result<(), Fail> {
-        let ptfin = long_list(alloc)?;
+        let ptfin = ptf_with_long_list(alloc)?;
         let wanted = "SET GLOBAL\nRC 00\nRECEIVE GLOBAL\nREFUSED Cm4 RECORD 2 Mc6\nRC 12\n";
         let (name, ptfin) = ("a list of 1,001 ids", ptfin.as_slice());
         run_job(alloc, store, name, RECEIVE, ptfin, b"", wanted)
@@ -50,53 +50,55 @@ fn a_list_of_too_many_ids_is_refused(rt: HostRuntime) -> Result<(), Fail> {
 }
 
 // Appends a data element and its record.
-fn put_element(alloc: Global, bytes: &mut Vec<u8>, k: u32) -> Result<(), Fail> {
+fn append_element(alloc: Global, bytes: &mut Vec<u8>, number: u32) -> Result<(), Fail> {
     let cards = format!(in alloc;
-        "++DATA(N{k:05}) DISTLIB(ADATA) SYSLIB(DATA).\nRECORD OF N{k:05}"
+        "++DATA(N{number:05}) DISTLIB(ADATA) SYSLIB(DATA).\nRECORD OF N{number:05}"
     )?;
     put_cards(bytes, cards.as_str())
 }
 
 // Appends a PTF for the function.
-fn put_ptf(alloc: Global, bytes: &mut Vec<u8>, k: u32) -> Result<(), Fail> {
-    let cards = format!(in alloc; "++PTF(UC{k:05}).\n++VER(Z038) FMID(HBB1100).")?;
+fn append_ptf(alloc: Global, bytes: &mut Vec<u8>, number: u32) -> Result<(), Fail> {
+    let cards = format!(in alloc; "++PTF(UC{number:05}).\n++VER(Z038) FMID(HBB1100).")?;
     put_cards(bytes, cards.as_str())
 }
 
 // A function with 999 data elements, and 998 PTFs for it.
-fn many(alloc: Global) -> Result<Vec<u8>, Fail> {
+fn many_sysmods(alloc: Global) -> Result<Vec<u8>, Fail> {
     let mut bytes = card_file(alloc, "++FUNCTION(HBB1100).\n++VER(Z038).")?;
-    for k in 1..=999u32 {
-        put_element(alloc, &mut bytes, k)?;
+    for number in 1..=999u32 {
+        append_element(alloc, &mut bytes, number)?;
     }
-    for k in 1..=998u32 {
-        put_ptf(alloc, &mut bytes, k)?;
+    for number in 1..=998u32 {
+        append_ptf(alloc, &mut bytes, number)?;
     }
     Ok(bytes)
 }
 
 // A report of these first lines, and what is said about each PTF.
-fn said(alloc: Global, front: &str, word: &str) -> Result<String, Fail> {
+fn many_report(alloc: Global, front: &str, word: &str) -> Result<String, Fail> {
     let mut text = String::new(alloc);
     text.push_str(front)?;
-    for k in 1..=998u32 {
-        text.push_str(format!(in alloc; "UC{k:05} PTF      {word}\n")?.as_str())?;
+    for number in 1..=998u32 {
+        text.push_str(format!(in alloc; "UC{number:05} PTF      {word}\n")?.as_str())?;
     }
     text.push_str("RC 00\n")?;
     Ok(text)
 }
 
+// Receives the function and its PTFs.
 fn receive_many<S: Alter>(alloc: Global, store: &mut Store<S>) -> Result<(), Fail> {
-    let ptfin = many(alloc)?;
+    let ptfin = many_sysmods(alloc)?;
     let front = "SET GLOBAL\nRC 00\nRECEIVE GLOBAL\nHBB1100 FUNCTION RECEIVED\n";
-    let wanted = said(alloc, front, "RECEIVED")?;
+    let wanted = many_report(alloc, front, "RECEIVED")?;
     let (ptfin, wanted) = (ptfin.as_slice(), wanted.as_str());
     run_job(alloc, store, "all come in", RECEIVE, ptfin, b"", wanted)
 }
 
+// Applies the function and its PTFs.
 fn apply_many<S: Alter>(alloc: Global, store: &mut Store<S>) -> Result<(), Fail> {
     let front = "SET TGT1\nRC 00\nAPPLY TGT1\nHBB1100 FUNCTION APPLIED\n";
-    let wanted = said(alloc, front, "APPLIED")?;
+    let wanted = many_report(alloc, front, "APPLIED")?;
     let cntl = "SET BDY(TGT1).\nAPPLY FUNCTIONS PTFS.";
     let (name, wanted) = ("all are applied", wanted.as_str());
     run_job(alloc, store, name, cntl, b"", b"", wanted)
@@ -111,15 +113,15 @@ const ROWS: [&str; 2] = [
 ];
 
 // The rows of a zone with so many of the PTFs.
-fn rows_of(alloc: Global, ptfs: u32) -> Result<String, Fail> {
+fn zone_rows(alloc: Global, ptfs: u32) -> Result<String, Fail> {
     let mut text = String::new(alloc);
     text.push_str("TGT1/HAA1100/24.138//-/\nTGT1/HBB1100/24.138//-/\n")?;
-    for k in 1..=ptfs {
-        text.push_str(format!(in alloc; "TGT1/UC{k:05}/24.138//-/\n")?.as_str())?;
+    for number in 1..=ptfs {
+        text.push_str(format!(in alloc; "TGT1/UC{number:05}/24.138//-/\n")?.as_str())?;
     }
     text.push_str("--\n")?;
-    for k in 1..=999u32 {
-        let line = format!(in alloc; "TGT1/DATA/N{k:05}/HBB1100/HBB1100//ADATA/DATA/80\n")?;
+    for number in 1..=999u32 {
+        let line = format!(in alloc; "TGT1/DATA/N{number:05}/HBB1100/HBB1100//ADATA/DATA/80\n")?;
         text.push_str(line.as_str())?;
     }
     text.push_str("TGT1/MAC/M1/HAA1100/HAA1100//AMACLIB/MACLIB/160\n--\n")?;
@@ -171,7 +173,7 @@ fn one_ptf_among_a_thousand_is_added_alone(rt: HostRuntime) -> Result<(), Fail> 
         ZoneJob::Step(&ONE_RECEIVED),
         ZoneJob::Step(&ONE_INSTALLED),
     ];
-    let rows = rows_of(rt.alloc(), 999)?;
+    let rows = zone_rows(rt.alloc(), 999)?;
     let (queries, wanted) = (ROWS.as_slice(), rows.as_str());
     let shows = "one PTF more in a zone of 1,000 entries and 1,000 elements";
     play_rows(rt.alloc(), &jobs, shows, RowsLeft { queries, wanted })

@@ -26,7 +26,8 @@ use Rattle.smpe_verify.specs.declared.breach.ElementFault.TheVariants.{NotUpdate
 use Rattle.smpe_verify.specs.declared.breach.Breach.{Breach}
 use Rattle.smpe_verify.specs.declared.breach.Breach.TheVariants.{OfEntry, OfElement}
 use Rattle.smpe_verify.specs.FirstBreach.{not_applied, not_supplied, applied_in, deleted_in, support_fault}
-use Rattle.smpe_verify.specs.FirstBreach.{peace_fault, applied_fault, entry_fault, other_owner_fault, level_fault}
+use Rattle.smpe_verify.specs.FirstBreach.{npre_or_chain_fault, applied_fault, entry_fault, other_owner_fault}
+use Rattle.smpe_verify.specs.FirstBreach.{level_fault}
 use Rattle.smpe_verify.specs.FirstBreach.{change_fault, owner_fault, element_fault, entry_breach, element_breach}
 use Rattle.smpe_verify.specs.FirstBreach.{first_breach, first_of, none_or}
 use Rattle.smpe_verify.specs.Breaks.{EntryBreaks, ElementBreaks, Breaks, ids_at}
@@ -77,13 +78,13 @@ module _ (g : Global) (c : Choice) (zone : Zone) where
     chain_judged = mapped (deleted_in zone (chain g c x)) DeletedInChain (λ y it. (applied, it.1, it.0))
         (searched (λ y. is_some (delby_of zone y)) (chain g c x))
 
-    at_peace : Judges (peace_fault g c zone x) (IsAtPeace g c zone x) (EntryBreaks g c zone x)
+    at_peace : Judges (npre_or_chain_fault g c zone x) (IsAtPeace g c zone x) (EntryBreaks g c zone x)
     at_peace =
         let all = either _ _ (npre_for (is_function g x) refl) (either _ _ chain_judged nothing) in
         restated all (λ have. record { npre = have.0; chain = have.1.0 }) (λ is. (is.npre, (is.chain, tt)))
 
     own : Judges (applied_fault g c zone x) (IsSupported c zone x × IsAtPeace g c zone x) (EntryBreaks g c zone x)
-    own = either (support_fault c zone x) (peace_fault g c zone x) supported at_peace
+    own = either (support_fault c zone x) (npre_or_chain_fault g c zone x) supported at_peace
 
   -- ---- an entry
 

@@ -58,15 +58,15 @@ support_fault c zone x = first (
     ∷ [])
 
 -- IsAtPeace
-abbrev pub peace_fault : Global → Choice → Zone → Id → Option EntryFault
-peace_fault g c zone x = first (
+abbrev pub npre_or_chain_fault : Global → Choice → Zone → Id → Option EntryFault
+npre_or_chain_fault g c zone x = first (
     option_map NpreApplied (if is_function g x then applied_in zone (npre_of c x) else None)
     ∷ option_map DeletedInChain (deleted_in zone (chain g c x))
     ∷ [])
 
 -- the first fault of an applied SYSMOD
 abbrev pub applied_fault : Global → Choice → Zone → Id → Option EntryFault
-applied_fault g c zone x = option_or (support_fault c zone x) (peace_fault g c zone x)
+applied_fault g c zone x = option_or (support_fault c zone x) (npre_or_chain_fault g c zone x)
 
 -- the first fault of an entry
 abbrev pub entry_fault : Global → Choice → Zone → Entry → Option EntryFault

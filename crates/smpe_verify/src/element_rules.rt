@@ -107,11 +107,11 @@ fn first_not_updating(
 {
     ids.iter()
         .copied()
-        .find(|id| !updates(global, *id, elem_type, name))
+        .find(|id| !has_update(global, *id, elem_type, name))
 }
 
 // Whether the SYSMOD updates the element.
-fn updates(global: &GlobalZone, id: Id, elem_type: ElemType, name: Name) -> bool
+fn has_update(global: &GlobalZone, id: Id, elem_type: ElemType, name: Name) -> bool
     ensures { result ≡ has_update global.now id elem_type name }
 {
     match global.change_of(id, elem_type, name) {

@@ -5,7 +5,7 @@ ghost use Rattle.terms.specs.Choice.{npre_of};
 ghost use Rattle.terms.specs.Over.{chain};
 ghost use Rattle.sysmods.specs.Choices.{choice};
 ghost use Rattle.smpe_verify.specs.FirstBreach.{not_applied, not_supplied, applied_in, deleted_in};
-ghost use Rattle.smpe_verify.specs.FirstBreach.{support_fault, peace_fault, applied_fault, entry_fault};
+ghost use Rattle.smpe_verify.specs.FirstBreach.{support_fault, npre_or_chain_fault, applied_fault, entry_fault};
 
 use crate::breach::EntryFault;
 use fields::Id;
@@ -46,8 +46,8 @@ fn fault_if_applied(
     applied_fault(alloc, vers, zone, entry.id)
 }
 
-// The fault of the first rule that the applied SYSMOD breaks, or `None`: first the rules by what it needs, then those
-// by what may not be so.
+// The fault of the first rule that the applied SYSMOD breaks, or `None`. The rules about what it needs come first, and
+// then those about what must not be: an id in its NPRE that is applied, and a deleted id in its chain.
 fn applied_fault(
     alloc: Global,
     vers: &VerChoice<'_>,
@@ -62,8 +62,8 @@ fn applied_fault(
     Ok(npre_or_chain_fault(vers, zone, id))
 }
 
-// The fault of the first thing that the applied SYSMOD needs and lacks: its `++VER`, its FMID, a requisite. `None` if
-// it lacks nothing.
+// The fault of the first thing that the applied SYSMOD needs and that is missing: its `++VER`, its FMID or a requisite.
+// `None` if nothing is missing.
 fn support_fault(
     alloc: Global,
     vers: &VerChoice<'_>,
@@ -83,10 +83,10 @@ fn support_fault(
     Ok(missing.map(|id| EntryFault::RequisiteNotSupplied(id)))
 }
 
-// The fault if the applied SYSMOD is a function and an id in its NPRE is applied, or else if its chain has a deleted
-// id; `None` if neither is so.
+// The fault of the applied SYSMOD if it is a function and an id in its NPRE is applied, or else if its chain has a
+// deleted id. `None` if neither is so.
 fn npre_or_chain_fault(vers: &VerChoice<'_>, zone: &Zone, id: Id) -> Option<EntryFault>
-    ensures { result ≡ peace_fault vers.now.global.now (choice vers.now) zone.now id }
+    ensures { result ≡ npre_or_chain_fault vers.now.global.now (choice vers.now) zone.now id }
 {
     if let Some(npre) = applied_npre(vers, zone, id) {
         return Some(EntryFault::NpreApplied(npre));

@@ -5,8 +5,9 @@ ghost use Rattle.machine.specs.Report.{words_line};
 
 use std::alloc::AllocError;
 
-/// Appends the bytes to the text. Like the calls below, returns an error if memory runs out.
-pub(crate) fn put(piece: &[u8], text: &mut Vec<u8>) -> Result<(), AllocError>
+/// Appends the bytes to the text: `extend_from_slice` with a contract about calls without an error alone, which is all
+/// that the calls below need. Like these, returns an error if memory runs out.
+pub(crate) fn append(piece: &[u8], text: &mut Vec<u8>) -> Result<(), AllocError>
     ensures { OnOk result (text.new.items ≡ text.old.items ++ piece.now) }
 {
     text.extend_from_slice(piece)?;
@@ -14,26 +15,26 @@ pub(crate) fn put(piece: &[u8], text: &mut Vec<u8>) -> Result<(), AllocError>
 }
 
 /// Appends the words to the text, with one blank between each two.
-pub(crate) fn put_joined(words: &[&[u8]], text: &mut Vec<u8>) -> Result<(), AllocError>
+pub(crate) fn append_joined(words: &[&[u8]], text: &mut Vec<u8>) -> Result<(), AllocError>
     ensures { OnOk result
         (text.new.items ≡ text.old.items ++ join_with_byte 32 (map (λ word. word.now) words.now)) }
 {
     let Some((first, rest)) = words.split_first() else {
         return Ok(());
     };
-    put(first, text)?;
+    append(first, text)?;
     for word in rest {
         text.push(b' ')?;
-        put(word, text)?;
+        append(word, text)?;
     }
     Ok(())
 }
 
 /// Appends the words to the text, with one blank between each two and the end of a line after them.
-pub(crate) fn put_line(words: &[&[u8]], text: &mut Vec<u8>) -> Result<(), AllocError>
+pub(crate) fn append_line(words: &[&[u8]], text: &mut Vec<u8>) -> Result<(), AllocError>
     ensures { OnOk result
         (text.new.items ≡ text.old.items ++ words_line (map (λ word. word.now) words.now)) }
 {
-    put_joined(words, text)?;
-    put(b"\n", text)
+    append_joined(words, text)?;
+    append(b"\n", text)
 }

@@ -4,7 +4,7 @@ ghost use Rattle.smpe_verify.specs.Telling.{IsTold, counts_text, breach_text, en
 ghost use Rattle.smpe_verify.specs.Telling.{level_text};
 
 use crate::breach::{Breach, ElementFault, EntryFault, Level};
-use crate::joined::{put, put_joined, put_line};
+use crate::joined::{append, append_joined, append_line};
 use crate::verification::{Counts, Verification};
 use fields::ZoneName;
 use fields::spelling::type_text;
@@ -32,11 +32,11 @@ pub fn describe_verification(
     let mut text = Vec::new(alloc);
     match verification {
         Verification::Closed(counts) => {
-            put_counts(counts, &mut text)?;
+            append_counts(counts, &mut text)?;
             Ok(Verified { text, status: 0 })
         }
         Verification::Broken(zone, breach) => {
-            put_breach(zone, breach, &mut text)?;
+            append_breach(zone, breach, &mut text)?;
             Ok(Verified {
                 text,
                 status: BROKEN_STATUS,
@@ -46,14 +46,14 @@ pub fn describe_verification(
 }
 
 // Appends the line of a store whose zones are all closed.
-fn put_counts(counts: Counts, text: &mut Vec<u8>) -> Result<(), AllocError>
+fn append_counts(counts: Counts, text: &mut Vec<u8>) -> Result<(), AllocError>
     ensures { OnOk result (text.new.items ≡ text.old.items ++ counts_text counts) }
 {
     let mut sysmods = Buffer::new();
     let mut zones = Buffer::new();
     let mut entries = Buffer::new();
     let mut elements = Buffer::new();
-    put_line(
+    append_line(
         &[
             b"VERIFIED",
             b"SYSMODS",
@@ -70,17 +70,17 @@ fn put_counts(counts: Counts, text: &mut Vec<u8>) -> Result<(), AllocError>
 }
 
 // Appends the line of the zone and the breach: the entry or the element, and after a colon the rule.
-fn put_breach(zone: ZoneName, breach: Breach, text: &mut Vec<u8>) -> Result<(), AllocError>
+fn append_breach(zone: ZoneName, breach: Breach, text: &mut Vec<u8>) -> Result<(), AllocError>
     ensures { OnOk result (text.new.items ≡ text.old.items ++ breach_text zone breach) }
 {
     match breach {
         Breach::OfEntry(id, fault) => {
-            put_joined(&[b"ZONE", zone.as_bytes(), id.as_bytes()], text)?;
-            put(b": ", text)?;
-            put_entry_fault(fault, text)
+            append_joined(&[b"ZONE", zone.as_bytes(), id.as_bytes()], text)?;
+            append(b": ", text)?;
+            append_entry_fault(fault, text)
         }
         Breach::OfElement(elem_type, name, fault) => {
-            put_joined(
+            append_joined(
                 &[
                     b"ZONE",
                     zone.as_bytes(),
@@ -89,26 +89,26 @@ fn put_breach(zone: ZoneName, breach: Breach, text: &mut Vec<u8>) -> Result<(), 
                 ],
                 text,
             )?;
-            put(b": ", text)?;
-            put_element_fault(fault, text)
+            append(b": ", text)?;
+            append_element_fault(fault, text)
         }
     }
 }
 
 // Appends the rest of the line: the rule that an entry breaks.
-fn put_entry_fault(fault: EntryFault, text: &mut Vec<u8>) -> Result<(), AllocError>
+fn append_entry_fault(fault: EntryFault, text: &mut Vec<u8>) -> Result<(), AllocError>
     ensures { OnOk result (text.new.items ≡ text.old.items ++ entry_fault_text fault) }
 {
     match fault {
-        EntryFault::VerNotReceived => put_line(
+        EntryFault::VerNotReceived => append_line(
             &[b"the VER by which it was applied is not received"],
             text,
         ),
-        EntryFault::FmidNotApplied(id) => put_line(
+        EntryFault::FmidNotApplied(id) => append_line(
             &[b"FMID", id.as_bytes(), b"is not applied"],
             text,
         ),
-        EntryFault::RequisiteNotSupplied(id) => put_line(
+        EntryFault::RequisiteNotSupplied(id) => append_line(
             &[
                 b"REQUISITE",
                 id.as_bytes(),
@@ -116,11 +116,11 @@ fn put_entry_fault(fault: EntryFault, text: &mut Vec<u8>) -> Result<(), AllocErr
             ],
             text,
         ),
-        EntryFault::NpreApplied(id) => put_line(&[b"NPRE", id.as_bytes(), b"is applied"], text),
+        EntryFault::NpreApplied(id) => append_line(&[b"NPRE", id.as_bytes(), b"is applied"], text),
         EntryFault::DeletedInChain(id) => {
-            put_line(&[id.as_bytes(), b"in its chain is deleted"], text)
+            append_line(&[id.as_bytes(), b"in its chain is deleted"], text)
         }
-        EntryFault::SupbyNotApplied(id) => put_line(
+        EntryFault::SupbyNotApplied(id) => append_line(
             &[b"SUPBY", id.as_bytes(), b"is not applied"],
             text,
         ),
@@ -128,20 +128,20 @@ fn put_entry_fault(fault: EntryFault, text: &mut Vec<u8>) -> Result<(), AllocErr
 }
 
 // Appends the rest of the line: the rule that an element breaks.
-fn put_element_fault(fault: ElementFault, text: &mut Vec<u8>) -> Result<(), AllocError>
+fn append_element_fault(fault: ElementFault, text: &mut Vec<u8>) -> Result<(), AllocError>
     ensures { OnOk result (text.new.items ≡ text.old.items ++ element_fault_text fault) }
 {
     match fault {
         ElementFault::LevelNotApplied(level, id) => {
-            put_line(&[level_text(level), id.as_bytes(), b"is not applied"], text)
+            append_line(&[level_text(level), id.as_bytes(), b"is not applied"], text)
         }
         ElementFault::NotReplacedBy(id) => {
-            put_line(&[b"RMID", id.as_bytes(), b"does not replace it"], text)
+            append_line(&[b"RMID", id.as_bytes(), b"does not replace it"], text)
         }
         ElementFault::NotUpdatedBy(id) => {
-            put_line(&[b"UMID", id.as_bytes(), b"does not update it"], text)
+            append_line(&[b"UMID", id.as_bytes(), b"does not update it"], text)
         }
-        ElementFault::OtherOwner(level, id, owner) => put_line(
+        ElementFault::OtherOwner(level, id, owner) => append_line(
             &[
                 level_text(level),
                 id.as_bytes(),

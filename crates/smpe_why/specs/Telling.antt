@@ -32,12 +32,12 @@ target_at heads name Target = None
 target_at heads name Distribution =
     option_map (λ h. h.name) (find (λ h. option_map_or (bytes_eq name) h.related false) heads)
 
-abbrev pub target_for : List ZoneHead → Text → Option Zone → Option Text
-target_for heads name zone = option_and_then (λ z. target_at heads name z.kind) zone
+abbrev pub related_target_name : List ZoneHead → Text → Option Zone → Option Text
+related_target_name heads name zone = option_and_then (λ z. target_at heads name z.kind) zone
 
 -- that zone
 abbrev pub related_in : Inventory → Text → Option Zone
-related_in i name = option_and_then (zone_in i) (target_for (map head_of i.zones) name (zone_in i name))
+related_in i name = option_and_then (zone_in i) (related_target_name (map head_of i.zones) name (zone_in i name))
 
 -- the global zone, the zone of this name, if there is one, and the other zone at which an install into it looks
 pub record IsFoundIn (name : Text) (i : Inventory) (found : LoadedZones) : Type 0 where

@@ -18,7 +18,7 @@ const RECORD_COLUMNS: usize = 80;
 const TEXT_COLUMNS: usize = 72;
 
 // Whether the byte stands between words, so that the text may go on in the next record after it.
-fn is_blank(byte: u8) -> bool
+fn separates_words(byte: u8) -> bool
     ensures { result ≡ is_blank byte }
 {
     byte == b' ' || byte == b','
@@ -35,16 +35,16 @@ fn fill_record(column: usize, file: &mut Vec<u8>) -> Result<(), AllocError>
     Ok(())
 }
 
-// Writes the byte after `column` columns of a record, and ends the record after a blank or a comma. Returns how many
-// columns of the record are written then.
-fn put_byte(byte: u8, column: usize, file: &mut Vec<u8>) -> Result<usize, AllocError>
+// Appends the byte after `column` columns of a record, and ends the record after a blank or a comma. Returns how many
+// columns of the current record are written then: 0 if it was ended.
+fn append_byte(byte: u8, column: usize, file: &mut Vec<u8>) -> Result<usize, AllocError>
     requires { column < TEXT_COLUMNS }
     ensures column { IfOk result (λ next. next ≡ (if is_blank byte then 0 else column + 1)) }
     ensures file { OnOk result (file.new.items
         ≡ file.old.items ++ byte ∷ (if is_blank byte then replicate (80 - (column + 1)) 32 else [])) }
 {
     file.push(byte)?;
-    if is_blank(byte) {
+    if separates_words(byte) {
         fill_record(column + 1, file)?;
         return Ok(0);
     }
@@ -64,7 +64,7 @@ fn cards_of_text(alloc: Global, text: &[u8]) -> Result<Option<Vec<u8>>, AllocErr
         if column >= TEXT_COLUMNS {
             return Ok(None);
         }
-        column = put_byte(*byte, column, &mut file)?;
+        column = append_byte(*byte, column, &mut file)?;
     }
     fill_record(column, &mut file)?;
     Ok(Some(file))

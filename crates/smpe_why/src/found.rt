@@ -1,7 +1,7 @@
 //! What is loaded to answer a question about ids in a zone.
 ghost use Rattle.std.specs.Prelude.{◌≡◌};
 ghost use Rattle.store.specs.Loads.{Loads};
-ghost use Rattle.smpe_why.specs.Telling.{IsFoundIn, target_for};
+ghost use Rattle.smpe_why.specs.Telling.{IsFoundIn, related_target_name};
 
 use fields::ZoneName;
 use smpe_zones::target_name;
@@ -29,7 +29,7 @@ pub fn load_zones<S: Alter>(store: &mut Store<S>, name: ZoneName) -> Result<Load
     let global = store.load_global()?;
     let zone = store.load_zone(name)?;
     let heads = store.zone_heads()?;
-    let Some(target) = target_for(heads.as_slice(), name, &zone) else {
+    let Some(target) = related_target_name(heads.as_slice(), name, &zone) else {
         return Ok(LoadedZones {
             global,
             zone,
@@ -44,10 +44,10 @@ pub fn load_zones<S: Alter>(store: &mut Store<S>, name: ZoneName) -> Result<Load
     })
 }
 
-// The name of the other zone at which an install into this zone looks: for a distribution zone the first zone that
+// The name of the target zone at which an install into this zone looks: for a distribution zone, the first zone that
 // names it as its related zone, if there is one. `None` for a target zone, and if the zone does not exist.
-fn target_for(heads: &[ZoneHead], name: ZoneName, zone: &Option<Zone>) -> Option<ZoneName>
-    ensures { result ≡ target_for heads.now name zone.now }
+fn related_target_name(heads: &[ZoneHead], name: ZoneName, zone: &Option<Zone>) -> Option<ZoneName>
+    ensures { result ≡ related_target_name heads.now name zone.now }
 {
     match zone {
         Some(zone) => match zone.kind() {

@@ -24,6 +24,9 @@ use smpe_service::{InstallChange, apply};
 use std::alloc::{AllocError, Global};
 use zones::{Candidates, Scope, Zone, choose, deletions};
 
+// The status of a program that was asked about an unknown zone.
+const REFUSED_STATUS: u8 = 12;
+
 /// The lines of the answer, and the program's status.
 #[derive(Drop)]
 pub struct Told {
@@ -260,11 +263,15 @@ fn selection_of_ids(alloc: Global, ids: &[Id], groupextend: bool) -> Result<Sele
     })
 }
 
-// The refusal that SET prints if no zone has the name, with its status.
+// The refusal that SET prints if no zone has the name, with its status. `report` writes this line only to a sink, so
+// its code is spelled here too; the clause says that they are the same.
 fn refuse_unknown_zone(alloc: Global) -> Result<Told, AllocError>
     ensures { IfOk result (λ answer. (answer.text.items ≡ refused_text NoZone) × (answer.status ≡ 12)) }
 {
     let mut text = Vec::new(alloc);
     append_words(b"REFUSED", &[LineWord::Text(b"Cm2")], &mut text)?;
-    Ok(Told { text, status: 12 })
+    Ok(Told {
+        text,
+        status: REFUSED_STATUS,
+    })
 }

@@ -10,7 +10,7 @@ use Rattle.store_zones.specs.Found.{head_of}
 use Rattle.smpe_zones.specs.declared.error.ZoneFault.{ZoneFault}
 use Rattle.smpe_zones.specs.declared.error.ZoneFault.TheVariants.{NameTaken, WrongRelated, OtherSrel, TooMany}
 use Rattle.smpe_zones.specs.Definitions.{fault_of}
-use Rattle.smpe_zones.specs.Heads.{first_fault, is_taken, has_right_related, has_same_srel}
+use Rattle.smpe_zones.specs.Heads.{first_fault, is_name_taken, has_right_related, has_same_srel}
 use Rattle.smpe_zones.proofs.Lookups.{is_named, right_related, same_srel, as_many}
 
 -- the state with the zone, or the fault
@@ -46,7 +46,7 @@ defines s d =
     (state.has_right_related s.zones d.kind d.related) (state.has_same_srel s.zones d.srel d.related)
     (nat_le 64 (length s.zones)) (with_zone s d.name (a_zone d.kind d.srel d.related [] []))
     ∙ ap (answer (with_zone s d.name (a_zone d.kind d.srel d.related [] [])))
-    (sym (same_tests (is_taken (map head_of s.zones) d.name)
+    (sym (same_tests (is_name_taken (map head_of s.zones) d.name)
     (bytes_eq d.name global_name || is_some (zone_named s.zones d.name))
     (has_right_related (map head_of s.zones) d.kind d.related) (state.has_right_related s.zones d.kind d.related)
     (has_same_srel (map head_of s.zones) d.srel d.related) (state.has_same_srel s.zones d.srel d.related)

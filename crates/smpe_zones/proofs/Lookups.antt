@@ -12,18 +12,18 @@ use Rattle.machine.specs.State as state
 use Rattle.machine.specs.State.{zone_named}
 use Rattle.store_zones.specs.declared.head.ZoneHead.{ZoneHead}
 use Rattle.store_zones.specs.Found.{head_of}
-use Rattle.smpe_zones.specs.Heads.{named, names_it, is_free, has_right_related, has_same_srel}
+use Rattle.smpe_zones.specs.Heads.{head_named, is_related_to, is_free_distribution, has_right_related, has_same_srel}
 
 abbrev found : List NamedZone → Text → Option NamedZone
 found zones name = find (λ z. bytes_eq z.name name) zones
 
-named_head : (zones : List NamedZone) (name : Text) → named (map head_of zones) name ≡ option_map head_of
+named_head : (zones : List NamedZone) (name : Text) → head_named (map head_of zones) name ≡ option_map head_of
     (found zones name)
 named_head [] name = refl
 named_head (z ∷ zs) name = by (bytes_eq z.name name) (named_head zs name)
   where
-    by : (b : Bool) → named (map head_of zs) name ≡ option_map head_of (found zs name)
-        → (if b then Some (head_of z) else named (map head_of zs) name) ≡ option_map head_of
+    by : (b : Bool) → head_named (map head_of zs) name ≡ option_map head_of (found zs name)
+        → (if b then Some (head_of z) else head_named (map head_of zs) name) ≡ option_map head_of
         (if b then Some z else found zs name)
     by true later = refl
     by false later = later
@@ -33,7 +33,7 @@ some_named : (o : Option NamedZone) → is_some (option_map head_of o) ≡ is_so
 some_named None = refl
 some_named (Some z) = refl
 
-pub is_named : (zones : List NamedZone) (name : Text) → is_some (named (map head_of zones) name) ≡ is_some
+pub is_named : (zones : List NamedZone) (name : Text) → is_some (head_named (map head_of zones) name) ≡ is_some
     (zone_named zones name)
 is_named zones name = ap is_some (named_head zones name) ∙ some_named (found zones name)
 
@@ -46,18 +46,19 @@ of_found f h same (Some z) = same z
 
 of_named : (f : ZoneHead → Bool) (h : Zone → Bool) → ((z : NamedZone) → f (head_of z) ≡ h z.zone)
     → (zones : List NamedZone) (name : Text)
-    → option_map_or f (named (map head_of zones) name) false ≡ option_map_or h (zone_named zones name) false
+    → option_map_or f (head_named (map head_of zones) name) false ≡ option_map_or h (zone_named zones name) false
 of_named f h same zones name = ap (λ o. option_map_or f o false) (named_head zones name)
     ∙ of_found f h same (found zones name)
 
-any_names : (zones : List NamedZone) (name : Text) → list_any (names_it name) (map head_of zones) ≡ state.is_related
-    zones name
+any_names : (zones : List NamedZone) (name : Text) → list_any (is_related_to name) (map head_of zones)
+    ≡ state.is_related zones name
 any_names [] name = refl
 any_names (z ∷ zs) name = ap (λ b. option_map_or (bytes_eq name) z.zone.related false || b) (any_names zs name)
 
-free_head : (zones : List NamedZone) (name : Text) → is_free (map head_of zones) name ≡ state.is_free zones name
+free_head : (zones : List NamedZone) (name : Text) → is_free_distribution (map head_of zones) name
+    ≡ state.is_free zones name
 free_head zones name =
-    ap (λ b. b && not (list_any (names_it name) (map head_of zones)))
+    ap (λ b. b && not (list_any (is_related_to name) (map head_of zones)))
     (of_named (λ h. is_distribution h.kind)
     (λ z. is_distribution z.kind) (λ z. refl) zones name)
     ∙ ap (λ b. option_map_or (λ z. is_distribution z.kind) (zone_named zones name) false && not

@@ -12,35 +12,36 @@ use Rattle.store_zones.specs.declared.head.ZoneHead.{ZoneHead}
 use Rattle.smpe_zones.specs.declared.error.ZoneFault.{ZoneFault}
 use Rattle.smpe_zones.specs.declared.error.ZoneFault.TheVariants.{NameTaken, WrongRelated, OtherSrel, TooMany}
 
-abbrev pub named : List ZoneHead → Text → Option ZoneHead
-named heads name = find (λ h. bytes_eq h.name name) heads
+abbrev pub head_named : List ZoneHead → Text → Option ZoneHead
+head_named heads name = find (λ h. bytes_eq h.name name) heads
 
-abbrev pub names_it : Text → ZoneHead → Bool
-names_it name h = option_map_or (bytes_eq name) h.related false
+abbrev pub is_related_to : Text → ZoneHead → Bool
+is_related_to name h = option_map_or (bytes_eq name) h.related false
 
 abbrev pub is_distribution_head : Option ZoneHead → Bool
 is_distribution_head head = option_map_or (λ h. is_distribution h.kind) head false
 
-abbrev pub is_free : List ZoneHead → Text → Bool
-is_free heads name = is_distribution_head (named heads name) && not (list_any (names_it name) heads)
+abbrev pub is_free_distribution : List ZoneHead → Text → Bool
+is_free_distribution heads name = is_distribution_head (head_named heads name)
+    && not (list_any (is_related_to name) heads)
 
 abbrev pub has_right_related : List ZoneHead → ZoneKind → Option Text → Bool
-has_right_related heads Target related = option_map_or (is_free heads) related false
+has_right_related heads Target related = option_map_or (is_free_distribution heads) related false
 has_right_related heads Distribution related = not (is_some related)
 
 abbrev pub has_srel : Text → Option ZoneHead → Bool
 has_srel srel head = option_map_or (λ h. bytes_eq h.srel srel) head false
 
 abbrev pub has_same_srel : List ZoneHead → Text → Option Text → Bool
-has_same_srel heads srel related = option_map_or (λ name. has_srel srel (named heads name)) related
+has_same_srel heads srel related = option_map_or (λ name. has_srel srel (head_named heads name)) related
     (not (is_some related))
 
-abbrev pub is_taken : List ZoneHead → Text → Bool
-is_taken heads name = bytes_eq name global_name || is_some (named heads name)
+abbrev pub is_name_taken : List ZoneHead → Text → Bool
+is_name_taken heads name = bytes_eq name global_name || is_some (head_named heads name)
 
 abbrev pub first_fault : List ZoneHead → ZoneDefinition → Option ZoneFault
 first_fault heads d =
-    if is_taken heads d.name then Some NameTaken
+    if is_name_taken heads d.name then Some NameTaken
     else if not (has_right_related heads d.kind d.related) then Some WrongRelated
     else if not (has_same_srel heads d.srel d.related) then Some OtherSrel
     else if nat_le 64 (length heads) then Some TooMany

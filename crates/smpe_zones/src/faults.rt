@@ -3,8 +3,8 @@ ghost use Rattle.std.specs.Prelude.{◌≡◌, ◌==◌, option_copied, is_some}
 ghost use Rattle.std.specs.List.{list_any};
 ghost use Rattle.terms.specs.Forms.{IsSrel, IsZoneName};
 ghost use Rattle.smpe_zones.specs.Definitions.{definition};
-ghost use Rattle.smpe_zones.specs.Heads.{named, names_it, is_distribution_head, is_free, has_right_related, has_srel};
-ghost use Rattle.smpe_zones.specs.Heads.{has_same_srel, is_taken, first_fault};
+ghost use Rattle.smpe_zones.specs.Heads.{first_fault, has_right_related, has_same_srel, has_srel, head_named};
+ghost use Rattle.smpe_zones.specs.Heads.{is_distribution_head, is_free_distribution, is_name_taken, is_related_to};
 
 use crate::error::ZoneFault;
 use fields::{Srel, ZoneName};
@@ -16,14 +16,14 @@ const MOST_ZONES: usize = 64;
 
 // The head of the zone of this name, or `None` if there is no such zone.
 fn head_named(heads: &[ZoneHead], name: ZoneName) -> Option<&ZoneHead>
-    ensures { option_copied result ≡ named heads.now name }
+    ensures { option_copied result ≡ head_named heads.now name }
 {
     heads.iter().find(|head| head.name == name)
 }
 
-// Whether the zone of the head is related to the zone of this name.
+// Whether the zone of the head names the zone of this name as its related zone.
 fn is_related_to(head: &ZoneHead, name: ZoneName) -> bool
-    ensures { result ≡ names_it name head.now }
+    ensures { result ≡ is_related_to name head.now }
 {
     match head.related {
         Some(related) => name == related,
@@ -31,9 +31,9 @@ fn is_related_to(head: &ZoneHead, name: ZoneName) -> bool
     }
 }
 
-// Whether some zone is related to the zone of this name.
-fn is_related_zone(heads: &[ZoneHead], name: ZoneName) -> bool
-    ensures { result ≡ list_any (names_it name) heads.now }
+// Whether some zone names the zone of this name as its related zone.
+fn is_any_related_to(heads: &[ZoneHead], name: ZoneName) -> bool
+    ensures { result ≡ list_any (is_related_to name) heads.now }
 {
     heads.iter().any(|head| is_related_to(head, name))
 }
@@ -50,9 +50,9 @@ fn is_distribution_head(head: Option<&ZoneHead>) -> bool
 
 // Whether a new target zone may be related to the zone of this name: a distribution zone to which no zone is related.
 fn is_free_distribution(heads: &[ZoneHead], name: ZoneName) -> bool
-    ensures { result ≡ is_free heads.now name }
+    ensures { result ≡ is_free_distribution heads.now name }
 {
-    is_distribution_head(head_named(heads, name)) && !is_related_zone(heads, name)
+    is_distribution_head(head_named(heads, name)) && !is_any_related_to(heads, name)
 }
 
 // Whether a zone of this kind may be defined with this related zone.
@@ -88,7 +88,7 @@ fn has_same_srel(heads: &[ZoneHead], srel: Srel, related: &Option<ZoneName>) -> 
 
 // Whether no new zone may have this name: it is GLOBAL, or a zone has it.
 fn is_name_taken(heads: &[ZoneHead], name: ZoneName) -> bool
-    ensures taken { result ≡ is_taken heads.now name }
+    ensures taken { result ≡ is_name_taken heads.now name }
     ensures form { IsZoneName name }
 {
     name.as_bytes() == b"GLOBAL".as_slice() || head_named(heads, name).is_some()
@@ -107,6 +107,7 @@ pub(crate) fn first_fault(
     ensures name { IsZoneName name }
     ensures srel { IsSrel srel }
 {
+    // (for the clause `srel`: the length of an SREL, which its type promises)
     prove!(srel.as_bytes().len() == 4);
     if is_name_taken(heads, name) {
         return Some(ZoneFault::NameTaken);

@@ -13,17 +13,17 @@ use Rattle.smpe.proofs.install.install.Goals as goal
 pub returns-in_err-related-clause-uses : goal.returns-in_err-related-clause-uses
 returns-in_err-related-clause-uses g c = handed_on c.from_residual.ensures.1 c.in_err-related.ensures
     (λ s inventory un is files.
-    act_unmoved g.S.Store c.args.store.now c.seek_related.new.store s
+    act_unmoved g.S.Store c.args.store.now c.load_related_zone.new.store s
     (Perform c.args.date files (install_command c.args.kind c.args.install.now)) c.in_err-related.field-0.0 (un is))
 
 pub returns-in_err-delta-clause-uses : goal.returns-in_err-delta-clause-uses
 returns-in_err-delta-clause-uses g c = ran_short c.from_residual-in_err-delta.ensures.1 c.in_ok-related.ensures
-    (λ s inventory sought is files. stopped g.S.Store c.seek_related.new.store s
+    (λ s inventory sought is files. stopped g.S.Store c.load_related_zone.new.store s
     (Perform c.args.date files (install_command c.args.kind c.args.install.now)) (sought is).1)
 
 pub returns-in_err-lines-clause-uses : goal.returns-in_err-lines-clause-uses
 returns-in_err-lines-clause-uses g c = ran_short c.from_residual-in_err-lines.ensures.1 c.in_ok-related.ensures
-    (λ s inventory sought is files. stopped g.S.Store c.seek_related.new.store s
+    (λ s inventory sought is files. stopped g.S.Store c.load_related_zone.new.store s
     (Perform c.args.date files (install_command c.args.kind c.args.install.now)) (sought is).1)
 
 pub carry_out-requires-clause-boundary : goal.carry_out-requires-clause-boundary
@@ -37,7 +37,7 @@ returns-clause-uses g c = weaker (after c.in_ok-related.ensures c.carry_out.ensu
     (λ change own.
     (own.0, sym (ap (λ w. w.check) c.install.view_is) ∙ (sym c.install_header-header.ensures.check ∙ own.1), own.2))
     (λ s inventory both is files.
-    let at = c.seek_related.new.self in
+    let at = c.load_related_zone.new.self in
     let kind = c.args.kind in
     let i = c.args.install.now in
     let command = install_command kind i in
@@ -55,8 +55,8 @@ returns-clause-uses g c = weaker (after c.in_ok-related.ensures c.carry_out.ensu
     c.install_header-header.result.check (header_view c.install_header-header.result) checks
     (c.install_header-header.ensures.view i (sym (ap (λ w. w.check) c.install.view_is))
     ∙ ap (header_of command) sought.0.session.boundary) in
-    performs_since g.S.Store c.args.store.now c.seek_related.new.store c.carry_out.new.store s
-    c.seek_related.ensures.goes.follows _ c.args.date files command c.carry_out.result
+    performs_since g.S.Store c.args.store.now c.load_related_zone.new.store c.carry_out.new.store s
+    c.load_related_zone.ensures.goes.follows _ c.args.date files command c.carry_out.result
     (both.1 sought.1 sought.0.session c.args.date files command changes))
 
 pub returns-in-Err-clause-uses : goal.returns-in-Err-clause-uses
@@ -79,13 +79,13 @@ returns-in-Err-clause-uses g c = answered c.in_ok-related.ensures (λ own none. 
 
 pub returns-in-Err-clause-header : goal.returns-in-Err-clause-header
 returns-in-Err-clause-header g c = (
-  c.seek_related.new.self.boundary,
+  c.load_related_zone.new.self.boundary,
   c.install_header-header.ensures.view c.args.install.now
       (sym (ap (λ w. w.check) c.install.view_is)),
 )
 
 pub returns-clause-header : goal.returns-clause-header
 returns-clause-header g c =
-    c.carry_out.ensures.header (install_command c.args.kind c.args.install.now) c.seek_related.new.self.boundary
+    c.carry_out.ensures.header (install_command c.args.kind c.args.install.now) c.load_related_zone.new.self.boundary
     (c.install_header-header.ensures.view c.args.install.now
     (sym (ap (λ w. w.check) c.install.view_is)))

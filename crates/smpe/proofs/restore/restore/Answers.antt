@@ -15,7 +15,7 @@ pub returns-in_err-distribution_name-clause-uses : goal.returns-in_err-distribut
 returns-in_err-distribution_name-clause-uses g c = handed_on c.from_residual.ensures.1
     c.in_err-distribution_name.ensures
     (λ s inventory un is date files.
-    act_unmoved g.S.Store c.args.store.now c.seek_accepted.new.store s
+    act_unmoved g.S.Store c.args.store.now c.load_distribution_zone.new.store s
     (Perform date files (Restore (restore_list_of c.args.list.now) c.args.check))
     c.in_err-distribution_name.field-0.0 (un is))
 
@@ -25,7 +25,7 @@ returns-in-Err-clause-uses g c = answered c.in_ok-distribution_name.ensures (λ 
     let command = Restore (restore_list_of c.args.list.now) c.args.check in
     let sought = found is in (
       s,
-      refused date files command s c.seek_accepted.new.self.boundary (refusal_view c.in-Err.refusal)
+      refused date files command s c.load_distribution_zone.new.self.boundary (refusal_view c.in-Err.refusal)
           sought.0.session.boundary
           (restore_at s (restore_list_of c.args.list.now) c.args.check
           ∙ c.in-Err.ensures.has s sought.0.session inventory),
@@ -37,13 +37,13 @@ pub returns-in_default-clause-uses : goal.returns-in_default-clause-uses
 returns-in_default-clause-uses g c = answered c.in_ok-distribution_name.ensures (λ own none. absurd none)
     (λ s inventory found is date files.
     let has = (found is).0 in
-    absurd (not_none s inventory c.seek_accepted.new.self c.in_ok-distribution_name.distribution_name has
+    absurd (not_none s inventory c.load_distribution_zone.new.self c.in_ok-distribution_name.distribution_name has
     c.in-Ok.place.name c.in-Ok.place.zone.now (c.in-Ok.ensures.has s has.session inventory) (sym c.in_default.ensures)))
 
 pub returns-in_err-delta-clause-uses : goal.returns-in_err-delta-clause-uses
 returns-in_err-delta-clause-uses g c = ran_short c.from_residual-in_err-delta.ensures.1
     c.in_ok-distribution_name.ensures
-    (λ s inventory sought is date files. stopped g.S.Store c.seek_accepted.new.store s
+    (λ s inventory sought is date files. stopped g.S.Store c.load_distribution_zone.new.store s
     (Perform date files (Restore (restore_list_of c.args.list.now) c.args.check)) (sought is).1)
 
 pub carry_out-requires-clause-boundary : goal.carry_out-requires-clause-boundary
@@ -55,7 +55,7 @@ carry_out-requires-clause-knows g c = (c.in-Ok.place.zone.now, c.in_ok-delta.ens
 pub returns-clause-uses : goal.returns-clause-uses
 returns-clause-uses g c = weaker (after c.in_ok-distribution_name.ensures c.carry_out.ensures.uses) (λ change own. own)
     (λ s inventory both is date files.
-    let at = c.seek_accepted.new.self in
+    let at = c.load_distribution_zone.new.self in
     let what = restore_list_of c.args.list.now in
     let command = Restore what c.args.check in
     let place = c.in-Ok.place in
@@ -70,19 +70,19 @@ returns-clause-uses g c = weaker (after c.in_ok-distribution_name.ensures c.carr
     c.in_ok-delta.ensures.knows sought.0.session there related c.in_ok-delta.ensures.restores date files c.args.check
     at.boundary
     sought.0.session.boundary in
-    performs_since g.S.Store c.args.store.now c.seek_accepted.new.store c.carry_out.new.store s
-    c.seek_accepted.ensures.goes.follows _ date files command c.carry_out.result
+    performs_since g.S.Store c.args.store.now c.load_distribution_zone.new.store c.carry_out.new.store s
+    c.load_distribution_zone.ensures.goes.follows _ date files command c.carry_out.result
     (both.1 sought.1 sought.0.session date files command changes))
 
 -- ---- the header
 
 pub returns-in-Err-clause-header : goal.returns-in-Err-clause-header
-returns-in-Err-clause-header g c = (c.seek_accepted.new.self.boundary, refl)
+returns-in-Err-clause-header g c = (c.load_distribution_zone.new.self.boundary, refl)
 
 pub returns-in_default-clause-header : goal.returns-in_default-clause-header
-returns-in_default-clause-header g c = (c.seek_accepted.new.self.boundary, refl)
+returns-in_default-clause-header g c = (c.load_distribution_zone.new.self.boundary, refl)
 
 pub returns-clause-header : goal.returns-clause-header
 returns-clause-header g c =
     c.carry_out.ensures.header (Restore (restore_list_of c.args.list.now) c.args.check)
-    c.seek_accepted.new.self.boundary refl
+    c.load_distribution_zone.new.self.boundary refl

@@ -24,20 +24,20 @@ returns-in_err-request-clause-err c =
     (unasked_refused words fault (subst (λ texts. IsRefused texts fault)
     (views (goal.at.returns-in_err-request-clause-err c).After-invocation) c.in_err-request.ensures.err))
 
-pub returns-then-are_text-clause-ok : goal.returns-then-are_text-clause-ok
-returns-then-are_text-clause-ok c =
+pub returns-then-are_utf8-clause-ok : goal.returns-then-are_utf8-clause-ok
+returns-then-are_utf8-clause-ok c =
     let words = map (λ word. word.items) c.args.words.now in
     let text : AreText words =
-    All-map IsUtf8 (λ word. word.items) c.args.words.now (c.are_text.ensures.0 c.if-are_text.true) in (
+    All-map IsUtf8 (λ word. word.items) c.args.words.now (c.are_utf8.ensures.0 c.if-are_utf8.true) in (
       text,
       subst (λ texts. IsRead texts c.in_ok-request.request)
-          (views (goal.at.returns-then-are_text-clause-ok c).After-invocation ∙ shown_text words text)
+          (views (goal.at.returns-then-are_utf8-clause-ok c).After-invocation ∙ shown_text words text)
           c.in_ok-request.ensures.ok,
     )
 
 pub returns-clause-err : goal.returns-clause-err
 returns-clause-err c = inr (
-  (λ text. let is = c.are_text.ensures.1 (text_each (λ word. word.items) c.args.words.now text) in search rules),
+  (λ text. let is = c.are_utf8.ensures.1 (text_each (λ word. word.items) c.args.words.now text) in search rules),
   (
     c.in_ok-request.request,
     subst (λ texts. IsRead texts c.in_ok-request.request) (views (goal.at.returns-clause-err c).After-invocation)

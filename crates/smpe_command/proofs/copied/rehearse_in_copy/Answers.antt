@@ -9,9 +9,9 @@ returns-in-Some g c = rw c.in-Some.is (inr (
   refl,
   subst (λ (cntl : List _). TriesCopied g.H.Host memory_disk g.O.Sink c.args.host.now c.args.copy.now
       c.args.out.now (copy_jobs c.in-Some.commands.date cntl
-      (record { ptfin = c.args.files.now.ptfin.items; holds = c.args.files.now.hold.items })) c.rehearse_commands.result
-      c.rehearse_commands.new.host c.rehearse_commands.new.out) c.as_slice-cntl.ensures.value
-      c.rehearse_commands.ensures,
+      (record { ptfin = c.args.files.now.ptfin.items; holds = c.args.files.now.hold.items }))
+      c.rehearse_commands_in_copy.result c.rehearse_commands_in_copy.new.host c.rehearse_commands_in_copy.new.out)
+      c.as_slice-cntl.ensures.value c.rehearse_commands_in_copy.ensures,
 ))
 
 pub returns : goal.returns
@@ -21,6 +21,7 @@ returns g c = rw c.in-None.is (inr (
   subst (λ (cntl : List _). TriesCopied g.H.Host memory_disk g.O.Sink c.args.host.now c.args.copy.now
       c.args.out.now (copy_jobs c.new-date.result cntl
       (record { ptfin = c.args.files.now.ptfin.items; holds = c.args.files.now.hold.items }))
-      c.rehearse_commands-in-None.result c.rehearse_commands-in-None.new.host c.rehearse_commands-in-None.new.out)
-      (c.as_slice.ensures.value ∙ c.in_ok-cntl-in-None.ensures) c.rehearse_commands-in-None.ensures,
+      c.rehearse_commands_in_copy-in-None.result c.rehearse_commands_in_copy-in-None.new.host
+      c.rehearse_commands_in_copy-in-None.new.out)
+      (c.as_slice.ensures.value ∙ c.in_ok-cntl-in-None.ensures) c.rehearse_commands_in_copy-in-None.ensures,
 ))

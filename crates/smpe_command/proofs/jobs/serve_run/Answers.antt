@@ -3,10 +3,10 @@ use Rattle.std.specs.Prelude.{Result, option_map}
 use Rattle.std.specs.String.{string_bytes}
 use Rattle.std.proofs.lemmas.Result.{err_from_is_err_and}
 use Rattle.smpe_jobs.specs.declared.messages.Fault.{Fault}
-use Rattle.smpe_command.specs.Careful.{LooksIf}
+use Rattle.smpe_command.specs.Careful.{ChecksIfCareful}
 use Rattle.smpe_command.specs.Reading.{ReadsAll}
 use Rattle.smpe_command.proofs.jobs.serve_run.Given.{Over}
-use Rattle.smpe_command.proofs.jobs.serve_run.Goals.{After-look_if_careful}
+use Rattle.smpe_command.proofs.jobs.serve_run.Goals.{After-check_commands_if_careful}
 use Rattle.smpe_command.proofs.jobs.serve_run.Goals as goal
 
 pub returns-in_err-files : goal.returns-in_err-files
@@ -24,7 +24,7 @@ returns-in_err-files g c =
     )
 
 -- the files that were read, and how the job was looked at
-reads : (g : Over) (c : After-look_if_careful g) → ReadsAll g.H.Host c.args.host.now
+reads : (g : Over) (c : After-check_commands_if_careful g) → ReadsAll g.H.Host c.args.host.now
     (Some c.args.cntl.now ∷ option_map string_bytes c.args.ptfin.now ∷ option_map string_bytes c.args.hold.now ∷ [])
     (Ok (c.in_ok-files.files.cntl.items ∷ c.in_ok-files.files.ptfin.items ∷ c.in_ok-files.files.hold.items ∷ []))
     c.read_files.new.host
@@ -35,21 +35,22 @@ reads g c =
     (ap₂ (λ ptfin hold. ptfin ∷ hold ∷ []) c.as_deref.ensures.value c.as_deref-2.ensures.value)
     c.in_ok-files.ensures.ok
 
-looks : (g : Over) (c : After-look_if_careful g) → LooksIf g.H.Host g.H.Disk.Store c.read_files.new.host
-    (string_bytes c.args.db.now.name) c.in_ok-files.files.cntl.items c.args.is_careful c.look_if_careful.result
-    c.look_if_careful.new.host
-looks g c = subst (λ (cntl : List _). LooksIf g.H.Host g.H.Disk.Store c.read_files.new.host
-    (string_bytes c.args.db.now.name) cntl c.args.is_careful c.look_if_careful.result c.look_if_careful.new.host)
+looks : (g : Over) (c : After-check_commands_if_careful g) → ChecksIfCareful g.H.Host g.H.Disk.Store
+    c.read_files.new.host (string_bytes c.args.db.now.name) c.in_ok-files.files.cntl.items c.args.is_careful
+    c.check_commands_if_careful.result c.check_commands_if_careful.new.host
+looks g c = subst (λ (cntl : List _). ChecksIfCareful g.H.Host g.H.Disk.Store c.read_files.new.host
+    (string_bytes c.args.db.now.name) cntl c.args.is_careful c.check_commands_if_careful.result
+    c.check_commands_if_careful.new.host)
     c.as_slice.ensures.value
-    c.look_if_careful.ensures
+    c.check_commands_if_careful.ensures
 
-pub returns-in_err-look_if_careful : goal.returns-in_err-look_if_careful
-returns-in_err-look_if_careful g c =
-    let at = (goal.at.returns-in_err-look_if_careful g c).After-look_if_careful in
+pub returns-in_err-check_commands_if_careful : goal.returns-in_err-check_commands_if_careful
+returns-in_err-check_commands_if_careful g c =
+    let at = (goal.at.returns-in_err-check_commands_if_careful g c).After-check_commands_if_careful in
     let files = c.in_ok-files.files in
-    let fault = c.in_err-look_if_careful.field-0.0 in
-    let p = err_from_is_err_and c.from_residual-in_err-look_if_careful.result
-    c.from_residual-in_err-look_if_careful.ensures.1 in
+    let fault = c.in_err-check_commands_if_careful.field-0.0 in
+    let p = err_from_is_err_and c.from_residual-in_err-check_commands_if_careful.result
+    c.from_residual-in_err-check_commands_if_careful.ensures.1 in
     inr (
       c.read_files.new.host,
       files.cntl.items,
@@ -58,9 +59,9 @@ returns-in_err-look_if_careful g c =
       reads g at,
       inl (
         fault,
-        subst (λ (r : Result _ Fault). LooksIf g.H.Host g.H.Disk.Store c.read_files.new.host
-            (string_bytes c.args.db.now.name) files.cntl.items c.args.is_careful r c.look_if_careful.new.host)
-            c.in_err-look_if_careful.was (looks g at),
+        subst (λ (r : Result _ Fault). ChecksIfCareful g.H.Host g.H.Disk.Store c.read_files.new.host
+            (string_bytes c.args.db.now.name) files.cntl.items c.args.is_careful r c.check_commands_if_careful.new.host)
+            c.in_err-check_commands_if_careful.was (looks g at),
         p.1 ∙ ap Err p.2,
         refl,
       ),
@@ -68,7 +69,7 @@ returns-in_err-look_if_careful g c =
 
 pub returns : goal.returns
 returns g c =
-    let at = (goal.at.returns g c).After-look_if_careful in
+    let at = (goal.at.returns g c).After-check_commands_if_careful in
     let files = c.in_ok-files.files in
     let ran = c.run_files.ensures in
     inr (
@@ -78,10 +79,10 @@ returns g c =
       files.hold.items,
       reads g at,
       inr (
-        c.look_if_careful.new.host,
-        subst (λ (r : Result _ Fault). LooksIf g.H.Host g.H.Disk.Store c.read_files.new.host
-            (string_bytes c.args.db.now.name) files.cntl.items c.args.is_careful r c.look_if_careful.new.host)
-            c.in_ok-look_if_careful.was (looks g at),
+        c.check_commands_if_careful.new.host,
+        subst (λ (r : Result _ Fault). ChecksIfCareful g.H.Host g.H.Disk.Store c.read_files.new.host
+            (string_bytes c.args.db.now.name) files.cntl.items c.args.is_careful r c.check_commands_if_careful.new.host)
+            c.in_ok-check_commands_if_careful.was (looks g at),
         ran.0,
         ran.1,
         c.job_status.ensures ∙ ran.2,

@@ -9,8 +9,9 @@ returns-in-Some g c = rw c.in-Some.is (inr (
   refl,
   inr (subst (λ (cntl : List _). JobsInMemory g.O.Sink (set_jobs c.args.srel c.in-Some.commands.date cntl
       (record { ptfin = c.args.files.now.ptfin.items; holds = c.args.files.now.hold.items })) c.args.out.now
-      (λ v. map answer_of v.items) c.rehearse_commands_in_memory.result c.rehearse_commands_in_memory.new.out)
-      c.as_slice-cntl.ensures.value c.rehearse_commands_in_memory.ensures),
+      (λ v. map answer_of v.items) c.rehearse_commands_in_empty_system.result
+      c.rehearse_commands_in_empty_system.new.out)
+      c.as_slice-cntl.ensures.value c.rehearse_commands_in_empty_system.ensures),
 ))
 
 pub returns : goal.returns
@@ -19,7 +20,7 @@ returns g c = rw c.in-None.is (inr (
   tt,
   inr (subst (λ (cntl : List _). JobsInMemory g.O.Sink (set_jobs c.args.srel c.new-date.result cntl
       (record { ptfin = c.args.files.now.ptfin.items; holds = c.args.files.now.hold.items })) c.args.out.now
-      (λ v. map answer_of v.items) c.rehearse_commands_in_memory-in-None.result
-      c.rehearse_commands_in_memory-in-None.new.out)
-      (c.as_slice.ensures.value ∙ c.in_ok-cntl-in-None.ensures) c.rehearse_commands_in_memory-in-None.ensures),
+      (λ v. map answer_of v.items) c.rehearse_commands_in_empty_system-in-None.result
+      c.rehearse_commands_in_empty_system-in-None.new.out)
+      (c.as_slice.ensures.value ∙ c.in_ok-cntl-in-None.ensures) c.rehearse_commands_in_empty_system-in-None.ensures),
 ))

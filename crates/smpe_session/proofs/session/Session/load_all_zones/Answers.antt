@@ -18,27 +18,27 @@ loop-name-init g c = answered (load_uses c.in_ok-names.ensures) (λ own none. ab
     ))
 
 pub loop-name-preserved : goal.loop-name-preserved
-loop-name-preserved g c = answered (after c.loop-name.invariant c.in_ok-seek_zone.ensures.uses)
+loop-name-preserved g c = answered (after c.loop-name.invariant c.in_ok-ensure_zone_loaded.ensures.uses)
     (λ own none. absurd none)
     (λ s inventory both is.
     let before = both.0 is in
     let found = both.1 before.1 before.0.1.session in (
       (
         before.0.0,
-        sought_more s c.loop-name.self c.seek_zone.new.self c.as_slice-name-items.result.now c.loop-name.name-index
-            c.name-item.result c.in_ok-seek_zone.field-0 c.loop-name-test.true c.name-item.is
-            c.in_ok-seek_zone.ensures.stay before.0.1 found.0,
+        sought_more s c.loop-name.self c.ensure_zone_loaded.new.self c.as_slice-name-items.result.now
+            c.loop-name.name-index c.name-item.result c.in_ok-ensure_zone_loaded.field-0 c.loop-name-test.true
+            c.name-item.is c.in_ok-ensure_zone_loaded.ensures.stay before.0.1 found.0,
       ),
       found.1,
     ))
 
-pub returns-in_err-seek_zone : goal.returns-in_err-seek_zone
-returns-in_err-seek_zone g c = handed_on c.from_residual-in_err-seek_zone.ensures.1
-    (after c.loop-name.invariant c.in_err-seek_zone.ensures.uses) (λ s inventory both is.
+pub returns-in_err-ensure_zone_loaded : goal.returns-in_err-ensure_zone_loaded
+returns-in_err-ensure_zone_loaded g c = handed_on c.from_residual-in_err-ensure_zone_loaded.ensures.1
+    (after c.loop-name.invariant c.in_err-ensure_zone_loaded.ensures.uses) (λ s inventory both is.
     let before = both.0 is in
-    unmoved_since g.S.Store c.args.store.now c.loop-name.store c.seek_zone.new.store s
+    unmoved_since g.S.Store c.args.store.now c.loop-name.store c.ensure_zone_loaded.new.store s
     c.loop-name.invariant.goes.follows
-    c.in_err-seek_zone.field-0.0 (both.1 before.1 before.0.1.session))
+    c.in_err-ensure_zone_loaded.field-0.0 (both.1 before.1 before.0.1.session))
 
 pub returns : goal.returns
 returns g c = answered c.loop-name.invariant (λ own none. absurd none) (λ s inventory found is.

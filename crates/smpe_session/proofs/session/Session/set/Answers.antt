@@ -6,29 +6,32 @@ use Rattle.smpe_session.proofs.Seeking.{set_refused, set_ran, set_session}
 use Rattle.smpe_session.proofs.Using.{answered, handed_on}
 use Rattle.smpe_session.proofs.session.Session.set.Goals as goal
 
-pub returns-in_err-seek_zone-clause-uses : goal.returns-in_err-seek_zone-clause-uses
-returns-in_err-seek_zone-clause-uses g c = handed_on c.from_residual.ensures.1 c.in_err-seek_zone.ensures.uses
-    (λ s inventory un is date files. act_unmoved g.S.Store c.args.store.now c.seek_zone.new.store s
-    (Perform date files (Set c.args.name)) c.in_err-seek_zone.field-0.0 (un is))
+pub returns-in_err-ensure_zone_loaded-clause-uses : goal.returns-in_err-ensure_zone_loaded-clause-uses
+returns-in_err-ensure_zone_loaded-clause-uses g c = handed_on c.from_residual.ensures.1
+    c.in_err-ensure_zone_loaded.ensures.uses
+    (λ s inventory un is date files. act_unmoved g.S.Store c.args.store.now c.ensure_zone_loaded.new.store s
+    (Perform date files (Set c.args.name)) c.in_err-ensure_zone_loaded.field-0.0 (un is))
 
 pub returns-then-not-branch-clause-uses : goal.returns-then-not-branch-clause-uses
-returns-then-not-branch-clause-uses g c = answered c.in_ok-seek_zone.ensures.uses (λ own none. absurd none)
+returns-then-not-branch-clause-uses g c = answered c.in_ok-ensure_zone_loaded.ensures.uses (λ own none. absurd none)
     (λ s inventory found is date files.
     let sought = found is in (
       s,
-      set_refused s c.seek_zone.new.self c.args.name date files c.in_ok-seek_zone.field-0 sought.0 c.if-not-branch.true,
+      set_refused s c.ensure_zone_loaded.new.self c.args.name date files c.in_ok-ensure_zone_loaded.field-0 sought.0
+          c.if-not-branch.true,
       sought.0.session,
       sought.1,
     ))
 
 pub returns-clause-uses : goal.returns-clause-uses
-returns-clause-uses g c = answered c.in_ok-seek_zone.ensures.uses (λ own none. absurd none)
+returns-clause-uses g c = answered c.in_ok-ensure_zone_loaded.ensures.uses (λ own none. absurd none)
     (λ s inventory found is date files.
     let sought = found is in (
       record s { boundary = Some c.args.name },
-      set_ran s c.seek_zone.new.self c.args.name date files _ c.in_ok-seek_zone.field-0 sought.0 c.if-not-branch.false
-          (rw c.new.ensures.items refl),
-      set_session s c.seek_zone.new.self _ c.args.name c.in_ok-seek_zone.field-0 sought.0 c.if-not-branch.false refl
+      set_ran s c.ensure_zone_loaded.new.self c.args.name date files _ c.in_ok-ensure_zone_loaded.field-0 sought.0
+          c.if-not-branch.false (rw c.new.ensures.items refl),
+      set_session s c.ensure_zone_loaded.new.self _ c.args.name c.in_ok-ensure_zone_loaded.field-0 sought.0
+          c.if-not-branch.false refl
           refl refl,
       sought.1,
     ))

@@ -1,0 +1,15 @@
+use Rattle.std.specs.String.{string_bytes}
+use Rattle.smpe_invocation.proofs.Excluding.{handed_on}
+use Rattle.smpe_invocation.proofs.checked.read_service_set.Goals as goal
+
+pub returns-in_err-commands-clause-err : goal.returns-in_err-commands-clause-err
+returns-in_err-commands-clause-err c =
+    handed_on _ _ _ _ c.from_residual.ensures.1
+    (λ has. (has.0.commands, has.1.2))
+    c.in_err-commands.ensures.err
+
+pub returns-in_err-ptfin-clause-err : goal.returns-in_err-ptfin-clause-err
+returns-in_err-ptfin-clause-err c =
+    handed_on _ _ _ _ c.from_residual-in_err-ptfin.ensures.1
+    (λ has. (string_bytes has.0.ptfin, has.1.0))
+    c.in_err-ptfin.ensures.err
