@@ -30,8 +30,8 @@ fn run_over<S: Alter + Drop>(
     Ok(store.close())
 }
 
-// A failure, unless this is what the jobs printed and returned.
-fn check(
+// Returns a failure, unless this is what the jobs printed and returned.
+fn check_list(
     alloc: Global,
     disk: &str,
     report: &[u8],
@@ -55,7 +55,7 @@ fn run_together<S: Alter + Drop>(
 ) -> Result<(), Fail> {
     let (mut report, mut answers) = (Vec::new(alloc), Vec::new(alloc));
     drop(run_over(alloc, conn, jobs, &mut report, &mut answers)?);
-    check(alloc, disk, report.as_slice(), answers.as_slice(), wanted)
+    check_list(alloc, disk, report.as_slice(), answers.as_slice(), wanted)
 }
 
 // Runs each job in a call of its own, over a store in memory that is opened for it.
@@ -66,7 +66,7 @@ fn run_each(alloc: Global, jobs: &[Job<'_>], wanted: ListWanted<'_>) -> Result<(
         conn = run_over(alloc, conn, slice::from_ref(job), &mut report, &mut answers)?;
     }
     let disk = "in memory, opened for each";
-    check(alloc, disk, report.as_slice(), answers.as_slice(), wanted)
+    check_list(alloc, disk, report.as_slice(), answers.as_slice(), wanted)
 }
 
 // Runs each job in a call of its own, over files that are closed and opened before it.
@@ -83,7 +83,7 @@ fn run_closed(alloc: Global, jobs: &[Job<'_>], wanted: ListWanted<'_>) -> Result
         )?;
     }
     let disk = "on disks that are closed and opened before each";
-    check(alloc, disk, report.as_slice(), answers.as_slice(), wanted)
+    check_list(alloc, disk, report.as_slice(), answers.as_slice(), wanted)
 }
 
 /// Runs the jobs in memory and on disks in memory: in one call, and each in a call over a store that is opened for it.

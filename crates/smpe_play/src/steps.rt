@@ -20,6 +20,7 @@ pub struct StepPlace {
     pub disk: &'static str,
 }
 
+// The PTFIN of the step's job.
 fn ptfin_of(alloc: Global, step: &JobStep) -> Result<Vec<u8>, Fail> {
     let mut bytes = Vec::new(alloc);
     for sysmod in step.ptfin {
@@ -43,8 +44,13 @@ pub fn run_step<S: Alter>(
     Ok(run_printing(alloc, store, &jobs, report))
 }
 
-// A failure, unless the step printed and returned what it must.
-fn check(step: &JobStep, place: StepPlace, report: &[u8], answers: &[Answer]) -> Result<(), Fail> {
+// Returns a failure, unless the step printed and answered what it must.
+fn check_step(
+    step: &JobStep,
+    place: StepPlace,
+    report: &[u8],
+    answers: &[Answer],
+) -> Result<(), Fail> {
     let code = match answers {
         [Answer::Code(code)] => Some(*code),
         _ => None,
@@ -60,7 +66,7 @@ fn check(step: &JobStep, place: StepPlace, report: &[u8], answers: &[Answer]) ->
     )))
 }
 
-/// Something that is played over a store, and fails where it does not come to what it must.
+/// Something that is played over a store, and fails if it does not print and answer what it must.
 pub trait Plays {
     /// Plays it. A failure begins with what the place shows.
     fn play_at<S: Alter>(
@@ -81,7 +87,7 @@ impl Plays for JobStep {
     ) -> Result<(), Fail> {
         let mut report = Vec::new(alloc);
         match run_step(alloc, store, self, &mut report)? {
-            Ok(answers) => check(self, place, report.as_slice(), answers.as_slice()),
+            Ok(answers) => check_step(self, place, report.as_slice(), answers.as_slice()),
             Err(error) => {
                 let (shows, disk, name) = (place.shows, place.disk, self.name);
                 Err(Fail::new(format_args!("{shows}: {name} {disk}: {error:?}")))
@@ -203,7 +209,7 @@ const UNSEEN: RowsLeft<'static> = RowsLeft {
     wanted: "",
 };
 
-// A failure, unless the database has these rows.
+// Returns a failure, unless the database has these rows.
 fn check_rows<S: Alter + Drop>(
     alloc: Global,
     mut conn: Connection<S>,
@@ -252,6 +258,7 @@ fn play_steps<P: Plays>(
     )
 }
 
+// Plays each case after these steps.
 fn play_after(alloc: Global, before: &[JobStep], cases: &[Case]) -> Result<(), Fail> {
     for case in cases {
         play_steps(alloc, before, case.steps, case.shows, UNSEEN)?;
@@ -265,17 +272,18 @@ pub fn play_cases(alloc: Global, cases: &[Case]) -> Result<(), Fail> {
     play_after(alloc, &[], cases)
 }
 
-/// Plays each case so, over a database in which the function is applied.
+/// Plays each case in the same ways, over a database in which the function is applied.
 pub fn play_installed(alloc: Global, cases: &[Case]) -> Result<(), Fail> {
     play_after(alloc, BEGINNING, cases)
 }
 
-/// Plays steps so that are made, over a database in which the function is applied.
+/// Plays steps in the same ways, over a database in which the function is applied.
 pub fn play_made<P: Plays>(alloc: Global, steps: &[P], shows: &'static str) -> Result<(), Fail> {
     play_steps(alloc, BEGINNING, steps, shows, UNSEEN)
 }
 
-/// The same with the rows that they must leave.
+/// Plays steps in the same ways, over a database in which the function is applied, and compares the rows that they
+/// leave.
 pub fn play_rows<P: Plays>(
     alloc: Global,
     steps: &[P],
