@@ -101,7 +101,8 @@ fn solve_twice(
 }
 
 fn put_strikes(spelled: &mut RowText, strikes: u128) {
-    spelled.put_words(&[Buffer::new().format(strikes).as_bytes()]);
+    spelled.put(b" ");
+    spelled.put(Buffer::new().format(strikes).as_bytes());
 }
 
 // The causers of each candidate.

@@ -1,6 +1,6 @@
 //! Playing scripts.
 
-use crate::compared::first_difference;
+use crate::compared::{Difference, first_difference};
 use crate::step::ScriptStep;
 use std::alloc::Global;
 use std::io::Read;
@@ -96,7 +96,11 @@ fn append_difference(
         return Ok(());
     }
     let head = step.head();
-    let (number, got, wanted) = first_difference(printed, wanted);
+    let Difference {
+        number,
+        got,
+        wanted,
+    } = first_difference(printed, wanted);
     let line = format!(in alloc;
         "{shows}: {head}: line {number}: got {got:?}, wanted {wanted:?}\n"
     )?;

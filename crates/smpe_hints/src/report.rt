@@ -4,7 +4,7 @@ use crate::operand::CommandLine;
 use crate::related::{RelatedZone, related_hint};
 use std::alloc::{AllocError, Global};
 
-/// The number of bytes of a line at which the watch looks.
+/// How many bytes of a line the watch looks at.
 const LONGEST: usize = 100;
 
 /// A file that was read.
