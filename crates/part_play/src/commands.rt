@@ -8,15 +8,15 @@ use std::alloc::Global;
 
 fn put_receive(spelled: &mut RowText, what: &ReceiveWhat) {
     spelled.put(b"RECEIVE");
-    spelled.put_flag(what.sysmods, b" SYSMODS");
-    spelled.put_flag(what.holddata, b" HOLDDATA");
+    spelled.put_if(what.sysmods, b" SYSMODS");
+    spelled.put_if(what.holddata, b" HOLDDATA");
     if let Some(source) = what.source {
         spelled.put_words(&[source.as_bytes()]);
     }
 }
 
 fn put_reasons(spelled: &mut RowText, reasons: &Reasons, name: &[u8]) {
-    spelled.put_flag(!matches!(reasons, Reasons::None), name);
+    spelled.put_if(!matches!(reasons, Reasons::None), name);
     if let Reasons::These(list) = reasons {
         spelled.put(b"(");
         for reason in list.iter() {
@@ -28,11 +28,11 @@ fn put_reasons(spelled: &mut RowText, reasons: &Reasons, name: &[u8]) {
 }
 
 fn put_bypass(spelled: &mut RowText, bypass: &Bypass) {
-    spelled.put_flag(bypass.pre, b" PRE");
-    spelled.put_flag(bypass.req, b" REQ");
-    spelled.put_flag(bypass.ifreq, b" IFREQ");
-    spelled.put_flag(bypass.same_id, b" ID");
-    spelled.put_flag(bypass.applycheck, b" APPLYCHECK");
+    spelled.put_if(bypass.pre, b" PRE");
+    spelled.put_if(bypass.req, b" REQ");
+    spelled.put_if(bypass.ifreq, b" IFREQ");
+    spelled.put_if(bypass.same_id, b" ID");
+    spelled.put_if(bypass.applycheck, b" APPLYCHECK");
     put_reasons(spelled, &bypass.holderror, b" HOLDERROR");
     put_reasons(spelled, &bypass.holdsystem, b" HOLDSYSTEM");
     put_reasons(spelled, &bypass.holduser, b" HOLDUSER");
@@ -48,9 +48,9 @@ fn put_bypass(spelled: &mut RowText, bypass: &Bypass) {
 
 fn put_install(spelled: &mut RowText, name: &[u8], install: &Install) {
     spelled.put(name);
-    spelled.put_flag(install.selection.ptfs, b" PTFS");
-    spelled.put_flag(install.selection.groupextend, b" EXTEND");
-    spelled.put_flag(install.check, b" CHECK");
+    spelled.put_if(install.selection.ptfs, b" PTFS");
+    spelled.put_if(install.selection.groupextend, b" EXTEND");
+    spelled.put_if(install.check, b" CHECK");
     spelled.put_ids(b" SELECT", &install.selection.select);
     put_bypass(spelled, &install.bypass);
 }
@@ -60,7 +60,7 @@ fn put_command(spelled: &mut RowText, command: &Command) {
         Command::Set(zone) => {
             spelled.put(b"SET");
             spelled.put_words(&[zone.as_bytes()]);
-            spelled.put_flag(zone.is_global(), b" all");
+            spelled.put_if(zone.is_global(), b" all");
         }
         Command::Receive(what) => put_receive(spelled, what),
         Command::Reject(ids) => spelled.put_ids(b"REJECT SELECT", ids),
@@ -68,7 +68,7 @@ fn put_command(spelled: &mut RowText, command: &Command) {
         Command::Accept(install) => put_install(spelled, b"ACCEPT", install),
         Command::Restore { list, check } => {
             spelled.put(b"RESTORE");
-            spelled.put_flag(*check, b" CHECK");
+            spelled.put_if(*check, b" CHECK");
             match list {
                 RestoreList::Select(ids) => spelled.put_ids(b" SELECT", ids),
                 RestoreList::Group(ids) => spelled.put_ids(b" GROUP", ids),
@@ -76,7 +76,7 @@ fn put_command(spelled: &mut RowText, command: &Command) {
         }
         Command::List { text } => {
             spelled.put(b"LIST");
-            spelled.put_flag(*text, b" TEXT");
+            spelled.put_if(*text, b" TEXT");
         }
         Command::Report => spelled.put(b"REPORT ERRSYSMODS"),
     }

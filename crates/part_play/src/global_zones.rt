@@ -1,6 +1,7 @@
 //! A global zone: holds, sources, REJECT, the SYSMODs that name an id, and which SYSMOD is over which.
 
 use crate::spelled::RowText;
+use crate::values::read_id;
 use fields::{Id, Reason, Source, Srel};
 use mcs::{Item, read_ptfin};
 use sorted::Table;
@@ -33,10 +34,7 @@ fn zone_that_received(alloc: Global, file: &[u8]) -> Result<GlobalZone, Fail> {
     Ok(global)
 }
 
-fn read_id(text: &str) -> Result<Id, &'static str> {
-    Id::read(text.as_bytes()).ok_or("no id")
-}
-
+// Performs an action and spells what became of it, or answers a question.
 fn act(
     alloc: Global,
     global: &mut GlobalZone,
@@ -45,7 +43,7 @@ fn act(
     spelled: &mut RowText,
 ) -> Result<(), Fail> {
     match word.as_bytes() {
-        b"HOLD" => spelled.put(put_test_hold(global, read_id(ids)?)?),
+        b"HOLD" => spelled.put(add_test_hold(global, read_id(ids)?)?),
         b"RELEASE" => spelled.put(remove_test_hold(global, read_id(ids)?)?),
         b"ASSIGN" => spelled.put(assign_test_source(global, read_id(ids)?)?),
         b"REJECT" => spelled.put(reject_sysmod(global, read_id(ids)?)),
@@ -59,7 +57,7 @@ fn test_reason() -> Result<Reason, &'static str> {
 }
 
 // Puts an external hold on the SYSMOD.
-fn put_test_hold(global: &mut GlobalZone, id: Id) -> Result<&'static [u8], Fail> {
+fn add_test_hold(global: &mut GlobalZone, id: Id) -> Result<&'static [u8], Fail> {
     let hold = Hold {
         id,
         kind: HoldKind::User,
@@ -121,14 +119,8 @@ fn ask(
         b"OVER" => return put_over(alloc, global, srel, ids, spelled),
         _ => return put_superseded(alloc, global, srel, ids, spelled),
     }
-    put_found(spelled, found.as_slice());
+    spelled.put_each(found.as_slice());
     Ok(())
-}
-
-fn put_found(spelled: &mut RowText, ids: &[Id]) {
-    for id in ids {
-        spelled.put_words(&[id.as_bytes()]);
-    }
 }
 
 // All ids that the SYSMOD supersedes.
@@ -141,18 +133,24 @@ fn put_superseded(
 ) -> Result<(), Fail> {
     let vers = VerChoice::new(global, srel, Table::new(alloc), Table::new(alloc));
     let superseded = vers.sup_all(alloc, read_id(id)?)?;
-    put_found(spelled, superseded.as_slice());
+    spelled.put_each(superseded.as_slice());
     Ok(())
 }
 
-// Whether x is over z, as both ways of asking say.
-fn is_over(alloc: Global, vers: &VerChoice<'_>, x: Id, z: Id) -> Result<[bool; 3], AllocError> {
+// Whether x is over z: as `VerChoice` says, as `Overs` says if it is asked first, and as it says from its memory.
+fn over_answers(
+    alloc: Global,
+    vers: &VerChoice<'_>,
+    x: Id,
+    z: Id,
+) -> Result<[bool; 3], AllocError> {
     let mut overs = Overs::new(alloc, vers);
-    let asked = overs.over(alloc, x, z)?;
-    Ok([vers.over(alloc, x, z)?, asked, overs.over(alloc, x, z)?])
+    let first = overs.over(alloc, x, z)?;
+    let second = overs.over(alloc, x, z)?;
+    Ok([vers.over(alloc, x, z)?, first, second])
 }
 
-// A letter for each way of asking whether the first SYSMOD is over the second one.
+// A letter for each answer to whether the first SYSMOD is over the second one.
 fn put_over(
     alloc: Global,
     global: &GlobalZone,
@@ -162,7 +160,7 @@ fn put_over(
 ) -> Result<(), Fail> {
     let (x, z) = ids.split_once(' ').ok_or("two ids")?;
     let vers = VerChoice::new(global, srel, Table::new(alloc), Table::new(alloc));
-    for flag in is_over(alloc, &vers, read_id(x)?, read_id(z)?)? {
+    for flag in over_answers(alloc, &vers, read_id(x)?, read_id(z)?)? {
         spelled.put(if flag { b"T" } else { b"F" });
     }
     Ok(())

@@ -18,17 +18,10 @@ mod texts;
 mod values;
 mod words;
 
-use scripts::{Played, play};
-use std::io::Read;
+use scripts::play_input;
 use std::test::Fail;
 use tables::Tables;
 
 fn main(rt: HostRuntime) -> Result<(), Fail> {
-    let alloc = rt.alloc();
-    let mut script = Vec::new(alloc);
-    rt.reader().read_to_end(&mut script)?;
-    let script = std::str::from_utf8(script.as_slice())?;
-    let Played { steps, differences } = play(alloc, script, &mut Tables)?;
-    println!(rt; "{differences}{steps} steps")?;
-    Ok(())
+    play_input(&rt, &mut Tables)
 }

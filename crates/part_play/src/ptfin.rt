@@ -60,9 +60,7 @@ pub(crate) fn put_sysmod(spelled: &mut RowText, sysmod: &Sysmod) {
 fn put_assign(spelled: &mut RowText, assign: &Assign) {
     spelled.put(b"ASSIGN");
     spelled.put_words(&[assign.source.as_bytes()]);
-    for id in assign.to.iter() {
-        spelled.put_words(&[id.as_bytes()]);
-    }
+    spelled.put_each(assign.to.as_slice());
 }
 
 fn put_items(spelled: &mut RowText, items: &[Item]) {

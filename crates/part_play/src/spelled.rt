@@ -1,19 +1,23 @@
 //! What is read, as text.
 
-use fields::IdList;
+use fields::{Id, IdList};
 use itoa::Buffer;
 
-/// A text of up to 480 bytes. It drops what does not fit.
+/// How many bytes of a text are kept.
+const MOST_BYTES: usize = 480;
+
+/// The beginning of a text. It drops what does not fit.
 #[derive(Clone, Copy)]
 pub(crate) struct RowText {
-    bytes: [u8; 480],
+    bytes: [u8; MOST_BYTES],
+    /// How many of the bytes are the text.
     len: usize,
 }
 
 impl RowText {
     pub(crate) fn new() -> RowText {
         RowText {
-            bytes: [0; 480],
+            bytes: [0; MOST_BYTES],
             len: 0,
         }
     }
@@ -27,7 +31,7 @@ impl RowText {
         }
     }
 
-    /// Each word after a blank.
+    /// Appends each word after a blank.
     pub(crate) fn put_words(&mut self, words: &[&[u8]]) {
         for word in words {
             self.put(b" ");
@@ -39,14 +43,21 @@ impl RowText {
         self.put(Buffer::new().format(number).as_bytes());
     }
 
-    /// The word, if it is so.
-    pub(crate) fn put_flag(&mut self, is_so: bool, word: &[u8]) {
+    /// Appends the word, if it is so.
+    pub(crate) fn put_if(&mut self, is_so: bool, word: &[u8]) {
         if is_so {
             self.put(word);
         }
     }
 
-    /// The ids in parentheses after the name, if there are any.
+    /// Appends each id after a blank.
+    pub(crate) fn put_each(&mut self, ids: &[Id]) {
+        for id in ids {
+            self.put_words(&[id.as_bytes()]);
+        }
+    }
+
+    /// Appends the ids in parentheses after the name, if there are any.
     pub(crate) fn put_ids(&mut self, name: &[u8], ids: &IdList) {
         if ids.is_empty() {
             return;
@@ -61,9 +72,8 @@ impl RowText {
     }
 
     pub(crate) fn text(&self) -> &str {
-        match self.bytes.split_at_checked(self.len) {
-            Some((text, _)) => std::str::from_utf8(text).unwrap_or("no text"),
-            None => "too long",
-        }
+        // (`len` is never more than the array has)
+        let text = self.bytes.get(..self.len).unwrap_or(self.bytes.as_slice());
+        std::str::from_utf8(text).unwrap_or("not UTF-8")
     }
 }

@@ -2,8 +2,9 @@
 
 use crate::ptfin::put_sysmod;
 use crate::spelled::RowText;
+use crate::values::read_id;
 use fields::spelling::read_type;
-use fields::{Id, Name, Source, Srel};
+use fields::{Name, Source, Srel};
 use mcs::{Item, read_ptfin};
 use std::alloc::Global;
 use std::test::Fail;
@@ -13,21 +14,12 @@ use sysmods_values::{Sysmod, Ver};
 /// named part of the second one.
 pub(crate) fn read_sysmod(alloc: Global, file: &[u8], text: &str) -> Result<RowText, Fail> {
     let (mut fix, mut other) = last_two_sysmods(alloc, file)?;
-    spell_sysmod(alloc, &mut fix, &mut other, text)
-}
-
-fn spell_sysmod(
-    alloc: Global,
-    fix: &mut Sysmod,
-    other: &mut Sysmod,
-    text: &str,
-) -> Result<RowText, Fail> {
     let mut spelled = RowText::new();
     match text.split_once(' ') {
-        Some((word, names)) => ask(alloc, fix, word, names, &mut spelled)?,
+        Some((word, names)) => ask(alloc, &fix, word, names, &mut spelled)?,
         None => {
-            grow(alloc, fix, other, text, &mut spelled)?;
-            put_sysmod(&mut spelled, fix);
+            grow(alloc, &mut fix, &mut other, text, &mut spelled)?;
+            put_sysmod(&mut spelled, &fix);
         }
     }
     Ok(spelled)
@@ -43,26 +35,29 @@ fn last_two_sysmods(alloc: Global, file: &[u8]) -> Result<(Sysmod, Sysmod), Fail
     }
 }
 
-// The last `++VER` of the SYSMOD, which loses it.
-fn take_ver(other: &mut Sysmod) -> Result<Ver, &'static str> {
+// Removes the last `++VER` of the SYSMOD.
+fn remove_ver(other: &mut Sysmod) -> Result<Ver, &'static str> {
     other.vers.pop().ok_or("no ++VER")
 }
 
-fn put_if(fix: &mut Sysmod, mut ver: Ver) -> Result<(), Fail> {
+// Inserts the last `++IF` of a `++VER` into the first one of the SYSMOD.
+fn insert_if(fix: &mut Sysmod, mut ver: Ver) -> Result<(), Fail> {
     match ver.ifs.pop() {
         Some(condition) => Ok(fix.push_if(0, condition)?),
         None => Err(Fail::from("no ++IF")),
     }
 }
 
-fn put_element(fix: &mut Sysmod, other: &mut Sysmod) -> Result<(), Fail> {
+// Moves the last element statement of the other SYSMOD into this one.
+fn move_element(fix: &mut Sysmod, other: &mut Sysmod) -> Result<(), Fail> {
     match other.changes.pop() {
         Some(change) => Ok(fix.insert_change(change)?),
         None => Err(Fail::from("no element")),
     }
 }
 
-// Puts a part of the other SYSMOD into this one, and spells what the call returns.
+// Adds a part of the other SYSMOD to this one, or removes its holds for any other word, and spells what the call
+// returns.
 fn grow(
     alloc: Global,
     fix: &mut Sysmod,
@@ -71,9 +66,9 @@ fn grow(
     spelled: &mut RowText,
 ) -> Result<(), Fail> {
     match part.as_bytes() {
-        b"VER" => spelled.put_number(fix.insert_ver(take_ver(other)?)?),
-        b"IF" => put_if(fix, take_ver(other)?)?,
-        b"ELEMENT" => put_element(fix, other)?,
+        b"VER" => spelled.put_number(fix.insert_ver(remove_ver(other)?)?),
+        b"IF" => insert_if(fix, remove_ver(other)?)?,
+        b"ELEMENT" => move_element(fix, other)?,
         b"SOURCE" => {
             fix.insert_source(Source::read(b"RSU2404").ok_or("no source")?)?;
             spelled.put_number(fix.sources.len());
@@ -84,6 +79,7 @@ fn grow(
     Ok(())
 }
 
+// Spells whether the SYSMOD names an id or has an element statement, or which ids it names.
 fn ask(
     alloc: Global,
     fix: &Sysmod,
@@ -93,22 +89,21 @@ fn ask(
 ) -> Result<(), Fail> {
     match word.as_bytes() {
         b"NAMES" => {
-            let id = Id::read(names.as_bytes()).ok_or("no id")?;
-            spelled.put_flag(fix.names(id), b" names");
-            spelled.put_flag(fix.names_function(id), b" as function");
-            spelled.put_flag(fix.supersedes(id), b" supersedes");
+            let id = read_id(names)?;
+            spelled.put_if(fix.names(id), b" names");
+            spelled.put_if(fix.names_function(id), b" as function");
+            spelled.put_if(fix.supersedes(id), b" supersedes");
         }
         b"NAMED" => return put_named(alloc, fix, names, spelled),
         b"FOR" => {
             let (srel, id) = names.split_once(' ').ok_or("no id")?;
             let srel = Srel::read(srel.as_bytes()).ok_or("no SREL")?;
-            let id = Id::read(id.as_bytes()).ok_or("no id")?;
-            spelled.put_flag(fix.names_for(srel, id), b"names");
+            spelled.put_if(fix.names_for(srel, read_id(id)?), b"names");
         }
         _ => {
             let elem_type = read_type(word.as_bytes()).ok_or("no type")?;
             let name = Name::read(names.as_bytes()).ok_or("no name")?;
-            spelled.put_flag(fix.has_change(elem_type, name), b"has");
+            spelled.put_if(fix.has_change(elem_type, name), b"has");
         }
     }
     Ok(())
@@ -119,8 +114,6 @@ fn put_named(alloc: Global, fix: &Sysmod, srel: &str, spelled: &mut RowText) -> 
     let srel = Srel::read(srel.as_bytes()).ok_or("no SREL")?;
     let mut found = Vec::new(alloc);
     fix.append_named(srel, &mut found)?;
-    for id in found.iter() {
-        spelled.put_words(&[id.as_bytes()]);
-    }
+    spelled.put_each(found.as_slice());
     Ok(())
 }

@@ -4,6 +4,7 @@
 use crate::rules::grown;
 use crate::spelled::RowText;
 use itoa::Buffer;
+use scripts::split_at_first;
 use solve::{Kept, Need, Solver, Sweep, System, SystemError, Worklist, causers};
 use std::alloc::Global;
 use std::test::Fail;
@@ -47,65 +48,71 @@ pub(crate) fn numbers_of(alloc: Global, text: &str) -> Result<Vec<u32>, Fail> {
     Ok(numbers)
 }
 
-// The text before the first blank, and the text after it; all of it and nothing if it has none.
-fn split_at_blank(text: &str) -> (&str, &str) {
-    match text.split_once(' ') {
-        Some((before, after)) => (before, after),
-        None => (text, ""),
-    }
-}
-
-fn need_of(alloc: Global, word: &str) -> Result<(u32, Vec<u32>), Fail> {
+// The need, as `0<1,2`.
+fn need_of(alloc: Global, word: &str) -> Result<Need, Fail> {
     let (of, any) = word.split_once('<').ok_or("no need")?;
-    Ok((of.parse::<u32>()?, numbers_of(alloc, any)?))
+    let of: u32 = of.parse()?;
+    let any = numbers_of(alloc, any)?;
+    Ok(Need { of, any })
 }
 
-// Adds the need to the system, which must take it.
-fn add_need(alloc: Global, s: &mut System, of: u32, any: &[u32]) -> Result<(), Fail> {
-    if !s.admits(of, any) {
+// Adds the need, which must be about candidates of the system.
+fn add_need(system: &mut System, need: Need) -> Result<(), Fail> {
+    if !system.admits(need.of, need.any.as_slice()) {
         return Err(Fail::from("a need that is not admitted"));
     }
-    let any = any.to_vec(alloc)?;
-    s.add_need(Need { of, any })?;
-    Ok(())
+    Ok(system.add_need(need)?)
 }
 
 // The system, to which candidates and needs are added one by one.
 fn system_of(alloc: Global, text: &str) -> Result<System, Fail> {
-    let (letters, needs) = split_at_blank(text);
-    let mut s = System::new(alloc, Vec::new(alloc))?;
+    let (letters, needs) = split_at_first(text, " ");
+    let mut system = System::new(alloc, Vec::new(alloc))?;
     for letter in letters.as_bytes() {
-        s.add_candidate(*letter == b'T')?;
+        system.add_candidate(*letter == b'T')?;
     }
     for word in needs.split_whitespace() {
-        let (of, any) = need_of(alloc, word)?;
-        add_need(alloc, &mut s, of, any.as_slice())?;
+        add_need(&mut system, need_of(alloc, word)?)?;
     }
-    Ok(s)
+    Ok(system)
 }
 
 // Which candidates stay, how many strikes that takes, and the causers of each.
 fn solved(alloc: Global, text: &str) -> Result<RowText, Fail> {
-    let s = system_of(alloc, text)?;
+    let system = system_of(alloc, text)?;
     let mut spelled = RowText::new();
-    let kept = put_kept(alloc, &s, &mut spelled)?;
-    put_causers(alloc, &s, &kept, &mut spelled)?;
+    let (kept, strikes) = solve_twice(alloc, &system, &mut spelled)?;
+    put_flags(&mut spelled, kept.flags());
+    put_strikes(&mut spelled, strikes);
+    put_causers(alloc, &system, &kept, &mut spelled)?;
     Ok(spelled)
 }
 
-// Spells whom both solvers keep, and the strikes of the second one.
-fn put_kept(alloc: Global, s: &System, spelled: &mut RowText) -> Result<Kept, Fail> {
-    let swept = Sweep.greatest(alloc, s)?;
-    let (kept, count) = Worklist::count(alloc, s)?;
-    spelled.put_flag(swept.flags() != kept.flags(), b"SWEEP DIFFERS ");
-    put_flags(spelled, kept.flags());
-    spelled.put(b" ");
-    spelled.put(Buffer::new().format(count.strikes).as_bytes());
-    Ok(kept)
+// Which candidates the work list keeps, and its strikes. Spells it if the sweep keeps others.
+fn solve_twice(
+    alloc: Global,
+    system: &System,
+    spelled: &mut RowText,
+) -> Result<(Kept, u128), Fail> {
+    let swept = Sweep.greatest(alloc, system)?;
+    let (kept, count) = Worklist::count(alloc, system)?;
+    spelled.put_if(swept.flags() != kept.flags(), b"SWEEP DIFFERS ");
+    Ok((kept, count.strikes))
 }
 
-fn put_causers(alloc: Global, s: &System, kept: &Kept, spelled: &mut RowText) -> Result<(), Fail> {
-    for row in causers(alloc, s, kept)? {
+fn put_strikes(spelled: &mut RowText, strikes: u128) {
+    spelled.put(b" ");
+    spelled.put(Buffer::new().format(strikes).as_bytes());
+}
+
+// The causers of each candidate.
+fn put_causers(
+    alloc: Global,
+    system: &System,
+    kept: &Kept,
+    spelled: &mut RowText,
+) -> Result<(), Fail> {
+    for row in causers(alloc, system, kept)? {
         spelled.put(b" ");
         for causer in row.iter() {
             spelled.put_number(*causer as usize);
@@ -127,8 +134,8 @@ fn other_size(alloc: Global, text: &str) -> Result<RowText, Fail> {
     for number in 0..=kept.size() {
         spelled.put(if kept.contains(number) { b"T" } else { b"F" });
     }
-    let s = system_of(alloc, first.trim())?;
-    put_causers(alloc, &s, &kept, &mut spelled)?;
+    let system = system_of(alloc, first.trim())?;
+    put_causers(alloc, &system, &kept, &mut spelled)?;
     Ok(spelled)
 }
 
@@ -142,41 +149,40 @@ fn chain(alloc: Global, last: u32) -> Result<Vec<Need>, Fail> {
     Ok(needs)
 }
 
-// Adds these needs after those of a chain.
-fn chain_with(alloc: Global, last: u32, more: &str) -> Result<Vec<Need>, Fail> {
-    let mut needs = chain(alloc, last)?;
-    for word in more.split_whitespace() {
-        let (of, any) = need_of(alloc, word)?;
-        needs.push(Need { of, any })?;
+// Appends the needs of these words.
+fn append_needs(alloc: Global, words: &str, needs: &mut Vec<Need>) -> Result<(), Fail> {
+    for word in words.split_whitespace() {
+        needs.push(need_of(alloc, word)?)?;
     }
-    Ok(needs)
+    Ok(())
 }
 
 // How many candidates stay in a chain of so many, and how many strikes that takes. All are eligible, but the last one
 // perhaps not. It may have further needs.
 fn chained(alloc: Global, text: &str) -> Result<RowText, Fail> {
-    let (last, more) = split_at_blank(text);
-    let (letter, more) = split_at_blank(more);
+    let (last, more) = split_at_first(text, " ");
+    let (letter, more) = split_at_first(more, " ");
     let last: u32 = last.parse()?;
     let mut eligible = vec![in alloc; true; last as usize]?;
     eligible.push(letter == "T")?;
-    let s = System::from_needs(eligible, chain_with(alloc, last, more)?)?;
-    let (kept, count) = Worklist::count(alloc, &s)?;
-    let swept = Sweep.greatest(alloc, &s)?;
+    let mut needs = chain(alloc, last)?;
+    append_needs(alloc, more, &mut needs)?;
+    let system = System::from_needs(eligible, needs)?;
     let mut spelled = RowText::new();
-    spelled.put_flag(swept.flags() != kept.flags(), b"SWEEP DIFFERS ");
+    let (kept, strikes) = solve_twice(alloc, &system, &mut spelled)?;
     spelled.put_number(kept.flags().iter().filter(|flag| **flag).count());
-    spelled.put(b" ");
-    spelled.put(Buffer::new().format(count.strikes).as_bytes());
+    put_strikes(&mut spelled, strikes);
     Ok(spelled)
 }
 
 // How many needs the system has that is made of them, or why it is not made.
 fn need_count(alloc: Global, text: &str) -> Result<RowText, Fail> {
-    let (letters, needs) = split_at_blank(text);
+    let (letters, words) = split_at_first(text, " ");
+    let mut needs = Vec::new(alloc);
+    append_needs(alloc, words, &mut needs)?;
     let mut spelled = RowText::new();
-    match System::from_needs(flags_of(alloc, letters)?, chain_with(alloc, 0, needs)?) {
-        Ok(s) => spelled.put_number(s.needs().len()),
+    match System::from_needs(flags_of(alloc, letters)?, needs) {
+        Ok(system) => spelled.put_number(system.needs().len()),
         Err(SystemError::BadNeed) => spelled.put(b"bad need"),
         Err(error) => return Err(Fail::from(error)),
     }

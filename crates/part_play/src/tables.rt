@@ -12,7 +12,7 @@ use scripts::{Performs, ScriptStep, card_file};
 use std::alloc::Global;
 use std::test::Fail;
 
-/// Plays tables. Nothing is left of a step.
+/// Plays tables. Each step begins anew.
 #[derive(Drop)]
 pub(crate) struct Tables;
 
@@ -34,8 +34,15 @@ impl Performs for Tables {
             return read_cut(alloc, name, file.as_slice(), printed);
         }
         let front = joined(alloc, step.part("AFTER"))?;
-        let front = front.as_str();
-        put_differences(alloc, Reader { kind, name, front }, rows.as_str(), printed)
+        let table = Table {
+            kind,
+            name,
+            front: front.as_str(),
+        };
+        for row in rows.as_str().lines() {
+            table.put_differences(alloc, row, printed)?;
+        }
+        Ok(())
     }
 }
 
@@ -44,71 +51,56 @@ fn joined(alloc: Global, text: &str) -> Result<String, Fail> {
     Ok(text.replace(alloc, "\\\n", "")?)
 }
 
-// A file of these cards, with a bar between two.
+// The file of these cards, which are lines or have a bar between two.
 fn file_of(alloc: Global, cards: &str) -> Result<Vec<u8>, Fail> {
     let lines = cards.replace(alloc, '|', "\n")?;
     card_file(alloc, lines.as_str())
 }
 
-/// What reads the rows of a table.
+/// What the rows of a table are, and how they are read.
 #[derive(Clone, Copy)]
-struct Reader<'a> {
+struct Table<'a> {
     kind: &'a str,
     name: &'a str,
-    /// What precedes each row.
+    /// The cards before those of each row.
     front: &'a str,
 }
 
-// Appends a line for each text of a row that is read otherwise.
-fn put_differences(
-    alloc: Global,
-    reader: Reader<'_>,
-    rows: &str,
-    printed: &mut Vec<u8>,
-) -> Result<(), Fail> {
-    for row in rows.lines() {
+impl Table<'_> {
+    // Appends a line for each text of the row that is read otherwise than the row says.
+    fn put_differences(self, alloc: Global, row: &str, printed: &mut Vec<u8>) -> Result<(), Fail> {
         let (texts, wanted) = row.split_once(" =>").ok_or("no arrow in a row")?;
         for text in texts.split(';') {
-            put_difference(alloc, reader, text, wanted.trim(), printed)?;
+            let spelled = self.read(alloc, text)?;
+            let got = spelled.text().trim();
+            if got != wanted.trim() {
+                let line = format!(in alloc; "{text} => {got}\n")?;
+                printed.extend_from_slice(line.as_bytes())?;
+            }
+        }
+        Ok(())
+    }
+
+    // What is made of a text of a row.
+    fn read(self, alloc: Global, text: &str) -> Result<RowText, Fail> {
+        let Table { kind, name, front } = self;
+        match kind.as_bytes() {
+            b"VALUES" => read_value(alloc, name, text),
+            b"SYSTEMS" => read_system(alloc, name, text),
+            b"FILES" => {
+                let cards = format!(in alloc; "{front}{text}")?;
+                let file = file_of(alloc, cards.as_str())?;
+                read_file(alloc, name, file.as_slice())
+            }
+            _ => {
+                let file = file_of(alloc, front)?;
+                read_beside(alloc, name, file.as_slice(), text)
+            }
         }
     }
-    Ok(())
 }
 
-fn put_difference(
-    alloc: Global,
-    reader: Reader<'_>,
-    text: &str,
-    wanted: &str,
-    printed: &mut Vec<u8>,
-) -> Result<(), Fail> {
-    let spelled = read(alloc, reader, text)?;
-    let got = spelled.text().trim();
-    if got != wanted {
-        let line = format!(in alloc; "{text} => {got}\n")?;
-        printed.extend_from_slice(line.as_bytes())?;
-    }
-    Ok(())
-}
-
-fn read(alloc: Global, reader: Reader<'_>, text: &str) -> Result<RowText, Fail> {
-    let Reader { kind, name, front } = reader;
-    if kind == "VALUES" {
-        return read_value(alloc, name, text);
-    }
-    if kind == "SYSTEMS" {
-        return read_system(alloc, name, text);
-    }
-    if kind == "FILES" {
-        let whole = format!(in alloc; "{front}{text}")?;
-        let file = file_of(alloc, whole.as_str())?;
-        return read_file(alloc, name, file.as_slice());
-    }
-    let file = file_of(alloc, front)?;
-    read_beside(alloc, name, file.as_slice(), text)
-}
-
-// What is found in the file that stands in front of the table.
+// What is made of the text together with the file that precedes the table.
 fn read_beside(alloc: Global, name: &str, file: &[u8], text: &str) -> Result<RowText, Fail> {
     match name.as_bytes() {
         b"OPERAND" => operand_text(alloc, file, text.as_bytes()),

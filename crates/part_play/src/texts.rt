@@ -6,9 +6,18 @@ use std::test::Fail;
 use terms::{TextCode, TextFault};
 use text80::{Line, Numbered, TextError, Update, bytes_of, lines_of, merge};
 
+/// The bytes of a record.
+const RECORD: usize = 80;
+
+/// The bytes of a record before its number.
+const COLUMNS: usize = 72;
+
+/// The element of all updates.
+const ELEMENT: &[u8] = b"M1";
+
 // The records of the file.
 fn lines_in(alloc: Global, file: &[u8]) -> Result<Vec<Line>, Fail> {
-    if file.len() % 80 == 0 {
+    if file.len() % RECORD == 0 {
         return Ok(lines_of(alloc, file)?);
     }
     Err(Fail::from("no whole records"))
@@ -36,10 +45,10 @@ pub(crate) fn text_size(alloc: Global, file: &[u8]) -> Result<RowText, Fail> {
     Ok(spelled)
 }
 
-/// The number of records of the update of M1, or its fault.
+/// The number of records of the update, or its fault.
 pub(crate) fn update_size(alloc: Global, file: &[u8]) -> Result<RowText, Fail> {
     let mut spelled = RowText::new();
-    match Update::read(alloc, lines_in(alloc, file)?, b"M1") {
+    match Update::read(alloc, lines_in(alloc, file)?, ELEMENT) {
         Ok(update) => spelled.put_number(update.records().len()),
         Err(TextError::Fault(fault)) => put_fault(&mut spelled, fault),
         Err(TextError::Memory) => return Err(Fail::from("out of memory")),
@@ -47,14 +56,10 @@ pub(crate) fn update_size(alloc: Global, file: &[u8]) -> Result<RowText, Fail> {
     Ok(spelled)
 }
 
-fn update_copy(alloc: Global, file: &[u8]) -> Result<Update, Fail> {
-    let update = Update::read(alloc, lines_in(alloc, file)?, b"M1")?;
-    Ok(update.clone()?)
-}
-
 /// How many records a copy of the update has, and how many of them it gives.
 pub(crate) fn copy_sizes(alloc: Global, file: &[u8]) -> Result<RowText, Fail> {
-    let update = update_copy(alloc, file)?;
+    let original = Update::read(alloc, lines_in(alloc, file)?, ELEMENT)?;
+    let update = original.clone()?;
     let mut spelled = RowText::new();
     spelled.put_number(update.records().len());
     spelled.put(b" ");
@@ -62,21 +67,15 @@ pub(crate) fn copy_sizes(alloc: Global, file: &[u8]) -> Result<RowText, Fail> {
     Ok(spelled)
 }
 
-// What the update makes of the text.
-fn merge_of(alloc: Global, text: &[u8], update: &[u8]) -> Result<Numbered, Fail> {
-    let old = Numbered::read(lines_in(alloc, text)?)?;
-    let update = Update::read(alloc, lines_in(alloc, update)?, b"M1")?;
-    Ok(merge(alloc, &old, &update)?)
-}
-
-/// The columns of each record of what the update makes of the text, up to 72 without the blanks at their end and then
-/// its number.
+/// Each record of what the update makes of the text: its columns without the blanks at their end, and its number.
 pub(crate) fn merged_text(alloc: Global, text: &[u8], update: &[u8]) -> Result<RowText, Fail> {
-    let merged = merge_of(alloc, text, update)?;
+    let old = Numbered::read(lines_in(alloc, text)?)?;
+    let update = Update::read(alloc, lines_in(alloc, update)?, ELEMENT)?;
+    let merged = merge(alloc, &old, &update)?;
     let bytes = bytes_of(alloc, merged.lines())?;
     let mut spelled = RowText::new();
-    for record in bytes.chunks(80) {
-        if let Some((columns, number)) = record.split_at_checked(72) {
+    for record in bytes.chunks(RECORD) {
+        if let Some((columns, number)) = record.split_at_checked(COLUMNS) {
             spelled.put_words(&[columns.trim_ascii_end(), number]);
         }
     }

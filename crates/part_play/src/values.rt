@@ -13,16 +13,21 @@ pub(crate) fn read_value(alloc: Global, name: &str, text: &str) -> Result<RowTex
     match name.as_bytes() {
         b"FIELD" => Ok(fields_of(text)),
         b"DATE" => Ok(date_of(text)),
-        b"RISING" => rising(alloc, text),
-        b"SORTED" => sorted(alloc, text),
-        b"LISTS" => lists(alloc),
-        b"BYTES" => bytes_read(text),
+        b"RISING" => changed_list(alloc, text),
+        b"SORTED" => sorted_ids(alloc, text),
+        b"LISTS" => lists_by_key(alloc),
+        b"BYTES" => record_count(text),
         _ => Err(Fail::from("no value has this name")),
     }
 }
 
-// Whether the letter's field has this text.
-fn is_field(letter: u8, text: &[u8]) -> bool {
+/// The id with this text.
+pub(crate) fn read_id(text: &str) -> Result<Id, &'static str> {
+    Id::read(text.as_bytes()).ok_or("no id")
+}
+
+// Whether the field of this letter may have this text.
+fn takes_text(letter: u8, text: &[u8]) -> bool {
     match letter {
         b'I' => Id::read(text).is_some(),
         b'S' => Source::read(text).is_some(),
@@ -36,10 +41,11 @@ fn is_field(letter: u8, text: &[u8]) -> bool {
     }
 }
 
+// The letters of the fields that may have this text.
 fn fields_of(text: &str) -> RowText {
     let mut spelled = RowText::new();
     for letter in b"ISCRNZLHD" {
-        if is_field(*letter, text.as_bytes()) {
+        if takes_text(*letter, text.as_bytes()) {
             spelled.put(&[*letter]);
         }
     }
@@ -57,10 +63,10 @@ fn date_of(text: &str) -> RowText {
     spelled
 }
 
-// Puts an id in (`+`), at the end (`>`), or takes it out (`-`), or asks for it (`?`).
-fn rise(list: &mut IdList, word: &str) -> Result<bool, Fail> {
+// Inserts an id (`+`), appends it (`>`), removes it (`-`), or asks for it (`?`), and returns what the call does.
+fn change_list(list: &mut IdList, word: &str) -> Result<bool, Fail> {
     let (sign, id) = word.split_at_checked(1).ok_or("no sign")?;
-    let id = Id::read(id.as_bytes()).ok_or("no id")?;
+    let id = read_id(id)?;
     Ok(match sign.as_bytes() {
         b"+" => list.insert(id)?,
         b">" => list.push_last(id)?,
@@ -70,22 +76,22 @@ fn rise(list: &mut IdList, word: &str) -> Result<bool, Fail> {
 }
 
 // A letter for what each of these calls returns, and then a copy of the list.
-fn rising(alloc: Global, text: &str) -> Result<RowText, Fail> {
+fn changed_list(alloc: Global, text: &str) -> Result<RowText, Fail> {
     let mut list = IdList::new(alloc);
     let mut spelled = RowText::new();
     for word in text.split_whitespace() {
-        let is_so = rise(&mut list, word)?;
+        let is_so = change_list(&mut list, word)?;
         spelled.put(if is_so { b"T" } else { b"F" });
     }
     spelled.put_ids(b" ", &list.try_clone(alloc)?);
     Ok(spelled)
 }
 
-// The list of ids in any order.
-fn sorted(alloc: Global, text: &str) -> Result<RowText, Fail> {
+// The rising list of ids that are given in any order.
+fn sorted_ids(alloc: Global, text: &str) -> Result<RowText, Fail> {
     let mut ids: Vec<Id> = Vec::new(alloc);
     for word in text.split_whitespace() {
-        ids.push(Id::read(word.as_bytes()).ok_or("no id")?)?;
+        ids.push(read_id(word)?)?;
     }
     let mut spelled = RowText::new();
     spelled.put_ids(b"", &Rising::from_vec(ids));
@@ -93,7 +99,7 @@ fn sorted(alloc: Global, text: &str) -> Result<RowText, Fail> {
 }
 
 // The values under the keys 1, 2 and 3, once 7 is under 2, and 9 under 1 and 2.
-fn lists(alloc: Global) -> Result<RowText, Fail> {
+fn lists_by_key(alloc: Global) -> Result<RowText, Fail> {
     let mut lists: Lists<u32, usize> = BTreeMap::new(alloc);
     add(alloc, &mut lists, 2, 7)?;
     add_to_all(alloc, &mut lists, &[1, 2], 9)?;
@@ -109,7 +115,7 @@ fn lists(alloc: Global) -> Result<RowText, Fail> {
 
 // How many records a file of so many bytes has, all blank but one, which is given by its place and its value, or why
 // it has none.
-fn bytes_read(text: &str) -> Result<RowText, Fail> {
+fn record_count(text: &str) -> Result<RowText, Fail> {
     let mut numbers = text.split_whitespace();
     let size: usize = numbers.next().unwrap_or("").parse()?;
     let place: usize = numbers.next().unwrap_or("").parse()?;

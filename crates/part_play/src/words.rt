@@ -3,10 +3,13 @@
 use crate::spelled::RowText;
 use rec80::{Commands, Group, Groups, Piece, Record, Records, StmtError, Text, Words, statement};
 
+/// How many members, words, statements, commands or pieces of one text are spelled.
+const MOST_ITEMS: usize = 9;
+
 // Each member with its own list in parentheses and a semicolon; a `?` for anything else.
 fn put_members(spelled: &mut RowText, list: &Text<'_>) {
     let mut members = list.members();
-    for _ in 0..9 {
+    for _ in 0..MOST_ITEMS {
         match members.next_member() {
             Ok(Some(member)) => {
                 spelled.put(member.word);
@@ -25,7 +28,7 @@ fn put_members(spelled: &mut RowText, list: &Text<'_>) {
 
 // Each word with its members in parentheses and a blank; a `?` for anything else.
 fn put_words(spelled: &mut RowText, mut words: Words<'_>) {
-    for _ in 0..9 {
+    for _ in 0..MOST_ITEMS {
         match words.next_word() {
             Ok(Some(word)) => {
                 spelled.put(word.word);
@@ -65,8 +68,9 @@ pub(crate) fn statement_text(found: Records<'_>) -> RowText {
     spelled
 }
 
+// The number of records of each statement.
 fn put_groups(spelled: &mut RowText, mut groups: Groups<'_>) {
-    for _ in 0..9 {
+    for _ in 0..MOST_ITEMS {
         if let Some(group) = groups.next_group() {
             spelled.put_number(group.records.len());
         }
@@ -83,8 +87,9 @@ pub(crate) fn group_sizes(found: Records<'_>) -> RowText {
     spelled
 }
 
+// The words of each command after the number of its record, up to the first fault.
 fn put_commands(spelled: &mut RowText, mut commands: Commands<'_>) {
-    for _ in 0..9 {
+    for _ in 0..MOST_ITEMS {
         match commands.next_command() {
             Ok(Some(command)) => {
                 spelled.put_number(command.number);
@@ -110,7 +115,7 @@ pub(crate) fn words_of_commands(found: Records<'_>) -> RowText {
 
 // A letter for each piece, and the characters that belong to no word.
 fn put_pieces(spelled: &mut RowText, mut words: Words<'_>) {
-    for _ in 0..9 {
+    for _ in 0..MOST_ITEMS {
         match words.next_piece() {
             Some(Piece::Word(_)) => spelled.put(b"W"),
             Some(Piece::List(_)) => spelled.put(b"L"),
@@ -129,7 +134,8 @@ pub(crate) fn pieces_of(found: Records<'_>) -> RowText {
     spelled
 }
 
-// The lines of the list of the statement's first word, and the first byte of the last one, if there are any.
+// The first two lines of the list of the statement's first word, and the first byte of the second one. `None` after as
+// many of them as there are.
 fn put_lines(spelled: &mut RowText, records: &[Record]) -> Option<()> {
     let mut words = statement(&Group { number: 1, records }).ok()?;
     let text = words.next_word().ok()??.list?;
@@ -142,9 +148,9 @@ fn put_lines(spelled: &mut RowText, records: &[Record]) -> Option<()> {
     Some(())
 }
 
-/// The lines of the list of the statement's first word.
+/// The first two lines of the list of the statement's first word, as far as there are any.
 pub(crate) fn lines_of_list(found: Records<'_>) -> RowText {
     let mut spelled = RowText::new();
-    let _found = put_lines(&mut spelled, found.all);
+    let _ = put_lines(&mut spelled, found.all);
     spelled
 }

@@ -3,16 +3,22 @@
 use std::alloc::Global;
 use std::test::Fail;
 
-// A card with this text; a tab leads to column 73.
-fn card(text: &str) -> [u8; 80] {
-    let mut card = [b' '; 80];
-    let mut column: usize = 0;
-    for letter in text.as_bytes() {
-        if *letter == b'\t' {
-            column = 72;
-        } else if let Some(place) = card.get_mut(column) {
-            *place = *letter;
-            column = column.saturating_add(1);
+/// The bytes of a card.
+const CARD: usize = 80;
+
+/// The bytes of a card before column 73.
+const COLUMNS: usize = 72;
+
+// A card with this text, as far as that has room; a tab leads to column 73.
+fn card(text: &str) -> [u8; CARD] {
+    let mut card = [b' '; CARD];
+    let mut place: usize = 0;
+    for byte in text.as_bytes() {
+        if *byte == b'\t' {
+            place = COLUMNS;
+        } else if let Some(column) = card.get_mut(place) {
+            *column = *byte;
+            place = place.saturating_add(1);
         }
     }
     card

@@ -2,29 +2,47 @@
 
 use std::test::Fail;
 
-/// The number of the first line in which two texts differ, and the line of each. After the end of one there is no line.
-pub fn first_difference<'a>(
-    got: &'a str,
-    wanted: &'a str,
-) -> (usize, Option<&'a str>, Option<&'a str>) {
+/// A line in which two texts differ. After the end of a text it has no line.
+#[derive(Clone, Copy)]
+pub struct Difference<'a> {
+    /// The number of the line, counted from 1.
+    pub number: usize,
+    pub got: Option<&'a str>,
+    pub wanted: Option<&'a str>,
+}
+
+/// The first line in which two texts differ.
+pub fn first_difference<'a>(got: &'a str, wanted: &'a str) -> Difference<'a> {
     let mut number: usize = 1;
     let mut wanted_lines = wanted.split('\n');
     for line in got.split('\n') {
         let other = wanted_lines.next();
         if other != Some(line) {
-            return (number, Some(line), other);
+            return Difference {
+                number,
+                got: Some(line),
+                wanted: other,
+            };
         }
         number = number.saturating_add(1);
     }
-    (number, None, wanted_lines.next())
+    Difference {
+        number,
+        got: None,
+        wanted: wanted_lines.next(),
+    }
 }
 
-/// A failure with this name and the first lines that differ, if the two texts differ.
+/// Returns a failure with this name and the first lines that differ, if the two texts differ.
 pub fn compare(name: &str, got: &[u8], wanted: &str) -> Result<(), Fail> {
     if got == wanted.as_bytes() {
         return Ok(());
     }
     let got = std::str::from_utf8(got)?;
-    let (number, got, wanted) = first_difference(got, wanted);
+    let Difference {
+        number,
+        got,
+        wanted,
+    } = first_difference(got, wanted);
     Err(Fail::new(format_args!("{name}: line {number}: got {got:?}, wanted {wanted:?}")))
 }

@@ -12,6 +12,6 @@ mod playing;
 mod step;
 
 pub use cards::{card_file, put_cards};
-pub use compared::{compare, first_difference};
-pub use playing::{Performs, Played, play};
-pub use step::ScriptStep;
+pub use compared::{Difference, compare, first_difference};
+pub use playing::{Performs, Played, play, play_input};
+pub use step::{ScriptStep, split_at_first};

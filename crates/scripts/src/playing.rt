@@ -1,8 +1,9 @@
 //! Playing scripts.
 
-use crate::compared::first_difference;
+use crate::compared::{Difference, first_difference};
 use crate::step::ScriptStep;
 use std::alloc::Global;
+use std::io::Read;
 use std::test::Fail;
 
 /// What performs the steps of a script.
@@ -26,6 +27,17 @@ pub struct Played {
     pub differences: String,
 }
 
+/// Plays the script that standard input has, and prints its differences and how many steps it has.
+pub fn play_input<P: Performs>(rt: &HostRuntime, performer: &mut P) -> Result<(), Fail> {
+    let alloc = rt.alloc();
+    let mut script = Vec::new(alloc);
+    rt.reader().read_to_end(&mut script)?;
+    let script = std::str::from_utf8(script.as_slice())?;
+    let Played { steps, differences } = play(alloc, script, performer)?;
+    println!(rt; "{differences}{steps} steps")?;
+    Ok(())
+}
+
 /// Plays the cases of a script.
 pub fn play<P: Performs>(alloc: Global, script: &str, performer: &mut P) -> Result<Played, Fail> {
     let mut played = Played {
@@ -40,6 +52,7 @@ pub fn play<P: Performs>(alloc: Global, script: &str, performer: &mut P) -> Resu
     Ok(played)
 }
 
+// Plays the steps of a case, of which the first line says what it shows.
 fn play_case<P: Performs>(
     alloc: Global,
     case: &str,
@@ -55,6 +68,7 @@ fn play_case<P: Performs>(
     Ok(())
 }
 
+// Plays a step, and counts it.
 fn play_step<P: Performs>(
     alloc: Global,
     shows: &str,
@@ -66,11 +80,11 @@ fn play_step<P: Performs>(
     performer.perform(alloc, step, &mut printed)?;
     played.steps = played.steps.saturating_add(1);
     let printed = std::str::from_utf8(printed.as_slice())?;
-    put_difference(alloc, shows, step, printed, &mut played.differences)
+    append_difference(alloc, shows, step, printed, &mut played.differences)
 }
 
-// Appends a line, unless this is what the step must print.
-fn put_difference(
+// Appends a line that says where they differ, unless this is what the step must print.
+fn append_difference(
     alloc: Global,
     shows: &str,
     step: ScriptStep<'_>,
@@ -82,7 +96,11 @@ fn put_difference(
         return Ok(());
     }
     let head = step.head();
-    let (number, got, wanted) = first_difference(printed, wanted);
+    let Difference {
+        number,
+        got,
+        wanted,
+    } = first_difference(printed, wanted);
     let line = format!(in alloc;
         "{shows}: {head}: line {number}: got {got:?}, wanted {wanted:?}\n"
     )?;

@@ -9,45 +9,33 @@ pub struct ScriptStep<'a> {
 impl<'a> ScriptStep<'a> {
     /// What is done, as its first line says it.
     pub fn head(&self) -> &'a str {
-        let (head, _) = cut(self.text);
+        let (head, _) = split_at_first(self.text, "\n");
         head
     }
 
-    /// The lines below the first one, up to the first part.
+    /// The lines below the first one, up to the first part, without blank ones at the end.
     pub fn cards(&self) -> &'a str {
-        let (cards, _) = first_part(self.text);
-        let (_, lines) = cut(cards);
-        without_end(lines)
+        let (before_parts, _) = split_at_first(self.text, "\n= ");
+        let (_, lines) = split_at_first(before_parts, "\n");
+        lines.trim_end_matches('\n')
     }
 
     /// The lines of the part with this name, without blank ones at the end; none if there is no such part.
     pub fn part(&self, name: &str) -> &'a str {
         for part in self.text.split("\n= ") {
-            let (head, lines) = cut(part);
+            let (head, lines) = split_at_first(part, "\n");
             if head == name {
-                return without_end(lines);
+                return lines.trim_end_matches('\n');
             }
         }
         ""
     }
 }
 
-// The first line, and the others.
-fn cut<'a>(text: &'a str) -> (&'a str, &'a str) {
-    match text.split_once('\n') {
-        Some((first, others)) => (first, others),
+/// The text before the first separator, and the text after it; all of it and nothing if it has none.
+pub fn split_at_first<'a>(text: &'a str, separator: &str) -> (&'a str, &'a str) {
+    match text.split_once(separator) {
+        Some((before, after)) => (before, after),
         None => (text, ""),
     }
-}
-
-fn first_part<'a>(text: &'a str) -> (&'a str, &'a str) {
-    match text.split_once("\n= ") {
-        Some((first, others)) => (first, others),
-        None => (text, ""),
-    }
-}
-
-// The lines without the empty ones at their end.
-fn without_end(lines: &str) -> &str {
-    lines.trim_end_matches('\n')
 }

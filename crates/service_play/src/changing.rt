@@ -28,16 +28,6 @@ pub(crate) fn change(
 ) -> Result<(), Fail> {
     let ZoneChange { word, delta, lines } = changed(alloc, shop, command)?;
     put_report(word, lines, printed)?;
-    Ok(put_zone_of(alloc, shop, word, &delta)?)
-}
-
-// Puts the zone of the command as the delta changes it.
-fn put_zone_of(
-    alloc: Global,
-    shop: &mut Shop,
-    word: CommandWord,
-    delta: &ZoneDelta,
-) -> Result<(), AllocError> {
     if is_accept(word) {
         shop.distribution = delta.apply(alloc, &shop.distribution)?;
     } else {
@@ -46,12 +36,13 @@ fn put_zone_of(
     Ok(())
 }
 
+// Whether the command changes the distribution zone, and not the target zone.
 fn is_accept(word: CommandWord) -> bool {
     matches!(word, CommandWord::Accept)
 }
 
-/// What the command changes, and its zone as it is changed, which is made beside the old one.
-pub(crate) fn differ(
+/// Prints what the command would change, and the zone that it would leave. The zone remains as it is.
+pub(crate) fn preview(
     alloc: Global,
     shop: &Shop,
     command: &Command,
@@ -64,35 +55,36 @@ pub(crate) fn differ(
     put_delta(alloc, b"TGT1", &shop.target, &delta, printed)
 }
 
+// What the command changes in the zones as they are.
 fn changed(alloc: Global, shop: &Shop, command: &Command) -> Result<ZoneChange, Fail> {
     match command {
-        Command::Apply(install) => of_install(CommandWord::Apply, applied(alloc, shop, install)),
-        Command::Accept(install) => of_install(CommandWord::Accept, accepted(alloc, shop, install)),
-        Command::Restore { list, .. } => of_restore(restore(
-            alloc,
-            &shop.global,
-            &shop.target,
-            &shop.distribution,
-            list,
-        )),
+        Command::Apply(install) => {
+            let InstallChange { delta, lines } = applied(alloc, shop, install)?;
+            let word = CommandWord::Apply;
+            Ok(ZoneChange { word, delta, lines })
+        }
+        Command::Accept(install) => {
+            let InstallChange { delta, lines } = accepted(alloc, shop, install)?;
+            let word = CommandWord::Accept;
+            Ok(ZoneChange { word, delta, lines })
+        }
+        Command::Restore { list, .. } => {
+            let (target, distribution) = (&shop.target, &shop.distribution);
+            let Restored { delta, lines } = restore(
+                alloc,
+                &shop.global,
+                target,
+                distribution,
+                list,
+            )?;
+            let word = CommandWord::Restore;
+            Ok(ZoneChange { word, delta, lines })
+        }
         _ => Err(Fail::from("no command that changes a zone")),
     }
 }
 
-fn of_install(
-    word: CommandWord,
-    change: Result<InstallChange, AllocError>,
-) -> Result<ZoneChange, Fail> {
-    let InstallChange { delta, lines } = change?;
-    Ok(ZoneChange { word, delta, lines })
-}
-
-fn of_restore(change: Result<Restored, AllocError>) -> Result<ZoneChange, Fail> {
-    let Restored { delta, lines } = change?;
-    let word = CommandWord::Restore;
-    Ok(ZoneChange { word, delta, lines })
-}
-
+// What an APPLY into the target zone changes.
 fn applied(alloc: Global, shop: &Shop, install: &Install) -> Result<InstallChange, AllocError> {
     let (selection, bypass) = (&install.selection, &install.bypass);
     let date = YyDdd::new(2024, 138);
@@ -107,6 +99,7 @@ fn applied(alloc: Global, shop: &Shop, install: &Install) -> Result<InstallChang
     )
 }
 
+// What an ACCEPT into the distribution zone changes.
 fn accepted(alloc: Global, shop: &Shop, install: &Install) -> Result<InstallChange, AllocError> {
     let (selection, bypass) = (&install.selection, &install.bypass);
     let (target, distribution) = (&shop.target, &shop.distribution);

@@ -16,7 +16,7 @@ use sysmods::GlobalZone;
 use undo::{restore_candidates, restore_system};
 use zones::Zone;
 
-/// Judges an APPLY or RESTORE in the target zone, or an ACCEPT in the distribution zone.
+/// Prints what is decided about an APPLY or RESTORE in the target zone, or an ACCEPT in the distribution zone.
 pub(crate) fn judge(
     alloc: Global,
     shop: &Shop,
@@ -36,6 +36,7 @@ pub(crate) fn judge(
     }
 }
 
+// Prints the candidates of an install into the zone, and what is decided about them.
 fn judge_install(
     alloc: Global,
     global: &GlobalZone,
@@ -50,6 +51,7 @@ fn judge_install(
     put_judged(alloc, &judged, printed)
 }
 
+// Prints the candidates of a RESTORE from the zone, and what is decided about them.
 fn judge_restore(
     alloc: Global,
     global: &GlobalZone,
@@ -77,6 +79,7 @@ fn put_judged(alloc: Global, judged: &Judged<'_>, printed: &mut Vec<u8>) -> Resu
     put_sweep(alloc, judged, printed)
 }
 
+// Which candidates are kept, and why the others fail.
 fn decided(alloc: Global, judged: &Judged<'_>) -> Result<Decided, AllocError>
     requires { HasParts judged.now }
 {

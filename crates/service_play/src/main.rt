@@ -10,17 +10,10 @@ mod putting;
 mod receiving;
 mod shop;
 
-use scripts::{Played, play};
+use scripts::play_input;
 use shop::Shop;
-use std::io::Read;
 use std::test::Fail;
 
 fn main(rt: HostRuntime) -> Result<(), Fail> {
-    let alloc = rt.alloc();
-    let mut script = Vec::new(alloc);
-    rt.reader().read_to_end(&mut script)?;
-    let script = std::str::from_utf8(script.as_slice())?;
-    let Played { steps, differences } = play(alloc, script, &mut Shop::new(alloc)?)?;
-    println!(rt; "{differences}{steps} steps")?;
-    Ok(())
+    play_input(&rt, &mut Shop::new(rt.alloc())?)
 }

@@ -1,10 +1,10 @@
 //! The steps of a script, and what each does in the shop.
 
-use crate::changing::{change, differ};
+use crate::changing::{change, preview};
 use crate::judging::judge;
 use crate::printed::{put_errsysmods, put_zone};
-use crate::putting::{put_in, take_off};
-use crate::receiving::{hold, receive};
+use crate::putting::{preview_install, preview_removal};
+use crate::receiving::{receive_holds, receive_sysmods};
 use crate::shop::Shop;
 use cntl::{Command, read_cntl};
 use scripts::{Performs, ScriptStep, card_file};
@@ -18,8 +18,10 @@ enum StepAction {
     Hold,
     List,
     Errsysmods,
-    Put,
-    Take,
+    /// Installs ids, whatever a command would decide.
+    Install,
+    /// Removes ids, whatever a command would decide.
+    Remove,
     With(CommandAction),
 }
 
@@ -27,7 +29,7 @@ enum StepAction {
 #[derive(Clone, Copy)]
 enum CommandAction {
     Judge,
-    Differ,
+    Preview,
     Change,
 }
 
@@ -55,10 +57,10 @@ fn action_of(name: &str) -> Option<StepAction> {
         b"HOLD" => Some(StepAction::Hold),
         b"LIST" => Some(StepAction::List),
         b"ERRSYSMODS" => Some(StepAction::Errsysmods),
-        b"PUT" => Some(StepAction::Put),
-        b"TAKE" => Some(StepAction::Take),
+        b"PUT" => Some(StepAction::Install),
+        b"TAKE" => Some(StepAction::Remove),
         b"JUDGE" => Some(StepAction::With(CommandAction::Judge)),
-        b"DELTA" => Some(StepAction::With(CommandAction::Differ)),
+        b"DELTA" => Some(StepAction::With(CommandAction::Preview)),
         b"CHANGE" => Some(StepAction::With(CommandAction::Change)),
         _ => None,
     }
@@ -72,14 +74,14 @@ fn perform_action(
     printed: &mut Vec<u8>,
 ) -> Result<(), Fail> {
     match action {
-        StepAction::Receive => receive(alloc, &mut shop.global, cards, printed),
-        StepAction::Hold => hold(alloc, &mut shop.global, cards),
-        StepAction::List => put_both(shop, printed),
-        StepAction::Errsysmods => put_held(alloc, shop, printed),
-        StepAction::Put => put_in(alloc, shop, cards, printed),
-        StepAction::Take => take_off(alloc, shop, cards, printed),
+        StepAction::Receive => receive_sysmods(alloc, &mut shop.global, cards, printed),
+        StepAction::Hold => receive_holds(alloc, &mut shop.global, cards),
+        StepAction::List => put_zones(shop, printed),
+        StepAction::Errsysmods => put_errsysmods_of_zones(alloc, shop, printed),
+        StepAction::Install => preview_install(alloc, shop, cards, printed),
+        StepAction::Remove => preview_removal(alloc, shop, cards, printed),
         StepAction::With(action) => {
-            perform_command(alloc, shop, action, &command(alloc, cards)?, printed)
+            perform_command(alloc, shop, action, &read_command(alloc, cards)?, printed)
         }
     }
 }
@@ -93,26 +95,26 @@ fn perform_command(
 ) -> Result<(), Fail> {
     match action {
         CommandAction::Judge => Ok(judge(alloc, shop, command, printed)?),
-        CommandAction::Differ => differ(alloc, shop, command, printed),
+        CommandAction::Preview => preview(alloc, shop, command, printed),
         CommandAction::Change => change(alloc, shop, command, printed),
     }
 }
 
-// The command of these cards.
-fn command(alloc: Global, cards: &str) -> Result<Command, Fail> {
+// The last command of these cards.
+fn read_command(alloc: Global, cards: &str) -> Result<Command, Fail> {
     let file = card_file(alloc, cards)?;
     let mut commands = read_cntl(alloc, file.as_slice())?;
     Ok(commands.pop().ok_or("no command")?)
 }
 
 // What LIST prints of both zones.
-fn put_both(shop: &Shop, printed: &mut Vec<u8>) -> Result<(), Fail> {
+fn put_zones(shop: &Shop, printed: &mut Vec<u8>) -> Result<(), Fail> {
     put_zone(b"TGT1", &shop.target, printed)?;
     put_zone(b"DLB1", &shop.distribution, printed)
 }
 
 // What REPORT ERRSYSMODS prints of both zones.
-fn put_held(alloc: Global, shop: &Shop, printed: &mut Vec<u8>) -> Result<(), Fail> {
+fn put_errsysmods_of_zones(alloc: Global, shop: &Shop, printed: &mut Vec<u8>) -> Result<(), Fail> {
     put_errsysmods(alloc, b"TGT1", &shop.global, &shop.target, printed)?;
     put_errsysmods(alloc, b"DLB1", &shop.global, &shop.distribution, printed)
 }

@@ -12,38 +12,21 @@ use sysmods::GlobalZone;
 use terms::{CommandWord, NotChosen};
 use zones::{Candidates, Zone, ZoneDelta};
 
-// A line of these words.
-fn put_words(words: &[&[u8]], text: &mut Vec<u8>) -> Result<(), AllocError> {
+/// Appends a line of these words.
+pub(crate) fn put_line(words: &[&[u8]], text: &mut Vec<u8>) -> Result<(), AllocError> {
     for word in words {
         text.extend_from_slice(word)?;
         text.push(b' ')?;
     }
     let _blank = text.pop();
-    end_line(text)
-}
-
-fn end_line(text: &mut Vec<u8>) -> Result<(), AllocError> {
     text.push(b'\n')?;
     Ok(())
-}
-
-// A word after a blank.
-fn put_word(word: &[u8], text: &mut Vec<u8>) -> Result<(), AllocError> {
-    text.push(b' ')?;
-    text.extend_from_slice(word)
-}
-
-/// A line of these two words.
-pub(crate) fn put_line(word: &[u8], other: &[u8], text: &mut Vec<u8>) -> Result<(), AllocError> {
-    text.extend_from_slice(word)?;
-    put_word(other, text)?;
-    end_line(text)
 }
 
 /// A line for each of these ids.
 pub(crate) fn put_ids(word: &[u8], ids: &[Id], text: &mut Vec<u8>) -> Result<(), AllocError> {
     for id in ids {
-        put_line(word, id.as_bytes(), text)?;
+        put_line(&[word, id.as_bytes()], text)?;
     }
     Ok(())
 }
@@ -52,7 +35,7 @@ pub(crate) fn put_ids(word: &[u8], ids: &[Id], text: &mut Vec<u8>) -> Result<(),
 pub(crate) fn put_bypassed(pairs: &[(Id, Id)], text: &mut Vec<u8>) -> Result<(), AllocError> {
     for pair in pairs {
         let (of, id) = *pair;
-        put_words(&[b"BYPASSED", of.as_bytes(), id.as_bytes()], text)?;
+        put_line(&[b"BYPASSED", of.as_bytes(), id.as_bytes()], text)?;
     }
     Ok(())
 }
@@ -61,7 +44,7 @@ pub(crate) fn put_bypassed(pairs: &[(Id, Id)], text: &mut Vec<u8>) -> Result<(),
 pub(crate) fn put_needs(needs: &[RequisiteOf], text: &mut Vec<u8>) -> Result<(), AllocError> {
     for need in needs {
         let RequisiteOf { of, kind, id } = *need;
-        put_words(
+        put_line(
             &[b"NEED", of.as_bytes(), need_text(kind), id.as_bytes()],
             text,
         )?;
@@ -77,9 +60,10 @@ pub(crate) fn put_failed_tests(judged: &Judged<'_>, text: &mut Vec<u8>) -> Resul
     Ok(())
 }
 
+// A line for each test that the candidate fails.
 fn put_tests(id: Id, tests: TestSet, text: &mut Vec<u8>) -> Result<(), AllocError> {
     for test in tests.iter() {
-        put_words(&[b"FAILS", id.as_bytes(), test_text(test)], text)?;
+        put_line(&[b"FAILS", id.as_bytes(), test_text(test)], text)?;
     }
     Ok(())
 }
@@ -87,11 +71,11 @@ fn put_tests(id: Id, tests: TestSet, text: &mut Vec<u8>) -> Result<(), AllocErro
 // The tests that a candidate fails, what it needs in vain, and who causes it.
 fn put_failure(failure: &Failure, text: &mut Vec<u8>) -> Result<(), AllocError> {
     for test in failure.tests.iter() {
-        put_line(b"  TEST", test_text(test), text)?;
+        put_line(&[b"  TEST", test_text(test)], text)?;
     }
     for need in failure.needs.as_slice() {
         let OpenNeed { kind, id } = *need;
-        put_words(&[b"  NEED", need_text(kind), id.as_bytes()], text)?;
+        put_line(&[b"  NEED", need_text(kind), id.as_bytes()], text)?;
     }
     put_ids(b"  CAUSER", failure.causers.as_slice(), text)
 }
@@ -99,12 +83,13 @@ fn put_failure(failure: &Failure, text: &mut Vec<u8>) -> Result<(), AllocError> 
 /// A line for each of these candidates, followed by its failure.
 pub(crate) fn put_failures(failed: &[(Id, Failure)], text: &mut Vec<u8>) -> Result<(), AllocError> {
     for (id, failure) in failed {
-        put_line(b"FAILED", id.as_bytes(), text)?;
+        put_line(&[b"FAILED", id.as_bytes()], text)?;
         put_failure(failure, text)?;
     }
     Ok(())
 }
 
+// The word for the reason that an id is no candidate.
 fn why_text(why: NotChosen) -> &'static [u8] {
     match why {
         NotChosen::Already => b"ALREADY",
@@ -123,31 +108,29 @@ pub(crate) fn put_candidates(
     put_ids(b"CANDIDATE", candidates.ids.as_slice(), text)?;
     for left in candidates.left_out.as_slice() {
         let (id, why) = *left;
-        put_words(&[b"LEFT", id.as_bytes(), why_text(why)], text)?;
+        put_line(&[b"LEFT", id.as_bytes(), why_text(why)], text)?;
     }
     Ok(())
 }
 
-// What became of something at whose key there was something, or nothing.
-fn put_text(puts: bool, stood: bool) -> &'static [u8] {
-    match (puts, stood) {
-        (true, true) => b"CHANGED",
-        (true, false) => b"NEW",
-        (false, _) => b"REMOVED",
+// What an edit does at its key, which had a value or none.
+fn edit_text<T, K>(edit: &Edit<T, K>, had_value: bool) -> &'static [u8] {
+    match edit {
+        Edit::Put(_) if had_value => b"CHANGED",
+        Edit::Put(_) => b"NEW",
+        Edit::Remove(_) => b"REMOVED",
     }
 }
 
 // A line for each edit of an entry.
 fn put_entry_edits(delta: &ZoneDelta, text: &mut Vec<u8>) -> Result<(), AllocError> {
     for (edit, stood) in delta.entries().iter().zip(delta.numbers_before().iter()) {
-        let (id, puts) = match edit {
-            Edit::Put(entry) => (entry.id, true),
-            Edit::Remove(id) => (*id, false),
+        let id = match edit {
+            Edit::Put(entry) => entry.id,
+            Edit::Remove(id) => *id,
         };
-        put_words(
-            &[b"ENTRY", id.as_bytes(), put_text(puts, stood.is_some())],
-            text,
-        )?;
+        let what = edit_text(edit, stood.is_some());
+        put_line(&[b"ENTRY", id.as_bytes(), what], text)?;
     }
     Ok(())
 }
@@ -155,24 +138,20 @@ fn put_entry_edits(delta: &ZoneDelta, text: &mut Vec<u8>) -> Result<(), AllocErr
 // A line for each edit of an element.
 fn put_element_edits(delta: &ZoneDelta, text: &mut Vec<u8>) -> Result<(), AllocError> {
     for (edit, stood) in delta.elements().iter().zip(delta.elements_existed().iter()) {
-        let (elem_type, name, puts) = match edit {
-            Edit::Put(element) => (element.elem_type, element.name, true),
-            Edit::Remove(key) => (key.0, key.1, false),
+        let (elem_type, name) = match edit {
+            Edit::Put(element) => (element.elem_type, element.name),
+            Edit::Remove(key) => (key.0, key.1),
         };
-        put_words(
-            &[
-                b"ELEM",
-                type_text(elem_type),
-                name.as_bytes(),
-                put_text(puts, *stood),
-            ],
+        let what = edit_text(edit, *stood);
+        put_line(
+            &[b"ELEM", type_text(elem_type), name.as_bytes(), what],
             text,
         )?;
     }
     Ok(())
 }
 
-/// A line for each edit, and what LIST prints of the zone as they change it, beside the old one.
+/// Appends a line for each edit, and what LIST prints of the zone that they make of this one.
 pub(crate) fn put_delta(
     alloc: Global,
     name: &[u8],
@@ -185,7 +164,7 @@ pub(crate) fn put_delta(
     put_zone(name, &delta.apply(alloc, zone)?, text)
 }
 
-/// The report of a command with these lines, without a boundary.
+/// Appends the report of a command with these lines, without a boundary.
 pub(crate) fn put_report(
     word: CommandWord,
     lines: Vec<ReportLine>,
@@ -199,6 +178,7 @@ pub(crate) fn put_report(
     put_outcome(&Outcome::Ran { header, lines }, text)
 }
 
+// Appends the text of an outcome.
 fn put_outcome(outcome: &Outcome<'_>, text: &mut Vec<u8>) -> Result<(), Fail> {
     write_report(outcome, &mut Out::new(text))?;
     Ok(())

@@ -12,21 +12,22 @@ use std::test::Fail;
 use sysmods::{GlobalZone, Overs, VerChoice};
 use zones::{Zone, choose};
 
-/// Puts these ids into the target zone, beside the old one. They must change no element.
-pub(crate) fn put_in(
+/// Prints what an install of these ids would change in the target zone, and the zone that it would leave. They must
+/// change no element.
+pub(crate) fn preview_install(
     alloc: Global,
     shop: &Shop,
     cards: &str,
     printed: &mut Vec<u8>,
 ) -> Result<(), Fail> {
-    let kept = ids(alloc, cards)?;
+    let kept = read_ids(alloc, cards)?;
     let vers = choose(alloc, &shop.global, &shop.target, &kept)?;
     let Installed { delta, effective } = installed(alloc, &vers, &shop.target, &kept)?;
     put_ids(b"EFFECTIVE", effective.as_slice(), printed)?;
     put_delta(alloc, b"TGT1", &shop.target, &delta, printed)
 }
 
-// What these ids put into the zone.
+// What an install of these ids changes in the zone.
 fn installed(
     alloc: Global,
     vers: &VerChoice<'_>,
@@ -53,6 +54,7 @@ fn change_nothing(global: &GlobalZone, ids: &[Id]) -> bool
     ids.iter().all(|id| changes_nothing(global, *id))
 }
 
+// Whether the SYSMOD changes no element; one that is not received changes none.
 fn changes_nothing(global: &GlobalZone, id: Id) -> bool
     ensures { result ≡ is_nil (changes_of global.now id) }
 {
@@ -62,20 +64,20 @@ fn changes_nothing(global: &GlobalZone, id: Id) -> bool
     }
 }
 
-/// Takes these ids off the target zone, beside the old one.
-pub(crate) fn take_off(
+/// Prints what a restore of these ids would change in the target zone, and the zone that it would leave.
+pub(crate) fn preview_removal(
     alloc: Global,
     shop: &Shop,
     cards: &str,
     printed: &mut Vec<u8>,
 ) -> Result<(), Fail> {
-    let kept = ids(alloc, cards)?;
+    let kept = read_ids(alloc, cards)?;
     let delta = restore(alloc, &shop.global, &shop.target, &shop.distribution, &kept)?;
     put_delta(alloc, b"TGT1", &shop.target, &delta, printed)
 }
 
 // The ids of these cards.
-fn ids(alloc: Global, cards: &str) -> Result<IdList, Fail> {
+fn read_ids(alloc: Global, cards: &str) -> Result<IdList, Fail> {
     let mut ids = IdList::new(alloc);
     for word in cards.split_whitespace() {
         ids.insert(Id::read(word.as_bytes()).ok_or("no id")?)?;

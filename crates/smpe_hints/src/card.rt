@@ -8,8 +8,8 @@ const RECORD: usize = 80;
 /// The columns of a card that have words.
 const COLUMNS: usize = 72;
 
-/// The number of cards in which `CardWords` looks for the words of one command or statement.
-const CARDS: usize = 200;
+/// How many cards of one command or statement are read at most.
+const MOST_CARDS: usize = 200;
 
 /// A word of a command or of a statement: an operand, or a value in the parentheses of an operand.
 #[derive(Drop)]
@@ -18,7 +18,7 @@ struct CardWord {
     value: Option<String>,
 }
 
-/// Takes the bytes of cards, and finds the words up to the period that ends the command or statement.
+/// The words of a command or of a statement, up to the period that ends it.
 #[derive(Drop)]
 struct CardWords {
     alloc: Global,
@@ -55,24 +55,30 @@ impl CardWords {
     // means that memory runs out.
     fn read(alloc: Global, file: &[u8], record: usize) -> Result<CardWords, AllocError> {
         let mut card_words = CardWords::new(alloc);
-        let start = record_start(record);
-        let cards = file.iter().skip(start).take(CARDS * RECORD).enumerate();
-        for (at, &byte) in cards {
-            // (between two cards there is a blank)
-            if at % RECORD == 0 {
-                card_words.take_byte(b' ')?;
-            }
-            if at % RECORD < COLUMNS && !card_words.is_done {
-                card_words.take_byte(byte)?;
+        let cards = file.chunks(RECORD).skip(record.saturating_sub(1));
+        for card in cards.take(MOST_CARDS) {
+            card_words.add_card(card)?;
+            if card_words.is_done {
+                break;
             }
         }
-        card_words.end_word()?;
         Ok(card_words)
     }
 
-    // Takes the next byte of a column that has words: it is of a comment, ends a word, or is of a word. An asterisk that
-    // opens a comment does not close it, and parentheses have no comments.
-    fn take_byte(&mut self, byte: u8) -> Result<(), AllocError> {
+    // Adds the words of the next card, up to the period. A word ends with its card.
+    fn add_card(&mut self, card: &[u8]) -> Result<(), AllocError> {
+        for &byte in card.iter().take(COLUMNS) {
+            if self.is_done {
+                return Ok(());
+            }
+            self.add_byte(byte)?;
+        }
+        self.add_byte(b' ')
+    }
+
+    // Adds the byte of the next column: it is of a comment, ends a word, or is of a word. An asterisk that opens a
+    // comment does not close it, and parentheses have no comments.
+    fn add_byte(&mut self, byte: u8) -> Result<(), AllocError> {
         let last = self.last;
         self.last = byte;
         if self.is_comment {
@@ -129,11 +135,29 @@ impl CardWords {
         }
         Ok(())
     }
+
+    // Whether this is a SET of the zone.
+    fn is_set_of(&self, zone: &str) -> bool {
+        match self.words.first() {
+            Some(command) if command.operand.as_str() == "SET" => {}
+            _ => return false,
+        }
+        for word in &self.words {
+            if let Some(value) = &word.value {
+                if word.operand.as_str() == "BDY" && value.as_str() == zone {
+                    return true;
+                }
+            }
+        }
+        false
+    }
 }
 
-// The place in its file at which a record, counted from 1, begins.
-fn record_start(record: usize) -> usize {
-    record.saturating_sub(1).saturating_mul(RECORD)
+/// The bytes of a record, counted from 1: fewer than 80 if the file ends in it, none if it ends before it.
+pub(crate) fn record_bytes(file: &[u8], record: usize) -> &[u8] {
+    file.chunks(RECORD)
+        .nth(record.saturating_sub(1))
+        .unwrap_or(b"")
 }
 
 // The character of the byte, or a question mark for one that is not printable.
@@ -156,36 +180,33 @@ pub(crate) enum RecordForm {
     /// All are printable.
     Card,
     /// One is not ASCII, as nearly all bytes of EBCDIC are.
-    Foreign,
+    NotAscii,
     /// A line ends among them.
-    Text,
-    /// The one in this column, counted from 1, is of another kind.
-    Odd(usize),
+    LineEnd,
+    /// The one in this column, counted from 1, is of another kind that is not printable.
+    Unprintable(usize),
     /// There are only so many.
-    Cut(usize),
+    Short(usize),
 }
 
 impl RecordForm {
-    /// The form of the record with this number, counted from 1: `Cut(0)` if the file ends before it. The first byte
-    /// that is foreign or ends a line decides.
-    pub(crate) fn of_record(file: &[u8], record: usize) -> RecordForm {
-        let mut length = 0usize;
-        let mut odd = None;
-        for &byte in file.iter().skip(record_start(record)).take(RECORD) {
-            length = length.saturating_add(1);
+    /// The form of a record with these bytes. The first byte that is not ASCII or ends a line decides.
+    pub(crate) fn of_record(record: &[u8]) -> RecordForm {
+        let mut unprintable = None;
+        for (place, &byte) in record.iter().enumerate() {
             if !byte.is_ascii() {
-                return RecordForm::Foreign;
+                return RecordForm::NotAscii;
             }
             if byte == b'\n' {
-                return RecordForm::Text;
+                return RecordForm::LineEnd;
             }
-            if odd.is_none() && is_unprintable(byte) {
-                odd = Some(length);
+            if unprintable.is_none() && is_unprintable(byte) {
+                unprintable = Some(place.saturating_add(1));
             }
         }
-        match odd {
-            Some(column) => RecordForm::Odd(column),
-            None if length < RECORD => RecordForm::Cut(length),
+        match unprintable {
+            Some(column) => RecordForm::Unprintable(column),
+            None if record.len() < RECORD => RecordForm::Short(record.len()),
             None => RecordForm::Card,
         }
     }
@@ -196,49 +217,43 @@ fn is_unprintable(byte: u8) -> bool {
     byte != b' ' && !byte.is_ascii_graphic()
 }
 
-/// The text of a record, counted from 1. A question mark stands for each character that is not printable.
-pub(crate) fn card_text(alloc: Global, file: &[u8], record: usize) -> Result<String, AllocError> {
+/// The text of a record, without the blanks at its end. A question mark stands for each character that is not printable.
+pub(crate) fn card_text(alloc: Global, record: &[u8]) -> Result<String, AllocError> {
     let mut text = String::new(alloc);
-    for &byte in file.iter().skip(record_start(record)).take(RECORD) {
+    for &byte in record {
         text.push(shown_char(byte))?;
     }
     String::from_str(alloc, text.as_str().trim_end())
 }
 
-/// The record, counted from 1, in which the first SET that names the zone begins; `None` if no SET names it.
+/// The record, counted from 1, in which the first SET of the zone begins; `None` if there is none. Each command of the
+/// file begins in a new record, as it does in every file whose form the job has accepted.
 pub(crate) fn find_set(
     alloc: Global,
     file: &[u8],
     zone: &str,
 ) -> Result<Option<usize>, AllocError> {
-    for record in 1..=file.len() / RECORD {
-        if is_set_of(CardWords::read(alloc, file, record)?.words.as_slice(), zone) {
-            return Ok(Some(record));
+    let mut command = CardWords::new(alloc);
+    let mut start = None;
+    for (place, card) in file.chunks(RECORD).enumerate() {
+        command.add_card(card)?;
+        // (comments may precede the command)
+        if start.is_none() && !command.words.is_empty() {
+            start = place.checked_add(1);
+        }
+        if command.is_done {
+            if command.is_set_of(zone) {
+                return Ok(start);
+            }
+            command = CardWords::new(alloc);
+            start = None;
         }
     }
     Ok(None)
 }
 
-// Whether the words are a SET with this zone in its BDY.
-fn is_set_of(words: &[CardWord], zone: &str) -> bool {
-    let Some(first) = words.first() else {
-        return false;
-    };
-    if first.operand.as_str() != "SET" {
-        return false;
-    }
-    for word in words {
-        if let Some(value) = &word.value {
-            if word.operand.as_str() == "BDY" && value.as_str() == zone {
-                return true;
-            }
-        }
-    }
-    false
-}
-
 /// What is wrong with the command or statement that begins in the record: the word at fault, if that shows, otherwise
-/// what the code says of the first word.
+/// what the code says of the whole command or statement.
 pub(crate) fn card_fault(
     alloc: Global,
     file: &[u8],
@@ -248,22 +263,22 @@ pub(crate) fn card_fault(
     let card_words = CardWords::read(alloc, file, record)?;
     let words = card_words.words.as_slice();
     let word_hint = match code {
-        "Cn2" | "Mc3" => odd_word_hint(alloc, words)?,
-        "Cn3" => doubled_operand_hint(alloc, words)?,
+        "Cn2" | "Mc3" => wrong_word_hint(alloc, words)?,
+        "Cn3" => repeated_operand_hint(alloc, words)?,
         _ => None,
     };
     if let Some(hint) = word_hint {
         return Ok(hint);
     }
-    let first = match words.first() {
+    let name = match words.first() {
         Some(word) => word.operand.as_str(),
         None => "the card",
     };
     let fault = fault_of_code(code);
-    format!(in alloc; "{first} {fault}")
+    format!(in alloc; "{name} {fault}")
 }
 
-// What a code says of a command or a statement, after its first word.
+// What a code says of a command or a statement, after its name.
 fn fault_of_code(code: &str) -> &'static str {
     match code {
         "Cn1" => "is no command; SET, RECEIVE, REJECT, APPLY, ACCEPT, RESTORE, LIST and REPORT are",
@@ -284,13 +299,13 @@ fn fault_of_code(code: &str) -> &'static str {
 
 // The hint that names the first operand that no command and no statement has, or value that lacks the form that its
 // operand demands; `None` if there is neither.
-fn odd_word_hint(alloc: Global, words: &[CardWord]) -> Result<Option<String>, AllocError> {
+fn wrong_word_hint(alloc: Global, words: &[CardWord]) -> Result<Option<String>, AllocError> {
     for word in words.iter().skip(1) {
         let operand = word.operand.as_str();
         let hint = match &word.value {
             None if is_operand(operand) => None,
             None => Some(format!(in alloc; "{operand} is no operand here")?),
-            Some(value) => odd_value_hint(alloc, operand, value.as_str())?,
+            Some(value) => wrong_value_hint(alloc, operand, value.as_str())?,
         };
         if hint.is_some() {
             return Ok(hint);
@@ -300,7 +315,11 @@ fn odd_word_hint(alloc: Global, words: &[CardWord]) -> Result<Option<String>, Al
 }
 
 // The hint that says what the value should look like; `None` if its operand demands no form, or it has that form.
-fn odd_value_hint(alloc: Global, operand: &str, value: &str) -> Result<Option<String>, AllocError> {
+fn wrong_value_hint(
+    alloc: Global,
+    operand: &str,
+    value: &str,
+) -> Result<Option<String>, AllocError> {
     let form = match operand {
         "BDY" if ZoneName::read(value.as_bytes()).is_none() => {
             "a zone name has 1 to 7 characters and begins with a letter"
@@ -318,7 +337,7 @@ fn odd_value_hint(alloc: Global, operand: &str, value: &str) -> Result<Option<St
 }
 
 // The hint that names the first operand that stands in the statement twice; `None` if none does.
-fn doubled_operand_hint(alloc: Global, words: &[CardWord]) -> Result<Option<String>, AllocError> {
+fn repeated_operand_hint(alloc: Global, words: &[CardWord]) -> Result<Option<String>, AllocError> {
     for (place, word) in words.iter().enumerate().skip(1) {
         let before = words.iter().take(place);
         for earlier in before {

@@ -11,4 +11,4 @@ mod report;
 pub use card::has_whole_records;
 pub use operand::{no_command_hint, operand_hint};
 pub use related::{RelatedZone, related_name};
-pub use report::{ReadFile, ReportWatch, zone_hint};
+pub use report::{ReadFile, ReportWatch, careful_zone_hint};

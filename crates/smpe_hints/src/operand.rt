@@ -53,30 +53,30 @@ impl Form {
 
 /// The words as `clap` took them: the value of an option is the next word, or follows its `=`.
 #[derive(Clone, Copy)]
-struct CommandLine<'a> {
-    words: &'a [Vec<u8>],
+pub(crate) struct CommandLine<'a> {
+    pub(crate) words: &'a [Vec<u8>],
 }
 
 impl<'a> CommandLine<'a> {
     // The word at a place; `None` if there is none or it is not UTF-8.
-    fn word(self, place: usize) -> Option<&'a str> {
+    fn word_at(self, place: usize) -> Option<&'a str> {
         str::from_utf8(self.words.get(place)?.as_slice()).ok()
     }
 
     // The option that begins at a place, with its value: what follows its first `=`, or else the next word. `None` if
     // it has no value.
-    fn option(self, place: usize) -> Option<(&'a str, &'a str)> {
-        let word = self.word(place)?;
+    fn option_at(self, place: usize) -> Option<(&'a str, &'a str)> {
+        let word = self.word_at(place)?;
         match word.split_once('=') {
             Some(parts) => Some(parts),
-            None => Some((word, self.word(place.checked_add(1)?)?)),
+            None => Some((word, self.word_at(place.checked_add(1)?)?)),
         }
     }
 
-    // The value of the option where it stands first; `None` if the words do not have it.
-    fn value(self, option: &str) -> Option<&'a str> {
+    /// The value of the option where it stands first; `None` if the words do not have it.
+    pub(crate) fn value(self, option: &str) -> Option<&'a str> {
         for place in 0..self.words.len() {
-            if let Some((name, value)) = self.option(place) {
+            if let Some((name, value)) = self.option_at(place) {
                 if name == option {
                     return Some(value);
                 }
@@ -91,17 +91,12 @@ impl<'a> CommandLine<'a> {
     }
 }
 
-/// The value of an option where it stands first; `None` if the words do not have it.
-pub(crate) fn value_of<'a>(words: &'a [Vec<u8>], option: &str) -> Option<&'a str> {
-    CommandLine { words }.value(option)
-}
-
 /// What is wrong with the words, the first of which is the program's name, after `smpe: bad operand`; `None` if that
 /// does not show here.
 pub fn operand_hint(alloc: Global, words: &[Vec<u8>]) -> Result<Option<String>, AllocError> {
     let line = CommandLine { words };
     for place in 0..words.len() {
-        let Some(word) = line.word(place) else {
+        let Some(word) = line.word_at(place) else {
             return Ok(Some(format!(in alloc; "word {place} is not UTF-8")?));
         };
         if !word.starts_with("--") {
@@ -111,7 +106,7 @@ pub fn operand_hint(alloc: Global, words: &[Vec<u8>]) -> Result<Option<String>, 
             return Ok(Some(hint));
         }
     }
-    match line.word(1) {
+    match line.word_at(1) {
         Some("check") => Ok(match check_fault(line) {
             Some(fault) => Some(String::from_str(alloc, fault)?),
             None => None,
@@ -127,7 +122,7 @@ fn option_hint(
     line: CommandLine<'_>,
     place: usize,
 ) -> Result<Option<String>, AllocError> {
-    let Some((option, value)) = line.option(place) else {
+    let Some((option, value)) = line.option_at(place) else {
         return Ok(None);
     };
     match Form::of_option(option) {
@@ -172,7 +167,7 @@ fn bypass_hint(alloc: Global, line: CommandLine<'_>) -> Result<Option<String>, A
 pub fn no_command_hint(alloc: Global, words: &[Vec<u8>]) -> Result<Option<String>, AllocError> {
     let line = CommandLine { words };
     match line.value("--cntl") {
-        Some(name) if line.word(1) == Some("run") => {
+        Some(name) if line.word_at(1) == Some("run") => {
             Ok(Some(format!(in alloc; "{name} has no command")?))
         }
         _ => Ok(None),

@@ -1,5 +1,5 @@
 //! Why the related zone of a zone is refused.
-use crate::operand::value_of;
+use crate::operand::CommandLine;
 use std::alloc::{AllocError, Global};
 
 /// What a database knows of the zone that `--related` names.
@@ -18,22 +18,22 @@ pub enum RelatedZone {
 
 /// The name of the related zone; `None` if these words name none.
 pub fn related_name(words: &[Vec<u8>]) -> Option<&str> {
-    value_of(words, "--related")
+    CommandLine { words }.value("--related")
 }
 
 /// Why the related zone of a zone was refused, by the words of the command line and what the database knows of it.
 pub(crate) fn related_hint(
     alloc: Global,
-    words: &[Vec<u8>],
+    line: CommandLine<'_>,
     related: &RelatedZone,
 ) -> Result<String, AllocError> {
-    let Some(name) = related_name(words) else {
+    let Some(name) = line.value("--related") else {
         return String::from_str(
             alloc,
             "--related is missing: a target zone names its distribution zone",
         );
     };
-    if value_of(words, "--kind") != Some("target") {
+    if line.value("--kind") != Some("target") {
         return format!(in alloc;
             "--related {name} is for a target zone, and a distribution zone has none"
         );

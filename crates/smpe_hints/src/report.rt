@@ -1,10 +1,10 @@
 //! What in a report needs more words.
-use crate::card::{RecordForm, card_fault, card_text, find_set, has_whole_records};
-use crate::operand::value_of;
+use crate::card::{RecordForm, card_fault, card_text, find_set, has_whole_records, record_bytes};
+use crate::operand::CommandLine;
 use crate::related::{RelatedZone, related_hint};
 use std::alloc::{AllocError, Global};
 
-/// The number of bytes of a line at which the watch looks.
+/// How many bytes of a line the watch looks at.
 const LONGEST: usize = 100;
 
 /// A file that was read.
@@ -24,15 +24,15 @@ enum Notice {
         code: String,
     },
     /// A command ran in a zone, and was meant for another that is not defined.
-    Elsewhere {
+    CommandElsewhere {
         command: String,
         zone: String,
         set_zone: String,
     },
-    /// No zone of this name is defined.
-    NoZone(String),
-    /// `why` was asked about a zone that has no verdicts.
-    NoZoneAsked,
+    /// A SET names this zone, which is not defined.
+    UndefinedZone(String),
+    /// `why` was asked about a zone that is not defined, or about the global zone.
+    WhyZone,
     /// The related zone of a zone is at fault.
     Related,
 }
@@ -43,18 +43,16 @@ pub struct ReportWatch {
     alloc: Global,
     /// The first bytes of the line that has not ended.
     line: Vec<u8>,
-    /// How many lines have ended.
-    line_count: usize,
-    /// The first line, or no text until it has ended.
-    first_line: String,
-    /// The header of the last command.
+    /// The first line that has ended, or no text before that.
+    first_line: Option<String>,
+    /// The header of the last command, or no text before the first one.
     header: String,
+    /// Whether that command has not ended.
+    is_in_command: bool,
     /// How many commands have ended.
     command_count: usize,
-    /// The zone that the last SET named, until it was accepted.
-    set_zone: Option<String>,
-    /// Whether that SET was refused.
-    is_refused: bool,
+    /// The zone of a SET that was refused, until the next command.
+    refused_zone: Option<String>,
     notices: Vec<Notice>,
 }
 
@@ -63,19 +61,21 @@ impl ReportWatch {
         ReportWatch {
             alloc,
             line: Vec::new(alloc),
-            line_count: 0,
-            first_line: String::new(alloc),
+            first_line: None,
             header: String::new(alloc),
+            is_in_command: false,
             command_count: 0,
-            set_zone: None,
-            is_refused: false,
+            refused_zone: None,
             notices: Vec::new(alloc),
         }
     }
 
     /// The first line, or no text until it has ended.
     pub fn first_line(&self) -> &str {
-        self.first_line.as_str()
+        match &self.first_line {
+            Some(line) => line.as_str(),
+            None => "",
+        }
     }
 
     /// How many commands have ended.
@@ -83,13 +83,13 @@ impl ReportWatch {
         self.command_count
     }
 
-    /// The header of the last command.
+    /// The header of the last command, or no text before the first one.
     pub fn header(&self) -> &str {
         self.header.as_str()
     }
 
     /// Takes the next bytes of the report, and follows each line that they end. Returns an error if memory runs out.
-    pub fn take(&mut self, piece: &[u8]) -> Result<(), AllocError> {
+    pub fn feed(&mut self, piece: &[u8]) -> Result<(), AllocError> {
         for &byte in piece {
             if byte == b'\n' {
                 self.end_line()?;
@@ -100,47 +100,46 @@ impl ReportWatch {
         Ok(())
     }
 
-    // Follows the line that has ended, and counts it and the command that it ends.
+    // Follows the line that has ended, and keeps it if it is the first one.
     fn end_line(&mut self) -> Result<(), AllocError> {
         let line = String::from_utf8_lossy(self.alloc, self.line.as_slice())?;
         self.line.clear();
         self.follow_line(line.as_str())?;
-        if self.line_count == 0 {
-            self.first_line = String::from_str(self.alloc, line.as_str())?;
+        if self.first_line.is_none() {
+            self.first_line = Some(line);
         }
-        if line.as_str().starts_with("RC ") {
-            self.command_count = self.command_count.saturating_add(1);
-        }
-        self.line_count = self.line_count.saturating_add(1);
         Ok(())
     }
 
-    // Notices what the line says of a card, a SET, a command or a refusal. `Cm4` and `Cm5` are faults of the PTFIN and
-    // of the hold file, `Cm2` is a zone that is not defined, and `Zn2` a related zone that does not fit.
+    // Follows the beginning or the end of a command, and notices what the line says of a card or a refusal. `Cm4` and
+    // `Cm5` are faults of the PTFIN and of the hold file, `Cm2` is a zone that is not defined, and `Zn2` a related zone
+    // that does not fit. The id of a SYSMOD may be the word of a command, as RESTORE: its type and its status follow it,
+    // and not a zone and CHECK.
     fn follow_line(&mut self, line: &str) -> Result<(), AllocError> {
         let mut words = line.split(' ');
         let first = words.next().unwrap_or("");
         let second = words.next().unwrap_or("");
-        match (first, second) {
-            ("CONTROL", "RECORD") if self.line_count == 0 => {
-                self.notice_card_fault("--cntl", words.next(), words.next())
+        let third = words.next();
+        match (first, second, third) {
+            ("CONTROL", "RECORD", record) => {
+                self.notice_card_fault("--cntl", record, words.next())
             }
-            ("REFUSED", "Cm4") => self.notice_card_fault("--ptfin", words.nth(1), words.next()),
-            ("REFUSED", "Cm5") => self.notice_card_fault("--hold", words.nth(1), words.next()),
-            ("REFUSED", "Cm2") => self.notice_refused_zone(),
-            ("ZONE", "REFUSED") if words.next() == Some("Zn2") => {
+            ("REFUSED", "Cm4", _) => {
+                self.notice_card_fault("--ptfin", words.next(), words.next())
+            }
+            ("REFUSED", "Cm5", _) => self.notice_card_fault("--hold", words.next(), words.next()),
+            ("REFUSED", "Cm2", _) => self.notice_refused_zone(),
+            ("ZONE", "REFUSED", Some("Zn2")) => {
                 self.notices.push(Notice::Related)?;
                 Ok(())
             }
-            ("SET", zone) => {
-                self.header = String::from_str(self.alloc, line)?;
-                self.set_zone = Some(String::from_str(self.alloc, zone)?);
-                self.is_refused = false;
+            ("RC", _, None) => {
+                self.is_in_command = false;
+                self.command_count = self.command_count.saturating_add(1);
                 Ok(())
             }
-            ("RECEIVE" | "REJECT" | "APPLY" | "ACCEPT" | "RESTORE" | "LIST" | "REPORT", zone) => {
-                self.header = String::from_str(self.alloc, line)?;
-                self.notice_command_elsewhere(first, zone)
+            (command, zone, None | Some("CHECK")) if is_command(command) => {
+                self.begin_command(line, command, zone)
             }
             _ => Ok(()),
         }
@@ -167,29 +166,31 @@ impl ReportWatch {
         Ok(())
     }
 
-    // Notices that a SET, or a question about a zone, was refused.
+    // Notices that a zone is not defined: within a command the one that the SET names, and otherwise that of `why`.
     fn notice_refused_zone(&mut self) -> Result<(), AllocError> {
-        let notice = match &self.set_zone {
-            Some(zone) => {
-                self.is_refused = true;
-                Notice::NoZone(String::from_str(self.alloc, zone.as_str())?)
+        let notice = match self.header.as_str().strip_prefix("SET ") {
+            Some(zone) if self.is_in_command => {
+                self.refused_zone = Some(String::from_str(self.alloc, zone)?);
+                Notice::UndefinedZone(String::from_str(self.alloc, zone)?)
             }
-            None => Notice::NoZoneAsked,
+            _ => Notice::WhyZone,
         };
         self.notices.push(notice)?;
         Ok(())
     }
 
-    // Notices a command that ran in a zone after the SET that meant another was refused.
-    fn notice_command_elsewhere(&mut self, command: &str, zone: &str) -> Result<(), AllocError> {
-        if !self.is_refused || zone == "-" {
+    // Follows the header of a command, and notices a command that runs in a zone after a SET that meant another was
+    // refused. Without a boundary it runs nowhere.
+    fn begin_command(&mut self, line: &str, command: &str, zone: &str) -> Result<(), AllocError> {
+        self.header = String::from_str(self.alloc, line)?;
+        self.is_in_command = true;
+        let Some(set_zone) = self.refused_zone.take() else {
             return Ok(());
-        }
-        self.is_refused = false;
-        if let Some(set_zone) = self.set_zone.take() {
+        };
+        if command != "SET" && zone != "-" {
             let command = String::from_str(self.alloc, command)?;
             let zone = String::from_str(self.alloc, zone)?;
-            self.notices.push(Notice::Elsewhere {
+            self.notices.push(Notice::CommandElsewhere {
                 command,
                 zone,
                 set_zone,
@@ -199,7 +200,7 @@ impl ReportWatch {
     }
 
     /// What to say, a line each, about a report for which these words asked over these files, and over a database that
-    /// knows this about the related zone.
+    /// knows this about the related zone. No line is said twice.
     pub fn hints(
         &self,
         words: &[Vec<u8>],
@@ -208,66 +209,63 @@ impl ReportWatch {
     ) -> Result<Vec<String>, AllocError> {
         let mut lines = Vec::new(self.alloc);
         for notice in &self.notices {
-            if let Some(line) = notice_hint(self.alloc, notice, words, files, related)? {
-                lines.push(line)?;
+            if let Some(line) = notice.hint(self.alloc, CommandLine { words }, files, related)? {
+                if !lines.as_slice().contains(&line) {
+                    lines.push(line)?;
+                }
             }
         }
         Ok(lines)
     }
 }
 
-// The line about a notice. `None` about a card of a file that was not read, or where there is no more to say.
-fn notice_hint(
-    alloc: Global,
-    notice: &Notice,
-    words: &[Vec<u8>],
-    files: &[ReadFile],
-    related: &RelatedZone,
-) -> Result<Option<String>, AllocError> {
-    match notice {
-        Notice::Card {
-            option,
-            record,
-            code,
-        } => card_hint(
-            alloc,
-            value_of(words, option),
-            *record,
-            code.as_str(),
-            files,
-        ),
-        Notice::Elsewhere {
-            command,
-            zone,
-            set_zone,
-        } => Ok(Some(format!(in alloc;
-            "SET BDY({set_zone}) was refused, and {command} ran in the zone before it, {zone}"
-        )?)),
-        Notice::NoZone(zone) => Ok(Some(undefined_zone_hint(alloc, zone.as_str())?)),
-        Notice::NoZoneAsked => asked_zone_hint(alloc, value_of(words, "--zone")),
-        Notice::Related => Ok(Some(related_hint(alloc, words, related)?)),
+// Whether the word begins the header of a command.
+fn is_command(word: &str) -> bool {
+    match word {
+        "SET" | "RECEIVE" | "REJECT" | "APPLY" | "ACCEPT" | "RESTORE" | "LIST" | "REPORT" => true,
+        _ => false,
     }
 }
 
-// What is wrong with a record of the file of this name; `None` if there is no name or the file was not read.
-fn card_hint(
-    alloc: Global,
-    name: Option<&str>,
-    record: usize,
-    code: &str,
-    files: &[ReadFile],
-) -> Result<Option<String>, AllocError> {
-    let Some(name) = name else {
-        return Ok(None);
-    };
-    match find_file(files, name) {
-        Some(file) => record_hint(alloc, file, record, code),
-        None => Ok(None),
+impl Notice {
+    // The line about the notice. `None` about a card of a file that was not read, or if there is no more to say.
+    fn hint(
+        &self,
+        alloc: Global,
+        line: CommandLine<'_>,
+        files: &[ReadFile],
+        related: &RelatedZone,
+    ) -> Result<Option<String>, AllocError> {
+        match self {
+            Notice::Card {
+                option,
+                record,
+                code,
+            } => match file_of_option(line, option, files) {
+                Some(file) => record_hint(alloc, file, *record, code.as_str()),
+                None => Ok(None),
+            },
+            Notice::CommandElsewhere {
+                command,
+                zone,
+                set_zone,
+            } => Ok(Some(format!(in alloc;
+                "SET BDY({set_zone}) was refused, and {command} ran in the zone before it, {zone}"
+            )?)),
+            Notice::UndefinedZone(zone) => Ok(Some(undefined_zone_hint(alloc, zone.as_str())?)),
+            Notice::WhyZone => why_zone_hint(alloc, line.value("--zone")),
+            Notice::Related => Ok(Some(related_hint(alloc, line, related)?)),
+        }
     }
 }
 
-// The file of this name; `None` if it was not read.
-fn find_file<'a>(files: &'a [ReadFile], name: &str) -> Option<&'a ReadFile> {
+// The file that the option names; `None` if the words do not have the option, or if the file was not read.
+fn file_of_option<'a>(
+    line: CommandLine<'_>,
+    option: &str,
+    files: &'a [ReadFile],
+) -> Option<&'a ReadFile> {
+    let name = line.value(option)?;
     for file in files {
         if file.name.as_str() == name {
             return Some(file);
@@ -285,48 +283,46 @@ fn record_hint(
     code: &str,
 ) -> Result<Option<String>, AllocError> {
     let name = file.name.as_str();
-    let bytes = file.bytes.as_slice();
-    match RecordForm::of_record(bytes, record) {
-        RecordForm::Foreign => Ok(Some(format!(in alloc;
+    let bytes = record_bytes(file.bytes.as_slice(), record);
+    match RecordForm::of_record(bytes) {
+        RecordForm::NotAscii => Ok(Some(format!(in alloc;
             "{name} record {record} is not ASCII; smpe-intake and iconv convert EBCDIC"
         )?)),
         // (of a file with another length, this is said when it is read)
-        RecordForm::Text if !has_whole_records(bytes) => Ok(None),
-        RecordForm::Text => Ok(Some(format!(in alloc;
+        RecordForm::LineEnd if !has_whole_records(file.bytes.as_slice()) => Ok(None),
+        RecordForm::LineEnd => Ok(Some(format!(in alloc;
             "{name} record {record} has the end of a line in it; smpe-cards makes records of text"
         )?)),
-        RecordForm::Cut(length) => Ok(Some(format!(in alloc;
+        RecordForm::Short(length) => Ok(Some(format!(in alloc;
             "{name} record {record} has only {length} bytes, and a record has 80: is the file cut off?"
         )?)),
-        RecordForm::Odd(column) => Ok(Some(format!(in alloc;
+        RecordForm::Unprintable(column) => Ok(Some(format!(in alloc;
             "{name} record {record} has a tab or another character that is not printable in column {column}"
         )?)),
         RecordForm::Card => {
-            let card = card_text(alloc, bytes, record)?;
-            let fault = card_fault(alloc, bytes, record, code)?;
+            let card = card_text(alloc, bytes)?;
+            let fault = card_fault(alloc, file.bytes.as_slice(), record, code)?;
             Ok(Some(format!(in alloc; "{name} record {record} is \"{card}\": {fault}")?))
         }
     }
 }
 
-/// What to say about a zone that a SET names and that is not defined, after `smpe: no zone`. `None` if no SET of a file
-/// that was read names it.
-pub fn zone_hint(
+/// What to say about a zone that a SET of a careful job names and that is not defined, after `smpe: no zone`. `None` if
+/// no SET of the command file names it, or if that was not read.
+pub fn careful_zone_hint(
     alloc: Global,
     words: &[Vec<u8>],
     files: &[ReadFile],
     zone: &str,
 ) -> Result<Option<String>, AllocError> {
-    let Some(name) = value_of(words, "--cntl") else {
-        return Ok(None);
-    };
-    let Some(file) = find_file(files, name) else {
+    let Some(file) = file_of_option(CommandLine { words }, "--cntl", files) else {
         return Ok(None);
     };
     let Some(record) = find_set(alloc, file.bytes.as_slice(), zone)? else {
         return Ok(None);
     };
-    let card = card_text(alloc, file.bytes.as_slice(), record)?;
+    let name = file.name.as_str();
+    let card = card_text(alloc, record_bytes(file.bytes.as_slice(), record))?;
     Ok(Some(format!(in alloc;
         "{name} record {record} is \"{card}\": no such zone in this database; smpe zone defines one"
     )?))
@@ -338,7 +334,7 @@ fn undefined_zone_hint(alloc: Global, zone: &str) -> Result<String, AllocError> 
 }
 
 // Why `why` has no answer about the zone that it was asked about; `None` if the words name none.
-fn asked_zone_hint(alloc: Global, zone: Option<&str>) -> Result<Option<String>, AllocError> {
+fn why_zone_hint(alloc: Global, zone: Option<&str>) -> Result<Option<String>, AllocError> {
     match zone {
         Some("GLOBAL") => Ok(Some(String::from_str(
             alloc,

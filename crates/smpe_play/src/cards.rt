@@ -68,6 +68,7 @@ pub const LISTING_TEXTS: JobStep = JobStep {
     ..JOB
 };
 
+/// The commands that receive SYSMODs.
 pub const RECEIVE: &str = "SET BDY(GLOBAL).\nRECEIVE SYSMODS.";
 
 pub const FUNCTION_RECEIVED: JobStep = JobStep {

@@ -5,7 +5,7 @@ use std::alloc::Global;
 use std::test::Fail;
 
 // Appends the rows that a query finds, a line each.
-fn put_lines<S: Alter>(
+fn append_rows<S: Alter>(
     conn: &mut Connection<S>,
     sql: &str,
     lines: &mut String,
@@ -27,7 +27,7 @@ pub fn query_lines<S: Alter>(
 ) -> Result<String, Fail> {
     let mut lines = String::new(alloc);
     for sql in queries {
-        put_lines(conn, sql, &mut lines)?;
+        append_rows(conn, sql, &mut lines)?;
         lines.push_str("--\n")?;
     }
     Ok(lines)

@@ -29,26 +29,27 @@ pub fn run_printing<S: Alter>(
     run_jobs(alloc, store, jobs, &mut Out::new(report))
 }
 
+/// The name of a zone. The error is that this is none.
 pub fn zone_name(name: &[u8]) -> Result<ZoneName, Fail> {
     Ok(ZoneName::read(name).ok_or("no name of a zone")?)
 }
 
 /// Defines the two zones of all cases.
 pub fn define_both<S: Alter>(alloc: Global, store: &mut Store<S>) -> Result<(), Fail> {
-    let permanent = zone_name(b"DLB1")?;
-    let running = zone_name(b"TGT1")?;
+    let distribution_name = zone_name(b"DLB1")?;
+    let target_name = zone_name(b"TGT1")?;
     let srel = Srel::read(b"Z038").ok_or("no SREL")?;
     let distribution = Job::Zone {
-        name: permanent,
+        name: distribution_name,
         kind: ZoneKind::Distribution,
         srel,
         related: None,
     };
     let target = Job::Zone {
-        name: running,
+        name: target_name,
         kind: ZoneKind::Target,
         srel,
-        related: Some(permanent),
+        related: Some(distribution_name),
     };
     let mut report = Vec::new(alloc);
     let answers = run_printing(alloc, store, &[distribution, target], &mut report)?;

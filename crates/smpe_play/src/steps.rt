@@ -4,7 +4,7 @@ use crate::cards::{BEGINNING, Case, JobStep};
 use crate::disks::{in_memory, new_files, open_store, reopen_files};
 use crate::rows::query_lines;
 use crate::running::{define_both, job_over, run_printing};
-use scripts::{card_file, compare, first_difference, put_cards};
+use scripts::{Difference, card_file, compare, first_difference, put_cards};
 use smpe::{Answer, JobError};
 use sqlite::{Alter, Connection, FileStore, MemStore};
 use sqlite_disk::Memory;
@@ -59,10 +59,14 @@ fn check_step(
         return Ok(());
     }
     let (shows, disk, name) = (place.shows, place.disk, step.name);
-    let (line, got, wanted) = first_difference(std::str::from_utf8(report)?, step.report);
+    let Difference {
+        number,
+        got,
+        wanted,
+    } = first_difference(std::str::from_utf8(report)?, step.report);
     let wanted_code = step.code;
     Err(Fail::new(format_args!(
-        "{shows}: {name} {disk}: line {line}: got {got:?} and {code:?}, wanted {wanted:?} and {wanted_code}"
+        "{shows}: {name} {disk}: line {number}: got {got:?} and {code:?}, wanted {wanted:?} and {wanted_code}"
     )))
 }
 
@@ -209,7 +213,7 @@ const UNSEEN: RowsLeft<'static> = RowsLeft {
     wanted: "",
 };
 
-// A failure, unless the database has these rows.
+// Returns a failure, unless the database has these rows.
 fn check_rows<S: Alter + Drop>(
     alloc: Global,
     mut conn: Connection<S>,

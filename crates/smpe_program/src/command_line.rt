@@ -23,8 +23,8 @@ fn read_argument(rt: &HostRuntime, place: usize) -> Result<Option<Vec<u8>>, Allo
     let mut size = FIRST_SIZE;
     for _ in 0..usize::BITS {
         match read_argument_within(rt, place, size)? {
-            Argument::There(word) => return Ok(Some(word)),
-            Argument::NoMore => return Ok(None),
+            Argument::Word(word) => return Ok(Some(word)),
+            Argument::None => return Ok(None),
             Argument::TooLong => size = size.saturating_add(size),
         }
     }
@@ -35,8 +35,8 @@ fn read_argument(rt: &HostRuntime, place: usize) -> Result<Option<Vec<u8>>, Allo
 // What the system has at a place of the command line: a word that the buffer holds, none, or a longer one.
 #[derive(Drop)]
 enum Argument {
-    There(Vec<u8>),
-    NoMore,
+    Word(Vec<u8>),
+    None,
     TooLong,
 }
 
@@ -51,9 +51,9 @@ fn read_argument_within(
     match rt.arg(place, word.as_mut_slice()) {
         Ok(length) => {
             word.truncate(length);
-            Ok(Argument::There(word))
+            Ok(Argument::Word(word))
         }
         Err(FillError::TooLong) => Ok(Argument::TooLong),
-        Err(FillError::NotPresent) => Ok(Argument::NoMore),
+        Err(FillError::NotPresent) => Ok(Argument::None),
     }
 }

@@ -15,6 +15,12 @@ const READINGS: u32 = 40;
 /// of change.
 const PAUSE: u64 = 20;
 
+/// The first columns of the row that `sqlite_schema` has for a table `meta`: its type, its name and its table.
+const META_ROW: &[u8] = b"tablemetameta";
+
+/// How many bytes that is.
+const META_ROW_BYTES: usize = 13;
+
 /// Why a database is not copied.
 #[derive(Drop)]
 pub(crate) enum CopyFault {
@@ -81,6 +87,21 @@ pub(crate) fn read_copy(
         }
     }
     Err(CopyFault::Unfit("the database is being changed; try again"))
+}
+
+/// Whether the database may have a table `meta`. If it has one, one of its files has the row that says so.
+pub(crate) fn has_meta_table(bytes: &DatabaseBytes) -> bool {
+    has_meta_row(bytes.db.as_slice()) || has_meta_row(bytes.log.as_slice())
+}
+
+// Whether such a row is in the file.
+fn has_meta_row(file: &[u8]) -> bool {
+    for bytes in file.windows(META_ROW_BYTES) {
+        if bytes == META_ROW {
+            return true;
+        }
+    }
+    false
 }
 
 // The bytes of the two files, read once after a pause; `None` if another program changes them before the reading ends.

@@ -8,7 +8,7 @@ ghost use Rattle.smpe_program.specs.Wary.{IsWary};
 
 use crate::copy::{CopyFault, read_copy};
 use crate::place::{is_missing, is_surely_no_database};
-use crate::related_zone::related_zone;
+use crate::related_zone::query_related_zone;
 use clap::Error as WordsError;
 use smpe_command::{DatabaseBytes, DatabaseFile, Host};
 use smpe_hints::{ReadFile, RelatedZone, has_whole_records};
@@ -40,6 +40,8 @@ pub(crate) enum Database {
         is_new: bool,
         closing: Option<Closing>,
     },
+    /// Its files were read, for a copy in memory.
+    Copied(String),
 }
 
 /// What was met when a database was closed.
@@ -73,20 +75,13 @@ impl Closing {
     }
 }
 
-impl Database {
-    // Whether the program made it.
-    fn is_new(&self) -> bool {
-        matches!(self, Database::Opened { is_new: true, .. })
-    }
-}
-
 /// The system, as seen from how the program was started.
 #[derive(Drop)]
 pub(crate) struct ProgramHost<'a> {
     rt: &'a HostRuntime,
     /// Whether to create a database if there is none.
     makes_database: bool,
-    /// The zone of which there may be something to say, and what the database knows of it.
+    /// The zone that `--related` names, of which there may be something to say, and what the database knows of it.
     related_name: Option<&'a str>,
     pub(crate) related: RelatedZone,
     pub(crate) database: Database,
@@ -235,7 +230,6 @@ impl Host for ProgramHost<'_> {
         }
     }
 
-    // A careful job opens its database twice.
     fn open(&mut self, db: &DatabaseFile) -> Result<Connection<Self::Disk>, sqlite::Error> {
         let name = db.name.as_str();
         let is_missing = is_missing(self.rt, name);
@@ -243,7 +237,8 @@ impl Host for ProgramHost<'_> {
             self.database = Database::Missing(self.copy_name(name));
             return Err(Error::SqliteFailure(ErrorCode::CannotOpen));
         }
-        let is_new = is_missing || self.database.is_new();
+        // (a careful job opens its database twice, and may have made it the first time)
+        let is_new = is_missing || matches!(self.database, Database::Opened { is_new: true, .. });
         match self.open_waiting(name, db.wait) {
             Ok(conn) => {
                 self.database = Database::Opened {
@@ -270,11 +265,7 @@ impl Host for ProgramHost<'_> {
         }
         match read_copy(self.rt, name, db.wait) {
             Ok(bytes) => {
-                self.database = Database::Opened {
-                    name: self.copy_name(name),
-                    is_new: false,
-                    closing: None,
-                };
+                self.database = Database::Copied(self.copy_name(name));
                 Ok(bytes)
             }
             Err(fault) => Err(self.note_unread(name, fault)),
@@ -284,7 +275,7 @@ impl Host for ProgramHost<'_> {
     fn close(&mut self, conn: &mut Option<Connection<Self::Disk>>) {
         if let Some(mut open) = conn.take() {
             if let Some(name) = self.related_name {
-                self.related = related_zone(&mut open, name);
+                self.related = query_related_zone(&mut open, name).unwrap_or(RelatedZone::Unknown);
             }
             let faults = Closing::close(open);
             if let Database::Opened { closing, .. } = &mut self.database {

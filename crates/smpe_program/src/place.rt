@@ -69,7 +69,7 @@ pub(crate) fn place_fault(rt: &HostRuntime, name: &str) -> &'static str {
         Err(error) if error.kind() == ErrorKind::NotFound => {
             "its folder is not there, or nothing can be made in it"
         }
-        Err(_) => "it is in a folder that is closed to you, or behind what is no folder",
+        Err(_) => "it is in a folder that is closed to you, or a part of its path is no folder",
         Ok(metadata) if metadata.is_dir() => "it is a folder",
         Ok(metadata) if !metadata.is_file() => NO_PLAIN_FILE,
         Ok(metadata) if metadata.nlink() > 1 => "it has a second name, by a hard link",

@@ -3,14 +3,9 @@ use crate::host::DatabaseFiles;
 use smpe_hints::RelatedZone;
 use sqlite::{Connection, Error, params};
 
-/// What the database knows of the zone, or `Unknown` if it cannot be asked.
-pub(crate) fn related_zone(open: &mut Connection<DatabaseFiles>, name: &str) -> RelatedZone {
-    query_related_zone(open, name).unwrap_or(RelatedZone::Unknown)
-}
-
-// Asks the tables of the database: whether the zone exists, its kind, and the target zone that has it already. The
-// error is the library's.
-fn query_related_zone(
+/// Asks the tables of the database whether the zone exists, for its kind, and for the target zone that has it already.
+/// The error is the library's.
+pub(crate) fn query_related_zone(
     open: &mut Connection<DatabaseFiles>,
     name: &str,
 ) -> Result<RelatedZone, Error> {

@@ -1,7 +1,8 @@
 //! What is said on standard error when the program ends, besides the line of its fault.
+use crate::copy::{has_meta_table, read_copy};
 use crate::host::{Closing, Database, ProgramHost};
 use crate::place::{is_surely_no_database, place_fault};
-use smpe_hints::{ReportWatch, no_command_hint, operand_hint, zone_hint};
+use smpe_hints::{ReportWatch, careful_zone_hint, no_command_hint, operand_hint};
 use sqlite::{Error, ErrorCode};
 use std::alloc::AllocError;
 
@@ -9,7 +10,14 @@ const FULL: &str = "the disk is full";
 
 const FAILED: &str = "a read or write of the database failed";
 
-const ODD_ROW: &str = "a row of the database is not as smpe wrote it";
+const ALTERED_ROW: &str = "a row of the database is not as smpe wrote it";
+
+const NO_META_TABLE: &str =
+    "the file has no table meta: another program made it, or nothing could be written to it";
+
+/// What is said of a database whose tables the library does not read, for one of several reasons.
+const UNSOUND: &str =
+    "the database is damaged, has rows that break its own keys, or has tables that smpe cannot read";
 
 /// Writes lines that explain the report and the fault to standard error. It writes none if memory runs out.
 pub(crate) fn write_hints(
@@ -36,11 +44,14 @@ fn hint_lines(
     faults: &ReportWatch,
 ) -> Result<Vec<String>, AllocError> {
     let mut lines = report.hints(words, host.files.as_slice(), &host.related)?;
-    let is_silent = report.first_line().is_empty() && !host.files.is_empty();
-    push_if_any(
-        fault_hint(rt, words, host, faults.first_line(), is_silent)?,
-        &mut lines,
-    )?;
+    let hint = match faults.first_line() {
+        // (the job has read its files, and printed nothing)
+        "" if report.first_line().is_empty() && !host.files.is_empty() => {
+            no_command_hint(rt.alloc(), words)?
+        }
+        fault => fault_hint(rt, words, host, fault)?,
+    };
+    push_if_any(hint, &mut lines)?;
     if let Some(unread) = &host.unread {
         lines.push(String::from_str(rt.alloc(), unread.as_str())?)?;
     }
@@ -48,22 +59,20 @@ fn hint_lines(
     Ok(lines)
 }
 
-// The line that explains the line of a fault, or a job that has printed nothing; `None` if there is nothing to add.
+// The line that explains the line of a fault; `None` if there is nothing to add.
 fn fault_hint(
     rt: &HostRuntime,
     words: &[Vec<u8>],
     host: &ProgramHost<'_>,
     fault: &str,
-    is_silent: bool,
 ) -> Result<Option<String>, AllocError> {
     if let Some(zone) = fault.strip_prefix("smpe: no zone ") {
-        return zone_hint(rt.alloc(), words, host.files.as_slice(), zone);
+        return careful_zone_hint(rt.alloc(), words, host.files.as_slice(), zone);
     }
     match fault {
         "smpe: bad operand" => operand_hint(rt.alloc(), words),
         "smpe: store Sf1" => database_hint(rt, &host.database),
         "smpe: no command" => no_command_hint(rt.alloc(), words),
-        "" if is_silent => no_command_hint(rt.alloc(), words),
         _ => Ok(None),
     }
 }
@@ -105,12 +114,16 @@ fn database_hint(rt: &HostRuntime, database: &Database) -> Result<Option<String>
         }
         Database::Refused(_, error) => Ok(Some(String::from_str(
             rt.alloc(),
-            refusal_text(*error),
+            open_error_text(*error),
+        )?)),
+        Database::Copied(name) => Ok(Some(String::from_str(
+            rt.alloc(),
+            copy_error_text(rt, name.as_str()),
         )?)),
         Database::Opened { closing, .. } => {
             let text = match closing {
                 Some(closing) => failure_text(closing),
-                None => ODD_ROW,
+                None => ALTERED_ROW,
             };
             Ok(Some(String::from_str(rt.alloc(), text)?))
         }
@@ -118,15 +131,21 @@ fn database_hint(rt: &HostRuntime, database: &Database) -> Result<Option<String>
 }
 
 // Why the library refused to open the database.
-fn refusal_text(error: Error) -> &'static str {
+fn open_error_text(error: Error) -> &'static str {
     match error {
         Error::SqliteFailure(ErrorCode::DatabaseBusy) => "another program has the database",
-        Error::SqliteFailure(ErrorCode::NotADatabase) => {
-            "rows of the database break its own keys"
-        }
+        Error::SqliteFailure(ErrorCode::NotADatabase) => UNSOUND,
         Error::SqliteFailure(ErrorCode::DatabaseCorrupt) => "the database breaks its own rules",
         Error::SqliteFailure(ErrorCode::DiskFull) => FULL,
         _ => FAILED,
+    }
+}
+
+// Why a database that was copied failed, as far as its files show that, which are read once more.
+fn copy_error_text(rt: &HostRuntime, name: &str) -> &'static str {
+    match read_copy(rt, name, 0) {
+        Ok(bytes) if !has_meta_table(&bytes) => NO_META_TABLE,
+        _ => UNSOUND,
     }
 }
 
@@ -139,10 +158,8 @@ fn failure_text(closing: &Closing) -> &'static str {
         return "the database has other bytes than were written to it";
     }
     match (closing.meta, closing.log) {
-        (Some(Error::SqlInputError(_)), None) => {
-            "the file has no table meta: another program made it, or nothing could be written to it"
-        }
-        (None, None) => ODD_ROW,
+        (Some(Error::SqlInputError(_)), None) => NO_META_TABLE,
+        (None, None) => ALTERED_ROW,
         (_, Some(Error::SqliteFailure(ErrorCode::DiskFull))) => FULL,
         _ => FAILED,
     }

@@ -48,7 +48,7 @@ impl Progress<'_> {
     }
 }
 
-/// A sink, with a watcher of what it took.
+/// A sink, with a watch over what it took.
 #[derive(Drop)]
 pub(crate) struct Watched<'a, S> {
     sink: S,
@@ -78,7 +78,7 @@ impl<S: Sink> Sink for Watched<'_, S> {
     // If memory runs out, less is said about the report.
     fn write(&mut self, piece: &[u8]) -> Result<usize, WriteFault> {
         let count = self.sink.write(piece)?;
-        let _ = self.watch.take(piece.get(..count).unwrap_or(b""));
+        let _ = self.watch.feed(piece.get(..count).unwrap_or(b""));
         if let Some(progress) = &mut self.progress {
             progress.note_ended_command(&self.watch);
         }
