@@ -6,7 +6,7 @@ use intake_cards::{Deed, RemarkReason, Remarks, Subject};
 use intake_read::{
     OddOperand, WideFile, WideHold, WideHoldKind, WideOther, WideRelease, hold_kind,
 };
-use intake_sysmod::missing_word;
+use intake_read::missing_word;
 use std::alloc::{AllocError, Global};
 
 // Whether an operand of this name tells a hold from others. A second one leaves open which is meant.

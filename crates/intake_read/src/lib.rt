@@ -24,4 +24,4 @@ pub use items::{
 pub use make::hold_kind;
 pub use meaning::is_element;
 pub use read::WideReader;
-pub use remarks::{tell_no_decision, tell_odd};
+pub use remarks::{missing_word, tell_no_decision, tell_odd};

@@ -1,5 +1,5 @@
 //! Remarks on operands and statements that are dropped, or could not be taken for what they say.
-use crate::items::{OddOperand, OddReason, OtherReason, WideOperand};
+use crate::items::{OddOperand, OddReason, OtherReason, WideOperand, WideOther};
 use intake_cards::{Deed, RemarkReason, Remarks, Subject};
 use std::alloc::{AllocError, Global};
 
@@ -44,6 +44,18 @@ pub fn tell_odd(
         )?;
     }
     Ok(())
+}
+
+/// What a statement that is carried nowhere lacks, or an empty text if its reason is another one.
+pub fn missing_word(other: &WideOther) -> &'static [u8] {
+    if other.reason != OtherReason::NoName {
+        return b"";
+    }
+    match other.word.as_slice() {
+        b"VER" => b"SREL",
+        b"FUNCTION" | b"PTF" | b"APAR" | b"USERMOD" | b"HOLD" | b"RELEASE" => b"(ID)",
+        _ => b"(NAME)",
+    }
 }
 
 impl From<OddReason> for RemarkReason {

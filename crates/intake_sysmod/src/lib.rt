@@ -17,5 +17,5 @@ mod vers;
 
 pub use carried::carried_sysmod;
 pub use intake_elements::{Options, RelfileMember, Syslib};
-pub use others::{missing_word, tell_others};
+pub use others::tell_others;
 pub use users::Users;

@@ -2,20 +2,8 @@
 
 use intake_cards::{RemarkReason, Remarks, Subject};
 use intake_elements::Options;
-use intake_read::{OtherReason, WideOther};
+use intake_read::{OtherReason, WideOther, missing_word};
 use std::alloc::{AllocError, Global};
-
-/// What a statement that is carried nowhere lacks, or an empty text if its reason is another one.
-pub fn missing_word(other: &WideOther) -> &'static [u8] {
-    if other.reason != OtherReason::NoName {
-        return b"";
-    }
-    match other.word.as_slice() {
-        b"VER" => b"SREL",
-        b"FUNCTION" | b"PTF" | b"APAR" | b"USERMOD" | b"HOLD" | b"RELEASE" => b"(ID)",
-        _ => b"(NAME)",
-    }
-}
 
 /// Remarks on the statements of a SYSMOD or of a file that are carried nowhere, and returns whether a SYSMOD can be
 /// carried without them.
