@@ -358,11 +358,11 @@ pub(crate) fn read_whole(
         let Some(card) = cards.next_card(&mut notes)? else {
             break;
         };
-        if let Some(hold) = reader.take(&card)? {
+        if let Some(hold) = reader.read_card(&card)? {
             holds.push(hold)?;
         }
     }
-    if let Some(hold) = reader.take_end()? {
+    if let Some(hold) = reader.read_end()? {
         holds.push(hold)?;
     }
     let file = reader.into_file()?;
