@@ -43,7 +43,7 @@ fn distinct_ids(
     let mut seen = BTreeSet::new(alloc);
     for text in stated {
         let Some(id) = Id::read(text.as_slice()) else {
-            remarks.leave_out(alloc, subject, b"TO", RemarkReason::BadId, text.as_slice())?;
+            remarks.tell_left_out(alloc, subject, b"TO", RemarkReason::BadId, text.as_slice())?;
             continue;
         };
         if seen.insert(id)? {
@@ -64,15 +64,15 @@ fn check_assign(
     source: &[u8],
     stated: &WideAssign,
 ) -> Result<bool, AllocError> {
-    let odd = stated.odd.as_slice();
+    let odd = stated.faulty.as_slice();
     leave_out_odd(alloc, remarks, subject, odd)?;
     let lacks_source = source.is_empty() && !has_odd(odd, b"SOURCEID");
     if lacks_source {
-        remarks.leave_out(alloc, subject, b"SOURCEID", RemarkReason::Missing, b"")?;
+        remarks.tell_left_out(alloc, subject, b"SOURCEID", RemarkReason::Missing, b"")?;
     }
     let lacks_ids = stated.to.is_empty() && !has_odd(odd, b"TO");
     if lacks_ids {
-        remarks.leave_out(alloc, subject, b"TO", RemarkReason::Missing, b"")?;
+        remarks.tell_left_out(alloc, subject, b"TO", RemarkReason::Missing, b"")?;
     }
     Ok(odd.is_empty() && !lacks_source && !lacks_ids)
 }
@@ -90,7 +90,7 @@ fn read_source(
         if stated.contains(&b'.') {
             remarks.tell_dropped(alloc, subject, b"", RemarkReason::LongSource, b"")?;
         } else {
-            remarks.leave_out(alloc, subject, b"SOURCEID", RemarkReason::BadValue, stated)?;
+            remarks.tell_left_out(alloc, subject, b"SOURCEID", RemarkReason::BadValue, stated)?;
         }
         return Ok(None);
     };

@@ -20,7 +20,7 @@ use crate::refusals::refuse_statements;
 use crate::sysmods::{CarriedPart, carry_with_holds};
 use intake_cards::Remarks;
 use intake_read::WideFile;
-use intake_sysmod::{Options, Users, tell_others};
+use intake_sysmod::{Options, Users, tell_other_statements};
 use mcs::Item;
 use std::alloc::{AllocError, Global};
 
@@ -98,7 +98,7 @@ fn carry_file(
     tell_notes(alloc, remarks, file.notes.as_slice())?;
     tell_swallowed(alloc, remarks, file.swallowed.as_slice())?;
     let mut gathered = carry_sysmods(alloc, options, users, copies, remarks, file)?;
-    let _ = tell_others(alloc, options, remarks, file.others.as_slice())?;
+    let _ = tell_other_statements(alloc, options, remarks, file.others.as_slice())?;
     remarks.append(held.next_file(alloc))?;
     let mut releases = carry_releases(alloc, remarks, file.releases.as_slice())?;
     gathered.outside.append(&mut releases)?;

@@ -10,7 +10,8 @@ use crate::errors::HoldError;
 use fields::{Class, HoldDate, Id, Reason as HoldReason};
 use intake_cards::{Deed, RemarkReason, Remarks, Subject};
 use intake_read::{
-    OddOperand, WideHold, WideHoldKind, WideOperand, WideRelease, tell_no_decision, tell_odd,
+    FaultyOperand, WideHold, WideHoldKind, WideOperand, WideRelease, tell_dropped_operands,
+    tell_faulty_operands,
 };
 use mcs::Release;
 use std::alloc::{AllocError, Global};
@@ -266,10 +267,10 @@ fn tell_operands(
     remarks: &mut Remarks,
     subject: &Subject<'_>,
     dropped: &[WideOperand],
-    odd: &[OddOperand],
+    odd: &[FaultyOperand],
 ) -> Result<(), AllocError> {
-    tell_no_decision(alloc, remarks, subject, dropped)?;
-    tell_odd(alloc, remarks, subject, odd, Deed::Dropped)
+    tell_dropped_operands(alloc, remarks, subject, dropped)?;
+    tell_faulty_operands(alloc, remarks, subject, odd, Deed::Dropped)
 }
 
 /// The hold, or `None` for FIXCAT. `own` is the SYSMOD in which it is stated: the hold is internal if it is a SYSTEM
@@ -302,7 +303,7 @@ pub(crate) fn carry_hold(
         remarks,
         &subject,
         stated.dropped.as_slice(),
-        stated.odd.as_slice(),
+        stated.faulty.as_slice(),
     )?;
     let internal = is_internal(own, stated);
     Ok(Some(make_hold(alloc, remarks, &subject, stated, key, internal)?))
@@ -335,7 +336,7 @@ pub(crate) fn carry_release(
         remarks,
         &subject,
         stated.dropped.as_slice(),
-        stated.odd.as_slice(),
+        stated.faulty.as_slice(),
     )?;
     Ok(key)
 }

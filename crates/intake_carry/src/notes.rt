@@ -18,9 +18,9 @@ pub(crate) fn tell_notes(
         };
         let reason = match note.reason {
             NoteReason::LowerCase => RemarkReason::LowerCase,
-            NoteReason::TextIn73 => RemarkReason::TextInNumbers,
+            NoteReason::TextInNumbers => RemarkReason::TextInNumbers,
         };
-        if note.reason == NoteReason::TextIn73 {
+        if note.reason == NoteReason::TextInNumbers {
             remarks.tell_dropped(alloc, &subject, b"", reason, note.tail.trim_ascii())?;
             continue;
         }
@@ -46,7 +46,7 @@ pub(crate) fn tell_swallowed(
         let card = statement.comment.card;
         let opens = format!(in alloc; "which opens at {card}")?;
         let reason = RemarkReason::StatementInComment;
-        remarks.leave_out(alloc, &subject, b"", reason, opens.as_bytes())?;
+        remarks.tell_left_out(alloc, &subject, b"", reason, opens.as_bytes())?;
     }
     Ok(())
 }

@@ -1,12 +1,12 @@
 //! Remarks on operands that could not be taken for what their names say.
 
 use intake_cards::{RemarkReason, Remarks, Subject};
-use intake_read::{OddOperand, OddReason};
+use intake_read::{FaultyOperand, OperandFault};
 use std::alloc::{AllocError, Global};
 
 /// What is wrong with the operand. An operand without the value that it should have counts as missing.
-pub(crate) fn odd_reason(odd: &OddOperand) -> RemarkReason {
-    if odd.reason == OddReason::BadValue && odd.operand.text().is_empty() {
+pub(crate) fn odd_reason(odd: &FaultyOperand) -> RemarkReason {
+    if odd.reason == OperandFault::BadValue && odd.operand.text().is_empty() {
         RemarkReason::Missing
     } else {
         RemarkReason::from(odd.reason)
@@ -14,7 +14,7 @@ pub(crate) fn odd_reason(odd: &OddOperand) -> RemarkReason {
 }
 
 /// Whether the odd operands include one of this name.
-pub(crate) fn has_odd(odd: &[OddOperand], name: &[u8]) -> bool {
+pub(crate) fn has_odd(odd: &[FaultyOperand], name: &[u8]) -> bool {
     odd.iter()
         .any(|entry| entry.operand.name.as_slice() == name)
 }
@@ -24,12 +24,12 @@ pub(crate) fn leave_out_odd(
     alloc: Global,
     remarks: &mut Remarks,
     subject: &Subject<'_>,
-    odd: &[OddOperand],
+    odd: &[FaultyOperand],
 ) -> Result<(), AllocError> {
     for entry in odd {
         let operand = &entry.operand;
         let name = operand.name.as_slice();
-        remarks.leave_out(alloc, subject, name, odd_reason(entry), operand.text())?;
+        remarks.tell_left_out(alloc, subject, name, odd_reason(entry), operand.text())?;
     }
     Ok(())
 }

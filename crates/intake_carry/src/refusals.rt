@@ -4,18 +4,17 @@ use crate::holds::{HoldFault, hold_key, release_key};
 use crate::odd::odd_reason;
 use intake_cards::{Deed, RemarkReason, Remarks, Subject};
 use intake_read::{
-    OddOperand, WideFile, WideHold, WideHoldKind, WideOther, WideRelease, hold_kind,
+    FaultyOperand, WideFile, WideHold, WideHoldKind, WideOther, WideRelease, missing_word,
 };
-use intake_sysmod::missing_word;
 use std::alloc::{AllocError, Global};
 
 // Whether an operand of this name tells a hold from others. A second one leaves open which is meant.
 fn is_key(name: &[u8]) -> bool {
-    hold_kind(name).is_some() || matches!(name, b"REASON" | b"FMID")
+    WideHoldKind::read(name).is_some() || matches!(name, b"REASON" | b"FMID")
 }
 
 // The first odd operand of those that tell a hold from others, or `None` if none of these is odd.
-fn unread_key_operand(odd: &[OddOperand]) -> Option<&OddOperand> {
+fn unread_key_operand(odd: &[FaultyOperand]) -> Option<&FaultyOperand> {
     odd.iter()
         .find(|entry| is_key(entry.operand.name.as_slice()))
 }
@@ -26,7 +25,7 @@ fn refuse_if_faulty(
     alloc: Global,
     remarks: &mut Remarks,
     subject: &Subject<'_>,
-    odd: &[OddOperand],
+    odd: &[FaultyOperand],
     fault: Option<HoldFault>,
 ) -> Result<bool, AllocError> {
     if let Some(entry) = unread_key_operand(odd) {
@@ -70,7 +69,7 @@ pub(crate) fn refuse_hold(
         id: stated.id.as_slice(),
     };
     let fault = hold_key(stated).err();
-    refuse_if_faulty(alloc, remarks, &subject, stated.odd.as_slice(), fault)
+    refuse_if_faulty(alloc, remarks, &subject, stated.faulty.as_slice(), fault)
 }
 
 // Refuses the release, with a remark, if it cannot be carried, and returns whether that is so.
@@ -85,7 +84,7 @@ fn refuse_release(
         id: stated.id.as_slice(),
     };
     let fault = release_key(stated).err();
-    refuse_if_faulty(alloc, remarks, &subject, stated.odd.as_slice(), fault)
+    refuse_if_faulty(alloc, remarks, &subject, stated.faulty.as_slice(), fault)
 }
 
 // Refuses those of the holds that cannot be carried, and returns whether there are any.
@@ -113,7 +112,7 @@ fn is_broken_hold(other: &WideOther) -> bool {
 fn is_fixcat(other: &WideOther) -> bool {
     let mut has_fixcat = false;
     for operand in other.operands.iter() {
-        match hold_kind(operand.name.as_slice()) {
+        match WideHoldKind::read(operand.name.as_slice()) {
             Some(WideHoldKind::Fixcat) => has_fixcat = true,
             Some(_) => return false,
             None => {}

@@ -15,7 +15,7 @@ use crate::placed::{PlacedItem, push_hold};
 use fields::spelling::kind_text;
 use intake_cards::{CardPlace, RemarkReason, Remarks, Subject};
 use intake_read::{WideHold, WideSysmod};
-use intake_sysmod::{Options, Users, carried_sysmod};
+use intake_sysmod::{Options, Users, carry_sysmod};
 use std::alloc::{AllocError, Global};
 use sysmods_values::{Hold, Sysmod};
 
@@ -148,7 +148,7 @@ fn remark_other_copy(
         word: kind_text(stated.kind),
         id: stated.id.as_slice(),
     };
-    remarks.leave_out(alloc, &subject, b"", RemarkReason::OtherCopy, b"")
+    remarks.tell_left_out(alloc, &subject, b"", RemarkReason::OtherCopy, b"")
 }
 
 // The SYSMOD without its holds. Returns `None`, with a remark, if it is left out or another copy of it is carried.
@@ -167,7 +167,7 @@ fn carry_copy(
         remark_other_copy(alloc, remarks, stated)?;
         return Ok(None);
     }
-    carried_sysmod(alloc, options, users, remarks, stated)
+    carry_sysmod(alloc, options, users, remarks, stated)
 }
 
 /// The SYSMOD, if it is carried, and its holds. Remarks say why it is left out, and what differs. Returns `BadHold`

@@ -2,8 +2,8 @@
 use crate::errors::WideError;
 use crate::gather::FileSoFar;
 use crate::items::{OtherReason, SwallowedStatement, WideFile, WideHold};
-use crate::meaning::{is_text_elsewhere, takes_text};
-use crate::statement::{WideStatement, statement_of};
+use crate::meaning::{is_text_elsewhere, may_have_inline_text};
+use crate::statement::WideStatement;
 use intake_cards::{Card, CardPiece, CardPlace, CardScanner, Open, Tail, Token, is_word_byte};
 use std::alloc::{AllocError, Global};
 
@@ -20,7 +20,7 @@ enum CardPart {
     Inline,
 }
 
-/// Reads the statements of a file's cards, which it takes one after the other.
+/// Reads the statements of a file's cards, which it is given one after the other.
 #[derive(Drop)]
 pub struct WideReader {
     alloc: Global,
@@ -35,8 +35,8 @@ pub struct WideReader {
     gathered: FileSoFar,
 }
 
-// The letters and digits at the beginning, in upper case.
-fn upper_word(alloc: Global, text: &[u8]) -> Result<Vec<u8>, AllocError> {
+// The word at the beginning of the text, in upper case; empty if none begins there.
+fn first_word(alloc: Global, text: &[u8]) -> Result<Vec<u8>, AllocError> {
     let mut word = Vec::new(alloc);
     for byte in text {
         if !is_word_byte(*byte) {
@@ -47,7 +47,7 @@ fn upper_word(alloc: Global, text: &[u8]) -> Result<Vec<u8>, AllocError> {
     Ok(word)
 }
 
-// What follows the first opening parenthesis.
+// What follows the first opening parenthesis; empty if there is none.
 fn after_parenthesis(text: &[u8]) -> &[u8] {
     match text.iter().position(|byte| *byte == b'(') {
         Some(place) => &text[place + 1..],
@@ -61,12 +61,12 @@ fn swallowed_statement(
     comment: CardPlace,
     card: &Card,
 ) -> Result<SwallowedStatement, AllocError> {
-    let text = &card.text[2..72];
+    let text = card.columns_after_plus_signs();
     Ok(SwallowedStatement {
         place: card.place,
         comment,
-        word: upper_word(alloc, text)?,
-        name: upper_word(alloc, after_parenthesis(text).trim_ascii_start())?,
+        word: first_word(alloc, text)?,
+        name: first_word(alloc, after_parenthesis(text).trim_ascii_start())?,
     })
 }
 
@@ -81,7 +81,8 @@ fn missing_statement_hint(card: &Card) -> &'static str {
     }
 }
 
-// Whether cards after the statement of these pieces are its text.
+// Whether cards after the statement of these pieces may be its text: its word may have one, and no operand says that
+// the text is elsewhere.
 fn may_have_inline(pieces: &[CardPiece]) -> bool {
     let mut has_word = false;
     for piece in pieces {
@@ -89,7 +90,7 @@ fn may_have_inline(pieces: &[CardPiece]) -> bool {
             if has_word && is_text_elsewhere(word.as_slice()) {
                 return false;
             }
-            if !has_word && !takes_text(word.as_slice()) {
+            if !has_word && !may_have_inline_text(word.as_slice()) {
                 return false;
             }
             has_word = true;
@@ -99,7 +100,7 @@ fn may_have_inline(pieces: &[CardPiece]) -> bool {
 }
 
 impl WideReader {
-    /// A reader that has taken no card.
+    /// A reader that has read no card.
     pub fn new(alloc: Global) -> WideReader {
         WideReader {
             alloc,
@@ -133,13 +134,13 @@ impl WideReader {
             }
             CardPart::Own => {
                 self.note_tail(card)?;
-                self.scanner.take_card(card)?;
-                self.end_line(card);
+                self.scanner.scan_card(card)?;
+                self.end_card(card);
                 self.end_own_text()
             }
             CardPart::Before | CardPart::Behind => {
-                self.scanner.take_card(card)?;
-                self.end_line(card);
+                self.scanner.scan_card(card)?;
+                self.end_card(card);
                 self.blame_text_after(card)
             }
         }
@@ -152,14 +153,15 @@ impl WideReader {
         self.place = card.place;
         self.note_tail(card)?;
         self.is_cut = false;
-        self.scanner.take_columns(card.place, &card.text[2..72])?;
-        self.end_line(card);
+        self.scanner
+            .scan_columns(card.place, card.columns_after_plus_signs())?;
+        self.end_card(card);
         self.end_own_text()
     }
 
-    // Notes that the card's line is cut at column 80, unless it is cut inside a comment, where nothing is lost. A `*/`
-    // after column 80 ends the comment.
-    fn end_line(&mut self, card: &Card) {
+    // Ends a card that was scanned: notes that its line is cut at column 80, unless it is cut inside a comment, where
+    // nothing is lost. A `*/` after column 80 ends the comment.
+    fn end_card(&mut self, card: &Card) {
         let is_open = matches!(self.scanner.open(), Open::Comment(_));
         if is_open && card.ends_comment {
             self.scanner.end_comment();
@@ -178,10 +180,7 @@ impl WideReader {
 
     // Makes a statement of the pieces that were scanned, and takes them out of the scanner.
     fn take_statement(&mut self) -> Result<WideStatement, AllocError> {
-        let open = self.scanner.open();
-        let has_lower = self.scanner.has_lower();
-        let pieces = self.scanner.take_pieces();
-        let mut statement = statement_of(self.alloc, self.place, pieces, open, has_lower)?;
+        let mut statement = WideStatement::take_scanned(self.alloc, self.place, &mut self.scanner)?;
         if self.is_cut {
             statement.fault = Some(OtherReason::LongLine);
         }
@@ -234,17 +233,17 @@ impl WideReader {
         Ok(())
     }
 
-    /// Takes the next card. If it ends a hold outside SYSMODs, it hands out that hold. Returns `NoStatement` if more
+    /// Reads the next card. If it ends a hold outside SYSMODs, it hands out that hold. Returns `NoStatement` if more
     /// than blanks and comments stands before the first statement, and `Statement` if a statement that belongs to a
     /// SYSMOD, or that is not known, stands before the first SYSMOD.
-    pub fn take(&mut self, card: &Card) -> Result<Option<WideHold>, WideError> {
+    pub fn read_card(&mut self, card: &Card) -> Result<Option<WideHold>, WideError> {
         self.add_card(card)?;
         Ok(self.gathered.take_hold())
     }
 
     /// Ends the last statement, and hands it out if it is a hold outside SYSMODs. Returns `OpenComment` if a comment is
     /// open after the last card.
-    pub fn take_end(&mut self) -> Result<Option<WideHold>, WideError> {
+    pub fn read_end(&mut self) -> Result<Option<WideHold>, WideError> {
         if let Open::Comment(place) = self.scanner.open() {
             return Err(WideError::OpenComment { place });
         }
@@ -252,7 +251,7 @@ impl WideReader {
         Ok(self.gathered.take_hold())
     }
 
-    /// All statements but the holds that `take` and `take_end` handed out. Call it after `take_end`.
+    /// All statements but the holds that `read_card` and `read_end` handed out. Call it after `read_end`.
     pub fn into_file(self) -> Result<WideFile, WideError> {
         let WideReader {
             alloc: _,
