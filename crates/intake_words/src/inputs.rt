@@ -1,6 +1,7 @@
 //! The files that are read, by their numbers.
 
 use crate::fault::IntakeFault;
+use crate::options::CardOptions;
 use intake_cards::{Card, CardNote, CardOddity, CardPlace, CardReader, Code, Layout, read_cards};
 use std::alloc::{AllocError, Global};
 
@@ -8,10 +9,10 @@ use std::alloc::{AllocError, Global};
 #[derive(Debug, Drop)]
 struct InputFile {
     name: String,
-    form: Layout,
+    layout: Layout,
 }
 
-/// The files so far. A place names its file by the number that it has here.
+/// The files that were read so far. A `CardPlace` names its file by the number that it has here.
 #[derive(Debug, Drop)]
 pub struct InputFiles {
     all: Vec<InputFile>,
@@ -26,10 +27,10 @@ impl InputFiles {
     }
 
     // Adds the next file.
-    fn add(&mut self, alloc: Global, name: &str, form: Layout) -> Result<(), AllocError> {
+    fn add(&mut self, alloc: Global, name: &str, layout: Layout) -> Result<(), AllocError> {
         self.all.push(InputFile {
             name: String::from_str(alloc, name)?,
-            form,
+            layout,
         })?;
         Ok(())
     }
@@ -37,7 +38,7 @@ impl InputFiles {
     // The name of the file of this number, or an empty text if there is none.
     pub(crate) fn name(&self, file: usize) -> &str {
         match self.all.get(file) {
-            Some(source) => source.name.as_str(),
+            Some(input) => input.name.as_str(),
             None => "",
         }
     }
@@ -45,8 +46,51 @@ impl InputFiles {
     // What a card of the file of this number is called: "line" or "record".
     pub(crate) fn unit(&self, file: usize) -> &'static str {
         match self.all.get(file) {
-            Some(source) => unit(source.form),
+            Some(input) => unit(input.layout),
             None => unit(Layout::Records),
+        }
+    }
+
+    /// The cards of the file of this name, which becomes the next one. Appends to `remarks` what was assumed of the file.
+    /// Returns `NoCards` if the bytes cannot be read as cards, `Memory` if memory runs out.
+    pub fn read_cards(
+        &mut self,
+        alloc: Global,
+        name: &str,
+        bytes: &[u8],
+        options: CardOptions,
+        remarks: &mut Vec<u8>,
+    ) -> Result<Vec<Card>, IntakeFault> {
+        let read = match read_cards(alloc, self.all.len(), bytes, options.layout, options.code) {
+            Ok(read) => read,
+            Err(error) => return Err(IntakeFault::of_cards(alloc, name, error)),
+        };
+        self.add(alloc, name, read.form)?;
+        let assumed = CardAssumptions {
+            name,
+            layout: read.form,
+            code: read.code,
+            notes: &read.notes,
+        };
+        assumed.append_lines(alloc, remarks)?;
+        Ok(read.cards)
+    }
+
+    /// A reader of the cards of the file of this name, which becomes the next one. Returns `NoCards` if the bytes
+    /// cannot be read as cards, `Memory` if memory runs out.
+    pub fn open_cards<'a>(
+        &mut self,
+        alloc: Global,
+        name: &str,
+        bytes: &'a [u8],
+        options: CardOptions,
+    ) -> Result<CardReader<'a>, IntakeFault> {
+        match CardReader::open(self.all.len(), bytes, options.layout, options.code) {
+            Ok(cards) => {
+                self.add(alloc, name, cards.form)?;
+                Ok(cards)
+            }
+            Err(error) => Err(IntakeFault::of_cards(alloc, name, error)),
         }
     }
 
@@ -64,81 +108,45 @@ impl InputFiles {
 }
 
 // What a card of a file with this layout is called.
-fn unit(form: Layout) -> &'static str {
-    match form {
+fn unit(layout: Layout) -> &'static str {
+    match layout {
         Layout::Text => "line",
         Layout::Records => "record",
     }
 }
 
-/// The cards of the file of this name, which becomes the next one. Remarks say what was assumed of it. Returns
-/// `NoCards` if the bytes cannot be read as cards, `Memory` if memory runs out.
-pub fn read_file_cards(
-    alloc: Global,
-    sources: &mut InputFiles,
-    name: &str,
-    bytes: &[u8],
-    form: Option<Layout>,
-    code: Option<Code>,
-    remarks: &mut Vec<u8>,
-) -> Result<Vec<Card>, IntakeFault> {
-    let file = sources.all.len();
-    let read = match read_cards(alloc, file, bytes, form, code) {
-        Ok(read) => read,
-        Err(error) => return Err(IntakeFault::of_cards(alloc, name, error)),
-    };
-    sources.add(alloc, name, read.form)?;
-    describe_assumptions(alloc, name, read.form, read.code, &read.notes, remarks)?;
-    Ok(read.cards)
+/// How the file of this name was read, and the oddities of its cards.
+#[derive(Clone, Copy)]
+pub struct CardAssumptions<'a> {
+    pub name: &'a str,
+    pub layout: Layout,
+    pub code: Code,
+    pub notes: &'a [CardNote],
 }
 
-/// A reader of the cards of the file of this name, which becomes the next one. Returns `NoCards` if the bytes cannot be
-/// read as cards, `Memory` if memory runs out.
-pub fn open_cards<'a>(
-    alloc: Global,
-    sources: &mut InputFiles,
-    name: &str,
-    bytes: &'a [u8],
-    form: Option<Layout>,
-    code: Option<Code>,
-) -> Result<CardReader<'a>, IntakeFault> {
-    let file = sources.all.len();
-    match CardReader::open(file, bytes, form, code) {
-        Ok(cards) => {
-            sources.add(alloc, name, cards.form)?;
-            Ok(cards)
+impl CardAssumptions<'_> {
+    /// Appends a line that names the layout and the code, and one for each oddity.
+    pub fn append_lines(&self, alloc: Global, lines: &mut Vec<u8>) -> Result<(), AllocError> {
+        let name = self.name;
+        let layout = layout_words(self.layout);
+        let code = code_words(self.code);
+        let line = format!(in alloc; "{name}: read as {layout} in {code}\n")?;
+        lines.extend_from_slice(line.as_bytes())?;
+        let unit = unit(self.layout);
+        for note in self.notes {
+            let first = note.first.card;
+            let count = note.cards;
+            let oddity = oddity_words(note.oddity);
+            let line = format!(in alloc; "{name} {unit} {first}: {oddity}: in {count} cards\n")?;
+            lines.extend_from_slice(line.as_bytes())?;
         }
-        Err(error) => Err(IntakeFault::of_cards(alloc, name, error)),
+        Ok(())
     }
-}
-
-/// Appends a line that says in which layout and code the file was read, and one for each oddity of its cards.
-pub fn describe_assumptions(
-    alloc: Global,
-    name: &str,
-    form: Layout,
-    code: Code,
-    notes: &[CardNote],
-    remarks: &mut Vec<u8>,
-) -> Result<(), AllocError> {
-    let words = form_words(form);
-    let code = code_words(code);
-    let line = format!(in alloc; "{name}: read as {words} in {code}\n")?;
-    remarks.extend_from_slice(line.as_bytes())?;
-    let unit = unit(form);
-    for note in notes {
-        let first = note.first.card;
-        let count = note.cards;
-        let words = oddity_words(note.oddity);
-        let line = format!(in alloc; "{name} {unit} {first}: {words}: in {count} cards\n")?;
-        remarks.extend_from_slice(line.as_bytes())?;
-    }
-    Ok(())
 }
 
 // The layout in words.
-fn form_words(form: Layout) -> &'static str {
-    match form {
+fn layout_words(layout: Layout) -> &'static str {
+    match layout {
         Layout::Text => "lines",
         Layout::Records => "records of 80 bytes",
     }

@@ -1,5 +1,6 @@
 //! The summary of a run, which is printed.
 
+use crate::options::IntakeOptions;
 use crate::summary_json::json_summary;
 use intake_cards::{Deed, Remark, RemarkList, RemarkReason};
 use intake_carry::{Narrowed, Tally};
@@ -17,7 +18,7 @@ pub(crate) struct RemarkCount {
 }
 
 /// How many remarks have each deed and reason, in the order in which these first occur.
-pub(crate) fn counts_of(
+pub(crate) fn remark_counts(
     alloc: Global,
     remarks: &RemarkList,
 ) -> Result<Vec<RemarkCount>, AllocError> {
@@ -31,8 +32,12 @@ pub(crate) fn counts_of(
 }
 
 // Appends a line for each deed and reason, with the number of remarks that have them.
-fn put_reasons(alloc: Global, remarks: &RemarkList, lines: &mut Vec<u8>) -> Result<(), AllocError> {
-    for entry in &counts_of(alloc, remarks)? {
+fn append_remark_counts(
+    alloc: Global,
+    remarks: &RemarkList,
+    lines: &mut Vec<u8>,
+) -> Result<(), AllocError> {
+    for entry in &remark_counts(alloc, remarks)? {
         let count = entry.count;
         let deed = entry.deed.words();
         let reason = entry.reason.words();
@@ -58,8 +63,8 @@ fn count_remark(all: &mut Vec<RemarkCount>, remark: &Remark<'_>) -> Result<(), A
     Ok(())
 }
 
-/// Whether the remark tells that a SYSMOD is left out.
-pub(crate) fn is_left_out(remark: &Remark<'_>) -> bool {
+/// Whether the remark says that its SYSMOD is left out.
+pub(crate) fn is_of_left_out_sysmod(remark: &Remark<'_>) -> bool {
     matches!(
         remark.reason,
         RemarkReason::WholeSysmod | RemarkReason::OtherCopy
@@ -126,7 +131,7 @@ pub(crate) fn cause_text(alloc: Global, cause: &Remark<'_>) -> Result<Vec<u8>, A
 }
 
 // Appends a line for each SYSMOD that is left out, with its first cause, and after `MOST_LINES` one for all others.
-fn put_all_left_out(
+fn append_left_out_lines(
     alloc: Global,
     remarks: &RemarkList,
     lines: &mut Vec<u8>,
@@ -136,13 +141,13 @@ fn put_all_left_out(
         let Some(remark) = remarks.get(place) else {
             continue;
         };
-        if !is_left_out(&remark) {
+        if !is_of_left_out_sysmod(&remark) {
             continue;
         }
         count = count.saturating_add(1);
         if count <= MOST_LINES {
             let cause = cause_of(remarks, place, remark);
-            put_left_out(alloc, &remark, &cause, lines)?;
+            append_left_out_line(alloc, &remark, &cause, lines)?;
         }
     }
     if count > MOST_LINES {
@@ -154,7 +159,7 @@ fn put_all_left_out(
 }
 
 // Appends the line for a SYSMOD that is left out.
-fn put_left_out(
+fn append_left_out_line(
     alloc: Global,
     remark: &Remark<'_>,
     cause: &Remark<'_>,
@@ -184,7 +189,7 @@ pub(crate) fn count_with_reason(remarks: &RemarkList, reason: RemarkReason) -> u
 }
 
 // Appends a line, unless the number is 0.
-fn put_warning(
+fn append_warning(
     alloc: Global,
     word: &str,
     number: usize,
@@ -199,16 +204,15 @@ fn put_warning(
 }
 
 /// The summary of a run over files, in lines or, for programs, in JSON.
-pub fn summary_of(
+pub fn service_summary(
     alloc: Global,
-    decide: bool,
-    json: bool,
+    asked: &IntakeOptions,
     narrowed: &Narrowed,
 ) -> Result<Vec<u8>, AllocError> {
-    if json {
+    if asked.json {
         json_summary(alloc, narrowed)
     } else {
-        service_summary(alloc, decide, narrowed)
+        text_summary(alloc, asked, narrowed)
     }
 }
 
@@ -227,48 +231,52 @@ pub fn command_summary(
     } else {
         lines.extend_from_slice(b"COMMAND none is written: see what is refused in cntl.remarks\n")?;
     }
-    put_reasons(alloc, remarks, &mut lines)?;
+    append_remark_counts(alloc, remarks, &mut lines)?;
     Ok(lines)
 }
 
 // The summary in lines: what is left out and why, what else matters, and then how much there is of each.
-fn service_summary(
+fn text_summary(
     alloc: Global,
-    decide: bool,
+    asked: &IntakeOptions,
     narrowed: &Narrowed,
 ) -> Result<Vec<u8>, AllocError> {
     let remarks = &narrowed.remarks;
     let mut lines = Vec::new(alloc);
-    put_all_left_out(alloc, remarks, &mut lines)?;
-    put_warnings(alloc, narrowed, &mut lines)?;
-    if decide {
-        put_check_line(alloc, narrowed, &mut lines)?;
+    append_left_out_lines(alloc, remarks, &mut lines)?;
+    append_warnings(alloc, narrowed, &mut lines)?;
+    if asked.decide {
+        append_check_line(alloc, narrowed, &mut lines)?;
     }
-    put_tally(alloc, "SYSMOD", narrowed.sysmods, &mut lines)?;
-    put_tally(alloc, "HOLD", narrowed.holds, &mut lines)?;
-    put_tally(alloc, "RELEASE", narrowed.releases, &mut lines)?;
-    put_tally(alloc, "ASSIGN", narrowed.assigns, &mut lines)?;
-    put_reasons(alloc, remarks, &mut lines)?;
+    append_tally(alloc, "SYSMOD", narrowed.sysmods, &mut lines)?;
+    append_tally(alloc, "HOLD", narrowed.holds, &mut lines)?;
+    append_tally(alloc, "RELEASE", narrowed.releases, &mut lines)?;
+    append_tally(alloc, "ASSIGN", narrowed.assigns, &mut lines)?;
+    append_remark_counts(alloc, remarks, &mut lines)?;
     Ok(lines)
 }
 
 // Appends warnings: of holds that moved, of statements in comments, and of SYSMODs left out that would forbid others.
-fn put_warnings(alloc: Global, narrowed: &Narrowed, lines: &mut Vec<u8>) -> Result<(), AllocError> {
+fn append_warnings(
+    alloc: Global,
+    narrowed: &Narrowed,
+    lines: &mut Vec<u8>,
+) -> Result<(), AllocError> {
     let remarks = &narrowed.remarks;
     let outside = count_with_reason(remarks, RemarkReason::HeldOutside);
     let words =
         "of SYSMODs stand in the hold file: they are on others, or the SYSMOD is not carried";
-    put_warning(alloc, "HELD", outside, words, lines)?;
+    append_warning(alloc, "HELD", outside, words, lines)?;
     let swallowed = count_with_reason(remarks, RemarkReason::StatementInComment);
     let words = "statements stand in a comment: is it closed where it should be?";
-    put_warning(alloc, "COMMENT", swallowed, words, lines)?;
+    append_warning(alloc, "COMMENT", swallowed, words, lines)?;
     let words = "left out have elements, NPRE or DELETE, which nothing asks for now";
-    put_warning(alloc, "FORBIDS", narrowed.forbidding, words, lines)
+    append_warning(alloc, "FORBIDS", narrowed.forbidding, words, lines)
 }
 
 // Appends how many SYSMODs have stand-ins, and that the files are only for CHECK. If elements are passed over, CHECK
 // must have all of the files together.
-fn put_check_line(
+fn append_check_line(
     alloc: Global,
     narrowed: &Narrowed,
     lines: &mut Vec<u8>,
@@ -285,7 +293,7 @@ fn put_check_line(
 }
 
 // Appends how many statements of a word were carried and left out.
-fn put_tally(
+fn append_tally(
     alloc: Global,
     word: &str,
     tally: Tally,
