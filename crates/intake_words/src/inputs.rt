@@ -16,6 +16,8 @@ struct InputFile {
 #[derive(Debug, Drop)]
 pub struct InputFiles {
     all: Vec<InputFile>,
+    /// Lines that say how each file was read, the first ones of the file of remarks.
+    reading_lines: Vec<u8>,
 }
 
 impl InputFiles {
@@ -23,16 +25,48 @@ impl InputFiles {
     pub fn new(alloc: Global) -> InputFiles {
         InputFiles {
             all: Vec::new(alloc),
+            reading_lines: Vec::new(alloc),
         }
     }
 
-    // Adds the next file.
-    fn add(&mut self, alloc: Global, name: &str, layout: Layout) -> Result<(), AllocError> {
+    // Adds the next file, and a line that says how it is read.
+    fn add(
+        &mut self,
+        alloc: Global,
+        name: &str,
+        layout: Layout,
+        code: Code,
+    ) -> Result<(), AllocError> {
         self.all.push(InputFile {
             name: String::from_str(alloc, name)?,
             layout,
         })?;
+        let layout = layout_words(layout);
+        let code = code_words(code);
+        let line = format!(in alloc; "{name}: read as {layout} in {code}\n")?;
+        self.reading_lines.extend_from_slice(line.as_bytes())
+    }
+
+    /// Adds a line for each oddity of the cards of the last file.
+    pub fn add_oddities(&mut self, alloc: Global, notes: &[CardNote]) -> Result<(), AllocError> {
+        let Some(file) = self.all.last() else {
+            return Ok(());
+        };
+        let name = file.name.as_str();
+        let unit = unit(file.layout);
+        for note in notes {
+            let first = note.first.card;
+            let count = note.cards;
+            let oddity = oddity_words(note.oddity);
+            let line = format!(in alloc; "{name} {unit} {first}: {oddity}: in {count} cards\n")?;
+            self.reading_lines.extend_from_slice(line.as_bytes())?;
+        }
         Ok(())
+    }
+
+    /// The lines that say how each file was read. Afterwards there are none.
+    pub fn take_reading_lines(&mut self, alloc: Global) -> Vec<u8> {
+        std::mem::replace(&mut self.reading_lines, Vec::new(alloc))
     }
 
     // The name of the file of this number, or an empty text if there is none.
@@ -51,33 +85,26 @@ impl InputFiles {
         }
     }
 
-    /// The cards of the file of this name, which becomes the next one. Appends to `remarks` what was assumed of the file.
-    /// Returns `NoCards` if the bytes cannot be read as cards, `Memory` if memory runs out.
+    /// The cards of the file of this name, which becomes the next one. Returns `NoCards` if the bytes cannot be read as
+    /// cards, `Memory` if memory runs out.
     pub fn read_cards(
         &mut self,
         alloc: Global,
         name: &str,
         bytes: &[u8],
         options: CardOptions,
-        remarks: &mut Vec<u8>,
     ) -> Result<Vec<Card>, IntakeFault> {
         let read = match read_cards(alloc, self.all.len(), bytes, options.layout, options.code) {
             Ok(read) => read,
             Err(error) => return Err(IntakeFault::of_cards(alloc, name, error)),
         };
-        self.add(alloc, name, read.form)?;
-        let assumed = CardAssumptions {
-            name,
-            layout: read.form,
-            code: read.code,
-            notes: &read.notes,
-        };
-        assumed.append_lines(alloc, remarks)?;
+        self.add(alloc, name, read.form, read.code)?;
+        self.add_oddities(alloc, &read.notes)?;
         Ok(read.cards)
     }
 
-    /// A reader of the cards of the file of this name, which becomes the next one. Returns `NoCards` if the bytes
-    /// cannot be read as cards, `Memory` if memory runs out.
+    /// A reader of the cards of the file of this name, which becomes the next one. Its oddities are known only once its
+    /// cards are read. Returns `NoCards` if the bytes cannot be read as cards, `Memory` if memory runs out.
     pub fn open_cards<'a>(
         &mut self,
         alloc: Global,
@@ -87,7 +114,7 @@ impl InputFiles {
     ) -> Result<CardReader<'a>, IntakeFault> {
         match CardReader::open(self.all.len(), bytes, options.layout, options.code) {
             Ok(cards) => {
-                self.add(alloc, name, cards.form)?;
+                self.add(alloc, name, cards.form, cards.code)?;
                 Ok(cards)
             }
             Err(error) => Err(IntakeFault::of_cards(alloc, name, error)),
@@ -112,35 +139,6 @@ fn unit(layout: Layout) -> &'static str {
     match layout {
         Layout::Text => "line",
         Layout::Records => "record",
-    }
-}
-
-/// How the file of this name was read, and the oddities of its cards.
-#[derive(Clone, Copy)]
-pub struct CardAssumptions<'a> {
-    pub name: &'a str,
-    pub layout: Layout,
-    pub code: Code,
-    pub notes: &'a [CardNote],
-}
-
-impl CardAssumptions<'_> {
-    /// Appends a line that names the layout and the code, and one for each oddity.
-    pub fn append_lines(&self, alloc: Global, lines: &mut Vec<u8>) -> Result<(), AllocError> {
-        let name = self.name;
-        let layout = layout_words(self.layout);
-        let code = code_words(self.code);
-        let line = format!(in alloc; "{name}: read as {layout} in {code}\n")?;
-        lines.extend_from_slice(line.as_bytes())?;
-        let unit = unit(self.layout);
-        for note in self.notes {
-            let first = note.first.card;
-            let count = note.cards;
-            let oddity = oddity_words(note.oddity);
-            let line = format!(in alloc; "{name} {unit} {first}: {oddity}: in {count} cards\n")?;
-            lines.extend_from_slice(line.as_bytes())?;
-        }
-        Ok(())
     }
 }
 

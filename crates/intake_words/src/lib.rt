@@ -14,7 +14,7 @@ mod summary;
 mod summary_json;
 
 pub use fault::IntakeFault;
-pub use inputs::{CardAssumptions, InputFiles};
+pub use inputs::InputFiles;
 pub use options::{CardOptions, IntakeOptions, WordsFault, read_options, text_views};
 pub use relfile::{RelfileElement, relfile_elements};
 pub use remarks::{append_remark_line, append_remark_lines, refusal_fault};

@@ -6,8 +6,8 @@ use intake_cards::{Deed, Remark, RemarkList, RemarkReason};
 use intake_carry::{Narrowed, Tally};
 use std::alloc::{AllocError, Global};
 
-/// How many SYSMODs that are left out have lines of their own.
-const MOST_LINES: usize = 20;
+/// How many SYSMODs that are left out have lines of their own, at most.
+const MOST_LEFT_OUT_LINES: usize = 20;
 
 /// How many remarks have a deed and a reason.
 #[derive(Drop)]
@@ -130,7 +130,8 @@ pub(crate) fn cause_text(alloc: Global, cause: &Remark<'_>) -> Result<Vec<u8>, A
     Ok(text)
 }
 
-// Appends a line for each SYSMOD that is left out, with its first cause, and after `MOST_LINES` one for all others.
+// Appends a line for each SYSMOD that is left out, with its first cause, and after `MOST_LEFT_OUT_LINES` one for all
+// others.
 fn append_left_out_lines(
     alloc: Global,
     remarks: &RemarkList,
@@ -145,13 +146,13 @@ fn append_left_out_lines(
             continue;
         }
         count = count.saturating_add(1);
-        if count <= MOST_LINES {
+        if count <= MOST_LEFT_OUT_LINES {
             let cause = cause_of(remarks, place, remark);
             append_left_out_line(alloc, &remark, &cause, lines)?;
         }
     }
-    if count > MOST_LINES {
-        let more = count.saturating_sub(MOST_LINES);
+    if count > MOST_LEFT_OUT_LINES {
+        let more = count.saturating_sub(MOST_LEFT_OUT_LINES);
         let line = format!(in alloc; "LEFTOUT {more:>7} more, of which the remarks tell\n")?;
         lines.extend_from_slice(line.as_bytes())?;
     }
@@ -177,27 +178,27 @@ fn append_left_out_line(
 
 /// How many remarks have the reason.
 pub(crate) fn count_with_reason(remarks: &RemarkList, reason: RemarkReason) -> usize {
-    let mut number = 0usize;
+    let mut count = 0usize;
     for place in 0..remarks.len() {
         if let Some(remark) = remarks.get(place) {
             if remark.reason == reason {
-                number = number.saturating_add(1);
+                count = count.saturating_add(1);
             }
         }
     }
-    number
+    count
 }
 
-// Appends a line, unless the number is 0.
+// Appends a line with its label, the count and the text, unless the count is 0.
 fn append_warning(
     alloc: Global,
-    word: &str,
-    number: usize,
-    words: &str,
+    label: &str,
+    count: usize,
+    text: &str,
     lines: &mut Vec<u8>,
 ) -> Result<(), AllocError> {
-    if number > 0 {
-        let line = format!(in alloc; "{word:<7} {number:>7} {words}\n")?;
+    if count > 0 {
+        let line = format!(in alloc; "{label:<7} {count:>7} {text}\n")?;
         lines.extend_from_slice(line.as_bytes())?;
     }
     Ok(())
@@ -264,14 +265,14 @@ fn append_warnings(
 ) -> Result<(), AllocError> {
     let remarks = &narrowed.remarks;
     let outside = count_with_reason(remarks, RemarkReason::HeldOutside);
-    let words =
+    let text =
         "of SYSMODs stand in the hold file: they are on others, or the SYSMOD is not carried";
-    append_warning(alloc, "HELD", outside, words, lines)?;
+    append_warning(alloc, "HELD", outside, text, lines)?;
     let swallowed = count_with_reason(remarks, RemarkReason::StatementInComment);
-    let words = "statements stand in a comment: is it closed where it should be?";
-    append_warning(alloc, "COMMENT", swallowed, words, lines)?;
-    let words = "left out have elements, NPRE or DELETE, which nothing asks for now";
-    append_warning(alloc, "FORBIDS", narrowed.forbidding, words, lines)
+    let text = "statements stand in a comment: is it closed where it should be?";
+    append_warning(alloc, "COMMENT", swallowed, text, lines)?;
+    let text = "left out have elements, NPRE or DELETE, which nothing asks for now";
+    append_warning(alloc, "FORBIDS", narrowed.forbidding, text, lines)
 }
 
 // Appends how many SYSMODs have stand-ins, and that the files are only for CHECK. If elements are passed over, CHECK
@@ -283,25 +284,25 @@ fn append_check_line(
 ) -> Result<(), AllocError> {
     let stand_ins = narrowed.stand_ins;
     let passed_over = count_with_reason(&narrowed.remarks, RemarkReason::PassedOver);
-    let which = if passed_over > 0 {
+    let text = if passed_over > 0 {
         "these files are for CHECK, all of them together"
     } else {
         "these files are for CHECK"
     };
-    let line = format!(in alloc; "CHECK   {stand_ins:>7} have stand-ins: {which}\n")?;
+    let line = format!(in alloc; "CHECK   {stand_ins:>7} have stand-ins: {text}\n")?;
     lines.extend_from_slice(line.as_bytes())
 }
 
-// Appends how many statements of a word were carried and left out.
+// Appends a line with its label and how many statements were carried and left out.
 fn append_tally(
     alloc: Global,
-    word: &str,
+    label: &str,
     tally: Tally,
     lines: &mut Vec<u8>,
 ) -> Result<(), AllocError> {
     let carried = tally.carried;
     let left_out = tally.left_out;
-    let line = format!(in alloc; "{word:<7} {carried:>7} carried {left_out:>7} left out\n")?;
+    let line = format!(in alloc; "{label:<7} {carried:>7} carried {left_out:>7} left out\n")?;
     lines.extend_from_slice(line.as_bytes())?;
     Ok(())
 }

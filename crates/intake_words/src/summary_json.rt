@@ -45,7 +45,7 @@ fn append_number(
     json.extend_from_slice(format!(in alloc; "{number}")?.as_bytes())
 }
 
-// Appends a member of an object that says how many statements of a word were carried and left out.
+// Appends a member of an object that says how many statements were carried and left out.
 fn append_tally(
     alloc: Global,
     json: &mut Vec<u8>,
