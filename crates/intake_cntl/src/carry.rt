@@ -5,8 +5,8 @@ use crate::carried::{CarriedCommand, CarriedOperand, CarriedValue, has_word};
 use crate::command_remarks::{CommandRemarks, RemarkWords};
 use crate::group_extend::exclude_kinds;
 use crate::lists::list_members;
-use crate::operand_context::OperandContext;
-use crate::spelling::{CommandVocabulary, OperandForm, vocabulary_of};
+use crate::operand_context::{OperandContext, operand_contexts};
+use crate::spelling::{OperandForm, vocabulary_of};
 use intake_asked::{CommandEnd, KnownSysmod, WideCommand, changes_no_decision};
 use intake_cards::{Deed, RemarkReason};
 use std::alloc::{AllocError, Global};
@@ -47,7 +47,8 @@ pub(crate) fn carry_command(
     if wide.is_behind {
         remark_on_command(remarks, wide, Deed::Carried, RemarkReason::OwnCard)?;
     }
-    let operands = carry_operands(alloc, remarks, &vocabulary, known, wide)?;
+    let contexts = operand_contexts(alloc, &vocabulary, known, wide)?;
+    let operands = carry_operands(alloc, remarks, &contexts)?;
     Ok(Some(CarriedCommand {
         place: wide.place,
         word: vocabulary.word,
@@ -96,24 +97,13 @@ fn remark_on_command(
 
 // The operands that can be carried, with a remark on each of the others. GROUP without a list and GROUPEXTEND with one
 // become operands of the profile.
-fn carry_operands<'a>(
+fn carry_operands(
     alloc: Global,
     remarks: &mut CommandRemarks,
-    vocabulary: &'a CommandVocabulary,
-    known: &'a Option<Vec<KnownSysmod>>,
-    wide: &'a WideCommand,
+    contexts: &[OperandContext<'_>],
 ) -> Result<Vec<CarriedOperand>, AllocError> {
-    let mut contexts: Vec<OperandContext<'a>> = Vec::new(alloc);
-    for operand in &wide.operands {
-        contexts.push(OperandContext {
-            vocabulary,
-            wide,
-            operand,
-            known,
-        })?;
-    }
     let mut carried: Vec<CarriedOperand> = Vec::new(alloc);
-    for context in &contexts {
+    for context in contexts {
         let Some(operand) = carry_operand(alloc, remarks, context)? else {
             continue;
         };
@@ -131,7 +121,7 @@ fn carry_operands<'a>(
             replace_select_by_group(remarks, group, &mut carried)?;
         }
     }
-    for context in &contexts {
+    for context in contexts {
         if context.has_form(OperandForm::GroupExtend) && context.operand.value.is_some() {
             exclude_kinds(alloc, remarks, context, &mut carried)?;
             break;

@@ -44,7 +44,7 @@ impl CommandRemarks {
     }
 }
 
-/// The words that a remark names: those of the command and the operand, and the text that is meant. A word may be empty.
+/// The words that a remark names: those of the command and the operand, and the text that is meant. Each may be empty.
 #[derive(Clone, Copy, Debug)]
 pub(crate) struct RemarkWords<'a> {
     pub(crate) command: &'a [u8],

@@ -5,7 +5,7 @@ use crate::spelling::{CommandVocabulary, OperandForm, Spelling, spelling_of};
 use intake_asked::{KnownSysmod, WideCommand};
 use intake_cards::{Deed, RemarkReason};
 use intake_read::WideOperand;
-use std::alloc::AllocError;
+use std::alloc::{AllocError, Global};
 
 /// An operand of a shop's command, or a member of its BYPASS, with all that decides how it is carried.
 #[derive(Clone, Copy)]
@@ -17,6 +17,25 @@ pub(crate) struct OperandContext<'a> {
     pub(crate) operand: &'a WideOperand,
     /// The SYSMODs of a list, if one is given.
     pub(crate) known: &'a Option<Vec<KnownSysmod>>,
+}
+
+/// The operands of the command, each with its context.
+pub(crate) fn operand_contexts<'a>(
+    alloc: Global,
+    vocabulary: &'a CommandVocabulary,
+    known: &'a Option<Vec<KnownSysmod>>,
+    wide: &'a WideCommand,
+) -> Result<Vec<OperandContext<'a>>, AllocError> {
+    let mut contexts = Vec::new(alloc);
+    for operand in &wide.operands {
+        contexts.push(OperandContext {
+            vocabulary,
+            wide,
+            operand,
+            known,
+        })?;
+    }
+    Ok(contexts)
 }
 
 impl OperandContext<'_> {

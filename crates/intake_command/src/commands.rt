@@ -1,4 +1,4 @@
-//! A command file.
+//! A run over a command file.
 ghost use Rattle.std.specs.Prelude.{List, IfOk, IfSome, OnErr, All, Option, Vec, option_map};
 ghost use Rattle.std.specs.declared.alloc.Global.{Global};
 ghost use Rattle.std.specs.String.{string_bytes};

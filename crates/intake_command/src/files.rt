@@ -9,6 +9,25 @@ pub struct NamedFile {
     pub bytes: Option<Vec<u8>>,
 }
 
+impl NamedFile {
+    // A file of these bytes.
+    fn with_bytes(name: &'static str, bytes: Vec<u8>) -> NamedFile
+        ensures { named result ≡ (name.now, Some bytes.items) }
+    {
+        NamedFile {
+            name,
+            bytes: Some(bytes),
+        }
+    }
+
+    // A file that is to be removed.
+    fn to_remove(name: &'static str) -> NamedFile
+        ensures { named result ≡ (name.now, None) }
+    {
+        NamedFile { name, bytes: None }
+    }
+}
+
 /// The names of all files that a run may write into the folder.
 pub(crate) fn outputs() -> &'static [&'static str]
     ensures { map (λ name. name.now) result.now ≡ outputs }
@@ -23,23 +42,6 @@ pub(crate) fn outputs() -> &'static [&'static str]
     ]
 }
 
-// A file of these bytes.
-fn file_with_bytes(name: &'static str, bytes: Vec<u8>) -> NamedFile
-    ensures { named result ≡ (name.now, Some bytes.items) }
-{
-    NamedFile {
-        name,
-        bytes: Some(bytes),
-    }
-}
-
-// A file that is removed.
-fn file_to_remove(name: &'static str) -> NamedFile
-    ensures { named result ≡ (name.now, None) }
-{
-    NamedFile { name, bytes: None }
-}
-
 /// The files of a run over files of SYSMODs and holds. Without `stand_ins` that file is removed.
 pub(crate) fn service_files(
     ptfin: Vec<u8>,
@@ -52,13 +54,13 @@ pub(crate) fn service_files(
         ∷ (codes "remarks", Some remarks.items) ∷ [] }
 {
     [
-        file_with_bytes("ptfin", ptfin),
-        file_with_bytes("hold", hold),
+        NamedFile::with_bytes("ptfin", ptfin),
+        NamedFile::with_bytes("hold", hold),
         NamedFile {
             name: "stand-ins",
             bytes: stand_ins,
         },
-        file_with_bytes("remarks", remarks),
+        NamedFile::with_bytes("remarks", remarks),
     ]
 }
 
@@ -67,8 +69,8 @@ pub(crate) fn command_files(cntl: Vec<u8>, remarks: Vec<u8>) -> [NamedFile; 2]
     ensures { map named result ≡ (codes "cntl", Some cntl.items) ∷ (codes "cntl.remarks", Some remarks.items) ∷ [] }
 {
     [
-        file_with_bytes("cntl", cntl),
-        file_with_bytes("cntl.remarks", remarks),
+        NamedFile::with_bytes("cntl", cntl),
+        NamedFile::with_bytes("cntl.remarks", remarks),
     ]
 }
 
@@ -79,11 +81,11 @@ fn removed_outputs(command_remarks: Option<Vec<u8>>) -> [NamedFile; 6]
         ∷ (codes "cntl.remarks", option_map (λ bytes. bytes.items) command_remarks) ∷ [] }
 {
     [
-        file_to_remove("ptfin"),
-        file_to_remove("hold"),
-        file_to_remove("stand-ins"),
-        file_to_remove("remarks"),
-        file_to_remove("cntl"),
+        NamedFile::to_remove("ptfin"),
+        NamedFile::to_remove("hold"),
+        NamedFile::to_remove("stand-ins"),
+        NamedFile::to_remove("remarks"),
+        NamedFile::to_remove("cntl"),
         NamedFile {
             name: "cntl.remarks",
             bytes: command_remarks,

@@ -1,4 +1,4 @@
-//! Files of SYSMODs and of holds.
+//! A run over files of SYSMODs and of holds.
 ghost use Rattle.std.specs.Prelude.{◌≡◌, ◌⊎◌, ℕ, List, IfOk, OnOk, OnErr, All, map};
 ghost use Rattle.std.specs.String.{string_bytes};
 ghost use Rattle.mcs.specs.Files as ptfin;
@@ -131,8 +131,8 @@ fn read_file<H: IntakeHost>(
     Ok(file)
 }
 
-// The statements of a file of these bytes. Returns `NoCards` if the bytes cannot be read as cards, `Statements` if these
-// are not statements, `Memory` if memory runs out.
+// The statements of a file of these bytes. Returns `NoCards` if the bytes cannot be read as cards, `Statements` if the
+// cards have no statements that can be read, `Memory` if memory runs out.
 fn read_file_statements(
     alloc: Global,
     inputs: &mut InputFiles,

@@ -44,12 +44,6 @@ impl<T: Drop> From<AllocFailed<T>> for IntakeFault {
     }
 }
 
-impl From<WordsFault> for IntakeFault {
-    fn from(fault: WordsFault) -> IntakeFault {
-        IntakeFault::Words(fault)
-    }
-}
-
 // Each fault is `Memory` instead if memory runs out while its text is made.
 impl IntakeFault {
     /// The fault of a file that was not read, for an error of this kind.

@@ -79,9 +79,9 @@ impl From<clap::Error> for WordsFault {
     }
 }
 
-/// The options of the words, of which the first is the program's name. Returns `NotUtf8` if a word is not UTF-8, `Clap`
-/// for help, version and words that are no such options, `BadSyslib` for a wrong value of `--syslib`, `Memory` if memory
-/// runs out.
+/// The options of the words, the first of which is the program's name. Returns `NotUtf8` if a word is not UTF-8, `Clap`
+/// for help, version and words that are no such options, `BadSyslib` for a wrong value of `--syslib`, and `Memory` if
+/// memory runs out.
 pub fn read_options(alloc: Global, words: &[Vec<u8>]) -> Result<IntakeOptions, WordsFault> {
     let mut texts: Vec<String> = Vec::new(alloc);
     for word in words {
@@ -206,7 +206,8 @@ fn file_arguments<'a>(alloc: Global) -> Result<Arg<'a>, AllocError> {
         .required_unless_present("cntl")
 }
 
-// The options that `clap` has matched. Returns `BadSyslib` for a wrong value of `--syslib`, `Memory` if memory runs out.
+// The options that `clap` has matched. Returns `BadSyslib` for a wrong value of `--syslib`, and `Memory` if memory runs
+// out.
 fn options_of_matches(
     alloc: Global,
     matches: &ArgMatches<'_>,
@@ -294,7 +295,8 @@ fn syslib_options(alloc: Global, matches: &ArgMatches<'_>) -> Result<Vec<Syslib>
     Ok(pairs)
 }
 
-// The name of a library, in upper case. Returns `BadSyslib` if it has not the form of a name, `Memory` if memory runs out.
+// The name of a library, in upper case. Returns `BadSyslib` if it has not the form of a name, `Memory` if memory runs
+// out.
 fn read_library_name(alloc: Global, name: &[u8]) -> Result<Name, WordsFault> {
     let mut upper = Vec::new(alloc);
     for byte in name {

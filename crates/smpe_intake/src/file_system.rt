@@ -34,7 +34,7 @@ impl IntakeHost for FileSystem<'_> {
         name: &'static str,
         bytes: &[u8],
     ) -> io::Result<()> {
-        let outcome = self.write_noted_draft(folder, name, bytes);
+        let outcome = self.try_append_to_draft(folder, name, bytes);
         if outcome.is_err() {
             self.drafts = [None; MOST_DRAFTS];
             self.remove_if_possible(folder, name, DRAFT_ENDING);
@@ -86,8 +86,8 @@ impl<'a> FileSystem<'a> {
         }
     }
 
-    // The absolute path of a file, without links. `None` if the name leads nowhere, or where nobody may go: it is then of
-    // no file that can be read or written.
+    // The absolute path of a file, without links. Returns `None` if the name leads nowhere, or where nobody may go: no
+    // file of that name can then be read or written.
     fn path_of_existing(&self, name: &str) -> io::Result<Option<PathBuf>> {
         match fs::canonicalize(self.rt, name) {
             Ok(path) => Ok(Some(path)),
@@ -105,9 +105,9 @@ impl<'a> FileSystem<'a> {
         self.drafts.iter().any(|draft| *draft == Some(name))
     }
 
-    // Writes into the draft of the file, and remembers that it is of this run. Returns an error if there are too many
-    // drafts.
-    fn write_noted_draft(
+    // Appends to the draft of the file, or writes it anew and remembers that it is of this run. Returns an error if there
+    // are too many drafts.
+    fn try_append_to_draft(
         &mut self,
         folder: &str,
         name: &'static str,

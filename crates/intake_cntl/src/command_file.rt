@@ -49,10 +49,9 @@ pub fn command_file(
     let records = carry_commands(alloc, &mut remarks, wide.commands.as_slice(), known)?;
     let carried = records.carried;
     let others = records.others;
-    let refusals = remarks.refusals;
     let bytes = read_back(
         alloc,
-        refusals,
+        &remarks,
         records.bytes,
         wide.commands.as_slice(),
         known,
@@ -242,11 +241,11 @@ fn unread_reason(command: &CarriedCommand, code: CommandCode) -> RemarkReason {
     }
 }
 
-// The records. Returns `None` if something is refused, or if they are not read back as commands that say just what the
-// shop's commands ask for.
+// The records. Returns `None` if a remark refuses something, or if they are not read back as commands that say just
+// what the shop's commands ask for.
 fn read_back(
     alloc: Global,
-    refusals: usize,
+    remarks: &CommandRemarks,
     bytes: Vec<u8>,
     wide: &[WideCommand],
     known: &Option<Vec<KnownSysmod>>,
@@ -254,7 +253,7 @@ fn read_back(
     ensures { IfOk result (λ read. IfSome read (λ bytes. (commands : List terms.Command)
         × IsCommandFile bytes.items commands × AreSaid known.now wide.now commands)) }
 {
-    if refusals > 0 {
+    if remarks.refusals > 0 {
         return Ok(None);
     }
     let commands = match read_cntl(alloc, &bytes) {
