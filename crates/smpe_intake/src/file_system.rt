@@ -102,7 +102,10 @@ impl<'a> FileSystem<'a> {
 
     // Whether the file of this name has a draft of this run.
     fn has_draft(&self, name: &str) -> bool {
-        self.drafts.iter().any(|draft| *draft == Some(name))
+        self.drafts.iter().any(|draft| match draft {
+            Some(draft) => *draft == name,
+            None => false,
+        })
     }
 
     // Appends to the draft of the file, or writes it anew and remembers that it is of this run. Returns an error if there
