@@ -8,12 +8,12 @@
 mod bypass;
 mod carried;
 mod carry;
-mod command_file;
 mod command_remarks;
+mod file;
 mod group_extend;
 mod lists;
 mod operand_context;
 mod print;
 mod spelling;
 
-pub use command_file::{CommandFile, command_file};
+pub use file::{CommandFile, command_file};
