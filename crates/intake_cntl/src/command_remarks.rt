@@ -4,7 +4,7 @@ use intake_cards::{Deed, Remark, RemarkList, RemarkReason};
 use intake_read::CardPlace;
 use std::alloc::{AllocError, Global};
 
-/// The remarks so far, and how many of them say that nothing is written.
+/// The remarks so far, and how many of them refuse something. If one does, no command file is written.
 #[derive(Drop)]
 pub(crate) struct CommandRemarks {
     pub(crate) list: RemarkList,
@@ -44,7 +44,7 @@ impl CommandRemarks {
     }
 }
 
-/// The words that a remark names.
+/// The words that a remark names: those of the command and the operand, and the text that is meant. Each may be empty.
 #[derive(Clone, Copy, Debug)]
 pub(crate) struct RemarkWords<'a> {
     pub(crate) command: &'a [u8],

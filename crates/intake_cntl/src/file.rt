@@ -4,15 +4,19 @@ ghost use Rattle.intake_asked.specs.Said.{AreSaid};
 ghost use Rattle.terms.specs.Types as terms;
 ghost use Rattle.terms.specs.Commands.{IsCommandFile};
 
-use crate::carry::{CarriedCommand, carry_command};
+use crate::carried::CarriedCommand;
+use crate::carry::carry_command;
 use crate::command_remarks::{CommandRemarks, RemarkWords};
-use crate::print::put_command;
+use crate::print::print_command;
 use cntl::{CntlError, Command, read_cntl};
 use intake_asked::{CommandComment, KnownSysmod, WideCommand, WideCommands, are_said, says};
 use intake_cards::{Deed, PrintedCards, RemarkList, RemarkReason, Tail};
 use intake_read::{Card, CardPlace};
 use std::alloc::{AllocError, Global};
 use terms::CommandCode;
+
+/// Where the columns 73 to 80 of a card begin, which should have numbers or blanks.
+const NUMBERS: usize = 72;
 
 /// What became of a command file.
 #[derive(Drop)]
@@ -45,10 +49,9 @@ pub fn command_file(
     let records = carry_commands(alloc, &mut remarks, wide.commands.as_slice(), known)?;
     let carried = records.carried;
     let others = records.others;
-    let refusals = remarks.refusals;
     let bytes = read_back(
         alloc,
-        refusals,
+        &remarks,
         records.bytes,
         wide.commands.as_slice(),
         known,
@@ -61,7 +64,7 @@ pub fn command_file(
     })
 }
 
-/// The records of commands, and how many of these there are.
+/// The records of the commands that are carried, and how many commands are carried or not.
 #[derive(Drop)]
 struct CommandRecords {
     bytes: Vec<u8>,
@@ -82,10 +85,12 @@ fn carry_commands(
         others: 0,
     };
     for wide in commands {
-        if append_command(alloc, remarks, &mut records.bytes, known, wide)? {
-            records.carried = records.carried.saturating_add(1);
-        } else {
-            records.others = records.others.saturating_add(1);
+        match command_records(alloc, remarks, known, wide)? {
+            Some(bytes) => {
+                records.bytes.extend_from_slice(&bytes)?;
+                records.carried = records.carried.saturating_add(1);
+            }
+            None => records.others = records.others.saturating_add(1),
         }
     }
     Ok(records)
@@ -99,7 +104,7 @@ fn remark_on_cards(
 ) -> Result<(), AllocError> {
     for card in cards {
         if card.tail() == Tail::Other {
-            let text = card.text[72..].trim_ascii();
+            let text = card.text[NUMBERS..].trim_ascii();
             remark_on_card(
                 remarks,
                 card.place,
@@ -152,34 +157,28 @@ fn remark_on_card(
     remarks.add(place, words, deed, reason)
 }
 
-// Appends the command's records, if all of it can be carried, and returns whether they were appended. Remarks say why
-// not: one refuses a command whose records are not read back as that command.
-fn append_command(
+// The records of the command. Returns `None`, with remarks, if it is dropped, if a word of it is refused, or if the
+// records are not read back as that command, which a remark refuses then.
+fn command_records(
     alloc: Global,
     remarks: &mut CommandRemarks,
-    bytes: &mut Vec<u8>,
     known: &Option<Vec<KnownSysmod>>,
     wide: &WideCommand,
-) -> Result<bool, AllocError> {
+) -> Result<Option<Vec<u8>>, AllocError> {
     let refusals = remarks.refusals;
-    let known_sysmods = match known {
-        Some(known) => Some(known.as_slice()),
-        None => None,
-    };
-    let Some(command) = carry_command(alloc, remarks, known_sysmods, wide)? else {
-        return Ok(false);
+    let Some(command) = carry_command(alloc, remarks, known, wide)? else {
+        return Ok(None);
     };
     if remarks.refusals != refusals {
-        return Ok(false);
+        return Ok(None);
     }
     let mut cards = PrintedCards::new(alloc);
-    put_command(alloc, &mut cards, &command)?;
+    print_command(alloc, &mut cards, &command)?;
     let records = cards.into_bytes()?;
     let reason = match read_cntl(alloc, &records) {
         Ok(read) => {
-            if says_just(alloc, known, wide, read.as_slice())? {
-                bytes.extend_from_slice(&records)?;
-                return Ok(true);
+            if is_said_alone(alloc, known, wide, read.as_slice())? {
+                return Ok(Some(records));
             }
             RemarkReason::NotRead
         }
@@ -187,10 +186,10 @@ fn append_command(
         Err(CntlError::Fault { code, .. }) => unread_reason(&command, code),
     };
     remark_on_unread(remarks, &command, reason)?;
-    Ok(false)
+    Ok(None)
 }
 
-// Remarks that a command is refused because its records are not read, with the operand that it lacks.
+// Remarks that a command is refused because its records are not read. If it lacks an operand, the remark names that.
 fn remark_on_unread(
     remarks: &mut CommandRemarks,
     command: &CarriedCommand,
@@ -218,8 +217,8 @@ fn required_operand(command: &[u8]) -> &'static [u8] {
     }
 }
 
-// Whether the records were read as one command, which says just what the shop's command asks for.
-fn says_just(
+// Whether just one command was read, and it says just what the shop's command asks for.
+fn is_said_alone(
     alloc: Global,
     known: &Option<Vec<KnownSysmod>>,
     wide: &WideCommand,
@@ -231,7 +230,7 @@ fn says_just(
     }
 }
 
-// Why a command of the profile's words is not read.
+// Why the command is not read, though it has words of the profile only.
 fn unread_reason(command: &CarriedCommand, code: CommandCode) -> RemarkReason {
     match code {
         CommandCode::BadCommandOperand => RemarkReason::Missing,
@@ -242,11 +241,11 @@ fn unread_reason(command: &CarriedCommand, code: CommandCode) -> RemarkReason {
     }
 }
 
-// The records. Returns `None` if something is refused, or if they are not read back as commands that say just what the
-// shop's commands ask for.
+// The records. Returns `None` if a remark refuses something, or if they are not read back as commands that say just
+// what the shop's commands ask for.
 fn read_back(
     alloc: Global,
-    refusals: usize,
+    remarks: &CommandRemarks,
     bytes: Vec<u8>,
     wide: &[WideCommand],
     known: &Option<Vec<KnownSysmod>>,
@@ -254,7 +253,7 @@ fn read_back(
     ensures { IfOk result (λ read. IfSome read (λ bytes. (commands : List terms.Command)
         × IsCommandFile bytes.items commands × AreSaid known.now wide.now commands)) }
 {
-    if refusals > 0 {
+    if remarks.refusals > 0 {
         return Ok(None);
     }
     let commands = match read_cntl(alloc, &bytes) {

@@ -1,39 +1,56 @@
 //! GROUPEXTEND without APARs or USERMODs.
 
-use crate::carry::{CarriedOperand, MOST, OperandContext, Value, has_word, put_once};
+use crate::carried::{CarriedOperand, CarriedValue, has_word};
 use crate::command_remarks::CommandRemarks;
+use crate::lists::{MOST_MEMBERS, push_if_absent, split_members};
+use crate::operand_context::OperandContext;
 use intake_asked::KnownSysmod;
 use intake_cards::{Deed, RemarkReason};
 use std::alloc::{AllocError, Global};
 use terms::Kind;
 
-/// A member of GROUPEXTEND: the word, the type that it keeps out, and the operand that chooses all SYSMODs of the type.
-type KeptOut = (&'static [u8], Kind, &'static [u8]);
+/// A member of GROUPEXTEND that keeps SYSMODs of a type out.
+#[derive(Clone, Copy, Debug)]
+struct KindExclusion {
+    member: &'static [u8],
+    kind: Kind,
+    /// The operand that chooses all SYSMODs of the type, and so contradicts the member.
+    choosing: &'static [u8],
+}
 
-const KEPT_OUT: &[KeptOut] = &[
-    (b"NOAPARS", Kind::Apar, b"APARS"),
-    (b"NOUSERMODS", Kind::Usermod, b"USERMODS"),
+const EXCLUSIONS: &[KindExclusion] = &[
+    KindExclusion {
+        member: b"NOAPARS",
+        kind: Kind::Apar,
+        choosing: b"APARS",
+    },
+    KindExclusion {
+        member: b"NOUSERMODS",
+        kind: Kind::Usermod,
+        choosing: b"USERMODS",
+    },
 ];
 
-/// The operands, with an EXCLUDE of the known SYSMODs of each type that GROUPEXTEND keeps out, except those that SELECT
-/// or GROUP names. Remarks refuse a member that keeps out no type or that contradicts another operand, want of known
-/// SYSMODs, and too long an EXCLUDE.
+/// Adds to EXCLUDE the known SYSMODs of each type that GROUPEXTEND keeps out, except those that SELECT or GROUP names.
+/// Remarks refuse a member that keeps out no type or that contradicts another operand, want of known SYSMODs, and too
+/// long an EXCLUDE.
 pub(crate) fn exclude_kinds(
     alloc: Global,
     remarks: &mut CommandRemarks,
     context: &OperandContext<'_>,
-    mut carried: Vec<CarriedOperand>,
-) -> Result<Vec<CarriedOperand>, AllocError> {
+    carried: &mut Vec<CarriedOperand>,
+) -> Result<(), AllocError> {
     let mut ids: Vec<Vec<u8>> = Vec::new(alloc);
-    for member in context.operand.text().split(|b| *b == b' ' || *b == b',') {
-        if member.is_empty() {
-            continue;
-        }
-        let Some((_, kind, choosing)) = KEPT_OUT.iter().find(|(word, _, _)| *word == member) else {
+    for member in &split_members(alloc, context.operand.text())? {
+        let member = *member;
+        let Some(exclusion) = EXCLUSIONS
+            .iter()
+            .find(|exclusion| exclusion.member == member)
+        else {
             context.refuse(remarks, member, RemarkReason::NoOperand)?;
             continue;
         };
-        if has_word(&carried, *choosing) {
+        if has_word(carried.as_slice(), exclusion.choosing) {
             context.refuse(remarks, member, RemarkReason::Contradiction)?;
         }
         let Some(known) = context.known else {
@@ -41,17 +58,17 @@ pub(crate) fn exclude_kinds(
             continue;
         };
         context.remark(remarks, member, Deed::Carried, RemarkReason::KnownExcluded)?;
-        put_ids_of_kind(alloc, known, *kind, &carried, &mut ids)?;
+        append_ids_of_kind(alloc, known, exclusion.kind, carried.as_slice(), &mut ids)?;
     }
-    put_excluded(alloc, &mut carried, ids)?;
-    if has_long_exclude(&carried) {
+    add_to_exclude(alloc, carried, ids)?;
+    if has_long_exclude(carried.as_slice()) {
         context.refuse(remarks, b"", RemarkReason::LongList)?;
     }
-    Ok(carried)
+    Ok(())
 }
 
-// Puts the ids of the SYSMODs of the type, but for those that SELECT or GROUP names, into the list.
-fn put_ids_of_kind(
+// Appends the ids of the known SYSMODs of the type, except those that SELECT or GROUP names.
+fn append_ids_of_kind(
     alloc: Global,
     known: &[KnownSysmod],
     kind: Kind,
@@ -61,7 +78,7 @@ fn put_ids_of_kind(
     for sysmod in known {
         let id = sysmod.id.as_bytes();
         if sysmod.kind == kind && !is_selected(carried, id) {
-            put_once(alloc, ids, id)?;
+            push_if_absent(alloc, ids, id)?;
         }
     }
     Ok(())
@@ -69,28 +86,24 @@ fn put_ids_of_kind(
 
 // Whether SELECT or GROUP names the id.
 fn is_selected(carried: &[CarriedOperand], id: &[u8]) -> bool {
-    for operand in carried {
-        let selects = operand.word == b"SELECT".as_slice() || operand.word == b"GROUP".as_slice();
-        if let Value::List(ids) = &operand.value {
-            if selects && ids.iter().any(|other| other.as_slice() == id) {
-                return true;
-            }
-        }
-    }
-    false
+    carried.iter().any(|operand| match &operand.value {
+        CarriedValue::List(ids) => operand.is_select_or_group()
+            && ids.iter().any(|other| other.as_slice() == id),
+        _ => false,
+    })
 }
 
 // Adds the ids to EXCLUDE. If there is no EXCLUDE, it is appended.
-fn put_excluded(
+fn add_to_exclude(
     alloc: Global,
     carried: &mut Vec<CarriedOperand>,
     ids: Vec<Vec<u8>>,
 ) -> Result<(), AllocError> {
     for operand in carried.iter_mut() {
         if operand.word == b"EXCLUDE".as_slice() {
-            if let Value::List(excluded) = &mut operand.value {
+            if let CarriedValue::List(excluded) = &mut operand.value {
                 for id in &ids {
-                    put_once(alloc, excluded, id.as_slice())?;
+                    push_if_absent(alloc, excluded, id.as_slice())?;
                 }
                 return Ok(());
             }
@@ -99,16 +112,17 @@ fn put_excluded(
     if !ids.is_empty() {
         carried.push(CarriedOperand {
             word: b"EXCLUDE",
-            value: Value::List(ids),
+            value: CarriedValue::List(ids),
         })?;
     }
     Ok(())
 }
 
-// Whether EXCLUDE has more members than it may have.
+// Whether EXCLUDE has more members than a list may have.
 fn has_long_exclude(carried: &[CarriedOperand]) -> bool {
     carried.iter().any(|operand| match &operand.value {
-        Value::List(ids) => operand.word == b"EXCLUDE".as_slice() && ids.len() > MOST,
+        CarriedValue::List(ids) => operand.word == b"EXCLUDE".as_slice()
+            && ids.len() > MOST_MEMBERS,
         _ => false,
     })
 }

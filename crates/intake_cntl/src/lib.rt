@@ -5,10 +5,14 @@
 //! Every call that allocates fails with `AllocError` if memory runs out.
 #![tactic(auto)]
 
+mod bypass;
+mod carried;
 mod carry;
 mod command_remarks;
 mod file;
 mod group_extend;
+mod lists;
+mod operand_context;
 mod print;
 mod spelling;
 

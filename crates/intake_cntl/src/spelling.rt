@@ -1,5 +1,7 @@
 //! The words of SMP/E's commands that are carried or dropped. Every other word is named.
 
+use fields::{Class, Id, Reason, Source, ZoneName};
+
 /// What an operand is followed by, and what becomes of it.
 #[derive(Clone, Copy, Debug, PartialEq, Eq)]
 pub(crate) enum OperandForm {
@@ -29,34 +31,53 @@ pub(crate) enum OperandForm {
     Dropped,
 }
 
-/// A word, how it is spelled here, and its form.
-pub(crate) type Row = (&'static [u8], &'static [u8], OperandForm);
+impl OperandForm {
+    /// Whether a list of this form may have such a member.
+    pub(crate) fn takes_member(self, member: &[u8]) -> bool {
+        match self {
+            OperandForm::Ids | OperandForm::Group => Id::read(member).is_some(),
+            OperandForm::Sources | OperandForm::Source => Source::read(member).is_some(),
+            OperandForm::Zone => ZoneName::read(member).is_some(),
+            OperandForm::Reasons => Reason::read(member).is_some(),
+            OperandForm::Classes => Class::read(member).is_some(),
+            OperandForm::Flag
+            | OperandForm::GroupExtend
+            | OperandForm::Bypass
+            | OperandForm::ReceiveBypass
+            | OperandForm::Dropped => false,
+        }
+    }
+}
 
-/// A word, and how it is spelled here.
+/// A row of a table of words: a word, the word of the profile for it, and its form.
+pub(crate) type SpellingRow = (&'static [u8], &'static [u8], OperandForm);
+
+/// A word of SMP/E.
 #[derive(Clone, Copy, Debug)]
 pub(crate) struct Spelling {
     pub(crate) word: &'static [u8],
+    /// The word of the profile for it.
     pub(crate) full: &'static [u8],
     pub(crate) form: OperandForm,
 }
 
-/// The words of a command: its own, those of its operands, and those of the members of its BYPASS.
+/// The words that a command may have: its own, those of its operands, and those of the members of its BYPASS.
 #[derive(Clone, Copy, Debug)]
 pub(crate) struct CommandVocabulary {
     pub(crate) word: &'static [u8],
-    pub(crate) operands: &'static [Row],
-    pub(crate) members: &'static [Row],
+    pub(crate) operands: &'static [SpellingRow],
+    pub(crate) members: &'static [SpellingRow],
 }
 
 /// The operands of SET.
-const SET: &[Row] = &[
+const SET: &[SpellingRow] = &[
     (b"BDY", b"BDY", OperandForm::Zone),
     (b"BOUNDARY", b"BDY", OperandForm::Zone),
     (b"OPTIONS", b"OPTIONS", OperandForm::Dropped),
 ];
 
 /// The operands of RECEIVE.
-const RECEIVE: &[Row] = &[
+const RECEIVE: &[SpellingRow] = &[
     (b"SYSMODS", b"SYSMODS", OperandForm::Flag),
     (b"SYSMOD", b"SYSMODS", OperandForm::Flag),
     (b"HOLDDATA", b"HOLDDATA", OperandForm::Flag),
@@ -70,7 +91,7 @@ const RECEIVE: &[Row] = &[
 ];
 
 /// The operands of REJECT.
-const REJECT: &[Row] = &[
+const REJECT: &[SpellingRow] = &[
     (b"SELECT", b"SELECT", OperandForm::Ids),
     (b"S", b"SELECT", OperandForm::Ids),
     (b"COMPRESS", b"COMPRESS", OperandForm::Dropped),
@@ -79,7 +100,7 @@ const REJECT: &[Row] = &[
 ];
 
 /// The operands of APPLY and ACCEPT.
-const INSTALL: &[Row] = &[
+const INSTALL: &[SpellingRow] = &[
     (b"FUNCTIONS", b"FUNCTIONS", OperandForm::Flag),
     (b"FUNCTION", b"FUNCTIONS", OperandForm::Flag),
     (b"PTFS", b"PTFS", OperandForm::Flag),
@@ -115,7 +136,7 @@ const INSTALL: &[Row] = &[
 ];
 
 /// The operands of RESTORE.
-const RESTORE: &[Row] = &[
+const RESTORE: &[SpellingRow] = &[
     (b"SELECT", b"SELECT", OperandForm::Ids),
     (b"S", b"SELECT", OperandForm::Ids),
     (b"GROUP", b"GROUP", OperandForm::Group),
@@ -129,23 +150,23 @@ const RESTORE: &[Row] = &[
 ];
 
 /// The operands of LIST.
-const LIST: &[Row] = &[(b"TEXT", b"TEXT", OperandForm::Flag)];
+const LIST: &[SpellingRow] = &[(b"TEXT", b"TEXT", OperandForm::Flag)];
 
 /// The operands of REPORT.
-const REPORT: &[Row] = &[
+const REPORT: &[SpellingRow] = &[
     (b"ERRSYSMODS", b"ERRSYSMODS", OperandForm::Flag),
     (b"NOPUNCH", b"NOPUNCH", OperandForm::Dropped),
 ];
 
 /// The members of RECEIVE's BYPASS: neither functions nor zones are looked at.
-const RECEIVE_MEMBERS: &[Row] = &[
+const RECEIVE_MEMBERS: &[SpellingRow] = &[
     (b"FMID", b"FMID", OperandForm::Dropped),
     (b"APPLYCHECK", b"APPLYCHECK", OperandForm::Dropped),
     (b"ACCEPTCHECK", b"ACCEPTCHECK", OperandForm::Dropped),
 ];
 
 /// The members of APPLY's BYPASS.
-const APPLY_MEMBERS: &[Row] = &[
+const APPLY_MEMBERS: &[SpellingRow] = &[
     (b"PRE", b"PRE", OperandForm::Flag),
     (b"REQ", b"REQ", OperandForm::Flag),
     (b"IFREQ", b"IFREQ", OperandForm::Flag),
@@ -160,7 +181,7 @@ const APPLY_MEMBERS: &[Row] = &[
 ];
 
 /// The members of ACCEPT's BYPASS.
-const ACCEPT_MEMBERS: &[Row] = &[
+const ACCEPT_MEMBERS: &[SpellingRow] = &[
     (b"APPLYCHECK", b"APPLYCHECK", OperandForm::Flag),
     (b"PRE", b"PRE", OperandForm::Flag),
     (b"REQ", b"REQ", OperandForm::Flag),
@@ -175,44 +196,60 @@ const ACCEPT_MEMBERS: &[Row] = &[
     (b"HOLDFIXCAT", b"HOLDFIXCAT", OperandForm::Dropped),
 ];
 
-const NO_MEMBERS: &[Row] = &[];
-
 /// The commands that are carried.
-const COMMANDS: &[(&[u8], &[Row], &[Row])] = &[
-    (b"SET", SET, NO_MEMBERS),
-    (b"RECEIVE", RECEIVE, RECEIVE_MEMBERS),
-    (b"REJECT", REJECT, NO_MEMBERS),
-    (b"APPLY", INSTALL, APPLY_MEMBERS),
-    (b"ACCEPT", INSTALL, ACCEPT_MEMBERS),
-    (b"RESTORE", RESTORE, NO_MEMBERS),
-    (b"LIST", LIST, NO_MEMBERS),
-    (b"REPORT", REPORT, NO_MEMBERS),
+const COMMANDS: &[CommandVocabulary] = &[
+    CommandVocabulary {
+        word: b"SET",
+        operands: SET,
+        members: &[],
+    },
+    CommandVocabulary {
+        word: b"RECEIVE",
+        operands: RECEIVE,
+        members: RECEIVE_MEMBERS,
+    },
+    CommandVocabulary {
+        word: b"REJECT",
+        operands: REJECT,
+        members: &[],
+    },
+    CommandVocabulary {
+        word: b"APPLY",
+        operands: INSTALL,
+        members: APPLY_MEMBERS,
+    },
+    CommandVocabulary {
+        word: b"ACCEPT",
+        operands: INSTALL,
+        members: ACCEPT_MEMBERS,
+    },
+    CommandVocabulary {
+        word: b"RESTORE",
+        operands: RESTORE,
+        members: &[],
+    },
+    CommandVocabulary {
+        word: b"LIST",
+        operands: LIST,
+        members: &[],
+    },
+    CommandVocabulary {
+        word: b"REPORT",
+        operands: REPORT,
+        members: &[],
+    },
 ];
 
-/// The words of the command with this word, or `None` if no such command is carried.
-pub(crate) fn command_of(word: &[u8]) -> Option<CommandVocabulary> {
-    for (command, operands, members) in COMMANDS {
-        if *command == word {
-            return Some(CommandVocabulary {
-                word: *command,
-                operands: *operands,
-                members: *members,
-            });
-        }
-    }
-    None
+/// The words that the command may have, or `None` if no such command is carried.
+pub(crate) fn vocabulary_of(command: &[u8]) -> Option<CommandVocabulary> {
+    COMMANDS
+        .iter()
+        .find(|vocabulary| vocabulary.word == command)
+        .copied()
 }
 
-/// How the word is spelled, or `None` if it is none of these.
-pub(crate) fn spelling_of(rows: &[Row], word: &[u8]) -> Option<Spelling> {
-    for (row_word, full, form) in rows {
-        if *row_word == word {
-            return Some(Spelling {
-                word: *row_word,
-                full: *full,
-                form: *form,
-            });
-        }
-    }
-    None
+/// How the word is spelled, or `None` if the table lacks it.
+pub(crate) fn spelling_of(table: &[SpellingRow], word: &[u8]) -> Option<Spelling> {
+    let (word, full, form) = *table.iter().find(|(listed, _, _)| *listed == word)?;
+    Some(Spelling { word, full, form })
 }

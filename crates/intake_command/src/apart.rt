@@ -34,9 +34,9 @@ fn inputs(alloc: Global, asked: &IntakeOptions) -> Result<Vec<&str>, AllocError>
     ensures { IfOk result (λ names. map (λ name. name.now) names.items ≡ inputs asked.now) }
 {
     let mut names = text_views(alloc, &asked.files)?;
-    let mut more = name_of_option(alloc, &asked.cntl)?;
+    let mut cntl = name_of_option(alloc, &asked.cntl)?;
     let mut known = name_of_option(alloc, &asked.known)?;
-    names.append(&mut more)?;
+    names.append(&mut cntl)?;
     names.append(&mut known)?;
     Ok(names)
 }
@@ -103,9 +103,9 @@ fn check_output<H: IntakeHost>(
     ensures err { OnErr result (HasDone H.IntakeHost (All IsQuiet) host.old host.new) }
 {
     let path = output_path(alloc, folder, output)?;
-    let new = draft_path(alloc, &path)?;
+    let draft = draft_path(alloc, &path)?;
     check_path(alloc, host, path.as_str(), input)?;
-    check_path(alloc, host, new.as_str(), input)?;
+    check_path(alloc, host, draft.as_str(), input)?;
     Ok(())
 }
 
@@ -121,11 +121,11 @@ fn output_path(alloc: Global, folder: &str, output: &str) -> Result<String, Allo
 
 // The path of the output's draft.
 fn draft_path(alloc: Global, path: &String) -> Result<String, AllocError>
-    ensures { IfOk result (λ new. string_bytes new ≡ string_bytes path.now ++ codes ".new") }
+    ensures { IfOk result (λ draft. string_bytes draft ≡ string_bytes path.now ++ codes ".new") }
 {
-    let mut new = String::from_str(alloc, path.as_str())?;
-    new.push_str(".new")?;
-    Ok(new)
+    let mut draft = String::from_str(alloc, path.as_str())?;
+    draft.push_str(".new")?;
+    Ok(draft)
 }
 
 // Checks that the input is not the file of this path.

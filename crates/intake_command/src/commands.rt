@@ -1,4 +1,4 @@
-//! A command file.
+//! A run over a command file.
 ghost use Rattle.std.specs.Prelude.{List, IfOk, IfSome, OnErr, All, Option, Vec, option_map};
 ghost use Rattle.std.specs.declared.alloc.Global.{Global};
 ghost use Rattle.std.specs.String.{string_bytes};
@@ -17,9 +17,7 @@ use crate::keep::{keep_commands, keep_remarks};
 use crate::surroundings::IntakeHost;
 use intake_asked::{KnownList, KnownSysmod, read_known, wide_commands};
 use intake_cntl::command_file;
-use intake_words::{
-    InputFiles, IntakeFault, IntakeOptions, append_remark_lines, command_summary, read_file_cards,
-};
+use intake_words::{InputFiles, IntakeFault, IntakeOptions, append_remark_lines, command_summary};
 use std::alloc::Global;
 
 /// The status of a run whose command file has words that are not carried.
@@ -50,7 +48,7 @@ pub(crate) fn serve_commands<H: IntakeHost>(
     let made = make_commands(alloc, asked, name, bytes, &known)?;
     let summary = made.summary.clone()?;
     let folder = asked.out.as_str();
-    let status = keep_made_commands(alloc, host, folder, made.bytes, made.remarks)?;
+    let status = keep_made_commands(host, folder, made.bytes, made.remarks)?;
     print_summary(host, &summary)?;
     Ok(status)
 }
@@ -98,23 +96,15 @@ fn make_commands(
     ensures { IfOk result (λ made. (commands : List WideCommand) × IfSome made.bytes (λ bytes.
         (said : List terms.Command) × IsCommandFile bytes.items said × AreSaid known.now commands said)) }
 {
-    let mut sources = InputFiles::new(alloc);
-    let mut remarks = Vec::new(alloc);
-    let cards = read_file_cards(
-        alloc,
-        &mut sources,
-        name,
-        &bytes,
-        asked.form,
-        asked.code,
-        &mut remarks,
-    )?;
+    let mut inputs = InputFiles::new(alloc);
+    let cards = inputs.read_cards(alloc, name, &bytes, asked.cards)?;
     let wide = wide_commands(alloc, &cards)?;
     let file = command_file(alloc, &cards, &wide, known)?;
     if file.carried == 0 && file.others == 0 {
         return Err(IntakeFault::NoStatement);
     }
-    append_remark_lines(alloc, &sources, &file.remarks, &mut remarks)?;
+    let mut remarks = inputs.take_reading_lines(alloc);
+    append_remark_lines(alloc, &inputs, &file.remarks, &mut remarks)?;
     let is_written = file.bytes.is_some();
     let summary = command_summary(alloc, file.carried, file.others, is_written, &file.remarks)?;
     Ok(MadeCommands {
@@ -125,9 +115,8 @@ fn make_commands(
 }
 
 // Puts the command file and its remarks into the folder, or only the remarks. Returns the status, or `CannotWrite` if
-// the folder does not take them, `Memory` if memory runs out.
+// the folder does not take them.
 fn keep_made_commands<H: IntakeHost>(
-    alloc: Global,
     host: &mut H,
     folder: &str,
     bytes: Option<Vec<u8>>,
@@ -142,11 +131,11 @@ fn keep_made_commands<H: IntakeHost>(
 {
     match bytes {
         Some(cntl) => {
-            keep_commands(alloc, host, folder, cntl, remarks)?;
+            keep_commands(host, folder, cntl, remarks)?;
             Ok(0)
         }
         None => {
-            keep_remarks(alloc, host, folder, remarks)?;
+            keep_remarks(host, folder, remarks)?;
             Ok(REFUSED_STATUS)
         }
     }

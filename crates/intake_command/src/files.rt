@@ -1,14 +1,31 @@
 //! The files that are written.
-ghost use Rattle.std.specs.Prelude.{◌≡◌, ◌∷◌, [], IfOk, None, Some, codes, map, option_map};
+ghost use Rattle.std.specs.Prelude.{◌≡◌, ◌∷◌, [], None, Some, codes, map, option_map};
 ghost use Rattle.intake_command.specs.Files.{named, no_outputs, outputs};
-
-use std::alloc::{AllocError, Global};
 
 /// A file of the folder: its name there, and its bytes, or `None` if it is to be removed.
 #[derive(Debug, Drop)]
 pub struct NamedFile {
     pub name: &'static str,
     pub bytes: Option<Vec<u8>>,
+}
+
+impl NamedFile {
+    // A file of these bytes.
+    fn with_bytes(name: &'static str, bytes: Vec<u8>) -> NamedFile
+        ensures { named result ≡ (name.now, Some bytes.items) }
+    {
+        NamedFile {
+            name,
+            bytes: Some(bytes),
+        }
+    }
+
+    // A file that is to be removed.
+    fn to_remove(name: &'static str) -> NamedFile
+        ensures { named result ≡ (name.now, None) }
+    {
+        NamedFile { name, bytes: None }
+    }
 }
 
 /// The names of all files that a run may write into the folder.
@@ -25,87 +42,69 @@ pub(crate) fn outputs() -> &'static [&'static str]
     ]
 }
 
-// A file of these bytes.
-fn file_with_bytes(name: &'static str, bytes: Vec<u8>) -> NamedFile
-    ensures { named result ≡ (name.now, Some bytes.items) }
-{
-    NamedFile {
-        name,
-        bytes: Some(bytes),
-    }
-}
-
-// A file that is removed.
-fn file_to_remove(name: &'static str) -> NamedFile
-    ensures { named result ≡ (name.now, None) }
-{
-    NamedFile { name, bytes: None }
-}
-
-/// The files of a run over files of SYSMODs and holds.
+/// The files of a run over files of SYSMODs and holds. Without `stand_ins` that file is removed.
 pub(crate) fn service_files(
-    alloc: Global,
     ptfin: Vec<u8>,
     hold: Vec<u8>,
     stand_ins: Option<Vec<u8>>,
     remarks: Vec<u8>,
-) -> Result<Vec<NamedFile>, AllocError>
-    ensures { IfOk result (λ files. map named files.items ≡ (codes "ptfin", Some ptfin.items)
+) -> [NamedFile; 4]
+    ensures { map named result ≡ (codes "ptfin", Some ptfin.items)
         ∷ (codes "hold", Some hold.items) ∷ (codes "stand-ins", option_map (λ bytes. bytes.items) stand_ins)
-        ∷ (codes "remarks", Some remarks.items) ∷ []) }
+        ∷ (codes "remarks", Some remarks.items) ∷ [] }
 {
-    let mut files = Vec::new(alloc);
-    files.push(file_with_bytes("ptfin", ptfin))?;
-    files.push(file_with_bytes("hold", hold))?;
-    files.push(NamedFile {
-        name: "stand-ins",
-        bytes: stand_ins,
-    })?;
-    files.push(file_with_bytes("remarks", remarks))?;
-    Ok(files)
+    [
+        NamedFile::with_bytes("ptfin", ptfin),
+        NamedFile::with_bytes("hold", hold),
+        NamedFile {
+            name: "stand-ins",
+            bytes: stand_ins,
+        },
+        NamedFile::with_bytes("remarks", remarks),
+    ]
 }
 
 /// The files of a run over a command file.
-pub(crate) fn command_files(
-    alloc: Global,
-    cntl: Vec<u8>,
-    remarks: Vec<u8>,
-) -> Result<Vec<NamedFile>, AllocError>
-    ensures { IfOk result (λ files. map named files.items
-        ≡ (codes "cntl", Some cntl.items) ∷ (codes "cntl.remarks", Some remarks.items) ∷ []) }
+pub(crate) fn command_files(cntl: Vec<u8>, remarks: Vec<u8>) -> [NamedFile; 2]
+    ensures { map named result ≡ (codes "cntl", Some cntl.items) ∷ (codes "cntl.remarks", Some remarks.items) ∷ [] }
 {
-    let mut files = Vec::new(alloc);
-    files.push(file_with_bytes("cntl", cntl))?;
-    files.push(file_with_bytes("cntl.remarks", remarks))?;
-    Ok(files)
+    [
+        NamedFile::with_bytes("cntl", cntl),
+        NamedFile::with_bytes("cntl.remarks", remarks),
+    ]
+}
+
+// All files that a run may write, each to be removed, except for the remarks on a command file if they are given.
+fn removed_outputs(command_remarks: Option<Vec<u8>>) -> [NamedFile; 6]
+    ensures { map named result ≡ (codes "ptfin", None) ∷ (codes "hold", None) ∷ (codes "stand-ins", None)
+        ∷ (codes "remarks", None) ∷ (codes "cntl", None)
+        ∷ (codes "cntl.remarks", option_map (λ bytes. bytes.items) command_remarks) ∷ [] }
+{
+    [
+        NamedFile::to_remove("ptfin"),
+        NamedFile::to_remove("hold"),
+        NamedFile::to_remove("stand-ins"),
+        NamedFile::to_remove("remarks"),
+        NamedFile::to_remove("cntl"),
+        NamedFile {
+            name: "cntl.remarks",
+            bytes: command_remarks,
+        },
+    ]
 }
 
 /// The remarks on a command file, and all files of earlier runs, which are to be removed.
-pub(crate) fn remark_files(alloc: Global, remarks: Vec<u8>) -> Result<Vec<NamedFile>, AllocError>
-    ensures { IfOk result (λ files. map named files.items ≡ (codes "ptfin", None) ∷ (codes "hold", None)
+pub(crate) fn remark_files(remarks: Vec<u8>) -> [NamedFile; 6]
+    ensures { map named result ≡ (codes "ptfin", None) ∷ (codes "hold", None)
         ∷ (codes "stand-ins", None) ∷ (codes "remarks", None) ∷ (codes "cntl", None)
-        ∷ (codes "cntl.remarks", Some remarks.items) ∷ []) }
+        ∷ (codes "cntl.remarks", Some remarks.items) ∷ [] }
 {
-    let mut files = Vec::new(alloc);
-    files.push(file_to_remove("ptfin"))?;
-    files.push(file_to_remove("hold"))?;
-    files.push(file_to_remove("stand-ins"))?;
-    files.push(file_to_remove("remarks"))?;
-    files.push(file_to_remove("cntl"))?;
-    files.push(file_with_bytes("cntl.remarks", remarks))?;
-    Ok(files)
+    removed_outputs(Some(remarks))
 }
 
 /// All files that a run may write, each to be removed.
 pub(crate) fn all_files_to_remove() -> [NamedFile; 6]
     ensures { map named result ≡ no_outputs }
 {
-    [
-        file_to_remove("ptfin"),
-        file_to_remove("hold"),
-        file_to_remove("stand-ins"),
-        file_to_remove("remarks"),
-        file_to_remove("cntl"),
-        file_to_remove("cntl.remarks"),
-    ]
+    removed_outputs(None)
 }

@@ -28,7 +28,7 @@ pub(crate) fn read_input<H: IntakeHost>(
 
 /// The bytes of a file, or `None` if there is none of this name. Returns `CannotRead` if the host cannot read it,
 /// `Memory` if memory runs out.
-pub(crate) fn read_if_there<H: IntakeHost>(
+pub(crate) fn read_if_present<H: IntakeHost>(
     alloc: Global,
     host: &mut H,
     name: &str,

@@ -19,7 +19,7 @@ use mcs::{HoldItem, Item, McsError, read_hold, read_ptfin};
 use std::alloc::Global;
 
 /// How many items of a hold file are printed and read back at a time.
-const AT_A_TIME: usize = 512;
+const ITEMS_AT_A_TIME: usize = 512;
 
 /// Puts the items into `ptfin`, the holds and releases into `hold`, and the remarks into `remarks`, after those of its
 /// draft. `stand_ins` are the bytes of `stand-ins`. Without them that file of an earlier run is removed. Returns
@@ -40,7 +40,7 @@ pub fn keep_service<H: IntakeHost>(
 {
     let ptfin = ptfin_records(alloc, meant)?;
     let hold = hold_records(alloc, held)?;
-    let files = service_files(alloc, ptfin, hold, stand_ins, remarks)?;
+    let files = service_files(ptfin, hold, stand_ins, remarks);
     put_files(host, folder, &files)
 }
 
@@ -67,7 +67,7 @@ fn hold_records(alloc: Global, meant: &[HoldItem]) -> Result<Vec<u8>, IntakeFaul
 {
     let mut bytes = Vec::new(alloc);
     let mut rest = meant;
-    for _ in 0..meant.len() / AT_A_TIME {
+    for _ in 0..meant.len() / ITEMS_AT_A_TIME {
         let part = first_part(rest);
         let mut records = part_records(alloc, part.first)?;
         bytes.append(&mut records)?;
@@ -89,7 +89,7 @@ struct HoldPart<'a> {
 fn first_part(items: &[HoldItem]) -> HoldPart<'_>
     ensures { result.first.now ++ result.rest.now ≡ items.now }
 {
-    match items.split_at_checked(AT_A_TIME) {
+    match items.split_at_checked(ITEMS_AT_A_TIME) {
         Some((first, rest)) => HoldPart { first, rest },
         None => HoldPart {
             first: &[],
@@ -117,7 +117,6 @@ fn part_records(alloc: Global, meant: &[HoldItem]) -> Result<Vec<u8>, IntakeFaul
 /// Puts the command file into `cntl`, and its remarks into `cntl.remarks`. Returns `CannotWrite` if the folder does not
 /// take them.
 pub fn keep_commands<H: IntakeHost>(
-    alloc: Global,
     host: &mut H,
     folder: &str,
     cntl: Vec<u8>,
@@ -127,14 +126,13 @@ pub fn keep_commands<H: IntakeHost>(
         → OnOk result (KeepsFiles H.IntakeHost host.old folder.now (IsCommandFiles commands) host.new) }
     ensures err { OnErr result (KeepsNothing H.IntakeHost host.old folder.now host.new) }
 {
-    let files = command_files(alloc, cntl, remarks)?;
+    let files = command_files(cntl, remarks);
     put_files(host, folder, &files)
 }
 
 /// Puts the remarks on a command file into `cntl.remarks`, and removes all other files of earlier runs. Returns
 /// `CannotWrite` if that cannot be done.
 pub fn keep_remarks<H: IntakeHost>(
-    alloc: Global,
     host: &mut H,
     folder: &str,
     remarks: Vec<u8>,
@@ -142,6 +140,6 @@ pub fn keep_remarks<H: IntakeHost>(
     ensures ok { OnOk result (KeepsFiles H.IntakeHost host.old folder.now IsRemarksFile host.new) }
     ensures err { OnErr result (KeepsNothing H.IntakeHost host.old folder.now host.new) }
 {
-    let files = remark_files(alloc, remarks)?;
+    let files = remark_files(remarks);
     put_files(host, folder, &files)
 }

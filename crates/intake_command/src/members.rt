@@ -3,12 +3,12 @@ ghost use Rattle.std.specs.Prelude.{All};
 ghost use Rattle.intake_command.specs.Acts.{IsQuiet};
 ghost use Rattle.intake_command.specs.Done.{HasDone};
 
-use crate::host_calls::read_if_there;
+use crate::host_calls::read_if_present;
 use crate::surroundings::IntakeHost;
 use intake_read::WideFile;
 use intake_sysmod::RelfileMember;
 use intake_words::{
-    InputFiles, IntakeFault, IntakeOptions, RelfileElement, read_file_cards, relfile_elements,
+    CardOptions, InputFiles, IntakeFault, IntakeOptions, RelfileElement, relfile_elements,
 };
 use std::alloc::Global;
 
@@ -24,10 +24,9 @@ struct MemberFile {
 pub(crate) fn relfile_members<H: IntakeHost>(
     alloc: Global,
     host: &mut H,
-    sources: &mut InputFiles,
+    inputs: &mut InputFiles,
     asked: &IntakeOptions,
     files: &[WideFile],
-    remarks: &mut Vec<u8>,
 ) -> Result<Vec<RelfileMember>, IntakeFault>
     ensures { HasDone H.IntakeHost (All IsQuiet) host.old host.new }
 {
@@ -35,24 +34,23 @@ pub(crate) fn relfile_members<H: IntakeHost>(
         return Ok(Vec::new(alloc));
     };
     let elements = relfile_elements(alloc, files)?;
-    read_members(alloc, host, sources, folder.as_str(), &elements, remarks)
+    read_members(alloc, host, inputs, folder.as_str(), &elements)
 }
 
 // The texts of the elements that have a file in the folder.
 fn read_members<H: IntakeHost>(
     alloc: Global,
     host: &mut H,
-    sources: &mut InputFiles,
+    inputs: &mut InputFiles,
     folder: &str,
     elements: &[RelfileElement<'_>],
-    remarks: &mut Vec<u8>,
 ) -> Result<Vec<RelfileMember>, IntakeFault>
     ensures { HasDone H.IntakeHost (All IsQuiet) host.old host.new }
 {
     let mut members = Vec::new(alloc);
     for element in elements {
         let file = member_file(alloc, host, folder, element)?;
-        put_member(alloc, sources, element, file, &mut members, remarks)?;
+        append_member(alloc, inputs, element, file, &mut members)?;
     }
     Ok(members)
 }
@@ -70,7 +68,7 @@ fn member_file<H: IntakeHost>(
     let own = element.own_path(alloc, folder)?;
     let shared = element.shared_path(alloc, folder)?;
     let file = read_member(alloc, host, own)?;
-    if file.is_some() || !element.is_alone {
+    if file.is_some() || !element.is_only_user {
         return Ok(file);
     }
     read_member(alloc, host, shared)
@@ -84,33 +82,28 @@ fn read_member<H: IntakeHost>(
 ) -> Result<Option<MemberFile>, IntakeFault>
     ensures { HasDone H.IntakeHost (All IsQuiet) host.old host.new }
 {
-    let Some(bytes) = read_if_there(alloc, host, path.as_str())? else {
+    let Some(bytes) = read_if_present(alloc, host, path.as_str())? else {
         return Ok(None);
     };
     Ok(Some(MemberFile { path, bytes }))
 }
 
 // Appends the cards of the element's file, if there is one.
-fn put_member(
+fn append_member(
     alloc: Global,
-    sources: &mut InputFiles,
+    inputs: &mut InputFiles,
     element: &RelfileElement<'_>,
     file: Option<MemberFile>,
     members: &mut Vec<RelfileMember>,
-    remarks: &mut Vec<u8>,
 ) -> Result<(), IntakeFault> {
     let Some(file) = file else {
         return Ok(());
     };
-    let cards = read_file_cards(
-        alloc,
-        sources,
-        file.path.as_str(),
-        &file.bytes,
-        None,
-        None,
-        remarks,
-    )?;
+    let guessed = CardOptions {
+        layout: None,
+        code: None,
+    };
+    let cards = inputs.read_cards(alloc, file.path.as_str(), &file.bytes, guessed)?;
     members.push(RelfileMember {
         element: element.place,
         cards,

@@ -10,7 +10,7 @@ use crate::commands::serve_commands;
 use crate::files::all_files_to_remove;
 use crate::service::serve_files;
 use crate::surroundings::IntakeHost;
-use intake_words::{IntakeFault, IntakeOptions, WordsFault, read_words};
+use intake_words::{IntakeFault, IntakeOptions, WordsFault, read_options};
 use std::alloc::{AllocError, Global};
 
 /// The status of a run that ends with a fault.
@@ -36,7 +36,7 @@ pub fn command<H: IntakeHost>(
 fn answer_words<H: IntakeHost>(alloc: Global, host: &mut H, words: &[Vec<u8>]) -> u8
     ensures { HasDone H.IntakeHost (Ends result) host.old host.new }
 {
-    match read_words(alloc, words) {
+    match read_options(alloc, words) {
         Ok(asked) => serve_if_apart(alloc, host, &asked),
         Err(WordsFault::Clap(error)) => show_clap_text(host, &error),
         Err(fault) => tell_fault(alloc, host, "", &IntakeFault::Words(fault)),
@@ -111,8 +111,8 @@ fn tell_fault<H: IntakeHost>(alloc: Global, host: &mut H, folder: &str, fault: &
     ensures status { result ≡ 16 }
     ensures says { H.does host.old Speaks host.new }
 {
-    match fault.line(alloc, folder) {
-        Ok(line) => host.tell(&line),
+    match fault.lines(alloc, folder) {
+        Ok(lines) => host.tell(&lines),
         Err(_) => host.tell(b"smpe-intake: out of memory\n"),
     }
     FAULT_STATUS

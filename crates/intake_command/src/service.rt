@@ -1,4 +1,4 @@
-//! Files of SYSMODs and of holds.
+//! A run over files of SYSMODs and of holds.
 ghost use Rattle.std.specs.Prelude.{◌≡◌, ◌⊎◌, ℕ, List, IfOk, OnOk, OnErr, All, map};
 ghost use Rattle.std.specs.String.{string_bytes};
 ghost use Rattle.mcs.specs.Files as ptfin;
@@ -19,8 +19,8 @@ use intake_carry::{NarrowError, Narrowed, OutsideHolds, narrow, read_statements}
 use intake_read::WideFile;
 use intake_sysmod::{Options, RelfileMember};
 use intake_words::{
-    InputFiles, IntakeFault, IntakeOptions, append_remark_line, describe_assumptions, open_cards,
-    refusal_fault, stand_ins_file, summary_of,
+    InputFiles, IntakeFault, IntakeOptions, append_remark_line, refusal_fault, service_summary,
+    stand_ins_file,
 };
 use mcs::{HoldItem, Item};
 use std::alloc::{AllocError, Global};
@@ -31,7 +31,7 @@ const LEFT_OUT_STATUS: u8 = 4;
 /// How many bytes of remarks go into the draft at a time.
 const DRAFT_SIZE: usize = 65_536;
 
-/// What is to be put into the folder, and the summary of it.
+/// What is to be put into the folder, and the summary of the run.
 #[derive(Drop)]
 struct MadeFiles {
     items: Vec<Item>,
@@ -39,7 +39,6 @@ struct MadeFiles {
     stand_ins: Option<Vec<u8>>,
     remarks: RemarkList,
     summary: Vec<u8>,
-    is_whole: bool,
 }
 
 /// Puts what the files state into the folder, with the remarks, and prints the summary. Returns the status, or the
@@ -53,24 +52,39 @@ pub(crate) fn serve_files<H: IntakeHost>(
     ensures status { IfOk result (λ status. (status ≡ 0) ⊎ (status ≡ 4)) }
     ensures err { OnErr result (HasDone H.IntakeHost (All (IsWithin (folder_of asked.now))) host.old host.new) }
 {
-    let mut sources = InputFiles::new(alloc);
-    let mut lines = Vec::new(alloc);
+    let mut inputs = InputFiles::new(alloc);
     let mut held = OutsideHolds::new(alloc);
-    let files = read_files(alloc, host, &mut sources, asked, &mut held, &mut lines)?;
-    let members = relfile_members(alloc, host, &mut sources, asked, &files, &mut lines)?;
-    let made = make_files(alloc, &sources, asked, &files, held, members)?;
+    let files = read_files(alloc, host, &mut inputs, asked, &mut held)?;
+    let members = relfile_members(alloc, host, &mut inputs, asked, &files)?;
+    let made = make_files(alloc, &inputs, asked, &files, held, members)?;
     let summary = made.summary.clone()?;
-    let status = exit_status(made.is_whole);
-    keep_files(alloc, host, asked, &sources, made, lines)?;
+    let status = exit_status(&made.remarks);
+    keep_files(alloc, host, asked, &mut inputs, made)?;
     print_summary(host, &summary)?;
     Ok(status)
 }
 
-// The status of a run that left nothing out, or something.
-fn exit_status(is_whole: bool) -> u8
+// The status of a run with these remarks.
+fn exit_status(remarks: &RemarkList) -> u8
     ensures { (result ≡ 0) ⊎ (result ≡ 4) }
 {
-    if is_whole { 0 } else { LEFT_OUT_STATUS }
+    if has_remark_that_matters(remarks) {
+        LEFT_OUT_STATUS
+    } else {
+        0
+    }
+}
+
+// Whether something is left out that may be asked for.
+fn has_remark_that_matters(remarks: &RemarkList) -> bool {
+    for place in 0..remarks.len() {
+        if let Some(remark) = remarks.get(place) {
+            if remark.matters() {
+                return true;
+            }
+        }
+    }
+    false
 }
 
 // The statements of all files. Their holds outside SYSMODs are carried as they are read. Returns `NoStatement` if there
@@ -78,10 +92,9 @@ fn exit_status(is_whole: bool) -> u8
 fn read_files<H: IntakeHost>(
     alloc: Global,
     host: &mut H,
-    sources: &mut InputFiles,
+    inputs: &mut InputFiles,
     asked: &IntakeOptions,
     held: &mut OutsideHolds,
-    lines: &mut Vec<u8>,
 ) -> Result<Vec<WideFile>, IntakeFault>
     ensures ok { IfOk result (λ files. HasDone H.IntakeHost
         (AreRead (map string_bytes asked.now.files.items) files.items) host.old host.new) }
@@ -90,7 +103,7 @@ fn read_files<H: IntakeHost>(
 {
     let mut files = Vec::new(alloc);
     for name in asked.files.iter() {
-        let file = read_file(alloc, host, sources, asked, name.as_str(), held, lines)?;
+        let file = read_file(alloc, host, inputs, asked, name.as_str(), held)?;
         files.push(file)?;
     }
     if held.is_empty() && !has_statement(&files) {
@@ -104,41 +117,39 @@ fn read_files<H: IntakeHost>(
 fn read_file<H: IntakeHost>(
     alloc: Global,
     host: &mut H,
-    sources: &mut InputFiles,
+    inputs: &mut InputFiles,
     asked: &IntakeOptions,
     name: &str,
     held: &mut OutsideHolds,
-    lines: &mut Vec<u8>,
 ) -> Result<WideFile, IntakeFault>
     ensures ok { OnOk result ((bytes : List ℕ) × H.does host.old (Gives name.now bytes) host.new) }
     ensures held { OnOk result (CarriesHolds held.old → CarriesHolds held.new) }
     ensures err { OnErr result (HasDone H.IntakeHost (All IsQuiet) host.old host.new) }
 {
     let bytes = read_input(alloc, host, name)?;
-    let file = read_file_statements(alloc, sources, asked, name, bytes, held, lines)?;
+    let file = read_file_statements(alloc, inputs, asked, name, bytes, held)?;
     Ok(file)
 }
 
-// The statements of a file of these bytes. Appends to `lines` what was assumed of its cards. Returns `NoCards` if the
-// bytes cannot be read as cards, `Statements` if these are not statements, `Memory` if memory runs out.
+// The statements of a file of these bytes. Returns `NoCards` if the bytes cannot be read as cards, `Statements` if the
+// cards have no statements that can be read, `Memory` if memory runs out.
 fn read_file_statements(
     alloc: Global,
-    sources: &mut InputFiles,
+    inputs: &mut InputFiles,
     asked: &IntakeOptions,
     name: &str,
     bytes: Vec<u8>,
     held: &mut OutsideHolds,
-    lines: &mut Vec<u8>,
 ) -> Result<WideFile, IntakeFault>
     ensures { OnOk result (CarriesHolds held.old → CarriesHolds held.new) }
 {
-    let mut cards = open_cards(alloc, sources, name, &bytes, asked.form, asked.code)?;
+    let mut cards = inputs.open_cards(alloc, name, &bytes, asked.cards)?;
     let mut notes = Vec::new(alloc);
     let file = match read_statements(alloc, &mut cards, &mut notes, held) {
         Ok(file) => file,
-        Err(error) => return Err(IntakeFault::of_statement(alloc, sources, &error)),
+        Err(error) => return Err(IntakeFault::of_statement(alloc, inputs, &error)),
     };
-    describe_assumptions(alloc, name, cards.layout, cards.code, &notes, lines)?;
+    inputs.add_oddities(alloc, &notes)?;
     Ok(file)
 }
 
@@ -154,7 +165,7 @@ fn has_statement(files: &[WideFile]) -> bool {
 // memory runs out.
 fn make_files(
     alloc: Global,
-    sources: &InputFiles,
+    inputs: &InputFiles,
     asked: &IntakeOptions,
     files: &[WideFile],
     held: OutsideHolds,
@@ -171,7 +182,7 @@ fn make_files(
     let narrowed = match narrow(alloc, files, held, options) {
         Ok(narrowed) => narrowed,
         Err(NarrowError::Memory) => return Err(IntakeFault::Memory),
-        Err(NarrowError::Refused(remarks)) => return Err(refusal_fault(alloc, sources, &remarks)),
+        Err(NarrowError::Refused(remarks)) => return Err(refusal_fault(alloc, inputs, &remarks)),
     };
     let made = add_summary(alloc, asked, narrowed)?;
     Ok(made)
@@ -186,16 +197,14 @@ fn add_summary(
     ensures items { IfOk result (λ made. made.items.items ≡ narrowed.items.items) }
     ensures holds { IfOk result (λ made. made.hold_items.items ≡ narrowed.hold_items.items) }
 {
-    let summary = summary_of(alloc, asked.decide, asked.json, &narrowed)?;
+    let summary = service_summary(alloc, asked, &narrowed)?;
     let stand_ins = stand_ins_if_asked(alloc, asked, &narrowed)?;
-    let is_whole = is_whole(&narrowed.remarks);
     Ok(MadeFiles {
         items: narrowed.items,
         hold_items: narrowed.hold_items,
         stand_ins,
         remarks: narrowed.remarks,
         summary,
-        is_whole,
     })
 }
 
@@ -211,28 +220,15 @@ fn stand_ins_if_asked(
     Ok(Some(stand_ins_file(alloc, &narrowed.named)?))
 }
 
-// Whether nothing is left out that may be asked for.
-fn is_whole(remarks: &RemarkList) -> bool {
-    for place in 0..remarks.len() {
-        if let Some(remark) = remarks.get(place) {
-            if remark.matters() {
-                return false;
-            }
-        }
-    }
-    true
-}
-
-// Drafts the remarks, and then puts all files into the folder. `lines` are the first lines of the file of remarks.
+// Drafts the remarks, and then puts all files into the folder.
 // Returns `NotReadBack` if the records of a file are not read back as its items, `CannotWrite` if the folder does not
 // take the files, `Memory` if memory runs out.
 fn keep_files<H: IntakeHost>(
     alloc: Global,
     host: &mut H,
     asked: &IntakeOptions,
-    sources: &InputFiles,
+    inputs: &mut InputFiles,
     made: MadeFiles,
-    lines: Vec<u8>,
 ) -> Result<(), IntakeFault>
     ensures ok { OnOk result (HasDone H.IntakeHost (KeepsService (folder_of asked.now)
         (ptfin.items made.items.items) (hold.items made.hold_items.items)) host.old host.new) }
@@ -242,7 +238,8 @@ fn keep_files<H: IntakeHost>(
     let hold_items = made.hold_items;
     let stand_ins = made.stand_ins;
     let folder = asked.out.as_str();
-    let lines = draft_remarks(alloc, host, folder, sources, made.remarks, lines)?;
+    let reading_lines = inputs.take_reading_lines(alloc);
+    let lines = draft_remarks(alloc, host, folder, inputs, made.remarks, reading_lines)?;
     keep_service(alloc, host, folder, &items, &hold_items, stand_ins, lines)?;
     Ok(())
 }
@@ -254,7 +251,7 @@ fn draft_remarks<H: IntakeHost>(
     alloc: Global,
     host: &mut H,
     folder: &str,
-    sources: &InputFiles,
+    inputs: &InputFiles,
     remarks: RemarkList,
     lines: Vec<u8>,
 ) -> Result<Vec<u8>, IntakeFault>
@@ -266,7 +263,7 @@ fn draft_remarks<H: IntakeHost>(
         let Some(remark) = remarks.get(place) else {
             continue;
         };
-        append_remark_line(alloc, sources, &remark, &mut lines)?;
+        append_remark_line(alloc, inputs, &remark, &mut lines)?;
         lines = draft_if_long(host, folder, lines)?;
     }
     Ok(lines)

@@ -14,8 +14,8 @@ pub fn ptfin(alloc: Global, items: &[Item]) -> Result<Vec<u8>, AllocError> {
     let mut cards = PrintedCards::new(alloc);
     for item in items {
         match item {
-            Item::Sysmod(sysmod) => put_sysmod(&mut cards, sysmod)?,
-            Item::Assign(assign) => put_assign(&mut cards, assign)?,
+            Item::Sysmod(sysmod) => print_sysmod(&mut cards, sysmod)?,
+            Item::Assign(assign) => print_assign(&mut cards, assign)?,
         }
     }
     cards.into_bytes()
@@ -26,33 +26,33 @@ pub fn hold_file(alloc: Global, items: &[HoldItem]) -> Result<Vec<u8>, AllocErro
     let mut cards = PrintedCards::new(alloc);
     for item in items {
         match item {
-            HoldItem::Hold(hold) => put_hold(&mut cards, hold)?,
-            HoldItem::Release(release) => put_release(&mut cards, release)?,
+            HoldItem::Hold(hold) => print_hold(&mut cards, hold)?,
+            HoldItem::Release(release) => print_release(&mut cards, release)?,
         }
     }
     cards.into_bytes()
 }
 
 // Prints the statements of a SYSMOD.
-fn put_sysmod(cards: &mut PrintedCards, sysmod: &Sysmod) -> Result<(), AllocError> {
+fn print_sysmod(cards: &mut PrintedCards, sysmod: &Sysmod) -> Result<(), AllocError> {
     cards.begin_card(b"++")?;
     cards.add_directly(kind_text(sysmod.kind))?;
     cards.add_in_parentheses(sysmod.id.as_bytes())?;
     cards.add_directly(b".")?;
     for ver in sysmod.vers.iter() {
-        put_ver(cards, ver)?;
+        print_ver(cards, ver)?;
     }
     for hold in sysmod.holds.iter() {
-        put_hold(cards, hold)?;
+        print_hold(cards, hold)?;
     }
     for change in sysmod.changes.iter() {
-        put_change(cards, change)?;
+        print_change(cards, change)?;
     }
     Ok(())
 }
 
 // Prints an operand with a list of ids, unless the list is empty.
-fn put_ids(cards: &mut PrintedCards, word: &[u8], ids: &[Id]) -> Result<(), AllocError> {
+fn print_ids(cards: &mut PrintedCards, word: &[u8], ids: &[Id]) -> Result<(), AllocError> {
     let Some((first, others)) = ids.split_first() else {
         return Ok(());
     };
@@ -66,35 +66,35 @@ fn put_ids(cards: &mut PrintedCards, word: &[u8], ids: &[Id]) -> Result<(), Allo
 }
 
 // Prints a `++VER` and its `++IF`s.
-fn put_ver(cards: &mut PrintedCards, ver: &Ver) -> Result<(), AllocError> {
+fn print_ver(cards: &mut PrintedCards, ver: &Ver) -> Result<(), AllocError> {
     cards.begin_card(b"++VER")?;
     cards.add_in_parentheses(ver.srel.as_bytes())?;
     if let Some(fmid) = ver.fmid {
         cards.add_value(b"FMID", fmid.as_bytes())?;
     }
-    put_ids(cards, b"PRE", ver.pre.as_slice())?;
-    put_ids(cards, b"REQ", ver.req.as_slice())?;
-    put_ids(cards, b"SUP", ver.sup.as_slice())?;
-    put_ids(cards, b"NPRE", ver.npre.as_slice())?;
-    put_ids(cards, b"DELETE", ver.del.as_slice())?;
+    print_ids(cards, b"PRE", ver.pre.as_slice())?;
+    print_ids(cards, b"REQ", ver.req.as_slice())?;
+    print_ids(cards, b"SUP", ver.sup.as_slice())?;
+    print_ids(cards, b"NPRE", ver.npre.as_slice())?;
+    print_ids(cards, b"DELETE", ver.del.as_slice())?;
     cards.add_directly(b".")?;
     for condition in ver.ifs.iter() {
-        put_if(cards, condition)?;
+        print_if(cards, condition)?;
     }
     Ok(())
 }
 
 // Prints an `++IF`.
-fn put_if(cards: &mut PrintedCards, condition: &IfReq) -> Result<(), AllocError> {
+fn print_if(cards: &mut PrintedCards, condition: &IfReq) -> Result<(), AllocError> {
     cards.begin_card(b"++IF")?;
     cards.add_value(b"FMID", condition.function.as_bytes())?;
     cards.add_word(b"THEN")?;
-    put_ids(cards, b"REQ", condition.req.as_slice())?;
+    print_ids(cards, b"REQ", condition.req.as_slice())?;
     cards.add_directly(b".")
 }
 
 // Prints a `++HOLD`.
-fn put_hold(cards: &mut PrintedCards, hold: &Hold) -> Result<(), AllocError> {
+fn print_hold(cards: &mut PrintedCards, hold: &Hold) -> Result<(), AllocError> {
     cards.begin_card(b"++HOLD")?;
     cards.add_in_parentheses(hold.id.as_bytes())?;
     cards.add_word(hold_text(hold.kind))?;
@@ -113,7 +113,7 @@ fn put_hold(cards: &mut PrintedCards, hold: &Hold) -> Result<(), AllocError> {
 }
 
 // Prints a `++RELEASE`.
-fn put_release(cards: &mut PrintedCards, release: &Release) -> Result<(), AllocError> {
+fn print_release(cards: &mut PrintedCards, release: &Release) -> Result<(), AllocError> {
     cards.begin_card(b"++RELEASE")?;
     cards.add_in_parentheses(release.id.as_bytes())?;
     cards.add_word(hold_text(release.kind))?;
@@ -123,15 +123,15 @@ fn put_release(cards: &mut PrintedCards, release: &Release) -> Result<(), AllocE
 }
 
 // Prints an `++ASSIGN`.
-fn put_assign(cards: &mut PrintedCards, assign: &Assign) -> Result<(), AllocError> {
+fn print_assign(cards: &mut PrintedCards, assign: &Assign) -> Result<(), AllocError> {
     cards.begin_card(b"++ASSIGN")?;
     cards.add_value(b"SOURCEID", assign.source.as_bytes())?;
-    put_ids(cards, b"TO", assign.to.as_slice())?;
+    print_ids(cards, b"TO", assign.to.as_slice())?;
     cards.add_directly(b".")
 }
 
 // Prints an element statement with its text.
-fn put_change(cards: &mut PrintedCards, change: &ElemChange) -> Result<(), AllocError> {
+fn print_change(cards: &mut PrintedCards, change: &ElemChange) -> Result<(), AllocError> {
     cards.begin_card(b"++")?;
     cards.add_directly(statement_text(change.word()))?;
     cards.add_in_parentheses(change.name.as_bytes())?;
@@ -144,17 +144,17 @@ fn put_change(cards: &mut PrintedCards, change: &ElemChange) -> Result<(), Alloc
             cards.add_value(b"DISTLIB", distlib.as_bytes())?;
             cards.add_value(b"SYSLIB", syslib.as_bytes())?;
             cards.add_directly(b".")?;
-            put_lines(cards, lines.as_slice())
+            print_lines(cards, lines.as_slice())
         }
         Action::Updates { update } => {
             cards.add_directly(b".")?;
-            put_lines(cards, update.records())
+            print_lines(cards, update.records())
         }
     }
 }
 
 // Prints records as they are.
-fn put_lines(cards: &mut PrintedCards, lines: &[Line]) -> Result<(), AllocError> {
+fn print_lines(cards: &mut PrintedCards, lines: &[Line]) -> Result<(), AllocError> {
     cards.end_card()?;
     for line in lines {
         cards.add_across_columns(line.bytes())?;

@@ -13,17 +13,17 @@ pub enum IntakeFault {
     Memory,
     Words(WordsFault),
     /// The name of a file that cannot be read.
-    CannotRead(Vec<u8>),
-    /// The input of the first name is the file of the second one, which would be written.
-    OutputIsInput(Vec<u8>, Vec<u8>),
-    /// The list of known SYSMODs of that name has a line that is not in form.
-    KnownLine(Vec<u8>, usize),
+    CannotRead(String),
+    /// The input is a file that would be written.
+    OutputIsInput { input: String, output: String },
+    /// A line of the list of known SYSMODs is not in form. Lines are counted from 1.
+    KnownLine { name: String, line: usize },
     /// The folder does not take the files.
     CannotWrite,
     /// Standard output takes nothing.
     CannotPrint,
     /// Why the file of that name cannot be read as cards.
-    NoCards(Vec<u8>, CardError),
+    NoCards { name: String, error: CardError },
     /// Statements that no SYSMOD can be left out for, each with its file and card.
     Statements(Vec<Vec<u8>>),
     /// No statement stands in any file.
@@ -44,80 +44,59 @@ impl<T: Drop> From<AllocFailed<T>> for IntakeFault {
     }
 }
 
-impl From<WordsFault> for IntakeFault {
-    fn from(fault: WordsFault) -> IntakeFault {
-        IntakeFault::Words(fault)
-    }
-}
-
-// The fault, or `Memory` if memory ran out while its text was made.
-fn fault_or_memory(fault: Result<IntakeFault, AllocError>) -> IntakeFault {
-    match fault {
-        Ok(fault) => fault,
-        Err(_) => IntakeFault::Memory,
-    }
-}
-
 // Each fault is `Memory` instead if memory runs out while its text is made.
 impl IntakeFault {
     /// The fault of a file that was not read, for an error of this kind.
     pub fn of_unread_file(alloc: Global, name: &str, kind: ErrorKind) -> IntakeFault {
-        match kind {
-            ErrorKind::OutOfMemory => IntakeFault::Memory,
-            _ => fault_or_memory(unread_fault(alloc, name)),
+        if kind == ErrorKind::OutOfMemory {
+            return IntakeFault::Memory;
+        }
+        match String::from_str(alloc, name) {
+            Ok(name) => IntakeFault::CannotRead(name),
+            Err(_) => IntakeFault::Memory,
         }
     }
 
     /// The fault of an input that is one of the files that would be written.
     pub fn of_output(alloc: Global, input: &str, output: &str) -> IntakeFault {
-        fault_or_memory(output_fault(alloc, input, output))
+        match (
+            String::from_str(alloc, input),
+            String::from_str(alloc, output),
+        ) {
+            (Ok(input), Ok(output)) => IntakeFault::OutputIsInput { input, output },
+            _ => IntakeFault::Memory,
+        }
     }
 
     /// The fault of a line of a list of known SYSMODs.
     pub fn of_known_line(alloc: Global, name: &str, line: usize) -> IntakeFault {
-        fault_or_memory(known_line_fault(alloc, name, line))
+        match String::from_str(alloc, name) {
+            Ok(name) => IntakeFault::KnownLine { name, line },
+            Err(_) => IntakeFault::Memory,
+        }
     }
 
-    /// The fault of a file that is no cards.
+    /// The fault of a file that cannot be read as cards.
     pub fn of_cards(alloc: Global, name: &str, error: CardError) -> IntakeFault {
-        fault_or_memory(cards_fault(alloc, name, error))
+        match String::from_str(alloc, name) {
+            Ok(name) if error != CardError::Memory => IntakeFault::NoCards { name, error },
+            _ => IntakeFault::Memory,
+        }
     }
 
     /// The fault of a file with a statement that no SYSMOD can be left out for.
-    pub fn of_statement(alloc: Global, sources: &InputFiles, error: &WideError) -> IntakeFault {
-        fault_or_memory(statement_fault(alloc, sources, error))
-    }
-}
-
-// The fault of a file that was not read.
-fn unread_fault(alloc: Global, name: &str) -> Result<IntakeFault, AllocError> {
-    Ok(IntakeFault::CannotRead(Vec::from_slice(alloc, name.as_bytes())?))
-}
-
-// The fault of an input that is an output.
-fn output_fault(alloc: Global, input: &str, output: &str) -> Result<IntakeFault, AllocError> {
-    let input = Vec::from_slice(alloc, input.as_bytes())?;
-    let output = Vec::from_slice(alloc, output.as_bytes())?;
-    Ok(IntakeFault::OutputIsInput(input, output))
-}
-
-// The fault of a line of a list of known SYSMODs.
-fn known_line_fault(alloc: Global, name: &str, line: usize) -> Result<IntakeFault, AllocError> {
-    Ok(IntakeFault::KnownLine(Vec::from_slice(alloc, name.as_bytes())?, line))
-}
-
-// The fault of a file that is no cards.
-fn cards_fault(alloc: Global, name: &str, error: CardError) -> Result<IntakeFault, AllocError> {
-    match error {
-        CardError::Memory => Ok(IntakeFault::Memory),
-        other => Ok(IntakeFault::NoCards(Vec::from_slice(alloc, name.as_bytes())?, other)),
+    pub fn of_statement(alloc: Global, inputs: &InputFiles, error: &WideError) -> IntakeFault {
+        match statement_fault(alloc, inputs, error) {
+            Ok(fault) => fault,
+            Err(_) => IntakeFault::Memory,
+        }
     }
 }
 
 // The fault of a statement that no SYSMOD can be left out for.
 fn statement_fault(
     alloc: Global,
-    sources: &InputFiles,
+    inputs: &InputFiles,
     error: &WideError,
 ) -> Result<IntakeFault, AllocError> {
     let place = match error {
@@ -126,9 +105,9 @@ fn statement_fault(
         WideError::OpenComment { place } => *place,
         WideError::Statement { place, .. } => *place,
     };
-    let mut line = sources.place_text(alloc, place)?;
+    let mut line = inputs.place_text(alloc, place)?;
     if let WideError::Statement { word, name, .. } = error {
-        put_statement(&mut line, word, name)?;
+        append_statement(&mut line, word, name)?;
     }
     line.extend_from_slice(format!(in alloc; "{error}")?.as_bytes())?;
     let mut lines = Vec::new(alloc);
@@ -137,7 +116,7 @@ fn statement_fault(
 }
 
 // Appends the statement's word, and its name if it has one.
-fn put_statement(line: &mut Vec<u8>, word: &[u8], name: &[u8]) -> Result<(), AllocError> {
+fn append_statement(line: &mut Vec<u8>, word: &[u8], name: &[u8]) -> Result<(), AllocError> {
     line.extend_from_slice(b"++")?;
     line.extend_from_slice(word)?;
     if !name.is_empty() {

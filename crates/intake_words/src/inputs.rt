@@ -1,22 +1,23 @@
 //! The files that are read, by their numbers.
 
 use crate::fault::IntakeFault;
-use intake_cards::{
-    Card, CardNote, CardNoteReason, CardPlace, CardReader, Code, Layout, read_cards,
-};
+use crate::options::CardOptions;
+use intake_cards::{Card, CardNote, CardOddity, CardPlace, CardReader, Code, Layout, read_cards};
 use std::alloc::{AllocError, Global};
 
 /// A file that was read: its name, and how it is laid out.
 #[derive(Debug, Drop)]
 struct InputFile {
     name: String,
-    form: Layout,
+    layout: Layout,
 }
 
-/// The files so far. A place names its file by the number that it has here.
+/// The files that were read so far. A `CardPlace` names its file by the number that it has here.
 #[derive(Debug, Drop)]
 pub struct InputFiles {
     all: Vec<InputFile>,
+    /// Lines that say how each file was read, the first ones of the file of remarks.
+    reading_lines: Vec<u8>,
 }
 
 impl InputFiles {
@@ -24,22 +25,54 @@ impl InputFiles {
     pub fn new(alloc: Global) -> InputFiles {
         InputFiles {
             all: Vec::new(alloc),
+            reading_lines: Vec::new(alloc),
         }
     }
 
-    // Adds the next file.
-    fn add(&mut self, alloc: Global, name: &str, form: Layout) -> Result<(), AllocError> {
+    // Adds the next file, and a line that says how it is read.
+    fn add(
+        &mut self,
+        alloc: Global,
+        name: &str,
+        layout: Layout,
+        code: Code,
+    ) -> Result<(), AllocError> {
         self.all.push(InputFile {
             name: String::from_str(alloc, name)?,
-            form,
+            layout,
         })?;
+        let layout = layout_words(layout);
+        let code = code_words(code);
+        let line = format!(in alloc; "{name}: read as {layout} in {code}\n")?;
+        self.reading_lines.extend_from_slice(line.as_bytes())
+    }
+
+    /// Adds a line for each oddity of the cards of the last file.
+    pub fn add_oddities(&mut self, alloc: Global, notes: &[CardNote]) -> Result<(), AllocError> {
+        let Some(file) = self.all.last() else {
+            return Ok(());
+        };
+        let name = file.name.as_str();
+        let unit = unit(file.layout);
+        for note in notes {
+            let first = note.first.card;
+            let count = note.cards;
+            let oddity = oddity_words(note.oddity);
+            let line = format!(in alloc; "{name} {unit} {first}: {oddity}: in {count} cards\n")?;
+            self.reading_lines.extend_from_slice(line.as_bytes())?;
+        }
         Ok(())
+    }
+
+    /// The lines that say how each file was read. Afterwards there are none.
+    pub fn take_reading_lines(&mut self, alloc: Global) -> Vec<u8> {
+        std::mem::replace(&mut self.reading_lines, Vec::new(alloc))
     }
 
     // The name of the file of this number, or an empty text if there is none.
     pub(crate) fn name(&self, file: usize) -> &str {
         match self.all.get(file) {
-            Some(source) => source.name.as_str(),
+            Some(input) => input.name.as_str(),
             None => "",
         }
     }
@@ -47,8 +80,44 @@ impl InputFiles {
     // What a card of the file of this number is called: "line" or "record".
     pub(crate) fn unit(&self, file: usize) -> &'static str {
         match self.all.get(file) {
-            Some(source) => unit(source.form),
+            Some(input) => unit(input.layout),
             None => unit(Layout::Records),
+        }
+    }
+
+    /// The cards of the file of this name, which becomes the next one. Returns `NoCards` if the bytes cannot be read as
+    /// cards, `Memory` if memory runs out.
+    pub fn read_cards(
+        &mut self,
+        alloc: Global,
+        name: &str,
+        bytes: &[u8],
+        options: CardOptions,
+    ) -> Result<Vec<Card>, IntakeFault> {
+        let read = match read_cards(alloc, self.all.len(), bytes, options.layout, options.code) {
+            Ok(read) => read,
+            Err(error) => return Err(IntakeFault::of_cards(alloc, name, error)),
+        };
+        self.add(alloc, name, read.form, read.code)?;
+        self.add_oddities(alloc, &read.notes)?;
+        Ok(read.cards)
+    }
+
+    /// A reader of the cards of the file of this name, which becomes the next one. Its oddities are known only once its
+    /// cards are read. Returns `NoCards` if the bytes cannot be read as cards, `Memory` if memory runs out.
+    pub fn open_cards<'a>(
+        &mut self,
+        alloc: Global,
+        name: &str,
+        bytes: &'a [u8],
+        options: CardOptions,
+    ) -> Result<CardReader<'a>, IntakeFault> {
+        match CardReader::open(self.all.len(), bytes, options.layout, options.code) {
+            Ok(cards) => {
+                self.add(alloc, name, cards.form, cards.code)?;
+                Ok(cards)
+            }
+            Err(error) => Err(IntakeFault::of_cards(alloc, name, error)),
         }
     }
 
@@ -66,81 +135,16 @@ impl InputFiles {
 }
 
 // What a card of a file with this layout is called.
-fn unit(form: Layout) -> &'static str {
-    match form {
+fn unit(layout: Layout) -> &'static str {
+    match layout {
         Layout::Text => "line",
         Layout::Records => "record",
     }
 }
 
-/// The cards of the file of this name, which becomes the next one. Remarks say what was assumed of it. Returns
-/// `NoCards` if the bytes cannot be read as cards, `Memory` if memory runs out.
-pub fn read_file_cards(
-    alloc: Global,
-    sources: &mut InputFiles,
-    name: &str,
-    bytes: &[u8],
-    form: Option<Layout>,
-    code: Option<Code>,
-    remarks: &mut Vec<u8>,
-) -> Result<Vec<Card>, IntakeFault> {
-    let file = sources.all.len();
-    let read = match read_cards(alloc, file, bytes, form, code) {
-        Ok(read) => read,
-        Err(error) => return Err(IntakeFault::of_cards(alloc, name, error)),
-    };
-    sources.add(alloc, name, read.layout)?;
-    describe_assumptions(alloc, name, read.layout, read.code, &read.notes, remarks)?;
-    Ok(read.cards)
-}
-
-/// A reader of the cards of the file of this name, which becomes the next one. Returns `NoCards` if the bytes cannot be
-/// read as cards, `Memory` if memory runs out.
-pub fn open_cards<'a>(
-    alloc: Global,
-    sources: &mut InputFiles,
-    name: &str,
-    bytes: &'a [u8],
-    form: Option<Layout>,
-    code: Option<Code>,
-) -> Result<CardReader<'a>, IntakeFault> {
-    let file = sources.all.len();
-    match CardReader::open(file, bytes, form, code) {
-        Ok(cards) => {
-            sources.add(alloc, name, cards.layout)?;
-            Ok(cards)
-        }
-        Err(error) => Err(IntakeFault::of_cards(alloc, name, error)),
-    }
-}
-
-/// Appends a line that says in which layout and code the file was read, and one for each oddity of its cards.
-pub fn describe_assumptions(
-    alloc: Global,
-    name: &str,
-    form: Layout,
-    code: Code,
-    notes: &[CardNote],
-    remarks: &mut Vec<u8>,
-) -> Result<(), AllocError> {
-    let words = form_words(form);
-    let code = code_words(code);
-    let line = format!(in alloc; "{name}: read as {words} in {code}\n")?;
-    remarks.extend_from_slice(line.as_bytes())?;
-    let unit = unit(form);
-    for note in notes {
-        let first = note.first.card;
-        let count = note.cards;
-        let words = oddity_words(note.reason);
-        let line = format!(in alloc; "{name} {unit} {first}: {words}: in {count} cards\n")?;
-        remarks.extend_from_slice(line.as_bytes())?;
-    }
-    Ok(())
-}
-
 // The layout in words.
-fn form_words(form: Layout) -> &'static str {
-    match form {
+fn layout_words(layout: Layout) -> &'static str {
+    match layout {
         Layout::Text => "lines",
         Layout::Records => "records of 80 bytes",
     }

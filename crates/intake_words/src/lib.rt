@@ -14,9 +14,9 @@ mod summary;
 mod summary_json;
 
 pub use fault::IntakeFault;
-pub use inputs::{InputFiles, describe_assumptions, open_cards, read_file_cards};
-pub use options::{IntakeOptions, WordsFault, read_words, text_views};
+pub use inputs::InputFiles;
+pub use options::{CardOptions, IntakeOptions, WordsFault, read_options, text_views};
 pub use relfile::{RelfileElement, relfile_elements};
 pub use remarks::{append_remark_line, append_remark_lines, refusal_fault};
 pub use stand_ins::stand_ins_file;
-pub use summary::{command_summary, summary_of};
+pub use summary::{command_summary, service_summary};

@@ -13,8 +13,10 @@ use std::alloc::{AllocError, AllocFailed, Global};
 /// What `--version` prints after the name.
 const VERSION: &str = "1.0.0";
 
+/// The words that `--summary` takes.
 static SUMMARIES: [&str; 2] = ["text", "json"];
 
+/// The words that `--code` takes.
 static CODES: [&str; 3] = ["ascii", "ibm1047", "ibm037"];
 
 /// What the program is asked to do. The texts are the names of files and folders.
@@ -34,7 +36,13 @@ pub struct IntakeOptions {
     pub decide: bool,
     /// The summary is for programs.
     pub json: bool,
-    pub form: Option<Layout>,
+    pub cards: CardOptions,
+}
+
+/// How files are read as cards. What is not given here is guessed from the bytes of each file.
+#[derive(Clone, Copy, Debug)]
+pub struct CardOptions {
+    pub layout: Option<Layout>,
     pub code: Option<Code>,
 }
 
@@ -44,10 +52,10 @@ pub enum WordsFault {
     Memory,
     /// What `clap` says, help and version too.
     Clap(clap::Error),
-    /// A word that is no UTF-8.
-    NoText,
+    /// A word that is not UTF-8.
+    NotUtf8,
     /// The value of `--syslib` is not DISTLIB=SYSLIB.
-    Syslib,
+    BadSyslib,
 }
 
 impl From<AllocError> for WordsFault {
@@ -71,20 +79,20 @@ impl From<clap::Error> for WordsFault {
     }
 }
 
-/// The options of the words, of which the first is the program's name. Returns `NoText` if a word is no UTF-8, `Clap`
-/// for help, version and words that are no such options, `Syslib` for a wrong value of `--syslib`, `Memory` if memory
-/// runs out.
-pub fn read_words(alloc: Global, words: &[Vec<u8>]) -> Result<IntakeOptions, WordsFault> {
+/// The options of the words, the first of which is the program's name. Returns `NotUtf8` if a word is not UTF-8, `Clap`
+/// for help, version and words that are no such options, `BadSyslib` for a wrong value of `--syslib`, and `Memory` if
+/// memory runs out.
+pub fn read_options(alloc: Global, words: &[Vec<u8>]) -> Result<IntakeOptions, WordsFault> {
     let mut texts: Vec<String> = Vec::new(alloc);
     for word in words {
         match str::from_utf8(word.as_slice()) {
             Ok(text) => texts.push(String::from_str(alloc, text)?)?,
-            Err(_) => return Err(WordsFault::NoText),
+            Err(_) => return Err(WordsFault::NotUtf8),
         }
     }
     let views = text_views(alloc, texts.as_slice())?;
     let matches = command_line(alloc)?.try_get_matches_from(views.as_slice())?;
-    read_options(alloc, &matches)
+    options_of_matches(alloc, &matches)
 }
 
 /// The texts, lent one by one.
@@ -198,8 +206,12 @@ fn file_arguments<'a>(alloc: Global) -> Result<Arg<'a>, AllocError> {
         .required_unless_present("cntl")
 }
 
-// The options that clap has matched. Returns `Syslib` for a wrong value of `--syslib`, `Memory` if memory runs out.
-fn read_options(alloc: Global, matches: &ArgMatches<'_>) -> Result<IntakeOptions, WordsFault> {
+// The options that `clap` has matched. Returns `BadSyslib` for a wrong value of `--syslib`, and `Memory` if memory runs
+// out.
+fn options_of_matches(
+    alloc: Global,
+    matches: &ArgMatches<'_>,
+) -> Result<IntakeOptions, WordsFault> {
     Ok(IntakeOptions {
         out: option_text(alloc, matches, "out")?.unwrap_or(String::new(alloc)),
         files: option_texts(alloc, matches, "file")?,
@@ -209,8 +221,10 @@ fn read_options(alloc: Global, matches: &ArgMatches<'_>) -> Result<IntakeOptions
         syslibs: syslib_options(alloc, matches)?,
         decide: matches.get_flag("decide"),
         json: matches.get_str("summary") == Some("json"),
-        form: layout_option(matches),
-        code: code_option(matches),
+        cards: CardOptions {
+            layout: layout_option(matches),
+            code: code_option(matches),
+        },
     })
 }
 
@@ -260,18 +274,19 @@ fn code_option(matches: &ArgMatches<'_>) -> Option<Code> {
     } else if code == "ibm1047" {
         Some(Code::Ibm1047)
     } else {
+        // `clap` takes no other word of `CODES`.
         Some(Code::Ibm037)
     }
 }
 
-// The SYSLIBs of all --syslib, each with its DISTLIB. Returns `Syslib` if a value is not DISTLIB=SYSLIB, `Memory` if
+// The SYSLIBs of all --syslib, each with its DISTLIB. Returns `BadSyslib` if a value is not DISTLIB=SYSLIB, `Memory` if
 // memory runs out.
 fn syslib_options(alloc: Global, matches: &ArgMatches<'_>) -> Result<Vec<Syslib>, WordsFault> {
     let mut pairs = Vec::new(alloc);
     for pair in &option_texts(alloc, matches, "syslib")? {
         let pair = pair.as_bytes();
         let Some(at) = pair.iter().position(|b| *b == b'=') else {
-            return Err(WordsFault::Syslib);
+            return Err(WordsFault::BadSyslib);
         };
         let distlib = read_library_name(alloc, &pair[..at])?;
         let syslib = read_library_name(alloc, &pair[at + 1..])?;
@@ -280,11 +295,12 @@ fn syslib_options(alloc: Global, matches: &ArgMatches<'_>) -> Result<Vec<Syslib>
     Ok(pairs)
 }
 
-// The name of a library, in upper case. Returns `Syslib` if it has not the form of a name, `Memory` if memory runs out.
+// The name of a library, in upper case. Returns `BadSyslib` if it has not the form of a name, `Memory` if memory runs
+// out.
 fn read_library_name(alloc: Global, name: &[u8]) -> Result<Name, WordsFault> {
     let mut upper = Vec::new(alloc);
     for byte in name {
         upper.push(byte.to_ascii_uppercase())?;
     }
-    Name::read(&upper).ok_or(WordsFault::Syslib)
+    Name::read(&upper).ok_or(WordsFault::BadSyslib)
 }

@@ -21,7 +21,7 @@ pub struct RelfileElement<'a> {
     /// Where its statement begins.
     pub place: CardPlace,
     /// No other SYSMOD has a RELFILE of its number.
-    pub is_alone: bool,
+    pub is_only_user: bool,
 }
 
 impl RelfileElement<'_> {
@@ -59,7 +59,7 @@ pub fn relfile_elements<'a>(
     }
     let users = relfile_users(alloc, elements.as_slice())?;
     for element in elements.iter_mut() {
-        element.is_alone = is_only_user(users.as_slice(), element);
+        element.is_only_user = is_only_user_of_number(users.as_slice(), element);
     }
     Ok(elements)
 }
@@ -79,7 +79,7 @@ fn relfile_element<'a>(id: &'a [u8], element: &'a WideElement) -> Option<Relfile
         number,
         name,
         place: element.place,
-        is_alone: false,
+        is_only_user: false,
     })
 }
 
@@ -119,6 +119,6 @@ fn note_user(users: &mut Vec<RelfileUser<'_>>, element: &RelfileElement<'_>) -> 
 }
 
 // Whether no other SYSMOD has a RELFILE of the element's number.
-fn is_only_user(users: &[RelfileUser<'_>], element: &RelfileElement<'_>) -> bool {
+fn is_only_user_of_number(users: &[RelfileUser<'_>], element: &RelfileElement<'_>) -> bool {
     users.iter().any(|user| user.number == element.number && user.id == Some(element.id))
 }

@@ -8,21 +8,21 @@ use std::alloc::{AllocError, Global};
 // The line of a remark, with its file and card.
 fn remark_line(
     alloc: Global,
-    sources: &InputFiles,
+    inputs: &InputFiles,
     remark: &Remark<'_>,
 ) -> Result<Vec<u8>, AllocError> {
     let file = remark.place.file;
-    remark.line(alloc, sources.name(file), sources.unit(file))
+    remark.line(alloc, inputs.name(file), inputs.unit(file))
 }
 
 /// Appends the line of a remark, with its file and card.
 pub fn append_remark_line(
     alloc: Global,
-    sources: &InputFiles,
+    inputs: &InputFiles,
     remark: &Remark<'_>,
     lines: &mut Vec<u8>,
 ) -> Result<(), AllocError> {
-    lines.extend_from_slice(remark_line(alloc, sources, remark)?.trim_ascii_end())?;
+    lines.extend_from_slice(remark_line(alloc, inputs, remark)?.trim_ascii_end())?;
     lines.push(b'\n')?;
     Ok(())
 }
@@ -30,13 +30,13 @@ pub fn append_remark_line(
 /// Appends a line for each remark.
 pub fn append_remark_lines(
     alloc: Global,
-    sources: &InputFiles,
+    inputs: &InputFiles,
     remarks: &RemarkList,
     lines: &mut Vec<u8>,
 ) -> Result<(), AllocError> {
     for place in 0..remarks.len() {
         if let Some(remark) = remarks.get(place) {
-            append_remark_line(alloc, sources, &remark, lines)?;
+            append_remark_line(alloc, inputs, &remark, lines)?;
         }
     }
     Ok(())
@@ -44,8 +44,8 @@ pub fn append_remark_lines(
 
 /// The fault of a run that writes nothing because something is refused. Each remark that refuses something is a line of
 /// it. It is `Memory` if memory runs out.
-pub fn refusal_fault(alloc: Global, sources: &InputFiles, remarks: &RemarkList) -> IntakeFault {
-    match refusal_lines(alloc, sources, remarks) {
+pub fn refusal_fault(alloc: Global, inputs: &InputFiles, remarks: &RemarkList) -> IntakeFault {
+    match refusal_lines(alloc, inputs, remarks) {
         Ok(lines) => IntakeFault::Statements(lines),
         Err(_) => IntakeFault::Memory,
     }
@@ -54,14 +54,14 @@ pub fn refusal_fault(alloc: Global, sources: &InputFiles, remarks: &RemarkList) 
 // The lines of the remarks that refuse something.
 fn refusal_lines(
     alloc: Global,
-    sources: &InputFiles,
+    inputs: &InputFiles,
     remarks: &RemarkList,
 ) -> Result<Vec<Vec<u8>>, AllocError> {
     let mut lines = Vec::new(alloc);
     for place in 0..remarks.len() {
         if let Some(remark) = remarks.get(place) {
             if remark.deed == Deed::Refused {
-                lines.push(remark_line(alloc, sources, &remark)?)?;
+                lines.push(remark_line(alloc, inputs, &remark)?)?;
             }
         }
     }

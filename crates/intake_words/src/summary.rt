@@ -1,12 +1,13 @@
 //! The summary of a run, which is printed.
 
+use crate::options::IntakeOptions;
 use crate::summary_json::json_summary;
 use intake_cards::{Deed, Remark, RemarkList, RemarkReason};
 use intake_carry::{Narrowed, Tally};
 use std::alloc::{AllocError, Global};
 
-/// How many SYSMODs that are left out have lines of their own.
-const MOST_LINES: usize = 20;
+/// How many SYSMODs that are left out have lines of their own, at most.
+const MOST_LEFT_OUT_LINES: usize = 20;
 
 /// How many remarks have a deed and a reason.
 #[derive(Drop)]
@@ -17,7 +18,7 @@ pub(crate) struct RemarkCount {
 }
 
 /// How many remarks have each deed and reason, in the order in which these first occur.
-pub(crate) fn counts_of(
+pub(crate) fn remark_counts(
     alloc: Global,
     remarks: &RemarkList,
 ) -> Result<Vec<RemarkCount>, AllocError> {
@@ -31,8 +32,12 @@ pub(crate) fn counts_of(
 }
 
 // Appends a line for each deed and reason, with the number of remarks that have them.
-fn put_reasons(alloc: Global, remarks: &RemarkList, lines: &mut Vec<u8>) -> Result<(), AllocError> {
-    for entry in &counts_of(alloc, remarks)? {
+fn append_remark_counts(
+    alloc: Global,
+    remarks: &RemarkList,
+    lines: &mut Vec<u8>,
+) -> Result<(), AllocError> {
+    for entry in &remark_counts(alloc, remarks)? {
         let count = entry.count;
         let deed = entry.deed.words();
         let reason = entry.reason.words();
@@ -58,8 +63,8 @@ fn count_remark(all: &mut Vec<RemarkCount>, remark: &Remark<'_>) -> Result<(), A
     Ok(())
 }
 
-/// Whether the remark tells that a SYSMOD is left out.
-pub(crate) fn is_left_out(remark: &Remark<'_>) -> bool {
+/// Whether the remark says that its SYSMOD is left out.
+pub(crate) fn is_of_left_out_sysmod(remark: &Remark<'_>) -> bool {
     matches!(
         remark.reason,
         RemarkReason::WholeSysmod | RemarkReason::OtherCopy
@@ -125,8 +130,9 @@ pub(crate) fn cause_text(alloc: Global, cause: &Remark<'_>) -> Result<Vec<u8>, A
     Ok(text)
 }
 
-// Appends a line for each SYSMOD that is left out, with its first cause, and after `MOST_LINES` one for all others.
-fn put_all_left_out(
+// Appends a line for each SYSMOD that is left out, with its first cause, and after `MOST_LEFT_OUT_LINES` one for all
+// others.
+fn append_left_out_lines(
     alloc: Global,
     remarks: &RemarkList,
     lines: &mut Vec<u8>,
@@ -136,17 +142,17 @@ fn put_all_left_out(
         let Some(remark) = remarks.get(place) else {
             continue;
         };
-        if !is_left_out(&remark) {
+        if !is_of_left_out_sysmod(&remark) {
             continue;
         }
         count = count.saturating_add(1);
-        if count <= MOST_LINES {
+        if count <= MOST_LEFT_OUT_LINES {
             let cause = cause_of(remarks, place, remark);
-            put_left_out(alloc, &remark, &cause, lines)?;
+            append_left_out_line(alloc, &remark, &cause, lines)?;
         }
     }
-    if count > MOST_LINES {
-        let more = count.saturating_sub(MOST_LINES);
+    if count > MOST_LEFT_OUT_LINES {
+        let more = count.saturating_sub(MOST_LEFT_OUT_LINES);
         let line = format!(in alloc; "LEFTOUT {more:>7} more, of which the remarks tell\n")?;
         lines.extend_from_slice(line.as_bytes())?;
     }
@@ -154,7 +160,7 @@ fn put_all_left_out(
 }
 
 // Appends the line for a SYSMOD that is left out.
-fn put_left_out(
+fn append_left_out_line(
     alloc: Global,
     remark: &Remark<'_>,
     cause: &Remark<'_>,
@@ -172,43 +178,42 @@ fn put_left_out(
 
 /// How many remarks have the reason.
 pub(crate) fn count_with_reason(remarks: &RemarkList, reason: RemarkReason) -> usize {
-    let mut number = 0usize;
+    let mut count = 0usize;
     for place in 0..remarks.len() {
         if let Some(remark) = remarks.get(place) {
             if remark.reason == reason {
-                number = number.saturating_add(1);
+                count = count.saturating_add(1);
             }
         }
     }
-    number
+    count
 }
 
-// Appends a line, unless the number is 0.
-fn put_warning(
+// Appends a line with its label, the count and the text, unless the count is 0.
+fn append_warning(
     alloc: Global,
-    word: &str,
-    number: usize,
-    words: &str,
+    label: &str,
+    count: usize,
+    text: &str,
     lines: &mut Vec<u8>,
 ) -> Result<(), AllocError> {
-    if number > 0 {
-        let line = format!(in alloc; "{word:<7} {number:>7} {words}\n")?;
+    if count > 0 {
+        let line = format!(in alloc; "{label:<7} {count:>7} {text}\n")?;
         lines.extend_from_slice(line.as_bytes())?;
     }
     Ok(())
 }
 
 /// The summary of a run over files, in lines or, for programs, in JSON.
-pub fn summary_of(
+pub fn service_summary(
     alloc: Global,
-    decide: bool,
-    json: bool,
+    asked: &IntakeOptions,
     narrowed: &Narrowed,
 ) -> Result<Vec<u8>, AllocError> {
-    if json {
+    if asked.json {
         json_summary(alloc, narrowed)
     } else {
-        service_summary(alloc, decide, narrowed)
+        text_summary(alloc, asked, narrowed)
     }
 }
 
@@ -227,73 +232,77 @@ pub fn command_summary(
     } else {
         lines.extend_from_slice(b"COMMAND none is written: see what is refused in cntl.remarks\n")?;
     }
-    put_reasons(alloc, remarks, &mut lines)?;
+    append_remark_counts(alloc, remarks, &mut lines)?;
     Ok(lines)
 }
 
 // The summary in lines: what is left out and why, what else matters, and then how much there is of each.
-fn service_summary(
+fn text_summary(
     alloc: Global,
-    decide: bool,
+    asked: &IntakeOptions,
     narrowed: &Narrowed,
 ) -> Result<Vec<u8>, AllocError> {
     let remarks = &narrowed.remarks;
     let mut lines = Vec::new(alloc);
-    put_all_left_out(alloc, remarks, &mut lines)?;
-    put_warnings(alloc, narrowed, &mut lines)?;
-    if decide {
-        put_check_line(alloc, narrowed, &mut lines)?;
+    append_left_out_lines(alloc, remarks, &mut lines)?;
+    append_warnings(alloc, narrowed, &mut lines)?;
+    if asked.decide {
+        append_check_line(alloc, narrowed, &mut lines)?;
     }
-    put_tally(alloc, "SYSMOD", narrowed.sysmods, &mut lines)?;
-    put_tally(alloc, "HOLD", narrowed.holds, &mut lines)?;
-    put_tally(alloc, "RELEASE", narrowed.releases, &mut lines)?;
-    put_tally(alloc, "ASSIGN", narrowed.assigns, &mut lines)?;
-    put_reasons(alloc, remarks, &mut lines)?;
+    append_tally(alloc, "SYSMOD", narrowed.sysmods, &mut lines)?;
+    append_tally(alloc, "HOLD", narrowed.holds, &mut lines)?;
+    append_tally(alloc, "RELEASE", narrowed.releases, &mut lines)?;
+    append_tally(alloc, "ASSIGN", narrowed.assigns, &mut lines)?;
+    append_remark_counts(alloc, remarks, &mut lines)?;
     Ok(lines)
 }
 
 // Appends warnings: of holds that moved, of statements in comments, and of SYSMODs left out that would forbid others.
-fn put_warnings(alloc: Global, narrowed: &Narrowed, lines: &mut Vec<u8>) -> Result<(), AllocError> {
+fn append_warnings(
+    alloc: Global,
+    narrowed: &Narrowed,
+    lines: &mut Vec<u8>,
+) -> Result<(), AllocError> {
     let remarks = &narrowed.remarks;
     let outside = count_with_reason(remarks, RemarkReason::HeldOutside);
-    let words =
+    let text =
         "of SYSMODs stand in the hold file: they are on others, or the SYSMOD is not carried";
-    put_warning(alloc, "HELD", outside, words, lines)?;
+    append_warning(alloc, "HELD", outside, text, lines)?;
     let swallowed = count_with_reason(remarks, RemarkReason::StatementInComment);
-    let words = "statements stand in a comment: is it closed where it should be?";
-    put_warning(alloc, "COMMENT", swallowed, words, lines)?;
-    let words = "left out have elements, NPRE or DELETE, which nothing asks for now";
-    put_warning(alloc, "FORBIDS", narrowed.forbidding, words, lines)
+    let text = "statements stand in a comment: is it closed where it should be?";
+    append_warning(alloc, "COMMENT", swallowed, text, lines)?;
+    let text = "left out have elements, NPRE or DELETE, which nothing asks for now";
+    append_warning(alloc, "FORBIDS", narrowed.forbidding, text, lines)
 }
 
 // Appends how many SYSMODs have stand-ins, and that the files are only for CHECK. If elements are passed over, CHECK
 // must have all of the files together.
-fn put_check_line(
+fn append_check_line(
     alloc: Global,
     narrowed: &Narrowed,
     lines: &mut Vec<u8>,
 ) -> Result<(), AllocError> {
     let stand_ins = narrowed.stand_ins;
     let passed_over = count_with_reason(&narrowed.remarks, RemarkReason::PassedOver);
-    let which = if passed_over > 0 {
+    let text = if passed_over > 0 {
         "these files are for CHECK, all of them together"
     } else {
         "these files are for CHECK"
     };
-    let line = format!(in alloc; "CHECK   {stand_ins:>7} have stand-ins: {which}\n")?;
+    let line = format!(in alloc; "CHECK   {stand_ins:>7} have stand-ins: {text}\n")?;
     lines.extend_from_slice(line.as_bytes())
 }
 
-// Appends how many statements of a word were carried and left out.
-fn put_tally(
+// Appends a line with its label and how many statements were carried and left out.
+fn append_tally(
     alloc: Global,
-    word: &str,
+    label: &str,
     tally: Tally,
     lines: &mut Vec<u8>,
 ) -> Result<(), AllocError> {
     let carried = tally.carried;
     let left_out = tally.left_out;
-    let line = format!(in alloc; "{word:<7} {carried:>7} carried {left_out:>7} left out\n")?;
+    let line = format!(in alloc; "{label:<7} {carried:>7} carried {left_out:>7} left out\n")?;
     lines.extend_from_slice(line.as_bytes())?;
     Ok(())
 }

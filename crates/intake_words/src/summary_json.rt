@@ -1,12 +1,14 @@
 //! The summary of a run over files for programs: one object in JSON.
 
-use crate::summary::{cause_of, cause_text, count_with_reason, counts_of, is_left_out};
+use crate::summary::{
+    cause_of, cause_text, count_with_reason, is_of_left_out_sysmod, remark_counts,
+};
 use intake_cards::{RemarkList, RemarkReason};
 use intake_carry::{Narrowed, Tally};
 use std::alloc::{AllocError, Global};
 
 // Appends a text in quotation marks. A byte that is no printable ASCII becomes a question mark.
-fn put_text(json: &mut Vec<u8>, text: &[u8]) -> Result<(), AllocError> {
+fn append_text(json: &mut Vec<u8>, text: &[u8]) -> Result<(), AllocError> {
     json.push(b'"')?;
     for byte in text {
         match byte {
@@ -23,37 +25,37 @@ fn put_text(json: &mut Vec<u8>, text: &[u8]) -> Result<(), AllocError> {
 }
 
 // Appends the name of a member of an object, after a comma if it is not the first one.
-fn put_name(json: &mut Vec<u8>, name: &str) -> Result<(), AllocError> {
+fn append_name(json: &mut Vec<u8>, name: &str) -> Result<(), AllocError> {
     if !json.as_slice().ends_with(b"{") {
         json.push(b',')?;
     }
-    put_text(json, name.as_bytes())?;
+    append_text(json, name.as_bytes())?;
     json.push(b':')?;
     Ok(())
 }
 
 // Appends a member of an object that is a number.
-fn put_number(
+fn append_number(
     alloc: Global,
     json: &mut Vec<u8>,
     name: &str,
     number: usize,
 ) -> Result<(), AllocError> {
-    put_name(json, name)?;
+    append_name(json, name)?;
     json.extend_from_slice(format!(in alloc; "{number}")?.as_bytes())
 }
 
-// Appends a member of an object that says how many statements of a word were carried and left out.
-fn put_tally(
+// Appends a member of an object that says how many statements were carried and left out.
+fn append_tally(
     alloc: Global,
     json: &mut Vec<u8>,
     name: &str,
     tally: Tally,
 ) -> Result<(), AllocError> {
-    put_name(json, name)?;
+    append_name(json, name)?;
     json.push(b'{')?;
-    put_number(alloc, json, "carried", tally.carried)?;
-    put_number(alloc, json, "left_out", tally.left_out)?;
+    append_number(alloc, json, "carried", tally.carried)?;
+    append_number(alloc, json, "left_out", tally.left_out)?;
     json.push(b'}')?;
     Ok(())
 }
@@ -68,22 +70,26 @@ fn begin_object(json: &mut Vec<u8>) -> Result<(), AllocError> {
 }
 
 // Appends the SYSMODs that are left out, each with its cause.
-fn put_left_out(alloc: Global, json: &mut Vec<u8>, remarks: &RemarkList) -> Result<(), AllocError> {
-    put_name(json, "left_out")?;
+fn append_left_out(
+    alloc: Global,
+    json: &mut Vec<u8>,
+    remarks: &RemarkList,
+) -> Result<(), AllocError> {
+    append_name(json, "left_out")?;
     json.push(b'[')?;
     for place in 0..remarks.len() {
         let Some(remark) = remarks.get(place) else {
             continue;
         };
-        if is_left_out(&remark) {
+        if is_of_left_out_sysmod(&remark) {
             let cause = cause_of(remarks, place, remark);
             begin_object(json)?;
-            put_name(json, "statement")?;
-            put_text(json, remark.statement)?;
-            put_name(json, "id")?;
-            put_text(json, remark.id)?;
-            put_name(json, "cause")?;
-            put_text(json, &cause_text(alloc, &cause)?)?;
+            append_name(json, "statement")?;
+            append_text(json, remark.statement)?;
+            append_name(json, "id")?;
+            append_text(json, remark.id)?;
+            append_name(json, "cause")?;
+            append_text(json, &cause_text(alloc, &cause)?)?;
             json.push(b'}')?;
         }
     }
@@ -92,16 +98,20 @@ fn put_left_out(alloc: Global, json: &mut Vec<u8>, remarks: &RemarkList) -> Resu
 }
 
 // Appends how many remarks there are of each deed and reason.
-fn put_remarks(alloc: Global, json: &mut Vec<u8>, remarks: &RemarkList) -> Result<(), AllocError> {
-    put_name(json, "remarks")?;
+fn append_remark_counts(
+    alloc: Global,
+    json: &mut Vec<u8>,
+    remarks: &RemarkList,
+) -> Result<(), AllocError> {
+    append_name(json, "remarks")?;
     json.push(b'[')?;
-    for entry in &counts_of(alloc, remarks)? {
+    for entry in &remark_counts(alloc, remarks)? {
         begin_object(json)?;
-        put_number(alloc, json, "count", entry.count)?;
-        put_name(json, "deed")?;
-        put_text(json, entry.deed.words().as_bytes())?;
-        put_name(json, "reason")?;
-        put_text(json, entry.reason.words().as_bytes())?;
+        append_number(alloc, json, "count", entry.count)?;
+        append_name(json, "deed")?;
+        append_text(json, entry.deed.words().as_bytes())?;
+        append_name(json, "reason")?;
+        append_text(json, entry.reason.words().as_bytes())?;
         json.push(b'}')?;
     }
     json.push(b']')?;
@@ -113,20 +123,20 @@ pub(crate) fn json_summary(alloc: Global, narrowed: &Narrowed) -> Result<Vec<u8>
     let remarks = &narrowed.remarks;
     let mut json = Vec::new(alloc);
     json.push(b'{')?;
-    put_left_out(alloc, &mut json, remarks)?;
+    append_left_out(alloc, &mut json, remarks)?;
     let held = count_with_reason(remarks, RemarkReason::HeldOutside);
-    put_number(alloc, &mut json, "holds_outside", held)?;
+    append_number(alloc, &mut json, "holds_outside", held)?;
     let swallowed = count_with_reason(remarks, RemarkReason::StatementInComment);
-    put_number(alloc, &mut json, "in_comments", swallowed)?;
-    put_number(alloc, &mut json, "forbids", narrowed.forbidding)?;
-    put_number(alloc, &mut json, "stand_ins", narrowed.stand_ins)?;
+    append_number(alloc, &mut json, "in_comments", swallowed)?;
+    append_number(alloc, &mut json, "forbids", narrowed.forbidding)?;
+    append_number(alloc, &mut json, "stand_ins", narrowed.stand_ins)?;
     let passed_over = count_with_reason(remarks, RemarkReason::PassedOver);
-    put_number(alloc, &mut json, "passed_over", passed_over)?;
-    put_tally(alloc, &mut json, "sysmods", narrowed.sysmods)?;
-    put_tally(alloc, &mut json, "holds", narrowed.holds)?;
-    put_tally(alloc, &mut json, "releases", narrowed.releases)?;
-    put_tally(alloc, &mut json, "assigns", narrowed.assigns)?;
-    put_remarks(alloc, &mut json, remarks)?;
+    append_number(alloc, &mut json, "passed_over", passed_over)?;
+    append_tally(alloc, &mut json, "sysmods", narrowed.sysmods)?;
+    append_tally(alloc, &mut json, "holds", narrowed.holds)?;
+    append_tally(alloc, &mut json, "releases", narrowed.releases)?;
+    append_tally(alloc, &mut json, "assigns", narrowed.assigns)?;
+    append_remark_counts(alloc, &mut json, remarks)?;
     json.extend_from_slice(b"}\n")?;
     Ok(json)
 }

@@ -3,15 +3,16 @@
 use intake_command::{IntakeHost, NamedFile};
 use std::fs::OpenOptions;
 use std::io::{ErrorKind, Write};
+use std::path::PathBuf;
 use std::{fs, io};
 
-/// The most files that have drafts at one time.
+/// The most files that have drafts at one time: as many as a run may write.
 const MOST_DRAFTS: usize = 6;
 
-/// What the name of a file ends in until all files are written: that of its draft, and of the file itself.
+/// What a draft has after the name of its file. Each file is written as a draft until all files of the run are.
 const DRAFT_ENDING: &str = ".new";
 
-/// The system, by what the program was started with.
+/// The system, as the runtime gives access to it.
 #[derive(Drop)]
 pub(crate) struct FileSystem<'a> {
     rt: &'a HostRuntime,
@@ -33,7 +34,7 @@ impl IntakeHost for FileSystem<'_> {
         name: &'static str,
         bytes: &[u8],
     ) -> io::Result<()> {
-        let outcome = self.begin_or_append_draft(folder, name, bytes);
+        let outcome = self.try_append_to_draft(folder, name, bytes);
         if outcome.is_err() {
             self.drafts = [None; MOST_DRAFTS];
             self.remove_if_possible(folder, name, DRAFT_ENDING);
@@ -45,7 +46,7 @@ impl IntakeHost for FileSystem<'_> {
         if files.iter().any(|file| file.bytes.is_some()) {
             fs::create_dir_all(self.rt, folder)?;
         }
-        let outcome = self.write_and_name_all(folder, files);
+        let outcome = self.replace_all(folder, files);
         if outcome.is_err() {
             self.remove_all_if_possible(folder, files, DRAFT_ENDING);
         }
@@ -53,17 +54,12 @@ impl IntakeHost for FileSystem<'_> {
         outcome
     }
 
-    // Names that lead nowhere, or where nobody may go, are of no file that can be read or written.
     fn is_same(&mut self, first: &str, second: &str) -> io::Result<bool> {
-        let first_path = match fs::canonicalize(self.rt, first) {
-            Ok(path) => path,
-            Err(error) if leads_nowhere(error.kind()) => return Ok(false),
-            Err(error) => return Err(error),
+        let Some(first_path) = self.path_of_existing(first)? else {
+            return Ok(false);
         };
-        let second_path = match fs::canonicalize(self.rt, second) {
-            Ok(path) => path,
-            Err(error) if leads_nowhere(error.kind()) => return Ok(false),
-            Err(error) => return Err(error),
+        let Some(second_path) = self.path_of_existing(second)? else {
+            return Ok(false);
         };
         Ok(first_path == second_path)
     }
@@ -81,20 +77,26 @@ impl IntakeHost for FileSystem<'_> {
     }
 }
 
-// Whether an error of this kind says that there is no such file, or that nobody may go there.
-fn leads_nowhere(kind: ErrorKind) -> bool {
-    matches!(
-        kind,
-        ErrorKind::NotFound | ErrorKind::NotADirectory | ErrorKind::PermissionDenied
-    )
-}
-
 impl<'a> FileSystem<'a> {
     /// The files and streams of the system. No file has a draft.
     pub(crate) fn new(rt: &'a HostRuntime) -> FileSystem<'a> {
         FileSystem {
             rt,
             drafts: [None; MOST_DRAFTS],
+        }
+    }
+
+    // The absolute path of a file, without links. Returns `None` if the name leads nowhere, or where nobody may go: no
+    // file of that name can then be read or written.
+    fn path_of_existing(&self, name: &str) -> io::Result<Option<PathBuf>> {
+        match fs::canonicalize(self.rt, name) {
+            Ok(path) => Ok(Some(path)),
+            Err(error) => match error.kind() {
+                ErrorKind::NotFound | ErrorKind::NotADirectory | ErrorKind::PermissionDenied => Ok(
+                    None,
+                ),
+                _ => Err(error),
+            },
         }
     }
 
@@ -106,19 +108,19 @@ impl<'a> FileSystem<'a> {
         })
     }
 
-    // Appends to the draft of the file, or begins it in place of the draft of an earlier run. Returns an error if there
+    // Appends to the draft of the file, or writes it anew and remembers that it is of this run. Returns an error if there
     // are too many drafts.
-    fn begin_or_append_draft(
+    fn try_append_to_draft(
         &mut self,
         folder: &str,
         name: &'static str,
         bytes: &[u8],
     ) -> io::Result<()> {
         if self.has_draft(name) {
-            return self.write_after_draft(folder, name, bytes);
+            return self.write_draft(folder, name, bytes);
         }
         fs::create_dir_all(self.rt, folder)?;
-        self.write_after_draft(folder, name, bytes)?;
+        self.write_draft(folder, name, bytes)?;
         for slot in self.drafts.iter_mut() {
             if slot.is_none() {
                 *slot = Some(name);
@@ -128,8 +130,8 @@ impl<'a> FileSystem<'a> {
         Err(io::Error::from(ErrorKind::Other))
     }
 
-    // Writes the bytes under the name of the file's draft: after the draft, if there is one of this run.
-    fn write_after_draft(&self, folder: &str, name: &str, bytes: &[u8]) -> io::Result<()> {
+    // Writes the draft of the file, or appends to it if it is of this run.
+    fn write_draft(&self, folder: &str, name: &str, bytes: &[u8]) -> io::Result<()> {
         let path = self.path_in(folder, name, DRAFT_ENDING)?;
         if !self.has_draft(name) {
             return fs::write(self.rt, path.as_str(), bytes);
@@ -140,29 +142,29 @@ impl<'a> FileSystem<'a> {
         draft.write_all(bytes)
     }
 
-    // Writes all files under the names of their drafts, removes those of earlier runs, and then gives the new ones
-    // their names. The remarks are last: if they exist, all files do.
-    fn write_and_name_all(&self, folder: &str, files: &[NamedFile]) -> io::Result<()> {
+    // Writes all files as drafts, removes those of earlier runs, and then gives the drafts their names. The remarks are
+    // last: if they exist, all files do.
+    fn replace_all(&self, folder: &str, files: &[NamedFile]) -> io::Result<()> {
         for file in files {
             if let Some(bytes) = &file.bytes {
-                self.write_after_draft(folder, file.name, bytes.as_slice())?;
+                self.write_draft(folder, file.name, bytes.as_slice())?;
             }
         }
         for file in files.iter().rev() {
-            self.remove_if_there(folder, file.name, "")?;
+            self.remove_if_present(folder, file.name, "")?;
             if file.bytes.is_none() {
-                self.remove_if_there(folder, file.name, DRAFT_ENDING)?;
+                self.remove_if_present(folder, file.name, DRAFT_ENDING)?;
             }
         }
-        let outcome = self.name_all(folder, files);
+        let outcome = self.rename_drafts(folder, files);
         if outcome.is_err() {
             self.remove_all_if_possible(folder, files, "");
         }
         outcome
     }
 
-    // Gives the files that were written their names.
-    fn name_all(&self, folder: &str, files: &[NamedFile]) -> io::Result<()> {
+    // Gives the drafts the names of their files.
+    fn rename_drafts(&self, folder: &str, files: &[NamedFile]) -> io::Result<()> {
         for file in files {
             if file.bytes.is_some() {
                 let from = self.path_in(folder, file.name, DRAFT_ENDING)?;
@@ -174,7 +176,7 @@ impl<'a> FileSystem<'a> {
     }
 
     // Removes the file, if it exists.
-    fn remove_if_there(&self, folder: &str, name: &str, ending: &str) -> io::Result<()> {
+    fn remove_if_present(&self, folder: &str, name: &str, ending: &str) -> io::Result<()> {
         let path = self.path_in(folder, name, ending)?;
         if fs::exists(self.rt, path.as_str())? {
             fs::remove_file(self.rt, path.as_str())?;
@@ -182,7 +184,7 @@ impl<'a> FileSystem<'a> {
         Ok(())
     }
 
-    // Removes the files as far as that can be done.
+    // Removes the files, or their drafts, as far as that can be done.
     fn remove_all_if_possible(&self, folder: &str, files: &[NamedFile], ending: &str) {
         for file in files {
             self.remove_if_possible(folder, file.name, ending);

@@ -3,10 +3,10 @@
 //! proved.
 #![tactic(auto)]
 
-mod arguments;
+mod command_line;
 mod file_system;
 
-use arguments::read_words;
+use command_line::read_words;
 use file_system::FileSystem;
 use intake_command::command;
 use std::process::ExitCode;

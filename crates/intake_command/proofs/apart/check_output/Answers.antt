@@ -8,8 +8,8 @@ use Rattle.intake_command.proofs.apart.check_output.Goals as goal
 pub returns-in_err-path-clause-err : goal.returns-in_err-path-clause-err
 returns-in_err-path-clause-err g c = on_err _ (quiet_idle g.H.IntakeHost _)
 
-pub returns-in_err-new-clause-err : goal.returns-in_err-new-clause-err
-returns-in_err-new-clause-err g c = on_err _ (quiet_idle g.H.IntakeHost _)
+pub returns-in_err-draft-clause-err : goal.returns-in_err-draft-clause-err
+returns-in_err-draft-clause-err g c = on_err _ (quiet_idle g.H.IntakeHost _)
 
 pub returns-in_err-check_path-2-clause-err : goal.returns-in_err-check_path-2-clause-err
 returns-in_err-check_path-2-clause-err g c =
@@ -22,7 +22,7 @@ returns-clause-ok g c =
     let one = subst (λ p. h.does c.args.host.now (Compares p c.args.input.now false) c.check_path.new.host)
     (c.as_str.ensures.value ∙ c.in_ok-path.ensures) c.in_ok-check_path.ensures.ok in
     let two = subst (λ p. h.does c.check_path.new.host (Compares p c.args.input.now false) c.check_path-2.new.host)
-    (c.as_str-2.ensures.value ∙ c.in_ok-new.ensures ∙ ap (λ t. t ++ codes ".new") c.in_ok-path.ensures)
+    (c.as_str-2.ensures.value ∙ c.in_ok-draft.ensures ∙ ap (λ t. t ++ codes ".new") c.in_ok-path.ensures)
     c.in_ok-check_path-2.ensures.ok in
     record {
       acts = is_apart c.args.folder.now c.args.input.now c.args.output.now;

@@ -1,4 +1,4 @@
-use Rattle.std.proofs.Common.{◌∙◌, ap, map, option_map, inr}
+use Rattle.std.proofs.Common.{map, option_map, inr}
 use Rattle.std.proofs.lemmas.Result.{on_ok_weaker, on_err_weaker}
 use Rattle.mcs.specs.Files as ptfin
 use Rattle.mcs.specs.HoldItems as hold
@@ -9,7 +9,7 @@ use Rattle.intake_command.proofs.keep.keep_service.Goals as goal
 pub returns-clause-ok : goal.returns-clause-ok
 returns-clause-ok g c =
     on_ok_weaker c.put_files.result (λ put. (
-      map named c.deref.result.now,
+      map named c.service_files-files.result,
       (
         c.in_ok-ptfin.ptfin.items,
         c.in_ok-hold.hold.items,
@@ -17,7 +17,7 @@ returns-clause-ok g c =
         option_map (λ bytes. bytes.items) c.args.stand_ins,
         c.in_ok-ptfin.ensures,
         c.in_ok-hold.ensures,
-        ap (λ files. map named files) c.deref.ensures.value ∙ c.in_ok-files.ensures,
+        c.service_files-files.ensures,
       ),
       put,
     )) c.put_files.ensures.ok
@@ -25,7 +25,7 @@ returns-clause-ok g c =
 pub returns-clause-err : goal.returns-clause-err
 returns-clause-err g c =
     on_err_weaker c.put_files.result (λ lost. inr (
-      map named c.deref.result.now,
+      map named c.service_files-files.result,
       lost.0,
       service_outputs (ptfin.items c.args.meant.now) (hold.items c.args.held.now) _ (
         c.in_ok-ptfin.ptfin.items,
@@ -34,7 +34,7 @@ returns-clause-err g c =
         option_map (λ bytes. bytes.items) c.args.stand_ins,
         c.in_ok-ptfin.ensures,
         c.in_ok-hold.ensures,
-        ap (λ files. map named files) c.deref.ensures.value ∙ c.in_ok-files.ensures,
+        c.service_files-files.ensures,
       ),
       lost.1,
     )) c.put_files.ensures.err

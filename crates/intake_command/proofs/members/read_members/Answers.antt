@@ -10,8 +10,8 @@ loop-element-preserved g c = quiet g.H.IntakeHost c.loop-element.invariant c.in_
 pub returns-in_err-file : goal.returns-in_err-file
 returns-in_err-file g c = quiet g.H.IntakeHost c.loop-element.invariant c.in_err-file.ensures
 
-pub returns-in_err-put_member : goal.returns-in_err-put_member
-returns-in_err-put_member g c = quiet g.H.IntakeHost c.loop-element.invariant c.in_ok-file.ensures
+pub returns-in_err-append_member : goal.returns-in_err-append_member
+returns-in_err-append_member g c = quiet g.H.IntakeHost c.loop-element.invariant c.in_ok-file.ensures
 
 pub returns : goal.returns
 returns g c = c.loop-element.invariant

@@ -1,5 +1,5 @@
 use Rattle.intake_command.proofs.Doing.{quiet_did}
-use Rattle.intake_command.proofs.host_calls.read_if_there.Goals as goal
+use Rattle.intake_command.proofs.host_calls.read_if_present.Goals as goal
 
 pub returns-in-Ok : goal.returns-in-Ok
 returns-in-Ok g c = quiet_did g.H.IntakeHost _ _ _ c.in-Ok.ensures.ok tt

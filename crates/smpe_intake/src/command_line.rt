@@ -6,7 +6,7 @@ use std::rt::Env;
 // A word's buffer at first, in bytes; it doubles until it holds the word.
 const FIRST_SIZE: usize = 256;
 
-/// The words of the command line, of which the first is the program's name.
+/// The words of the command line, the first of which is the program's name.
 pub(crate) fn read_words(rt: &HostRuntime) -> Result<Vec<Vec<u8>>, AllocError> {
     let mut words = Vec::new(rt.alloc());
     for place in 0..usize::MAX {

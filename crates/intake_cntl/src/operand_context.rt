@@ -1,0 +1,115 @@
+//! Operands of a shop's commands, and remarks on them.
+
+use crate::command_remarks::{CommandRemarks, RemarkWords};
+use crate::spelling::{CommandVocabulary, OperandForm, Spelling, spelling_of};
+use intake_asked::{KnownSysmod, WideCommand};
+use intake_cards::{Deed, RemarkReason};
+use intake_read::WideOperand;
+use std::alloc::{AllocError, Global};
+
+/// An operand of a shop's command, or a member of its BYPASS, with all that decides how it is carried.
+#[derive(Clone, Copy)]
+pub(crate) struct OperandContext<'a> {
+    /// The words that the command may have.
+    pub(crate) vocabulary: &'a CommandVocabulary,
+    /// The command that has the operand.
+    pub(crate) wide: &'a WideCommand,
+    pub(crate) operand: &'a WideOperand,
+    /// The SYSMODs of a list, if one is given.
+    pub(crate) known: &'a Option<Vec<KnownSysmod>>,
+}
+
+/// The operands of the command, each with its context.
+pub(crate) fn operand_contexts<'a>(
+    alloc: Global,
+    vocabulary: &'a CommandVocabulary,
+    known: &'a Option<Vec<KnownSysmod>>,
+    wide: &'a WideCommand,
+) -> Result<Vec<OperandContext<'a>>, AllocError> {
+    let mut contexts = Vec::new(alloc);
+    for operand in &wide.operands {
+        contexts.push(OperandContext {
+            vocabulary,
+            wide,
+            operand,
+            known,
+        })?;
+    }
+    Ok(contexts)
+}
+
+impl OperandContext<'_> {
+    /// How the operand's word is spelled, or `None` if the command has no such operand. C with a list is COMPRESS.
+    pub(crate) fn spelling(&self) -> Option<Spelling> {
+        let word = self.operand.name.as_slice();
+        if word == b"C".as_slice() && self.operand.value.is_some() {
+            return spelling_of(self.vocabulary.operands, b"COMPRESS");
+        }
+        spelling_of(self.vocabulary.operands, word)
+    }
+
+    /// Whether the command has such an operand, and it is of this form.
+    pub(crate) fn has_form(&self, form: OperandForm) -> bool {
+        match self.spelling() {
+            Some(spelling) => spelling.form == form,
+            None => false,
+        }
+    }
+
+    /// Returns the spelling if the operand is carried, with a remark if its word is an abbreviation. Otherwise a remark
+    /// drops the operand, or refuses it if it has no spelling.
+    pub(crate) fn check_spelling(
+        &self,
+        remarks: &mut CommandRemarks,
+        spelling: Option<Spelling>,
+    ) -> Result<Option<Spelling>, AllocError> {
+        let Some(spelling) = spelling else {
+            self.refuse(remarks, self.operand.text(), RemarkReason::NoOperand)?;
+            return Ok(None);
+        };
+        if spelling.form == OperandForm::Dropped {
+            self.remark(
+                remarks,
+                self.operand.text(),
+                Deed::Dropped,
+                RemarkReason::NoDecision,
+            )?;
+            return Ok(None);
+        }
+        if spelling.word != spelling.full {
+            self.remark(
+                remarks,
+                spelling.full,
+                Deed::Carried,
+                RemarkReason::SpelledOut,
+            )?;
+        }
+        Ok(Some(spelling))
+    }
+
+    /// Remarks on the operand.
+    pub(crate) fn remark(
+        &self,
+        remarks: &mut CommandRemarks,
+        text: &[u8],
+        deed: Deed,
+        reason: RemarkReason,
+    ) -> Result<(), AllocError> {
+        let words = RemarkWords {
+            command: self.vocabulary.word,
+            operand: self.operand.name.as_slice(),
+            text,
+        };
+        remarks.add(self.operand.place, words, deed, reason)
+    }
+
+    /// Remarks that the operand keeps the command from being carried.
+    pub(crate) fn refuse(
+        &self,
+        remarks: &mut CommandRemarks,
+        text: &[u8],
+        reason: RemarkReason,
+    ) -> Result<(), AllocError> {
+        self.remark(remarks, text, Deed::Refused, reason)
+    }
+}
