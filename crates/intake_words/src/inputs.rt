@@ -2,7 +2,7 @@
 
 use crate::fault::IntakeFault;
 use crate::options::CardOptions;
-use intake_cards::{Card, CardNote, CardOddity, CardPlace, CardReader, Code, Layout, read_cards};
+use intake_cards::{Card, CardNote, CardNoteReason, CardPlace, CardReader, Code, Layout, read_cards};
 use std::alloc::{AllocError, Global};
 
 /// A file that was read: its name, and how it is laid out.
@@ -57,7 +57,7 @@ impl InputFiles {
         for note in notes {
             let first = note.first.card;
             let count = note.cards;
-            let oddity = oddity_words(note.oddity);
+            let oddity = oddity_words(note.reason);
             let line = format!(in alloc; "{name} {unit} {first}: {oddity}: in {count} cards\n")?;
             self.reading_lines.extend_from_slice(line.as_bytes())?;
         }
@@ -98,7 +98,7 @@ impl InputFiles {
             Ok(read) => read,
             Err(error) => return Err(IntakeFault::of_cards(alloc, name, error)),
         };
-        self.add(alloc, name, read.form, read.code)?;
+        self.add(alloc, name, read.layout, read.code)?;
         self.add_oddities(alloc, &read.notes)?;
         Ok(read.cards)
     }
@@ -114,7 +114,7 @@ impl InputFiles {
     ) -> Result<CardReader<'a>, IntakeFault> {
         match CardReader::open(self.all.len(), bytes, options.layout, options.code) {
             Ok(cards) => {
-                self.add(alloc, name, cards.form, cards.code)?;
+                self.add(alloc, name, cards.layout, cards.code)?;
                 Ok(cards)
             }
             Err(error) => Err(IntakeFault::of_cards(alloc, name, error)),
