@@ -1,6 +1,6 @@
 use Rattle.std.proofs.Common.{[], take}
-use Rattle.intake_carry.specs.Become.{Become}
-use Rattle.intake_carry.specs.Holds.{LeftHoldBecomes}
+use Rattle.intake_holds.specs.Become.{Become}
+use Rattle.intake_holds.specs.Holds.{LeftHoldBecomes}
 use Rattle.intake_carry.proofs.left_out.carry_left_holds.Given as goal
 
 abbrev pub invariant-loop-hold : goal.invariant-loop-hold
