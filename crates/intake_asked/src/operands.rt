@@ -39,8 +39,8 @@ pub(crate) fn has_operand_without_list(names: &[&[u8]], operands: &[WideOperand]
         .any(|operand| is_without_list(names, operand))
 }
 
-/// Whether each operand has one of the names.
-pub(crate) fn have_names(names: &[&[u8]], operands: &[WideOperand]) -> bool
+/// Whether no operand has another name than one of these.
+pub(crate) fn have_only_names(names: &[&[u8]], operands: &[WideOperand]) -> bool
     ensures { IsTrue result ↔ All (λ operand. IsTrue (is_called (map (λ name. name.now) names.now) operand))
         operands.now }
 {
@@ -48,7 +48,7 @@ pub(crate) fn have_names(names: &[&[u8]], operands: &[WideOperand]) -> bool
 }
 
 // The parts of a list between its blanks and commas, empty ones too.
-fn parts(alloc: Global, list: &[u8]) -> Result<Vec<&[u8]>, AllocError>
+fn split_list(alloc: Global, list: &[u8]) -> Result<Vec<&[u8]>, AllocError>
     ensures { IfOk result (λ found. map (λ part. part.now) found.items
         ≡ slice_split (λ b. b == 32 || b == 44) list.now) }
 {
@@ -56,7 +56,7 @@ fn parts(alloc: Global, list: &[u8]) -> Result<Vec<&[u8]>, AllocError>
 }
 
 // Whether the part is not empty.
-fn is_filled(part: &[u8]) -> bool
+fn is_nonempty(part: &[u8]) -> bool
     ensures { result ≡ nat_lt 0 (length part.now) }
 {
     !part.is_empty()
@@ -69,7 +69,7 @@ fn nonempty_parts<'a>(alloc: Global, parts: &[&'a [u8]]) -> Result<Vec<&'a [u8]>
 {
     let mut found = Vec::new(alloc);
     for part in parts {
-        if !is_filled(*part) {
+        if !is_nonempty(*part) {
             continue;
         }
         found.push(*part)?;
@@ -81,10 +81,10 @@ fn nonempty_parts<'a>(alloc: Global, parts: &[&'a [u8]]) -> Result<Vec<&'a [u8]>
 fn members(alloc: Global, list: &[u8]) -> Result<Vec<&[u8]>, AllocError>
     ensures { IfOk result (λ found. map (λ member. member.now) found.items ≡ members list.now) }
 {
-    nonempty_parts(alloc, &parts(alloc, list)?)
+    nonempty_parts(alloc, &split_list(alloc, list)?)
 }
 
-// The members of the operand, or an empty list if it has none of the names.
+// The members of the operand's list, or an empty list if the operand has none of the names.
 fn operand_members<'a>(
     alloc: Global,
     names: &[&[u8]],
@@ -100,7 +100,7 @@ fn operand_members<'a>(
     members(alloc, operand.text())
 }
 
-/// The members of the operands of these names.
+/// The members of the lists of all operands that have one of the names.
 pub(crate) fn members_of_operands<'a>(
     alloc: Global,
     names: &[&[u8]],

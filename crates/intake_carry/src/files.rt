@@ -158,8 +158,8 @@ fn make_narrowed(
 
 /// Makes items that RECEIVE takes of what the files state, in the order of the files. Each SYSMOD that is carried is no
 /// looser than it is stated, and no ERROR, SYSTEM or USER hold or release is lost. `held` has the files' holds outside
-/// SYSMODs, which were carried as they were read. Remarks say what is left out and what differs. Returns `Refused`, with all remarks, if a hold or a release of such a kind
-/// cannot be carried, and `Memory` if memory runs out.
+/// SYSMODs, which were carried as they were read. Remarks say what is left out and what differs. Returns `Refused`,
+/// with all remarks, if a hold or a release of such a kind cannot be carried, and `Memory` if memory runs out.
 pub fn narrow(
     alloc: Global,
     files: &[WideFile],

@@ -20,8 +20,8 @@ pub(crate) fn tell_outside(
     remarks.tell_carried(alloc, &subject, b"", RemarkReason::HeldOutside, b"")
 }
 
-/// Remarks that the holds of a SYSMOD that is left out are in the hold file. If the files have the SYSMOD more than once,
-/// its internal holds get their remarks later, when it is known which holds the carried copy has
+/// Remarks that the holds of a SYSMOD that is left out are in the hold file. If the files have the SYSMOD more than
+/// once, its internal holds get their remarks later, when it is known which holds the carried copy has
 /// (`without_held_already`).
 pub(crate) fn tell_left_outside(
     alloc: Global,
@@ -40,8 +40,8 @@ pub(crate) fn tell_left_outside(
     Ok(())
 }
 
-/// Carries the holds of a SYSMOD that is left out: returns each as an external one, but none of FIXCAT. Remarks say what
-/// differs. Returns `BadHold` if one has no key, `Memory` if memory runs out.
+/// Carries the holds of a SYSMOD that is left out: returns each as an external one, but none of FIXCAT. Remarks say
+/// what differs. Returns `BadHold` if one has no key, `Memory` if memory runs out.
 pub(crate) fn carry_left_holds(
     alloc: Global,
     remarks: &mut Remarks,

@@ -18,8 +18,8 @@ use mcs::HoldItem;
 use std::alloc::{AllocError, Global};
 use sysmods_values::{Hold, Sysmod};
 
-/// What becomes of a SYSMOD: itself with its internal holds, or `None` if it is left out, and those of its holds that go
-/// to the hold file.
+/// What becomes of a SYSMOD: itself with its internal holds, or `None` if it is left out, and those of its holds that
+/// go to the hold file.
 #[derive(Drop)]
 pub(crate) struct CarriedSysmod {
     pub sysmod: Option<Sysmod>,
@@ -113,8 +113,8 @@ fn tell_later_holds(
     Ok(())
 }
 
-// Carries the holds of a SYSMOD that is carried: the internal ones in it, the others in the hold file. Returns `BadHold`
-// if a hold has no key, `Memory` if memory runs out.
+// Carries the holds of a SYSMOD that is carried: the internal ones in it, the others in the hold file. Returns
+// `BadHold` if a hold has no key, `Memory` if memory runs out.
 fn carry_holds(
     alloc: Global,
     remarks: &mut Remarks,
@@ -147,7 +147,8 @@ fn tell_other_copy(
     remarks.leave_out(alloc, &subject, b"", RemarkReason::OtherCopy, b"")
 }
 
-// Carries a SYSMOD without its holds. Returns `None`, with a remark, if it is left out or another copy of it is carried.
+// Carries a SYSMOD without its holds. Returns `None`, with a remark, if it is left out or another copy of it is
+// carried.
 fn carry_without_holds(
     alloc: Global,
     options: &Options,

@@ -283,8 +283,9 @@ fn tell_dropped_operands(
     tell_odd(alloc, remarks, subject, odd, Deed::Dropped)
 }
 
-/// Carries the hold: returns it, or `None` for FIXCAT. `own` is the SYSMOD in which it is stated: the hold is internal if it is a SYSTEM
-/// hold on that SYSMOD. Remarks say what differs. Returns `BadHold` if it has no key, `Memory` if memory runs out.
+/// Carries the hold: returns it, or `None` for FIXCAT. `own` is the SYSMOD in which it is stated: the hold is internal
+/// if it is a SYSTEM hold on that SYSMOD. Remarks say what differs. Returns `BadHold` if it has no key, `Memory` if
+/// memory runs out.
 pub fn carry_hold(
     alloc: Global,
     remarks: &mut Remarks,
@@ -315,8 +316,8 @@ pub fn carry_hold(
     Ok(Some(make_hold(alloc, remarks, &subject, stated, key, internal)?))
 }
 
-/// Carries the release: returns it, or `None` for FIXCAT. Remarks say what differs. Returns `BadHold` if it has no key, `Memory` if memory
-/// runs out.
+/// Carries the release: returns it, or `None` for FIXCAT. Remarks say what differs. Returns `BadHold` if it has no key,
+/// `Memory` if memory runs out.
 pub(crate) fn carry_release(
     alloc: Global,
     remarks: &mut Remarks,

@@ -25,7 +25,8 @@ loop-hold-preserved c =
     (omega (arith, ap length c.deref-hold-items.ensures.value))
     (rw c.deref-hold-items.ensures.value at c.hold-item.is) refl c.in_ok-push.ensures.items
     (IsLeft hold (rw c.in-Some.is at c.in_ok-carried.ensures.some) (not_inside hold stated internal) was
-    (subst (λ id. IsTrue was ↔ IsInternal (Some id) stated) c.as_slice.ensures.value c.is_internal_in-was_internal.ensures))
+    (subst (λ id. IsTrue was ↔ IsInternal (Some id) stated) c.as_slice.ensures.value
+    c.is_internal_in-was_internal.ensures))
     l.invariant
 
 pub returns : goal.returns

@@ -1,7 +1,7 @@
 use Rattle.std.proofs.Common.{◌≡◌, ◌≢◌, [], take, map}
 use Rattle.std.specs.List.{All, flat_map}
 use Rattle.intake_asked.specs.Words.{sources_of}
-use Rattle.intake_asked.proofs.sources.sources.Given as goal
+use Rattle.intake_asked.proofs.sources.sources_of_members.Given as goal
 
 abbrev pub invariant-loop-member : goal.invariant-loop-member
 invariant-loop-member l = record {

@@ -4,7 +4,7 @@ use Rattle.std.proofs.lemmas.List.{map-id}
 use Rattle.terms.specs.Types.{Text}
 use Rattle.intake_asked.specs.Words.{listed}
 use Rattle.intake_asked.proofs.Alike.{lent, turned}
-use Rattle.intake_asked.proofs.commands.says_ids.Goals as goal
+use Rattle.intake_asked.proofs.commands.says_rejected_ids.Goals as goal
 
 pub returns : goal.returns
 returns c =

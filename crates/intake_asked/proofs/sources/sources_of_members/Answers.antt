@@ -1,7 +1,7 @@
 use Rattle.std.proofs.Common.{◌≢◌, ℕ, List, [], ap, length, arith}
 use Rattle.intake_asked.specs.Words.{sources_of}
 use Rattle.intake_asked.proofs.Passing.{found_at, all_at, more_found, some_found}
-use Rattle.intake_asked.proofs.sources.sources.Goals as goal
+use Rattle.intake_asked.proofs.sources.sources_of_members.Goals as goal
 
 pub loop-member-preserved : goal.loop-member-preserved
 loop-member-preserved c =

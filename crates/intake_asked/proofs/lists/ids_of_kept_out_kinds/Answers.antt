@@ -3,7 +3,7 @@ use Rattle.std.proofs.lemmas.List.{take_all, map-append}
 use Rattle.intake_asked.specs.declared.known.KnownSysmod.{KnownSysmod}
 use Rattle.intake_asked.specs.Words.{is_kept_out}
 use Rattle.intake_asked.proofs.Passing.{keeps_next, skips_next, more_found}
-use Rattle.intake_asked.proofs.lists.known_ids_of_kinds.Goals as goal
+use Rattle.intake_asked.proofs.lists.ids_of_kept_out_kinds.Goals as goal
 
 pub loop-sysmod-preserved-then-not-is_kind_kept_out : goal.loop-sysmod-preserved-then-not-is_kind_kept_out
 loop-sysmod-preserved-then-not-is_kind_kept_out c =
