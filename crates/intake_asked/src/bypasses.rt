@@ -27,7 +27,7 @@ fn says_flags(bypassed: &[WideOperand], bypass: &Bypass) -> bool
 }
 
 // Whether BYPASS has members of these names, each of them with a list, and the lists name just the reasons.
-fn says_list(
+fn says_these_reasons(
     alloc: Global,
     names: &[&[u8]],
     bypassed: &[WideOperand],
@@ -60,7 +60,7 @@ fn says_reasons(
     match reasons {
         Reasons::None => Ok(!has_operand(names, bypassed)),
         Reasons::Any => Ok(has_operand_without_list(names, bypassed)),
-        Reasons::These(list) => says_list(alloc, names, bypassed, list.as_slice()),
+        Reasons::These(list) => says_these_reasons(alloc, names, bypassed, list.as_slice()),
     }
 }
 

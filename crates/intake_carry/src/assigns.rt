@@ -5,7 +5,7 @@ ghost use Rattle.mcs.specs.declared.file.Item.TheVariants as item;
 use crate::sysmods::stated_text;
 use fields::{Id, Source};
 use intake_cards::{RemarkReason, Remarks, Subject};
-use intake_holds::{has_odd_operand, leave_out_for_odd_operands};
+use intake_holds::{has_faulty_operand, tell_left_out_for_faulty_operands};
 use intake_read::{WideAssign, WideFile};
 use mcs::{Assign, Item};
 use std::alloc::{AllocError, Global};
@@ -56,24 +56,24 @@ fn distinct_ids(
     Ok(ids)
 }
 
-// Leaves an `++ASSIGN` out, with a remark, for each operand that is odd or missing. Returns whether there is none.
+// Leaves an `++ASSIGN` out, with a remark, for each operand that is faulty or missing. Returns whether there is none.
 fn check_assign(
     alloc: Global,
     remarks: &mut Remarks,
     subject: &Subject<'_>,
     stated: &WideAssign,
 ) -> Result<bool, AllocError> {
-    let odd = stated.odd.as_slice();
-    leave_out_for_odd_operands(alloc, remarks, subject, odd)?;
-    let lacks_source = subject.id.is_empty() && !has_odd_operand(odd, b"SOURCEID");
+    let faulty = stated.odd.as_slice();
+    tell_left_out_for_faulty_operands(alloc, remarks, subject, faulty)?;
+    let lacks_source = subject.id.is_empty() && !has_faulty_operand(faulty, b"SOURCEID");
     if lacks_source {
         remarks.leave_out(alloc, subject, b"SOURCEID", RemarkReason::Missing, b"")?;
     }
-    let lacks_ids = stated.to.is_empty() && !has_odd_operand(odd, b"TO");
+    let lacks_ids = stated.to.is_empty() && !has_faulty_operand(faulty, b"TO");
     if lacks_ids {
         remarks.leave_out(alloc, subject, b"TO", RemarkReason::Missing, b"")?;
     }
-    Ok(odd.is_empty() && !lacks_source && !lacks_ids)
+    Ok(faulty.is_empty() && !lacks_source && !lacks_ids)
 }
 
 // The source id that an `++ASSIGN` states, read in upper case. Returns `None`, with a remark, if it has not the form of
@@ -99,7 +99,7 @@ fn read_source(
     Ok(Some(source))
 }
 
-// Carries an `++ASSIGN`: appends its assignments, if none of its operands is odd or missing. Remarks say what is left
+// Carries an `++ASSIGN`: appends its assignments, if none of its operands is faulty or missing. Remarks say what is left
 // out and what differs.
 fn carry_assign(
     alloc: Global,

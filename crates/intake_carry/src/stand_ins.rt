@@ -82,11 +82,11 @@ fn tell_if_stand_in_name(
         b"DATA" => type_text(ElemType::Data),
         _ => return Ok(()),
     };
-    let found = named.binary_search_by(|first| first
+    let found = named.binary_search_by(|one| one
         .stand_in
         .as_bytes()
         .cmp(name)
-        .then(first.elem_type.cmp(elem_type)));
+        .then(one.elem_type.cmp(elem_type)));
     let Ok(place) = found else {
         return Ok(());
     };

@@ -98,11 +98,11 @@ fn tell_later_holds(
     stated: &WideSysmod,
 ) -> Result<(), AllocError> {
     let holds = stated.holds.as_slice();
-    for (place, hold) in holds.iter().enumerate() {
+    for (index, hold) in holds.iter().enumerate() {
         let is_internal = is_internal_in(stated.id.as_slice(), hold);
         let has_later = holds
             .iter()
-            .skip(place.saturating_add(1))
+            .skip(index.saturating_add(1))
             .any(|later| have_same_key(hold, later));
         if is_internal && has_later {
             let subject = hold_subject(hold);

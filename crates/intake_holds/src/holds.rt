@@ -263,7 +263,7 @@ pub(crate) fn release_subject(stated: &WideRelease) -> Subject<'_> {
 }
 
 // Remarks that a hold or a release is left out because it is of FIXCAT.
-fn leave_out_fixcat(
+fn tell_fixcat_left_out(
     alloc: Global,
     remarks: &mut Remarks,
     subject: &Subject<'_>,
@@ -271,16 +271,16 @@ fn leave_out_fixcat(
     remarks.leave_out(alloc, subject, b"FIXCAT", RemarkReason::Fixcat, b"")
 }
 
-// Remarks on the operands that are dropped: those that change no decision, and the odd ones.
-fn tell_dropped_operands(
+// Remarks on the operands that are dropped: those that change no decision, and the faulty ones.
+fn tell_all_dropped_operands(
     alloc: Global,
     remarks: &mut Remarks,
     subject: &Subject<'_>,
     dropped: &[WideOperand],
-    odd: &[OddOperand],
+    faulty: &[OddOperand],
 ) -> Result<(), AllocError> {
     tell_no_decision(alloc, remarks, subject, dropped)?;
-    tell_odd(alloc, remarks, subject, odd, Deed::Dropped)
+    tell_odd(alloc, remarks, subject, faulty, Deed::Dropped)
 }
 
 /// Carries the hold: returns it, or `None` for FIXCAT. `own` is the SYSMOD in which it is stated: the hold is internal
@@ -302,10 +302,10 @@ pub fn carry_hold(
         return Err(HoldError::BadHold);
     };
     let Some(key) = key else {
-        leave_out_fixcat(alloc, remarks, &subject)?;
+        tell_fixcat_left_out(alloc, remarks, &subject)?;
         return Ok(None);
     };
-    tell_dropped_operands(
+    tell_all_dropped_operands(
         alloc,
         remarks,
         &subject,
@@ -331,10 +331,10 @@ pub(crate) fn carry_release(
         return Err(HoldError::BadHold);
     };
     if key.is_none() {
-        leave_out_fixcat(alloc, remarks, &subject)?;
+        tell_fixcat_left_out(alloc, remarks, &subject)?;
         return Ok(None);
     }
-    tell_dropped_operands(
+    tell_all_dropped_operands(
         alloc,
         remarks,
         &subject,

@@ -5,14 +5,14 @@
 
 mod comment;
 mod errors;
+mod faulty_operands;
 mod holds;
-mod odd_operands;
 mod outside;
 mod placed;
 mod refusals;
 
 pub use errors::HoldError;
+pub use faulty_operands::{has_faulty_operand, tell_left_out_for_faulty_operands};
 pub use holds::{carry_hold, hold_subject, is_internal_in};
-pub use odd_operands::{has_odd_operand, leave_out_for_odd_operands};
 pub use outside::{FileRemarks, OutsideHolds, read_statements};
 pub use placed::{PlacedItem, carry_releases, items_in_order, push_item};

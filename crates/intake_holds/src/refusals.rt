@@ -1,7 +1,7 @@
 //! Holds and releases that cannot be carried. With one of them nothing is carried at all.
 
+use crate::faulty_operands::reason_or_missing;
 use crate::holds::{HoldFault, hold_key, hold_subject, release_key, release_subject};
-use crate::odd_operands::reason_or_missing;
 use intake_cards::{Deed, RemarkReason, Remarks, Subject};
 use intake_read::{
     OddOperand, WideFile, WideHold, WideHoldKind, WideOther, WideRelease, hold_kind, missing_word,
@@ -13,22 +13,23 @@ fn is_key_operand(name: &[u8]) -> bool {
     hold_kind(name).is_some() || matches!(name, b"REASON" | b"FMID")
 }
 
-// The first odd operand that is part of the key of a hold, or `None` if there is none.
-fn odd_key_operand(odd: &[OddOperand]) -> Option<&OddOperand> {
-    odd.iter()
+// The first faulty operand that is part of the key of a hold, or `None` if there is none.
+fn faulty_key_operand(faulty: &[OddOperand]) -> Option<&OddOperand> {
+    faulty
+        .iter()
         .find(|entry| is_key_operand(entry.operand.name.as_slice()))
 }
 
-// Refuses a hold or a release, with a remark, if an operand of its key is odd or its key has the fault, and returns
+// Refuses a hold or a release, with a remark, if an operand of its key is faulty or its key has the fault, and returns
 // whether that is so.
 fn refuse_if_faulty(
     alloc: Global,
     remarks: &mut Remarks,
     subject: &Subject<'_>,
-    odd: &[OddOperand],
+    faulty: &[OddOperand],
     fault: Option<HoldFault>,
 ) -> Result<bool, AllocError> {
-    if let Some(entry) = odd_key_operand(odd) {
+    if let Some(entry) = faulty_key_operand(faulty) {
         let operand = &entry.operand;
         let name = operand.name.as_slice();
         remarks.tell(

@@ -2,7 +2,7 @@ use Rattle.std.proofs.Common.{◌∙◌, sym}
 use Rattle.std.proofs.lemmas.Result.{IfOk-weaker}
 use Rattle.std.proofs.lemmas.List.{map-id}
 use Rattle.intake_asked.proofs.Alike.{lent, turned}
-use Rattle.intake_asked.proofs.bypasses.says_list.Goals as goal
+use Rattle.intake_asked.proofs.bypasses.says_these_reasons.Goals as goal
 
 pub returns : goal.returns
 returns c =
