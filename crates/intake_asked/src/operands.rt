@@ -10,7 +10,7 @@ use rec80::is_among;
 use std::alloc::{AllocError, Global};
 
 // Whether the operand has one of the names.
-fn has_name(names: &[&[u8]], operand: &WideOperand) -> bool
+fn has_any_name(names: &[&[u8]], operand: &WideOperand) -> bool
     ensures { result ≡ is_called (map (λ name. name.now) names.now) operand.now }
 {
     is_among(names, operand.name.as_slice())
@@ -20,14 +20,14 @@ fn has_name(names: &[&[u8]], operand: &WideOperand) -> bool
 pub(crate) fn has_operand(names: &[&[u8]], operands: &[WideOperand]) -> bool
     ensures { result ≡ has (map (λ name. name.now) names.now) operands.now }
 {
-    operands.iter().any(|operand| has_name(names, operand))
+    operands.iter().any(|operand| has_any_name(names, operand))
 }
 
 // Whether the operand has one of the names and no list.
 fn is_without_list(names: &[&[u8]], operand: &WideOperand) -> bool
     ensures { result ≡ (is_called (map (λ name. name.now) names.now) operand.now && is_none operand.now.value) }
 {
-    has_name(names, operand) && operand.value.is_none()
+    has_any_name(names, operand) && operand.value.is_none()
 }
 
 /// Whether an operand of one of the names has no list.
@@ -44,7 +44,7 @@ pub(crate) fn have_only_names(names: &[&[u8]], operands: &[WideOperand]) -> bool
     ensures { IsTrue result ↔ All (λ operand. IsTrue (is_called (map (λ name. name.now) names.now) operand))
         operands.now }
 {
-    operands.iter().all(|operand| has_name(names, operand))
+    operands.iter().all(|operand| has_any_name(names, operand))
 }
 
 // The parts of a list between its blanks and commas, empty ones too.
@@ -94,7 +94,7 @@ fn operand_members<'a>(
         ≡ (if is_called (map (λ name. name.now) names.now) operand.now then members (value_text operand.now.value)
         else [])) }
 {
-    if !has_name(names, operand) {
+    if !has_any_name(names, operand) {
         return Ok(Vec::new(alloc));
     }
     members(alloc, operand.text())

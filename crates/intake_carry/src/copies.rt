@@ -22,8 +22,8 @@ pub(crate) struct OtherCopies {
     ids: BTreeSet<Id>,
 }
 
-// The level that the text of a REWORK spells: the greatest number if it is greater than that, 0 if the text has other
-// characters than digits.
+// The level that the text of a REWORK spells: `u64::MAX` if it is greater than that, 0 if the text has other characters
+// than digits.
 fn read_level(text: &[u8]) -> u64 {
     let mut number = 0u64;
     for byte in text {

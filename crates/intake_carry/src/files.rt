@@ -12,7 +12,7 @@ use crate::assigns::{append_assigns, carry_assigns};
 use crate::copies::OtherCopies;
 use crate::held_copies::without_held_already;
 use crate::narrowed::{NarrowError, Narrowed};
-use crate::notes::{tell_notes, tell_swallowed};
+use crate::notes::{tell_notes, tell_swallowed_statements};
 use crate::stand_ins::sort_and_check_stand_ins;
 use crate::sysmods::{CarriedSysmod, carry_with_holds};
 use intake_cards::Remarks;
@@ -104,7 +104,7 @@ fn carry_file(
     ensures { IfOk result (λ all. FileBecomes options.now.decide users.now file.now all.items.items all.outside.items) }
 {
     tell_notes(alloc, remarks, file.notes.as_slice())?;
-    tell_swallowed(alloc, remarks, file.swallowed.as_slice())?;
+    tell_swallowed_statements(alloc, remarks, file.swallowed.as_slice())?;
     let sysmods = file.sysmods.as_slice();
     let mut gathered = carry_sysmods(alloc, options, users, copies, remarks, sysmods)?;
     let _ = tell_others(alloc, options, remarks, file.others.as_slice())?;

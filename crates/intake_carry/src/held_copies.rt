@@ -87,7 +87,7 @@ fn keep_unheld(keys: &BTreeSet<HoldKey>, mut placed: Vec<PlacedItem>) -> Vec<Pla
 }
 
 // Remarks what becomes of a hold that was internal in a SYSMOD that is not carried: it is dropped because it is held
-// already, or it is in the hold file. The latter was told before unless the SYSMOD is repeated (`tell_left_outside`).
+// already, or it is in the hold file. The latter was told before unless the SYSMOD is repeated (`tell_left_out_holds`).
 fn tell_copy_hold(
     alloc: Global,
     remarks: &mut Remarks,

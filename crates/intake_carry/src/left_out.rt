@@ -11,7 +11,7 @@ use mcs::HoldItem;
 use std::alloc::{AllocError, Global};
 
 /// Remarks that a hold of a SYSMOD is in the hold file.
-pub(crate) fn tell_outside(
+pub(crate) fn tell_hold_outside(
     alloc: Global,
     remarks: &mut Remarks,
     stated: &WideHold,
@@ -23,7 +23,7 @@ pub(crate) fn tell_outside(
 /// Remarks that the holds of a SYSMOD that is left out are in the hold file. If the files have the SYSMOD more than
 /// once, its internal holds get their remarks later, when it is known which holds the carried copy has
 /// (`without_held_already`).
-pub(crate) fn tell_left_outside(
+pub(crate) fn tell_left_out_holds(
     alloc: Global,
     copies: &OtherCopies,
     remarks: &mut Remarks,
@@ -34,7 +34,7 @@ pub(crate) fn tell_left_outside(
     for hold in stated.holds.iter() {
         let is_told_later = is_repeated && is_internal_in(id, hold);
         if hold.kind != Some(WideHoldKind::Fixcat) && !is_told_later {
-            tell_outside(alloc, remarks, hold)?;
+            tell_hold_outside(alloc, remarks, hold)?;
         }
     }
     Ok(())
@@ -42,7 +42,7 @@ pub(crate) fn tell_left_outside(
 
 /// Carries the holds of a SYSMOD that is left out: returns each as an external one, but none of FIXCAT. Remarks say
 /// what differs. Returns `BadHold` if one has no key, `Memory` if memory runs out.
-pub(crate) fn carry_left_holds(
+pub(crate) fn carry_left_out_holds(
     alloc: Global,
     remarks: &mut Remarks,
     stated: &WideSysmod,

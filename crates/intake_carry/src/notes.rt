@@ -34,7 +34,7 @@ pub(crate) fn tell_notes(
 }
 
 /// Remarks that each statement inside a comment is left out, with the card on which the comment opens.
-pub(crate) fn tell_swallowed(
+pub(crate) fn tell_swallowed_statements(
     alloc: Global,
     remarks: &mut Remarks,
     swallowed: &[SwallowedStatement],

@@ -8,7 +8,7 @@ ghost use Rattle.intake_holds.specs.Holds.{placed_at, HoldBecomes};
 ghost use Rattle.intake_carry.specs.Carried.{item_in, HoldsBecome, SysmodBecomes};
 
 use crate::copies::OtherCopies;
-use crate::left_out::{carry_left_holds, tell_left_outside, tell_outside};
+use crate::left_out::{carry_left_out_holds, tell_hold_outside, tell_left_out_holds};
 use fields::spelling::kind_text;
 use intake_cards::{CardPlace, RemarkReason, Remarks, Subject};
 use intake_holds::{HoldError, PlacedItem, carry_hold, hold_subject, is_internal_in, push_item};
@@ -69,7 +69,7 @@ fn place_holds(
             continue;
         };
         if !carried.internal {
-            tell_outside(alloc, remarks, hold)?;
+            tell_hold_outside(alloc, remarks, hold)?;
         }
         place_hold(sysmod, &mut outside, hold.place, carried)?;
     }
@@ -181,8 +181,8 @@ pub(crate) fn carry_with_holds(
         part.outside.items) }
 {
     let Some(sysmod) = carry_without_holds(alloc, options, users, copies, remarks, stated)? else {
-        tell_left_outside(alloc, copies, remarks, stated)?;
-        let outside = carry_left_holds(alloc, remarks, stated)?;
+        tell_left_out_holds(alloc, copies, remarks, stated)?;
+        let outside = carry_left_out_holds(alloc, remarks, stated)?;
         return Ok(CarriedSysmod {
             sysmod: None,
             outside,

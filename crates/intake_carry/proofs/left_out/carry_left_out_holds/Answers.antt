@@ -3,7 +3,7 @@ use Rattle.std.specs.Prelude.{◌↔◌, IsTrue}
 use Rattle.mcs.specs.declared.hold_item.HoldItem.TheVariants.{Hold}
 use Rattle.intake_holds.specs.Holds.{LeftHoldBecomes, IsInternal, IsFixcat, IsLeft, left_at}
 use Rattle.intake_holds.proofs.Becoming.{become_next, become_whole, not_inside}
-use Rattle.intake_carry.proofs.left_out.carry_left_holds.Goals as goal
+use Rattle.intake_carry.proofs.left_out.carry_left_out_holds.Goals as goal
 
 pub loop-hold-preserved-in_default : goal.loop-hold-preserved-in_default
 loop-hold-preserved-in_default c =
