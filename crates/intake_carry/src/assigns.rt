@@ -99,8 +99,8 @@ fn read_source(
     Ok(Some(source))
 }
 
-// Carries an `++ASSIGN`: appends its assignments, if none of its operands is faulty or missing. Remarks say what is left
-// out and what differs.
+// Carries an `++ASSIGN`: appends its assignments, if none of its operands is faulty or missing. Remarks say what is
+// left out and what differs.
 fn carry_assign(
     alloc: Global,
     remarks: &mut Remarks,
