@@ -1,11 +1,9 @@
 //! Operands that have one of some names, and the members of their lists.
-ghost use Rattle.std.specs.Prelude.{◌≡◌, ◌↔◌, ◌==◌, ◌||◌, ◌&&◌, is_none, IsTrue, IfOk, All, map, filter};
-ghost use Rattle.std.specs.Prelude.{if◌then◌else◌, [], nat_lt, length};
-ghost use Rattle.std.specs.List.{slice_split};
-ghost use Rattle.intake_read.specs.Stated.{value_text};
-ghost use Rattle.intake_asked.specs.Words.{is_called, has, stands_alone, members, listed};
+ghost use Rattle.std.specs.Prelude.{◌≡◌, ◌↔◌, ◌&&◌, is_none, IsTrue, IfOk, All, map, if◌then◌else◌, []};
+ghost use Rattle.intake_read.specs.Stated.{value_text, members};
+ghost use Rattle.intake_asked.specs.Words.{is_called, has, stands_alone, listed};
 
-use intake_read::WideOperand;
+use intake_read::{WideOperand, list_members};
 use rec80::is_among;
 use std::alloc::{AllocError, Global};
 
@@ -47,43 +45,6 @@ pub(crate) fn have_only_names(names: &[&[u8]], operands: &[WideOperand]) -> bool
     operands.iter().all(|operand| has_any_name(names, operand))
 }
 
-// The parts of a list between its blanks and commas, empty ones too.
-fn split_list(alloc: Global, list: &[u8]) -> Result<Vec<&[u8]>, AllocError>
-    ensures { IfOk result (λ found. map (λ part. part.now) found.items
-        ≡ slice_split (λ b. b == 32 || b == 44) list.now) }
-{
-    list.split(|b| *b == b' ' || *b == b',').collect(alloc)
-}
-
-// Whether the part is not empty.
-fn is_nonempty(part: &[u8]) -> bool
-    ensures { result ≡ nat_lt 0 (length part.now) }
-{
-    !part.is_empty()
-}
-
-// The parts that are not empty.
-fn nonempty_parts<'a>(alloc: Global, parts: &[&'a [u8]]) -> Result<Vec<&'a [u8]>, AllocError>
-    ensures { IfOk result (λ found. map (λ part. part.now) found.items
-        ≡ filter (λ part. nat_lt 0 (length part)) (map (λ part. part.now) parts.now)) }
-{
-    let mut found = Vec::new(alloc);
-    for part in parts {
-        if !is_nonempty(*part) {
-            continue;
-        }
-        found.push(*part)?;
-    }
-    Ok(found)
-}
-
-// The members of a list, which blanks and commas separate.
-fn members(alloc: Global, list: &[u8]) -> Result<Vec<&[u8]>, AllocError>
-    ensures { IfOk result (λ found. map (λ member. member.now) found.items ≡ members list.now) }
-{
-    nonempty_parts(alloc, &split_list(alloc, list)?)
-}
-
 // The members of the operand's list, or an empty list if the operand has none of the names.
 fn operand_members<'a>(
     alloc: Global,
@@ -97,7 +58,7 @@ fn operand_members<'a>(
     if !has_any_name(names, operand) {
         return Ok(Vec::new(alloc));
     }
-    members(alloc, operand.text())
+    list_members(alloc, operand.text())
 }
 
 /// The members of the lists of all operands that have one of the names.

@@ -1,6 +1,9 @@
 //! How a file is laid out, and its code.
 use crate::tables::{IBM037, IBM1047};
 
+/// The length of a record.
+pub(crate) const RECORD: usize = 80;
+
 /// How a file is laid out.
 #[derive(Clone, Copy, Debug, PartialEq, Eq)]
 pub enum Layout {
@@ -11,7 +14,7 @@ pub enum Layout {
     Records,
 }
 
-/// The code of a file.
+/// The code of a file's characters.
 #[derive(Clone, Copy, Debug, PartialEq, Eq)]
 pub enum Code {
     Ascii,

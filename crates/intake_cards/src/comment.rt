@@ -12,7 +12,7 @@ const STRIDE: usize = 73;
 
 /// The words of the text with blanks between, as they are on cards: if a word would run over the end of a card,
 /// more blanks move it to the next one, and a word that is longer than a card is cut in pieces. So reading the cards
-/// of `put_comment` gives the same text again.
+/// of `PrintedCards::add_comment` gives the same text again.
 pub fn lay_out_comment(alloc: Global, text: &[u8]) -> Result<Vec<u8>, AllocError> {
     let mut laid = Vec::with_capacity(alloc, text.len())?;
     for word in text.split(|b| *b == b' ') {
@@ -38,14 +38,16 @@ fn append_word(laid: &mut Vec<u8>, word: &[u8]) -> Result<(), AllocError> {
     Ok(())
 }
 
-/// Puts the text on cards of its own, in parentheses.
-pub fn put_comment(cards: &mut PrintedCards, text: &[u8]) -> Result<(), AllocError> {
-    cards.add_word(b"COMMENT(")?;
-    for piece in text.chunks(STRIDE) {
-        cards.begin_card(b" ")?;
-        cards.add_across_columns(without_gap(piece))?;
+impl PrintedCards {
+    /// Adds COMMENT with the text, which `lay_out_comment` has laid out: it is on cards of its own, in parentheses.
+    pub fn add_comment(&mut self, text: &[u8]) -> Result<(), AllocError> {
+        self.add_word(b"COMMENT(")?;
+        for piece in text.chunks(STRIDE) {
+            self.begin_card(b" ")?;
+            self.add_across_columns(without_gap(piece))?;
+        }
+        self.add_directly(b")")
     }
-    cards.add_directly(b")")
 }
 
 // The part of a piece that its card shows: all but the two blanks before the next card.

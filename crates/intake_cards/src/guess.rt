@@ -1,6 +1,12 @@
 //! The code and the layout of a file, guessed from its bytes.
-use crate::code::{Code, Layout};
+use crate::code::{Code, Layout, RECORD};
 use crate::errors::CardError;
+
+/// How many bytes show whether a file has lines: the columns of a card, and the two characters that may end a line.
+const LONGEST_LINE: usize = 82;
+
+/// How many bytes a length has that stands before its record.
+const LENGTH_BYTES: usize = 4;
 
 // The code of three bytes, if they begin a statement: two plus signs and a letter.
 fn statement_code(bytes: &[u8]) -> Option<Code> {
@@ -20,7 +26,7 @@ fn may_end_line(byte: u8) -> bool {
 fn first_statement_code(bytes: &[u8]) -> Option<Code> {
     let mut before = b'\n';
     for (i, three) in bytes.windows(3).enumerate() {
-        if may_end_line(before) || i % 80 == 0 {
+        if may_end_line(before) || i % RECORD == 0 {
             let code = statement_code(three);
             if code.is_some() {
                 return code;
@@ -52,12 +58,16 @@ pub(crate) fn guess_code(bytes: &[u8]) -> Code {
     }
 }
 
-/// Records, if 80 divides the length, with or without what pads the file, and no line ends within the first 82 bytes;
-/// else text.
+/// How the file is laid out: in records, if 80 divides its length, with or without what pads the file, and no line ends
+/// within the first bytes; else in lines.
 pub(crate) fn guess_layout(bytes: &[u8], code: Code) -> Layout {
-    let is_divided = bytes.len() % 80 == 0 || without_padding(bytes, code).len() % 80 == 0;
-    let has_line = bytes.iter().take(82).any(|byte| code.ends_line(*byte));
-    if is_divided && !has_line {
+    let has_whole_records = bytes.len() % RECORD == 0
+        || without_padding(bytes, code).len() % RECORD == 0;
+    let has_line = bytes
+        .iter()
+        .take(LONGEST_LINE)
+        .any(|byte| code.ends_line(*byte));
+    if has_whole_records && !has_line {
         Layout::Records
     } else {
         Layout::Text
@@ -84,20 +94,20 @@ pub(crate) fn unreadable_format(bytes: &[u8]) -> Option<CardError> {
         [0x1F, 0x8B, ..] => Some(CardError::Compressed),
         [0xFF, 0xFE, ..] | [0xFE, 0xFF, ..] => Some(CardError::Utf16),
         [b'+', 0, b'+', 0, ..] | [0, b'+', 0, b'+', ..] => Some(CardError::Utf16),
-        [high, low, 0, 0, ..] if has_record_length(bytes, *high, *low) => Some(
+        [high, low, 0, 0, ..] if is_record_length(bytes, u16::from_be_bytes([*high, *low])) => Some(
             CardError::RecordLengths,
         ),
         _ => None,
     }
 }
 
-// Whether the first record has this length, in which the four bytes of the length count, and either the file ends
-// there or the next record begins with a length too.
-fn has_record_length(bytes: &[u8], high: u8, low: u8) -> bool {
-    let length = usize::from(u16::from_be_bytes([high, low]));
+// Whether the first record has this length, which counts its own bytes too, and either the file ends there or the next
+// record begins with a length.
+fn is_record_length(bytes: &[u8], length: u16) -> bool {
+    let length = usize::from(length);
     match bytes.split_at_checked(length) {
-        Some((_, [])) => length > 4,
-        Some((_, [_, _, 0, 0, ..])) => length > 4,
+        Some((_, [])) => length > LENGTH_BYTES,
+        Some((_, [_, _, 0, 0, ..])) => length > LENGTH_BYTES,
         _ => false,
     }
 }

@@ -19,14 +19,14 @@ mod remarks;
 mod tables;
 mod words;
 
-pub use card::{Card, Tail};
+pub use card::{Card, Tail, is_printable_byte};
 pub use code::{Code, Layout};
-pub use comment::{lay_out_comment, put_comment};
+pub use comment::lay_out_comment;
 pub use errors::CardError;
 pub use line::NO_LATIN;
 pub use place::CardPlace;
 pub use printed::PrintedCards;
-pub use read::{CardNote, CardOddity, CardReader, Cards, read_cards};
+pub use read::{CardNote, CardNoteReason, CardReader, Cards, read_cards};
 pub use reason::RemarkReason;
 pub use remark::{Deed, Remark};
 pub use remark_list::RemarkList;

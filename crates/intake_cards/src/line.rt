@@ -1,5 +1,7 @@
 //! A line as the columns of a card.
+use crate::card::Card;
 use crate::code::Code;
+use crate::place::CardPlace;
 
 /// The character in place of a letter that ISO 8859-1 lacks.
 pub const NO_LATIN: u8 = 0xBF;
@@ -15,14 +17,15 @@ pub(crate) enum PastColumns {
 /// The first 80 columns of a line, with blanks after a shorter one, and the text after them.
 #[derive(Clone, Copy)]
 pub(crate) struct CutLine {
-    pub(crate) text: [u8; 80],
+    text: [u8; 80],
     pub(crate) past: PastColumns,
-    pub(crate) ends_comment: bool,
+    /// The last text of the line is `*/`.
+    ends_comment: bool,
 }
 
 impl CutLine {
     // A line of blanks.
-    fn new() -> CutLine {
+    fn blank() -> CutLine {
         CutLine {
             text: [b' '; 80],
             past: PastColumns::Nothing,
@@ -30,15 +33,58 @@ impl CutLine {
         }
     }
 
-    // Puts a line of up to 80 letters into the first columns.
-    fn fill(&mut self, line: &[u8]) {
-        for (there, letter) in self.text.iter_mut().zip(line) {
-            *there = *letter;
+    /// The line as columns. In UTF-8 a letter has one column, however many bytes it has. A line that is not in UTF-8
+    /// has a column for each byte.
+    pub(crate) fn read(line: &[u8], code: Code) -> CutLine {
+        if code == Code::Ascii {
+            let is_ascii = !line.iter().any(|byte| *byte >= 0x80);
+            if is_ascii && line.len() <= 80 {
+                return CutLine::of_short_line(line);
+            }
+            if !is_ascii {
+                if let Ok(text) = str::from_utf8(line) {
+                    return CutLine::of_letters(text);
+                }
+            }
         }
+        CutLine::of_bytes(line, code)
     }
 
-    // Puts the letter into the column, which counts from 0. After column 80 it only notes what kind of text there is.
-    fn put(&mut self, column: usize, letter: u8) {
+    // A line of up to 80 bytes in ASCII.
+    fn of_short_line(line: &[u8]) -> CutLine {
+        let mut cut = CutLine::blank();
+        for (column, letter) in cut.text.iter_mut().zip(line) {
+            *column = *letter;
+        }
+        cut
+    }
+
+    // The letters of the text as columns.
+    fn of_letters(text: &str) -> CutLine {
+        let mut cut = CutLine::blank();
+        cut.ends_comment = text.as_bytes().trim_ascii_end().ends_with(b"*/");
+        for (column, letter) in text.chars().enumerate() {
+            cut.set_column(column, u8::try_from(letter as u32).unwrap_or(NO_LATIN));
+        }
+        cut
+    }
+
+    // Each byte of the line as a column.
+    fn of_bytes(line: &[u8], code: Code) -> CutLine {
+        let mut cut = CutLine::blank();
+        let mut before = b' ';
+        for (column, byte) in line.iter().enumerate() {
+            let letter = code.ascii(*byte);
+            cut.set_column(column, letter);
+            let is_end = letter == b'/' && before == b'*';
+            cut.ends_comment = is_end || letter == b' ' && cut.ends_comment;
+            before = letter;
+        }
+        cut
+    }
+
+    // Sets the column, which counts from 0, to the letter. After column 80 it only notes what kind of text there is.
+    fn set_column(&mut self, column: usize, letter: u8) {
         match self.text.get_mut(column) {
             Some(there) => *there = letter,
             None if letter != b' ' => self.past = PastColumns::More,
@@ -46,40 +92,15 @@ impl CutLine {
             None => {}
         }
     }
-}
 
-/// The line as columns. In UTF-8 a letter has one column, however many bytes it has. A line that is not in UTF-8 has a
-/// column for each byte.
-pub(crate) fn cut_line(line: &[u8], code: Code) -> CutLine {
-    let mut cut = CutLine::new();
-    if code == Code::Ascii {
-        let is_ascii = !line.iter().any(|byte| *byte >= 0x80);
-        if is_ascii && line.len() <= cut.text.len() {
-            cut.fill(line);
-            return cut;
-        }
-        if !is_ascii {
-            if let Ok(text) = str::from_utf8(line) {
-                return cut_text(text);
-            }
+    /// The card of the line, which is at this place.
+    pub(crate) fn card_at(&self, place: CardPlace) -> Card {
+        let is_cut = self.past == PastColumns::More;
+        Card {
+            place,
+            text: self.text,
+            is_cut,
+            ends_comment: is_cut && self.ends_comment,
         }
     }
-    let mut before = b' ';
-    for (column, byte) in line.iter().enumerate() {
-        let letter = code.ascii(*byte);
-        cut.put(column, letter);
-        cut.ends_comment = letter == b'/' && before == b'*' || letter == b' ' && cut.ends_comment;
-        before = letter;
-    }
-    cut
-}
-
-// The letters of the text as columns.
-fn cut_text(text: &str) -> CutLine {
-    let mut cut = CutLine::new();
-    cut.ends_comment = text.as_bytes().trim_ascii_end().ends_with(b"*/");
-    for (column, letter) in text.chars().enumerate() {
-        cut.put(column, u8::try_from(letter as u32).unwrap_or(NO_LATIN));
-    }
-    cut
 }

@@ -7,7 +7,7 @@ use std::alloc::{AllocError, Global};
 const CARD: usize = 80;
 
 /// The last column that a word may use.
-const LAST: usize = 71;
+const LAST_COLUMN: usize = 71;
 
 /// A card of blanks.
 const BLANKS: &[u8; CARD] = &[b' '; CARD];
@@ -27,7 +27,7 @@ impl PrintedCards {
     }
 
     // How many columns of the last card are filled, or 0 if no card is begun.
-    fn column(&self) -> usize
+    fn filled_columns(&self) -> usize
         ensures { result < 80 }
     {
         self.bytes.len() % CARD
@@ -35,10 +35,10 @@ impl PrintedCards {
 
     /// Fills the card that is begun with blanks.
     pub fn end_card(&mut self) -> Result<(), AllocError> {
-        let column = self.column();
-        if column != 0 {
+        let filled = self.filled_columns();
+        if filled != 0 {
             let blanks = &BLANKS[..];
-            self.bytes.extend_from_slice(&blanks[column..])?;
+            self.bytes.extend_from_slice(&blanks[filled..])?;
         }
         Ok(())
     }
@@ -52,7 +52,7 @@ impl PrintedCards {
 
     /// Adds a blank and the word, or begins a card with the word if it does not fit into 71 columns.
     pub fn add_word(&mut self, word: &[u8]) -> Result<(), AllocError> {
-        if word.len() < LAST && self.column() + word.len() < LAST {
+        if word.len() < LAST_COLUMN && self.filled_columns() + word.len() < LAST_COLUMN {
             self.bytes.push(b' ')?;
             self.bytes.extend_from_slice(word)?;
             return Ok(());
@@ -62,7 +62,7 @@ impl PrintedCards {
 
     /// Adds the text directly, or begins a card with it if it does not fit into 71 columns.
     pub fn add_directly(&mut self, text: &[u8]) -> Result<(), AllocError> {
-        if text.len() <= LAST && self.column() + text.len() <= LAST {
+        if text.len() <= LAST_COLUMN && self.filled_columns() + text.len() <= LAST_COLUMN {
             self.bytes.extend_from_slice(text)?;
             return Ok(());
         }

@@ -1,17 +1,18 @@
-//! The bytes of a file as its cards, one after the other.
-use crate::card::Card;
-use crate::code::{Code, Layout};
+//! The bytes of a file as its cards, one after the other. A loop over `0..usize::MAX` ends with the cards: as a loop
+//! without bounds it would need a proof that it ends.
+use crate::card::{Card, is_printable_byte};
+use crate::code::{Code, Layout, RECORD};
 use crate::errors::CardError;
 use crate::guess::{
     guess_code, guess_layout, has_bare_returns, unreadable_format, without_padding,
 };
-use crate::line::{CutLine, PastColumns, cut_line};
+use crate::line::{CutLine, PastColumns};
 use crate::place::CardPlace;
 use std::alloc::{AllocError, Global};
 
-/// What cards of a file have that is no card's.
+/// What was assumed of a card, or is not as a card should be.
 #[derive(Clone, Copy, Debug, PartialEq, Eq)]
-pub enum CardOddity {
+pub enum CardNoteReason {
     /// UTF-8's mark is before the first card, and is skipped.
     ByteOrderMark,
     /// Blanks after column 80 are left away.
@@ -28,10 +29,10 @@ pub enum CardOddity {
     Delimiter,
 }
 
-/// An oddity, the first card that has it, and how many have it.
+/// What was noted of cards, the first of these cards, and how many there are.
 #[derive(Clone, Copy, Debug, PartialEq, Eq)]
 pub struct CardNote {
-    pub oddity: CardOddity,
+    pub reason: CardNoteReason,
     pub first: CardPlace,
     pub cards: usize,
 }
@@ -40,11 +41,11 @@ pub struct CardNote {
 #[derive(Drop)]
 pub struct Cards {
     /// How it is laid out, as it was asked for or as the bytes tell.
-    pub form: Layout,
+    pub layout: Layout,
     /// Its code, as it was asked for or as the bytes tell.
     pub code: Code,
     pub cards: Vec<Card>,
-    /// One for each oddity that a card has.
+    /// One for each reason.
     pub notes: Vec<CardNote>,
 }
 
@@ -52,7 +53,7 @@ pub struct Cards {
 #[derive(Clone, Copy)]
 pub struct CardReader<'a> {
     /// How the file is laid out, as it was asked for or as the bytes tell.
-    pub form: Layout,
+    pub layout: Layout,
     /// Its code, as it was asked for or as the bytes tell.
     pub code: Code,
     /// The number of the file among those that are read.
@@ -67,20 +68,20 @@ pub struct CardReader<'a> {
     delimiter: Option<CardPlace>,
 }
 
-// Notes the oddity of the card at that place: counts one more card with it, or begins a note.
-fn note_oddity(
+// Notes the card at that place: counts one more card in the note of this reason, or begins one.
+fn note_card(
     notes: &mut Vec<CardNote>,
-    oddity: CardOddity,
+    reason: CardNoteReason,
     place: CardPlace,
 ) -> Result<(), AllocError> {
     for earlier in notes.iter_mut() {
-        if earlier.oddity == oddity {
+        if earlier.reason == reason {
             earlier.cards = earlier.cards.saturating_add(1);
             return Ok(());
         }
     }
     notes.push(CardNote {
-        oddity,
+        reason,
         first: place,
         cards: 1,
     })?;
@@ -93,26 +94,16 @@ fn note_characters(notes: &mut Vec<CardNote>, card: &Card) -> Result<(), AllocEr
         return Ok(());
     }
     if card.text.contains(&b'\t') {
-        note_oddity(notes, CardOddity::Tab, card.place)?;
+        note_card(notes, CardNoteReason::Tab, card.place)?;
     }
     if card
         .text
         .iter()
-        .any(|byte| *byte != b'\t' && !(0x20 <= *byte && *byte <= 0x7E))
+        .any(|byte| *byte != b'\t' && !is_printable_byte(*byte))
     {
-        note_oddity(notes, CardOddity::NotPrintable, card.place)?;
+        note_card(notes, CardNoteReason::NotPrintable, card.place)?;
     }
     Ok(())
-}
-
-// The card of a line.
-fn card_of(place: CardPlace, line: &CutLine) -> Card {
-    Card {
-        place,
-        text: line.text,
-        is_cut: line.past == PastColumns::More,
-        ends_comment: line.past == PastColumns::More && line.ends_comment,
-    }
 }
 
 impl<'a> CardReader<'a> {
@@ -122,7 +113,7 @@ impl<'a> CardReader<'a> {
     pub fn open(
         file: usize,
         bytes: &'a [u8],
-        form: Option<Layout>,
+        layout: Option<Layout>,
         code: Option<Code>,
     ) -> Result<CardReader<'a>, CardError> {
         if let Some(fault) = unreadable_format(bytes) {
@@ -131,18 +122,18 @@ impl<'a> CardReader<'a> {
         let after_mark = bytes.strip_prefix(b"\xEF\xBB\xBF");
         let text = after_mark.unwrap_or(bytes);
         let code = code.unwrap_or(guess_code(text));
-        let form = form.unwrap_or(guess_layout(text, code));
-        if form == Layout::Text && code == Code::Ascii && has_bare_returns(text) {
+        let layout = layout.unwrap_or(guess_layout(text, code));
+        if layout == Layout::Text && code == Code::Ascii && has_bare_returns(text) {
             return Err(CardError::CarriageReturns);
         }
-        let content = without_file_padding(text, form, code);
-        if form == Layout::Records && content.len() % 80 != 0 {
+        let content = without_file_padding(text, layout, code);
+        if layout == Layout::Records && content.len() % RECORD != 0 {
             return Err(CardError::ShortRecord {
-                bytes: content.len() % 80,
+                bytes: content.len() % RECORD,
             });
         }
         Ok(CardReader {
-            form,
+            layout,
             code,
             file,
             rest: content,
@@ -166,25 +157,25 @@ impl<'a> CardReader<'a> {
         if self.rest.is_empty() {
             return None;
         }
-        let (line, rest) = match self.form {
+        let (line, rest) = match self.layout {
             Layout::Text => first_line(self.rest, self.code),
             Layout::Records => first_record(self.rest),
         };
         self.rest = rest;
         self.cards = self.cards.saturating_add(1);
-        Some(cut_line(line, self.code))
+        Some(CutLine::read(line, self.code))
     }
 
-    // The next line or record as a card. Notes what it has that is no card's.
+    // The next line or record as a card, with notes of what is not as a card should be.
     fn read_card(&mut self, notes: &mut Vec<CardNote>) -> Result<Option<Card>, AllocError> {
         let Some(line) = self.next_line() else {
             return Ok(None);
         };
-        let card = card_of(self.place(), &line);
+        let card = line.card_at(self.place());
         match line.past {
             PastColumns::Nothing => {}
-            PastColumns::Blanks => note_oddity(notes, CardOddity::BlanksBehind80, card.place)?,
-            PastColumns::More => note_oddity(notes, CardOddity::LongLine, card.place)?,
+            PastColumns::Blanks => note_card(notes, CardNoteReason::BlanksBehind80, card.place)?,
+            PastColumns::More => note_card(notes, CardNoteReason::LongLine, card.place)?,
         }
         note_characters(notes, &card)?;
         Ok(Some(card))
@@ -197,22 +188,22 @@ impl<'a> CardReader<'a> {
             let Some(line) = ahead.next_line() else {
                 return true;
             };
-            if !card_of(ahead.place(), &line).is_blank() {
+            if !line.card_at(ahead.place()).is_blank() {
                 return false;
             }
         }
         true
     }
 
-    /// The next card, or nothing after the last one. If a delimiter is the last card but for blank ones, the cards end
-    /// before it. Notes what the cards have that is no card's.
+    /// The next card, or `None` after the last one. If a delimiter is the last card but for blank ones, the cards end
+    /// before it. Notes say what was assumed of the cards, and what is not as a card should be.
     pub fn next_card(&mut self, notes: &mut Vec<CardNote>) -> Result<Option<Card>, AllocError> {
         if self.has_mark && self.cards == 0 {
             let first = CardPlace {
                 file: self.file,
                 card: 1,
             };
-            note_oddity(notes, CardOddity::ByteOrderMark, first)?;
+            note_card(notes, CardNoteReason::ByteOrderMark, first)?;
             self.has_mark = false;
         }
         let Some(card) = self.read_card(notes)? else {
@@ -233,10 +224,10 @@ impl<'a> CardReader<'a> {
     /// Notes the padding and the delimiter that follow the last card.
     pub fn note_end(&self, notes: &mut Vec<CardNote>) -> Result<(), AllocError> {
         if self.has_padding {
-            note_oddity(notes, CardOddity::Padding, self.place())?;
+            note_card(notes, CardNoteReason::Padding, self.place())?;
         }
         if let Some(place) = self.delimiter {
-            note_oddity(notes, CardOddity::Delimiter, place)?;
+            note_card(notes, CardNoteReason::Delimiter, place)?;
         }
         Ok(())
     }
@@ -256,7 +247,7 @@ fn first_line(bytes: &[u8], code: Code) -> (&[u8], &[u8]) {
 
 // The first record, and what follows it.
 fn first_record(bytes: &[u8]) -> (&[u8], &[u8]) {
-    match bytes.split_at_checked(80) {
+    match bytes.split_at_checked(RECORD) {
         Some(both) => both,
         None => (bytes, b""),
     }
@@ -279,7 +270,7 @@ fn without_file_padding<'a>(bytes: &'a [u8], layout: Layout, code: Code) -> &'a 
     if layout == Layout::Text {
         return front;
     }
-    let missing = (80 - front.len() % 80) % 80;
+    let missing = (RECORD - front.len() % RECORD) % RECORD;
     match bytes.split_at_checked(front.len().saturating_add(missing)) {
         Some((whole, _)) => whole,
         None => front,
@@ -291,10 +282,10 @@ pub fn read_cards(
     alloc: Global,
     file: usize,
     bytes: &[u8],
-    form: Option<Layout>,
+    layout: Option<Layout>,
     code: Option<Code>,
 ) -> Result<Cards, CardError> {
-    let mut reader = CardReader::open(file, bytes, form, code)?;
+    let mut reader = CardReader::open(file, bytes, layout, code)?;
     let mut cards = Vec::new(alloc);
     let mut notes = Vec::new(alloc);
     for _ in 0..usize::MAX {
@@ -305,7 +296,7 @@ pub fn read_cards(
     }
     reader.note_end(&mut notes)?;
     Ok(Cards {
-        form: reader.form,
+        layout: reader.layout,
         code: reader.code,
         cards,
         notes,

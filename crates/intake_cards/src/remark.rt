@@ -7,11 +7,11 @@ use std::alloc::{AllocError, Global};
 /// What was done with a statement or an operand.
 #[derive(Clone, Copy, Debug, PartialEq, Eq)]
 pub enum Deed {
-    /// It says the same in other words, or a shorter text.
+    /// It says the same in other words, or has a shorter text.
     Carried,
-    /// The operand or statement is not there; what it belongs to is.
+    /// The operand or statement is not carried; what it belongs to is.
     Dropped,
-    /// The whole SYSMOD, hold or release is not there.
+    /// The whole SYSMOD, hold or release is not carried.
     LeftOut,
     /// Nothing is written.
     Refused,
@@ -24,13 +24,13 @@ pub struct Remark<'a> {
     pub place: CardPlace,
     /// The statement's word, with its plus signs.
     pub statement: &'a [u8],
-    /// The id or the name in it, and nothing where it has none.
+    /// The id or the name in it; empty if it has none.
     pub id: &'a [u8],
-    /// The operand's word, or nothing where the whole statement is meant.
+    /// The operand's word; empty if the whole statement is meant.
     pub operand: &'a [u8],
     pub deed: Deed,
     pub reason: RemarkReason,
-    /// The value or the text that is meant, as it stood.
+    /// The value or the text that is meant, unchanged; empty if there is none.
     pub text: &'a [u8],
 }
 

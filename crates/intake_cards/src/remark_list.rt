@@ -110,8 +110,8 @@ impl RemarkList {
         self.heads.append(&mut others.heads)
     }
 
-    /// Says of each remark that leaves something out that it is dropped.
-    pub(crate) fn drop_in_place_of_leaving_out(&mut self) {
+    /// Turns each remark that something is left out into one that it is dropped.
+    pub fn mark_left_out_as_dropped(&mut self) {
         for head in self.heads.iter_mut() {
             if head.deed == Deed::LeftOut {
                 head.deed = Deed::Dropped;

@@ -12,7 +12,7 @@ use std::alloc::{AllocError, Global};
 pub struct Subject<'a> {
     /// Where it begins.
     pub place: CardPlace,
-    /// Its word without the plus signs, or nothing where no statement is meant.
+    /// Its word without the plus signs; empty if no statement is meant.
     pub word: &'a [u8],
     /// The id or the name in it, unchanged; empty if it has none.
     pub id: &'a [u8],
@@ -23,13 +23,13 @@ pub struct Subject<'a> {
 pub struct StandIn {
     /// Where the statement begins.
     pub place: CardPlace,
-    /// Its type, as it is spelled, and its name.
+    /// The type of the stand-in, as it is spelled, and its name.
     pub elem_type: &'static [u8],
     pub stand_in: Name,
     /// The word of the statement that brings the element, and the element's name.
     pub word: Vec<u8>,
     pub name: Vec<u8>,
-    /// Its DISTLIB, or nothing.
+    /// Its DISTLIB; empty if it has none.
     pub library: Vec<u8>,
 }
 
@@ -40,22 +40,23 @@ pub struct Remarks {
     pub list: RemarkList,
     /// How many stand-ins were told.
     pub stand_ins: usize,
-    /// Each stand-in for an element that the profile lacks.
+    /// Which element each stand-in is for.
     pub named: Vec<StandIn>,
-    /// The SYSMODs that have some.
+    /// The SYSMODs that have stand-ins.
     pub with_stand_ins: Vec<Id>,
     /// How many SYSMODs are left out that have elements, NPRE or DELETE.
     pub forbidding: usize,
 }
 
-/// A remark by its place in the list, and how many more are like it.
+/// A reason why a SYSMOD is left out: the first remark that gives it, by its place in the list, and how many more are
+/// like it.
 #[derive(Clone, Copy)]
 struct Cause {
     place: usize,
     more: usize,
 }
 
-// The first of the remarks that are alike, for each kind of them, with how many more there are.
+// The causes that the remarks give, in the order of their first remarks.
 fn causes_of(alloc: Global, list: &RemarkList) -> Result<Vec<Cause>, AllocError> {
     let mut causes: Vec<Cause> = Vec::new(alloc);
     for place in 0..list.len() {
@@ -94,8 +95,8 @@ impl Remarks {
         }
     }
 
-    /// Tells what was done with an operand, or with the whole statement where `operand` is empty. `text` is the value
-    /// or the text that is meant, as it stands. A stand-in is counted.
+    /// Tells what was done with an operand, or with the whole statement if `operand` is empty. `text` is the value or
+    /// the text that is meant, unchanged. A stand-in is counted.
     pub fn tell(
         &mut self,
         alloc: Global,
@@ -124,7 +125,7 @@ impl Remarks {
         })
     }
 
-    /// Tells that the operand, or the whole statement where `operand` is empty, says the same in other words, or is a
+    /// Tells that the operand, or the whole statement if `operand` is empty, says the same in other words, or has a
     /// shorter text.
     pub fn tell_carried(
         &mut self,
@@ -137,8 +138,7 @@ impl Remarks {
         self.tell(alloc, subject, operand, Deed::Carried, reason, text)
     }
 
-    /// Tells that the operand, or the whole statement where `operand` is empty, is not there, but what it belongs to
-    /// is.
+    /// Tells that the operand, or the whole statement if `operand` is empty, is not carried, but what it belongs to is.
     pub fn tell_dropped(
         &mut self,
         alloc: Global,
@@ -176,14 +176,8 @@ impl Remarks {
         Ok(())
     }
 
-    /// Turns each remark that a SYSMOD is left out into one that the operand or statement is dropped, because the
-    /// SYSMOD is carried in another way.
-    pub fn drop_in_place_of_leaving_out(&mut self) {
-        self.list.drop_in_place_of_leaving_out();
-    }
-
-    /// Tells that a SYSMOD is left out because of this operand, or of the whole statement where `operand` is empty.
-    pub fn leave_out(
+    /// Tells that a SYSMOD is left out because of this operand, or of the whole statement if `operand` is empty.
+    pub fn tell_left_out(
         &mut self,
         alloc: Global,
         subject: &Subject<'_>,

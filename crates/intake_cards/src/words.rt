@@ -41,7 +41,7 @@ enum State {
     Star,
 }
 
-/// What is open where the cards end that a scanner has taken.
+/// What is open at the end of the cards that were scanned.
 #[derive(Clone, Copy, Debug, PartialEq, Eq)]
 pub enum Open {
     Nothing,
@@ -51,7 +51,7 @@ pub enum Open {
     Comment(CardPlace),
 }
 
-/// Takes cards, one after the other, and finds their pieces.
+/// Scans cards, one after the other, and finds their pieces.
 #[derive(Drop)]
 pub struct CardScanner {
     alloc: Global,
@@ -65,7 +65,7 @@ pub struct CardScanner {
     text: Vec<u8>,
     /// Blanks of the list that are text if more text follows in the card.
     blanks: usize,
-    /// Whether the card has had nothing but blanks in the list.
+    /// Whether the list has nothing but blanks so far in this card.
     at_margin: bool,
     /// Whether the list belongs to a word whose list is text.
     is_text: bool,
@@ -79,13 +79,13 @@ pub fn is_word_byte(byte: u8) -> bool {
     byte.is_ascii_alphanumeric() || matches!(byte, b'$' | b'#' | b'@' | b'+' | b'_' | b'-')
 }
 
-// Whether the list after this word is text, in which `/*` begins no comment.
-fn takes_text(word: &[u8]) -> bool {
+// Whether the value of the operand of this name is text, in which `/*` begins no comment.
+fn is_text_operand(word: &[u8]) -> bool {
     matches!(word, b"COMMENT" | b"DESC" | b"DESCRIPTION")
 }
 
 impl CardScanner {
-    /// A scanner that has taken no card.
+    /// A scanner that has scanned no card.
     pub fn new(alloc: Global) -> CardScanner {
         let nowhere = CardPlace { file: 0, card: 0 };
         CardScanner {
@@ -104,7 +104,7 @@ impl CardScanner {
         }
     }
 
-    /// What is open after the cards that were taken.
+    /// What is open after the cards that were scanned.
     pub fn open(&self) -> Open {
         match self.state {
             State::Comment | State::Star => Open::Comment(self.comment_place),
@@ -145,32 +145,32 @@ impl CardScanner {
         mem::replace(&mut self.pieces, Vec::new(self.alloc))
     }
 
-    /// Takes columns of a card, up to column 72.
-    pub fn take_columns(&mut self, place: CardPlace, columns: &[u8]) -> Result<(), AllocError> {
+    /// Scans some columns of a card, of which the last one is column 72.
+    pub fn scan_columns(&mut self, place: CardPlace, columns: &[u8]) -> Result<(), AllocError> {
         for byte in columns {
-            self.take_byte(place, *byte)?;
+            self.scan_byte(place, *byte)?;
         }
         self.end_card(place)
     }
 
-    /// Takes columns 1 to 72 of a card.
-    pub fn take_card(&mut self, card: &Card) -> Result<(), AllocError> {
-        self.take_columns(card.place, card.columns())
+    /// Scans columns 1 to 72 of a card.
+    pub fn scan_card(&mut self, card: &Card) -> Result<(), AllocError> {
+        self.scan_columns(card.place, card.columns())
     }
 
-    // Takes the next character, in the state that the one before left.
-    fn take_byte(&mut self, place: CardPlace, byte: u8) -> Result<(), AllocError> {
+    // Scans the next character, in the state that the one before left.
+    fn scan_byte(&mut self, place: CardPlace, byte: u8) -> Result<(), AllocError> {
         match self.state {
-            State::Gap => self.take_in_gap(place, byte),
-            State::Word => self.take_in_word(place, byte),
-            State::List => self.take_in_list(place, byte),
-            State::Slash => self.take_after_slash(place, byte),
+            State::Gap => self.scan_in_gap(place, byte),
+            State::Word => self.scan_in_word(place, byte),
+            State::List => self.scan_in_list(place, byte),
+            State::Slash => self.scan_after_slash(place, byte),
             State::Comment => {
-                self.take_in_comment(byte);
+                self.scan_in_comment(byte);
                 Ok(())
             }
             State::Star => {
-                self.take_after_star(byte);
+                self.scan_after_star(byte);
                 Ok(())
             }
         }
@@ -195,8 +195,8 @@ impl CardScanner {
         Ok(())
     }
 
-    // Takes a character outside words, lists and comments.
-    fn take_in_gap(&mut self, place: CardPlace, byte: u8) -> Result<(), AllocError> {
+    // Scans a character outside words, lists and comments.
+    fn scan_in_gap(&mut self, place: CardPlace, byte: u8) -> Result<(), AllocError> {
         match byte {
             b' ' | b',' | b'\t' => {}
             b'/' => self.state = State::Slash,
@@ -225,13 +225,13 @@ impl CardScanner {
         Ok(())
     }
 
-    // Takes a character after one of a word, which goes on or ends before it.
-    fn take_in_word(&mut self, place: CardPlace, byte: u8) -> Result<(), AllocError> {
+    // Scans a character after one of a word, which goes on or ends before it.
+    fn scan_in_word(&mut self, place: CardPlace, byte: u8) -> Result<(), AllocError> {
         if is_word_byte(byte) {
             return self.push_word_byte(byte);
         }
         self.end_word(place)?;
-        self.take_in_gap(place, byte)
+        self.scan_in_gap(place, byte)
     }
 
     // Makes a piece of the word.
@@ -250,15 +250,15 @@ impl CardScanner {
         self.at_margin = true;
         self.is_text = match self.pieces.last() {
             Some(piece) => match &piece.token {
-                Token::Word(word) => takes_text(word.as_slice()),
+                Token::Word(word) => is_text_operand(word.as_slice()),
                 _ => false,
             },
             None => false,
         };
     }
 
-    // Takes a character inside parentheses.
-    fn take_in_list(&mut self, place: CardPlace, byte: u8) -> Result<(), AllocError> {
+    // Scans a character inside parentheses.
+    fn scan_in_list(&mut self, place: CardPlace, byte: u8) -> Result<(), AllocError> {
         match byte {
             b' ' | b'\t' => {
                 self.count_list_blank();
@@ -309,8 +309,8 @@ impl CardScanner {
         self.push_piece(self.list_place, Token::List(list))
     }
 
-    // Takes the character after a slash: an asterisk begins a comment, and before any other the slash is by itself.
-    fn take_after_slash(&mut self, place: CardPlace, byte: u8) -> Result<(), AllocError> {
+    // Scans the character after a slash: an asterisk begins a comment, and before any other the slash is by itself.
+    fn scan_after_slash(&mut self, place: CardPlace, byte: u8) -> Result<(), AllocError> {
         if byte == b'*' {
             self.state = State::Comment;
             self.comment_place = place;
@@ -318,9 +318,9 @@ impl CardScanner {
         }
         self.push_slash(place)?;
         if self.depth > 0 {
-            self.take_in_list(place, byte)
+            self.scan_in_list(place, byte)
         } else {
-            self.take_in_gap(place, byte)
+            self.scan_in_gap(place, byte)
         }
     }
 
@@ -335,15 +335,15 @@ impl CardScanner {
         }
     }
 
-    // Takes a character of a comment.
-    fn take_in_comment(&mut self, byte: u8) {
+    // Scans a character of a comment.
+    fn scan_in_comment(&mut self, byte: u8) {
         if byte == b'*' {
             self.state = State::Star;
         }
     }
 
-    // Takes the character after an asterisk in a comment: a slash ends the comment.
-    fn take_after_star(&mut self, byte: u8) {
+    // Scans the character after an asterisk in a comment: a slash ends the comment.
+    fn scan_after_star(&mut self, byte: u8) {
         match byte {
             b'/' => self.end_comment(),
             b'*' => {}

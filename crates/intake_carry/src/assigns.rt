@@ -44,7 +44,7 @@ fn distinct_ids(
     let mut seen = BTreeSet::new(alloc);
     for text in stated {
         let Some(id) = Id::read(text.as_slice()) else {
-            remarks.leave_out(alloc, subject, b"TO", RemarkReason::BadId, text.as_slice())?;
+            remarks.tell_left_out(alloc, subject, b"TO", RemarkReason::BadId, text.as_slice())?;
             continue;
         };
         if seen.insert(id)? {
@@ -63,15 +63,15 @@ fn check_assign(
     subject: &Subject<'_>,
     stated: &WideAssign,
 ) -> Result<bool, AllocError> {
-    let faulty = stated.odd.as_slice();
+    let faulty = stated.faulty.as_slice();
     tell_left_out_for_faulty_operands(alloc, remarks, subject, faulty)?;
     let lacks_source = subject.id.is_empty() && !has_faulty_operand(faulty, b"SOURCEID");
     if lacks_source {
-        remarks.leave_out(alloc, subject, b"SOURCEID", RemarkReason::Missing, b"")?;
+        remarks.tell_left_out(alloc, subject, b"SOURCEID", RemarkReason::Missing, b"")?;
     }
     let lacks_ids = stated.to.is_empty() && !has_faulty_operand(faulty, b"TO");
     if lacks_ids {
-        remarks.leave_out(alloc, subject, b"TO", RemarkReason::Missing, b"")?;
+        remarks.tell_left_out(alloc, subject, b"TO", RemarkReason::Missing, b"")?;
     }
     Ok(faulty.is_empty() && !lacks_source && !lacks_ids)
 }
@@ -89,7 +89,7 @@ fn read_source(
         if stated.contains(&b'.') {
             remarks.tell_dropped(alloc, subject, b"", RemarkReason::LongSource, b"")?;
         } else {
-            remarks.leave_out(alloc, subject, b"SOURCEID", RemarkReason::BadValue, stated)?;
+            remarks.tell_left_out(alloc, subject, b"SOURCEID", RemarkReason::BadValue, stated)?;
         }
         return Ok(None);
     };

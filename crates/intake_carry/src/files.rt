@@ -20,7 +20,7 @@ use intake_holds::{
     FileRemarks, HoldError, OutsideHolds, PlacedItem, carry_releases, items_in_order,
 };
 use intake_read::{WideFile, WideSysmod};
-use intake_sysmod::{Options, Users, tell_others};
+use intake_sysmod::{Options, Users, tell_other_statements};
 use mcs::Item;
 use std::alloc::{AllocError, Global};
 
@@ -107,7 +107,7 @@ fn carry_file(
     tell_swallowed_statements(alloc, remarks, file.swallowed.as_slice())?;
     let sysmods = file.sysmods.as_slice();
     let mut gathered = carry_sysmods(alloc, options, users, copies, remarks, sysmods)?;
-    let _ = tell_others(alloc, options, remarks, file.others.as_slice())?;
+    let _ = tell_other_statements(alloc, options, remarks, file.others.as_slice())?;
     remarks.append(held.take_next_file(alloc))?;
     let mut releases = carry_releases(alloc, remarks, file.releases.as_slice())?;
     gathered.outside.append(&mut releases)?;

@@ -24,7 +24,7 @@ pub(crate) fn tell_notes(
                 let text = count_text.as_bytes();
                 remarks.tell_carried(alloc, &subject, b"", RemarkReason::LowerCase, text)?;
             }
-            NoteReason::TextIn73 => {
+            NoteReason::TextInNumbers => {
                 let text = note.tail.trim_ascii();
                 remarks.tell_dropped(alloc, &subject, b"", RemarkReason::TextInNumbers, text)?;
             }
@@ -48,7 +48,7 @@ pub(crate) fn tell_swallowed_statements(
         let card = statement.comment.card;
         let opens = format!(in alloc; "which opens at {card}")?;
         let reason = RemarkReason::StatementInComment;
-        remarks.leave_out(alloc, &subject, b"", reason, opens.as_bytes())?;
+        remarks.tell_left_out(alloc, &subject, b"", reason, opens.as_bytes())?;
     }
     Ok(())
 }

@@ -13,7 +13,7 @@ use fields::spelling::kind_text;
 use intake_cards::{CardPlace, RemarkReason, Remarks, Subject};
 use intake_holds::{HoldError, PlacedItem, carry_hold, hold_subject, is_internal_in, push_item};
 use intake_read::{WideHold, WideSysmod};
-use intake_sysmod::{Options, Users, carried_sysmod};
+use intake_sysmod::{Options, Users, carry_sysmod};
 use mcs::HoldItem;
 use std::alloc::{AllocError, Global};
 use sysmods_values::{Hold, Sysmod};
@@ -144,7 +144,7 @@ fn tell_other_copy(
         word: kind_text(stated.kind),
         id: stated.id.as_slice(),
     };
-    remarks.leave_out(alloc, &subject, b"", RemarkReason::OtherCopy, b"")
+    remarks.tell_left_out(alloc, &subject, b"", RemarkReason::OtherCopy, b"")
 }
 
 // Carries a SYSMOD without its holds. Returns `None`, with a remark, if it is left out or another copy of it is
@@ -164,7 +164,7 @@ fn carry_without_holds(
         tell_other_copy(alloc, remarks, stated)?;
         return Ok(None);
     }
-    carried_sysmod(alloc, options, users, remarks, stated)
+    carry_sysmod(alloc, options, users, remarks, stated)
 }
 
 /// Carries a SYSMOD with its holds. If it is left out, all its holds go to the hold file. Remarks say why it is left

@@ -138,7 +138,7 @@ fn read_file_statements(
         Ok(file) => file,
         Err(error) => return Err(IntakeFault::of_statement(alloc, sources, &error)),
     };
-    describe_assumptions(alloc, name, cards.form, cards.code, &notes, lines)?;
+    describe_assumptions(alloc, name, cards.layout, cards.code, &notes, lines)?;
     Ok(file)
 }
 

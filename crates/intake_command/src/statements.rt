@@ -3,7 +3,7 @@
 
 use fields::Id;
 use fields::spelling::{hold_text, kind_text, statement_text};
-use intake_cards::{PrintedCards, put_comment};
+use intake_cards::PrintedCards;
 use mcs::{Assign, HoldItem, Item, Release};
 use std::alloc::{AllocError, Global};
 use sysmods_values::{Action, ElemChange, Hold, IfReq, Sysmod, Ver};
@@ -107,7 +107,7 @@ fn put_hold(cards: &mut PrintedCards, hold: &Hold) -> Result<(), AllocError> {
         cards.add_value(b"DATE", date.as_bytes())?;
     }
     if let Some(comment) = &hold.comment {
-        put_comment(cards, comment.as_bytes())?;
+        cards.add_comment(comment.as_bytes())?;
     }
     cards.add_directly(b".")
 }

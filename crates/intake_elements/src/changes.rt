@@ -3,14 +3,14 @@ ghost use Rattle.std.specs.Prelude.{IfOk, IfSome, IsTrue, All};
 ghost use Rattle.intake_elements.specs.Elements.{IsProfileType, IsLacked, IsMadeOf, HasNoLevel};
 
 use crate::element_words::profile_type;
-use crate::elements::whole_change;
+use crate::elements::{tell_dropped_operand, whole_change};
 use crate::levels::level_operand;
-use crate::modules::{is_module_word, tell_modules};
+use crate::modules::{is_module_word, tell_dropped_modules};
 use crate::options::Options;
 use crate::stand_ins::{one_record_change, stand_in_change, tell_stand_in};
 use fields::Name;
 use intake_cards::{Deed, RemarkReason, Remarks, Subject};
-use intake_read::{WideElement, tell_no_decision, tell_odd};
+use intake_read::{WideElement, tell_dropped_operands, tell_faulty_operands};
 use std::alloc::{AllocError, Global};
 use sysmods_values::ElemChange;
 use terms::{ElemType, Kind};
@@ -24,8 +24,7 @@ pub fn subject_of(element: &WideElement) -> Subject<'_> {
     }
 }
 
-// Checks DISTMOD and ASSEM, which name modules: leaves the SYSMOD out for each of them that cannot be read. Returns
-// whether there is none.
+// Leaves the SYSMOD out for each DISTMOD and ASSEM, which name modules, that is faulty. Returns whether none is.
 fn check_modules(
     alloc: Global,
     remarks: &mut Remarks,
@@ -33,11 +32,11 @@ fn check_modules(
     element: &WideElement,
 ) -> Result<bool, AllocError> {
     let mut good = true;
-    for odd in element.odd.iter() {
-        let name = odd.operand.name.as_slice();
+    for entry in element.faulty.iter() {
+        let name = entry.operand.name.as_slice();
         if is_module_word(name) {
-            let reason = RemarkReason::from(odd.reason);
-            remarks.leave_out(alloc, subject, name, reason, odd.operand.text())?;
+            let reason = RemarkReason::from(entry.reason);
+            remarks.tell_left_out(alloc, subject, name, reason, entry.operand.text())?;
             good = false;
         }
     }
@@ -45,7 +44,7 @@ fn check_modules(
 }
 
 // If stand-ins are asked for, leaves the SYSMOD out for RMID, UMID or DELETE, which decide whether it goes on, or else
-// for each DISTMOD and ASSEM that cannot be read. Returns whether the element passes: it has none of them, or stand-ins
+// for each DISTMOD and ASSEM that is faulty. Returns whether the element passes: it has none of them, or stand-ins
 // are not asked for.
 fn check_levels_and_modules(
     alloc: Global,
@@ -62,25 +61,27 @@ fn check_levels_and_modules(
     }
     if let Some(operand) = level_operand(element.operands.as_slice()) {
         let name = operand.name.as_slice();
-        remarks.leave_out(alloc, subject, name, RemarkReason::Level, operand.text())?;
+        remarks.tell_left_out(alloc, subject, name, RemarkReason::Level, operand.text())?;
         return Ok(false);
     }
     check_modules(alloc, remarks, subject, element)
 }
 
-// Remarks on each operand of an element that is carried as a stand-in: it is dropped.
-fn drop_operands(
+// Remarks that each operand of an element is dropped, because its stand-in is carried.
+fn tell_all_operands_dropped(
     alloc: Global,
     options: &Options,
     remarks: &mut Remarks,
     subject: &Subject<'_>,
     element: &WideElement,
 ) -> Result<(), AllocError> {
-    let odd = element.odd.as_slice();
-    tell_odd(alloc, remarks, subject, odd, Deed::Dropped)?;
-    tell_modules(alloc, options, remarks, subject, element)?;
-    tell_no_decision(alloc, remarks, subject, element.operands.as_slice())?;
-    tell_no_decision(alloc, remarks, subject, element.libraries.as_slice())?;
+    let faulty = element.faulty.as_slice();
+    tell_faulty_operands(alloc, remarks, subject, faulty, Deed::Dropped)?;
+    tell_dropped_modules(alloc, options, remarks, subject, element)?;
+    for operand in element.operands.iter() {
+        tell_dropped_operand(alloc, remarks, subject, operand)?;
+    }
+    tell_dropped_operands(alloc, remarks, subject, element.libraries.as_slice())?;
     if let Some(relfile) = &element.relfile {
         let text = relfile.as_slice();
         remarks.tell_dropped(alloc, subject, b"RELFILE", RemarkReason::NoDecision, text)?;
@@ -103,10 +104,10 @@ fn change_by_stand_in(
 {
     let subject = subject_of(element);
     if !options.decide {
-        remarks.leave_out(alloc, &subject, b"", RemarkReason::OutsideProfile, b"")?;
+        remarks.tell_left_out(alloc, &subject, b"", RemarkReason::OutsideProfile, b"")?;
         return Ok(None);
     }
-    drop_operands(alloc, options, remarks, &subject, element)?;
+    tell_all_operands_dropped(alloc, options, remarks, &subject, element)?;
     let change = stand_in_change(alloc, remarks, &subject, kind, element)?;
     Ok(change)
 }
@@ -127,7 +128,7 @@ fn whole_or_short_change(
 {
     let subject = subject_of(element);
     let Some(name) = Name::read(element.name.as_slice()) else {
-        remarks.leave_out(alloc, &subject, b"", RemarkReason::BadName, b"")?;
+        remarks.tell_left_out(alloc, &subject, b"", RemarkReason::BadName, b"")?;
         return Ok(None);
     };
     let mut element_remarks = Remarks::new(alloc);
@@ -145,10 +146,10 @@ fn whole_or_short_change(
         remarks.append(element_remarks)?;
         return Ok(whole);
     }
-    element_remarks.drop_in_place_of_leaving_out();
+    element_remarks.list.mark_left_out_as_dropped();
     remarks.append(element_remarks)?;
     let Some(change) = one_record_change(alloc, kind, element, elem_type, name)? else {
-        remarks.leave_out(alloc, &subject, b"", RemarkReason::BadText, b"")?;
+        remarks.tell_left_out(alloc, &subject, b"", RemarkReason::BadText, b"")?;
         return Ok(None);
     };
     tell_stand_in(alloc, remarks, &subject, elem_type, name)?;

@@ -5,34 +5,51 @@ ghost use Rattle.intake_elements.specs.Elements.{is_level, HasNoLevel, is_update
 
 use crate::element_words::{is_update, is_update_word, profile_type};
 use crate::levels::is_level;
-use crate::modules::tell_modules;
-use crate::options::Options;
+use crate::modules::tell_dropped_modules;
+use crate::options::{Libraries, Options};
 use crate::texts::{
-    MOST_RECORDS, are_printable, begins_statement, first_misnumbered, needs_numbers,
-    replacement_text, without_blank_cards, without_blank_end,
+    MOST_RECORDS, first_misnumbered, needs_numbers, replacement_text, without_blank_cards_at_end,
+    without_blank_end_if_numbered,
 };
 use crate::updates::update_lines;
 use fields::Name;
 use intake_cards::{Deed, RemarkReason, Remarks, Subject};
-use intake_read::{Card, WideElement, WideOperand, tell_odd};
+use intake_read::{Card, WideElement, WideOperand, tell_faulty_operands};
 use std::alloc::{AllocError, Global};
 use sysmods_values::{Action, ElemChange};
 use terms::{ElemType, Kind};
 use text80::{Line, TextError, Update};
 
-/// Operands that change no decision.
+/// Operands of elements that are dropped.
 const DROPPED: &[&[u8]] = &[
     b"SSI", b"ALIAS", b"MALIAS", b"DISTSRC", b"PREFIX", b"VERSION",
 ];
 
-// Whether the operand of this name changes no decision.
-fn changes_no_decision(name: &[u8]) -> bool
+// Whether the operand of this name may be dropped. `DROPPED` names no level: the first test shows that to the proof.
+fn is_dropped_operand(name: &[u8]) -> bool
     ensures { IsTrue result → is_level name.now ≡ false }
 {
     !is_level(name) && DROPPED.iter().any(|dropped| *dropped == name)
 }
 
-// Drops an operand that changes no decision, and leaves the SYSMOD out for any other. Returns whether it is dropped.
+/// Remarks that an operand is dropped. VERSION lets a SYSMOD take over an element of another function, so without it
+/// more fails, as without VERSION of `++VER`. Any other operand changes no decision.
+pub(crate) fn tell_dropped_operand(
+    alloc: Global,
+    remarks: &mut Remarks,
+    subject: &Subject<'_>,
+    operand: &WideOperand,
+) -> Result<(), AllocError> {
+    let name = operand.name.as_slice();
+    let reason = if name == b"VERSION".as_slice() {
+        RemarkReason::Stricter
+    } else {
+        RemarkReason::NoDecision
+    };
+    remarks.tell_dropped(alloc, subject, name, reason, operand.text())
+}
+
+// Drops an operand that may be dropped, and leaves the SYSMOD out for any other. Returns whether it is dropped.
 fn drop_or_leave_out(
     alloc: Global,
     remarks: &mut Remarks,
@@ -42,17 +59,17 @@ fn drop_or_leave_out(
     ensures { IfOk result (λ dropped. IsTrue dropped → HasNoLevel operand.now) }
 {
     let name = operand.name.as_slice();
-    let text = operand.text();
-    let dropped = changes_no_decision(name);
+    let dropped = is_dropped_operand(name);
     if dropped {
-        remarks.tell_dropped(alloc, subject, name, RemarkReason::NoDecision, text)?;
+        tell_dropped_operand(alloc, remarks, subject, operand)?;
     } else {
-        remarks.leave_out(alloc, subject, name, RemarkReason::UnknownOperand, text)?;
+        let text = operand.text();
+        remarks.tell_left_out(alloc, subject, name, RemarkReason::UnknownOperand, text)?;
     }
     Ok(dropped)
 }
 
-// Drops the operands that change no decision, and leaves the SYSMOD out for each of the others. Returns whether all are
+// Drops the operands that may be dropped, and leaves the SYSMOD out for each of the others. Returns whether all are
 // dropped.
 fn drop_or_leave_out_each(
     alloc: Global,
@@ -70,8 +87,8 @@ fn drop_or_leave_out_each(
     Ok(all)
 }
 
-// Whether both are true. A function, because its contract tells the proofs of its callers what follows.
-fn are_both(first: bool, second: bool) -> bool
+/// Whether both are true. A function, because its contract tells the proofs of its callers what follows.
+pub fn are_both(first: bool, second: bool) -> bool
     ensures { IsTrue result → IsTrue first × IsTrue second }
 {
     first && second
@@ -87,7 +104,7 @@ fn leave_out_for_libraries(
     for library in libraries {
         let name = library.name.as_slice();
         let text = library.text();
-        remarks.leave_out(alloc, subject, name, RemarkReason::TextElsewhere, text)?;
+        remarks.tell_left_out(alloc, subject, name, RemarkReason::TextElsewhere, text)?;
     }
     Ok(())
 }
@@ -103,12 +120,12 @@ fn drop_or_leave_out_operands(
 ) -> Result<bool, AllocError>
     ensures { IfOk result (λ good. IsTrue good → All HasNoLevel element.now.operands.items) }
 {
-    tell_modules(alloc, options, remarks, subject, element)?;
-    let odd = element.odd.as_slice();
-    tell_odd(alloc, remarks, subject, odd, Deed::LeftOut)?;
+    tell_dropped_modules(alloc, options, remarks, subject, element)?;
+    let faulty = element.faulty.as_slice();
+    tell_faulty_operands(alloc, remarks, subject, faulty, Deed::LeftOut)?;
     let dropped = drop_or_leave_out_each(alloc, remarks, subject, element.operands.as_slice())?;
     leave_out_for_libraries(alloc, remarks, subject, element.libraries.as_slice())?;
-    let is_here = element.odd.is_empty() && element.libraries.is_empty();
+    let is_here = element.faulty.is_empty() && element.libraries.is_empty();
     Ok(are_both(dropped, is_here))
 }
 
@@ -122,21 +139,21 @@ fn read_library(
 ) -> Result<Option<Name>, AllocError> {
     let name = Name::read(stated);
     if name.is_none() {
-        remarks.leave_out(alloc, subject, operand, RemarkReason::BadValue, stated)?;
+        remarks.tell_left_out(alloc, subject, operand, RemarkReason::BadValue, stated)?;
     }
     Ok(name)
 }
 
-// DISTLIB and SYSLIB. Returns `None`, with a remark, if one is missing or has not the form of a name.
+// The libraries of a replacement. Returns `None`, with a remark, if one is missing or has not the form of a name.
 fn read_libraries(
     alloc: Global,
     options: &Options,
     remarks: &mut Remarks,
     subject: &Subject<'_>,
     element: &WideElement,
-) -> Result<Option<(Name, Name)>, AllocError> {
+) -> Result<Option<Libraries>, AllocError> {
     let Some(distlib) = &element.distlib else {
-        remarks.leave_out(alloc, subject, b"DISTLIB", RemarkReason::Missing, b"")?;
+        remarks.tell_left_out(alloc, subject, b"DISTLIB", RemarkReason::Missing, b"")?;
         return Ok(None);
     };
     let Some(distlib) = read_library(alloc, remarks, subject, b"DISTLIB", distlib.as_slice())?
@@ -145,10 +162,10 @@ fn read_libraries(
     };
     if let Some(syslib) = &element.syslib {
         let syslib = read_library(alloc, remarks, subject, b"SYSLIB", syslib.as_slice())?;
-        return Ok(syslib.map(|syslib| (distlib, syslib)));
+        return Ok(syslib.map(|syslib| Libraries { distlib, syslib }));
     }
     let Some(syslib) = options.syslib_for(distlib) else {
-        remarks.leave_out(
+        remarks.tell_left_out(
             alloc,
             subject,
             b"SYSLIB",
@@ -164,7 +181,7 @@ fn read_libraries(
         RemarkReason::GivenSyslib,
         syslib.as_bytes(),
     )?;
-    Ok(Some((distlib, syslib)))
+    Ok(Some(Libraries { distlib, syslib }))
 }
 
 // The cards of an element's text. Returns `None`, with a remark, if they are elsewhere.
@@ -179,7 +196,7 @@ fn text_cards<'a>(
         return Ok(Some(element.inline.as_slice()));
     };
     let Some(member) = options.relfile_member(element.place) else {
-        remarks.leave_out(
+        remarks.tell_left_out(
             alloc,
             subject,
             b"RELFILE",
@@ -217,10 +234,10 @@ fn text_fault(cards: &[Card]) -> Option<RemarkReason> {
     if cards.len() > MOST_RECORDS {
         return Some(RemarkReason::TooMany);
     }
-    if !are_printable(cards) {
+    if !cards.iter().all(|card| card.is_printable()) {
         return Some(RemarkReason::NoAscii);
     }
-    if begins_statement(cards) {
+    if cards.iter().any(|card| card.begins_statement()) {
         return Some(RemarkReason::BadText);
     }
     None
@@ -253,15 +270,15 @@ fn replacement_lines(
 {
     if let Some(reason) = text_fault(cards) {
         let text = card_number_text(alloc, cards.iter().find(|card| !card.is_printable()))?;
-        remarks.leave_out(alloc, subject, b"", reason, text.as_bytes())?;
+        remarks.tell_left_out(alloc, subject, b"", reason, text.as_bytes())?;
         return Ok(None);
     }
     let whole = cards;
-    let cards = without_blank_end(elem_type, whole);
+    let cards = without_blank_end_if_numbered(elem_type, whole);
     tell_blank_end(alloc, remarks, subject, whole, cards)?;
     let Some(lines) = replacement_text(alloc, elem_type, cards)? else {
         let text = card_number_text(alloc, first_misnumbered(cards))?;
-        remarks.leave_out(
+        remarks.tell_left_out(
             alloc,
             subject,
             b"",
@@ -288,7 +305,7 @@ fn make_replacement(
 ) -> Result<Option<ElemChange>, AllocError>
     ensures { IfOk result (λ found. IfSome found (IsChangeOf elem_type name false)) }
 {
-    let Some((distlib, syslib)) = read_libraries(alloc, options, remarks, subject, element)? else {
+    let Some(libraries) = read_libraries(alloc, options, remarks, subject, element)? else {
         return Ok(None);
     };
     let Some(cards) = text_cards(alloc, options, remarks, subject, element)? else {
@@ -297,6 +314,7 @@ fn make_replacement(
     let Some(lines) = replacement_lines(alloc, remarks, subject, elem_type, cards)? else {
         return Ok(None);
     };
+    let Libraries { distlib, syslib } = libraries;
     let action = Action::Replaces {
         distlib,
         syslib,
@@ -335,29 +353,29 @@ fn make_update(
 ) -> Result<Option<ElemChange>, AllocError>
     ensures { IfOk result (λ found. IfSome found (IsChangeOf elem_type name true)) }
 {
-    tell_libraries(alloc, remarks, subject, element)?;
+    tell_dropped_libraries(alloc, remarks, subject, element)?;
     let whole = element.inline.as_slice();
-    let cards = without_blank_cards(whole);
+    let cards = without_blank_cards_at_end(whole);
     tell_blank_end(alloc, remarks, subject, whole, cards)?;
     let Some(lines) = update_lines(alloc, remarks, subject, cards)? else {
         return Ok(None);
     };
     if lines.len() > MOST_RECORDS {
-        remarks.leave_out(alloc, subject, b"", RemarkReason::TooMany, b"")?;
+        remarks.tell_left_out(alloc, subject, b"", RemarkReason::TooMany, b"")?;
         return Ok(None);
     }
     match Update::read(alloc, lines, name.as_bytes()) {
         Ok(update) => Ok(update_change(elem_type, name, update)),
         Err(TextError::Memory) => Err(AllocError),
         Err(TextError::Fault(_)) => {
-            remarks.leave_out(alloc, subject, b"", RemarkReason::BadText, b"")?;
+            remarks.tell_left_out(alloc, subject, b"", RemarkReason::BadText, b"")?;
             Ok(None)
         }
     }
 }
 
 // Remarks that the libraries of an update are dropped, because the element stays in its own.
-fn tell_libraries(
+fn tell_dropped_libraries(
     alloc: Global,
     remarks: &mut Remarks,
     subject: &Subject<'_>,
@@ -392,7 +410,7 @@ fn make_change(
         return make_update(alloc, remarks, subject, element, elem_type, name);
     }
     if is_update_word(word) {
-        remarks.leave_out(alloc, subject, b"", RemarkReason::UpdateInFunction, b"")?;
+        remarks.tell_left_out(alloc, subject, b"", RemarkReason::UpdateInFunction, b"")?;
         return Ok(None);
     }
     make_replacement(alloc, options, remarks, subject, element, elem_type, name)

@@ -42,7 +42,7 @@ pub fn modules_of<'a>(alloc: Global, element: &'a WideElement) -> Result<Vec<&'a
     Ok(modules)
 }
 
-// Adds the number of the stand-in of each module.
+// Adds the key of the stand-in of each module.
 fn push_keys(keys: &mut Vec<u64>, modules: &[&[u8]]) -> Result<(), AllocError>
     ensures { OnOk result (keys.new.items
         ≡ keys.old.items ++ map (λ m. key_of Mac (module_name m.now)) modules.now) }
@@ -53,8 +53,8 @@ fn push_keys(keys: &mut Vec<u64>, modules: &[&[u8]]) -> Result<(), AllocError>
     Ok(())
 }
 
-/// Numbers for the elements that the statement changes if stand-ins are asked for, the modules that are assembled among
-/// them. All statements that change an element have its number.
+/// The keys of the elements that the statement changes if stand-ins are asked for, those of the modules that are
+/// assembled among them. All statements that change an element have its key.
 pub fn keys_of(alloc: Global, element: &WideElement) -> Result<Vec<u64>, AllocError>
     ensures { IfOk result (λ keys. AreKeysOf element.now keys.items) }
 {
@@ -75,17 +75,17 @@ pub(crate) fn is_module_word(name: &[u8]) -> bool {
     name == b"DISTMOD".as_slice() || name == b"ASSEM".as_slice()
 }
 
-/// Whether an operand that names modules, or their library, cannot be read.
-pub fn has_odd_modules(element: &WideElement) -> bool {
+/// Whether an operand that names modules, or their library, is faulty.
+pub fn has_faulty_modules(element: &WideElement) -> bool {
     element
-        .odd
+        .faulty
         .iter()
-        .any(|odd| is_module_word(odd.operand.name.as_slice()))
+        .any(|entry| is_module_word(entry.operand.name.as_slice()))
 }
 
-/// Remarks that the operands which name modules are dropped. If stand-ins are asked for, the stand-ins of the modules
+/// Remarks that DISTMOD and ASSEM are dropped. If stand-ins are asked for, the stand-ins of the modules
 /// are carried, so then only a DISTMOD that names no module is dropped.
-pub(crate) fn tell_modules(
+pub(crate) fn tell_dropped_modules(
     alloc: Global,
     options: &Options,
     remarks: &mut Remarks,

@@ -11,6 +11,13 @@ pub struct Syslib {
     pub syslib: Name,
 }
 
+/// The libraries of a replacement.
+#[derive(Clone, Copy)]
+pub(crate) struct Libraries {
+    pub(crate) distlib: Name,
+    pub(crate) syslib: Name,
+}
+
 /// The text of an element that is in a file of its own.
 #[derive(Drop)]
 pub struct RelfileMember {
@@ -22,7 +29,7 @@ pub struct RelfileMember {
 /// How statements are carried.
 #[derive(Drop)]
 pub struct Options {
-    /// Elements that can't be carried have stand-ins.
+    /// Elements that cannot be carried have stand-ins.
     pub decide: bool,
     /// If several are for one DISTLIB, the first one counts.
     pub syslibs: Vec<Syslib>,

@@ -17,7 +17,7 @@ use terms::ElemType;
 /// The characters of names, of which the first 29 may stand in front.
 const CHARACTERS: &[u8; 39] = b"ABCDEFGHIJKLMNOPQRSTUVWXYZ$#@0123456789";
 
-/// How many names of eight characters there are: 29 times 39 to the seventh.
+/// How many names of eight characters there are, and so how many hashes: 29 times 39 to the seventh.
 const NAMES: u64 = 3979699193691;
 
 // Continues a hash over these bytes.
@@ -33,7 +33,7 @@ fn continue_hash(start: u64, text: &[u8]) -> u64
     hash
 }
 
-// The character that a digit of the number to the base 39 stands for.
+// The character that stands for a digit of the number to the base 39: the one whose place counts this power of 39.
 fn character(number: u64, power: u64) -> u8
     requires { 0 < power }
     ensures { result ≡ character number power }
@@ -54,7 +54,7 @@ pub(crate) fn owner_word(word: &[u8]) -> &[u8]
     }
 }
 
-// The hash of a word and a name.
+// The hash of a word and a name, with a parenthesis between, which neither has.
 #[tactic(auto, using(crate::proofs::Targets::hash_parts))]
 fn hash_of(word: &[u8], name: &[u8]) -> u64
     ensures { result ≡ hash_of (word.now ++ codes "(" ++ name.now) }
@@ -93,15 +93,15 @@ pub(crate) fn stand_in_name(word: &[u8], name: &[u8]) -> Option<Name>
     Name::read(stand_in_text(word, name).as_slice())
 }
 
-// A number for the element of this type and name.
+// The key of the element of this type and name: a hash, so others may have it too.
 fn key_of(elem_type: ElemType, name: &[u8]) -> u64
     ensures { result ≡ key_of elem_type name.now }
 {
     hash_of(type_text(elem_type), name)
 }
 
-/// A number for the element that the statement changes where stand-ins are asked for. All statements that change the
-/// element have it.
+/// The key of the element that the statement changes if stand-ins are asked for. All statements that change the element
+/// have it.
 pub(crate) fn element_key(element: &WideElement) -> u64
     ensures { (type : AnyType) (name : Text)
         → IsTarget true element.now.word.items element.now.name.items type name → result ≡ key_of type name }
@@ -114,7 +114,7 @@ pub(crate) fn element_key(element: &WideElement) -> u64
     }
 }
 
-/// The number of the stand-in of a module that is assembled.
+/// The key of the stand-in of a module that is assembled.
 pub(crate) fn module_key(assembled: &[u8]) -> u64
     ensures { result ≡ key_of Mac (module_name assembled.now) }
 {

@@ -1,4 +1,4 @@
-//! What stands for elements that can't be carried.
+//! What stands for elements that cannot be carried.
 ghost use Rattle.std.specs.Prelude.{◌≡◌, IfOk, IfSome, true, false, not};
 ghost use Rattle.terms.specs.declared.kinds.ElemType.TheVariants.{Mac};
 ghost use Rattle.terms.specs.Changes.{is_replacement};
@@ -6,31 +6,22 @@ ghost use Rattle.intake_elements.specs.Elements.{IsLacked, IsTarget, IsChangeOf,
 
 use crate::element_words::{is_update, stand_in_type};
 use crate::elements::update_change;
+use crate::options::Libraries;
 use crate::stand_in_names::{owner_word, stand_in_name};
 use crate::texts::replacement_text;
 use crate::updates::change_record;
 use fields::Name;
 use fields::spelling::type_text;
-use intake_cards::{RemarkReason, Remarks, StandIn, Subject};
+use intake_cards::{RemarkReason, Remarks, StandIn, Subject, is_printable_byte};
 use intake_read::{Card, CardPlace, WideElement};
 use std::alloc::{AllocError, Global};
 use sysmods_values::{Action, ElemChange};
 use terms::{ElemType, Kind};
 use text80::{Line, TextError, Update};
 
-/// The libraries of a replacement.
-#[derive(Clone, Copy)]
-struct Libraries {
-    distlib: Name,
-    syslib: Name,
-}
-
 // The byte, or a question mark if no record may have it.
-fn replace_unprintable(byte: u8) -> u8 {
-    match byte {
-        0x20..=0x7e => byte,
-        _ => b'?',
-    }
+fn printable_or_mark(byte: u8) -> u8 {
+    if is_printable_byte(byte) { byte } else { b'?' }
 }
 
 // A card that names the statement, with a number.
@@ -39,7 +30,7 @@ fn stand_in_card(place: CardPlace, word: &[u8], name: &[u8]) -> Card {
     let parts = b"* ++".iter().chain(word.iter()).chain(b"(".iter());
     let parts = parts.chain(name.iter()).chain(b")".iter());
     for (to, from) in text.iter_mut().take(72).zip(parts) {
-        *to = replace_unprintable(*from);
+        *to = printable_or_mark(*from);
     }
     let (_, number) = text.split_at_mut(72);
     number.copy_from_slice(b"00000100");
@@ -51,24 +42,24 @@ fn stand_in_card(place: CardPlace, word: &[u8], name: &[u8]) -> Card {
     }
 }
 
-// The library that is stated, or `None` if none is stated or it has not the form of a name.
-fn read_library(stated: &Option<Vec<u8>>) -> Option<Name> {
+// The library that is stated, or the other one if none is stated or it has not the form of a name.
+fn stated_library_or(stated: &Option<Vec<u8>>, other: Name) -> Name {
     match stated {
-        Some(text) => Name::read(text.as_slice()),
-        None => None,
+        Some(text) => Name::read(text.as_slice()).unwrap_or(other),
+        None => other,
     }
 }
 
 // The libraries of an element. One that is not stated has the name of what stands for the element.
 fn stand_in_libraries(element: &WideElement, name: Name) -> Libraries {
-    let distlib = read_library(&element.distlib).unwrap_or(name);
-    let syslib = read_library(&element.syslib).unwrap_or(distlib);
+    let distlib = stated_library_or(&element.distlib, name);
+    let syslib = stated_library_or(&element.syslib, distlib);
     Libraries { distlib, syslib }
 }
 
 // The library of the modules that are assembled of an element.
 fn module_libraries(element: &WideElement, name: Name) -> Libraries {
-    let distlib = read_library(&element.distmod).unwrap_or(name);
+    let distlib = stated_library_or(&element.distmod, name);
     Libraries {
         distlib,
         syslib: distlib,
@@ -163,11 +154,11 @@ pub(crate) fn stand_in_change(
     let word = element.word.as_slice();
     let elem_type = stand_in_type(word);
     let Some(name) = stand_in_name(word, element.name.as_slice()) else {
-        remarks.leave_out(alloc, subject, b"", RemarkReason::BadName, b"")?;
+        remarks.tell_left_out(alloc, subject, b"", RemarkReason::BadName, b"")?;
         return Ok(None);
     };
     let Some(change) = one_record_change(alloc, kind, element, elem_type, name)? else {
-        remarks.leave_out(alloc, subject, b"", RemarkReason::BadText, b"")?;
+        remarks.tell_left_out(alloc, subject, b"", RemarkReason::BadText, b"")?;
         return Ok(None);
     };
     tell_stand_in(alloc, remarks, subject, elem_type, name)?;
@@ -230,13 +221,13 @@ pub fn module_change(
     ensures { IfOk result (λ found. IfSome found (IsChangeOf Mac (module_name assembled.now) false)) }
 {
     let Some(name) = stand_in_name(b"MOD", assembled) else {
-        remarks.leave_out(alloc, subject, b"", RemarkReason::BadName, assembled)?;
+        remarks.tell_left_out(alloc, subject, b"", RemarkReason::BadName, assembled)?;
         return Ok(None);
     };
     let card = stand_in_card(element.place, b"MOD", assembled);
     let libraries = module_libraries(element, name);
     let Some(change) = stand_in_replacement(alloc, ElemType::Mac, name, libraries, &card)? else {
-        remarks.leave_out(alloc, subject, b"", RemarkReason::BadText, assembled)?;
+        remarks.tell_left_out(alloc, subject, b"", RemarkReason::BadText, assembled)?;
         return Ok(None);
     };
     remarks.tell_carried(alloc, subject, b"", RemarkReason::Assembled, assembled)?;

@@ -2,7 +2,7 @@
 ghost use Rattle.std.specs.Prelude.{◌<◌, IfOk, IfSome, length};
 ghost use Rattle.terms.specs.Texts.{IsNumbered, IsReplacement};
 
-use intake_read::Card;
+use intake_cards::{Card, Tail};
 use std::alloc::{AllocError, Global};
 use terms::ElemType;
 use text80::{Line, Numbered};
@@ -10,26 +10,11 @@ use text80::{Line, Numbered};
 /// The most records that a text may have.
 pub(crate) const MOST_RECORDS: usize = 99999;
 
-/// How many columns of a card come before its number.
-const FRONT: usize = 72;
-
-/// How far one number of a text is from the next.
+/// How far each number that a text gets is from the one before.
 const STEP: u32 = 100;
 
-/// Whether each byte is one that a record may have.
-pub(crate) fn are_printable(cards: &[Card]) -> bool {
-    cards
-        .iter()
-        .all(|card| card.text.iter().all(|b| (0x20..=0x7e).contains(b)))
-}
-
-/// Whether a card would begin a statement.
-pub(crate) fn begins_statement(cards: &[Card]) -> bool {
-    cards.iter().any(|card| card.text.starts_with(b"++"))
-}
-
-/// The cards as records.
-pub(crate) fn lines_of(alloc: Global, cards: &[Card]) -> Result<Vec<Line>, AllocError> {
+// The cards as records.
+fn lines_of(alloc: Global, cards: &[Card]) -> Result<Vec<Line>, AllocError> {
     let mut lines = Vec::with_capacity(alloc, cards.len())?;
     for card in cards {
         lines.push(Line::new(card.text))?;
@@ -39,17 +24,16 @@ pub(crate) fn lines_of(alloc: Global, cards: &[Card]) -> Result<Vec<Line>, Alloc
 
 // Whether columns 73 to 80 are blank.
 fn has_no_number(card: &Card) -> bool {
-    let (_, number) = card.text.split_at(FRONT);
-    number.iter().all(|b| *b == b' ')
+    card.tail() == Tail::Blank
 }
 
 // Whether all columns are blank.
 fn is_blank_card(card: &Card) -> bool {
-    card.text.iter().all(|b| *b == b' ')
+    card.is_blank() && has_no_number(card)
 }
 
 /// The cards without the blank ones at their end.
-pub(crate) fn without_blank_cards(cards: &[Card]) -> &[Card] {
+pub(crate) fn without_blank_cards_at_end(cards: &[Card]) -> &[Card] {
     let mut length = 0;
     for (place, card) in cards.iter().enumerate() {
         if !is_blank_card(card) {
@@ -62,12 +46,12 @@ pub(crate) fn without_blank_cards(cards: &[Card]) -> &[Card] {
     }
 }
 
-/// The cards, without blank ones at their end if they are a text with numbers.
-pub(crate) fn without_blank_end(elem_type: ElemType, cards: &[Card]) -> &[Card] {
-    if !elem_type.is_numbered() || cards.iter().all(has_no_number) {
+/// The cards, without blank ones at their end if the type has numbers and a card has one.
+pub(crate) fn without_blank_end_if_numbered(elem_type: ElemType, cards: &[Card]) -> &[Card] {
+    if !elem_type.is_numbered() || needs_numbers(elem_type, cards) {
         return cards;
     }
-    without_blank_cards(cards)
+    without_blank_cards_at_end(cards)
 }
 
 /// The first card whose columns 73 to 80 are no eight digits, or no number higher than that of the card before. Returns
@@ -75,8 +59,7 @@ pub(crate) fn without_blank_end(elem_type: ElemType, cards: &[Card]) -> &[Card] 
 pub(crate) fn first_misnumbered(cards: &[Card]) -> Option<&Card> {
     let mut before = [b' '; 8];
     for card in cards {
-        let mut number = [b' '; 8];
-        number.copy_from_slice(&card.text[FRONT..]);
+        let number = card.number_columns();
         if !number.iter().all(|b| b.is_ascii_digit()) || number <= before {
             return Some(card);
         }
@@ -97,7 +80,7 @@ fn with_number(line: &Line, number: u32) -> Line {
     Line::new(bytes)
 }
 
-// The records with the numbers 00000100, 00000200 and so on.
+// The records with the numbers 00000100, 00000200 and so on in columns 73 to 80.
 fn number_records(alloc: Global, lines: &[Line]) -> Result<Vec<Line>, AllocError> {
     let mut numbered = Vec::with_capacity(alloc, lines.len())?;
     let mut number = 0u32;

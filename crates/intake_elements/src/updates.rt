@@ -1,8 +1,6 @@
 //! `./` records of updates.
 
-use crate::texts::are_printable;
-use intake_cards::{RemarkReason, Remarks, Subject};
-use intake_read::Card;
+use intake_cards::{Card, RemarkReason, Remarks, Subject};
 use std::alloc::{AllocError, Global};
 use text80::Line;
 
@@ -16,10 +14,10 @@ enum Control<'a> {
     Other,
 }
 
-/// Eight digits.
+/// A number of a record, in eight digits.
 type Number = [u8; 8];
 
-// The text before the first blank, and the text that follows the blanks after it.
+// The word before the first blank, and the text that follows the blanks after it.
 fn split_word(text: &[u8]) -> (&[u8], &[u8]) {
     let length = text.iter().take_while(|b| **b != b' ').count();
     let (word, rest) = text.split_at(length);
@@ -60,8 +58,7 @@ fn has_only_operands(list: &[u8], names: &[&[u8]]) -> bool {
 
 // The meaning of a record that begins with `./`.
 fn read_control(card: &Card) -> Control<'_> {
-    let (front, _) = card.text.split_at(72);
-    let (_, rest) = split_word(front);
+    let (_, rest) = split_word(card.columns());
     let (word, rest) = split_word(rest);
     let (list, _) = split_word(rest);
     match word {
@@ -115,19 +112,18 @@ pub(crate) fn change_record(alloc: Global, name: &[u8]) -> Result<Line, AllocErr
 
 // Whether the card and the record have the same columns 1 to 72.
 fn has_same_columns(card: &Card, line: &Line) -> bool {
-    let (columns, _) = card.text.split_at(72);
-    let (line_columns, _) = line.bytes().split_at(72);
-    columns == line_columns
+    line.bytes().starts_with(card.columns())
 }
 
 // Whether a CHANGE has LIST.
 fn has_list(card: &Card) -> bool {
-    let (front, _) = card.text.split_at(72);
-    front.windows(6).any(|part| part == b",LIST=".as_slice())
+    card.columns()
+        .windows(6)
+        .any(|part| part == b",LIST=".as_slice())
 }
 
 // Remarks that the LIST of a CHANGE is dropped, if it has one.
-fn tell_list(
+fn tell_dropped_list(
     alloc: Global,
     remarks: &mut Remarks,
     subject: &Subject<'_>,
@@ -182,7 +178,7 @@ fn push_control(
     match read_control(card) {
         Control::Change(name) => {
             lines.push(change_record(alloc, name)?)?;
-            tell_list(alloc, remarks, subject, card)?;
+            tell_dropped_list(alloc, remarks, subject, card)?;
         }
         Control::Delete(low, high) => {
             lines.push(delete_record(alloc, remarks, subject, card, low, high)?)?;
@@ -192,7 +188,7 @@ fn push_control(
         }
         Control::Other => {
             let text = card.text.as_slice().trim_ascii_end();
-            remarks.leave_out(alloc, subject, b"./", RemarkReason::BadText, text)?;
+            remarks.tell_left_out(alloc, subject, b"./", RemarkReason::BadText, text)?;
             return Ok(false);
         }
     }
@@ -206,8 +202,8 @@ pub(crate) fn update_lines(
     subject: &Subject<'_>,
     cards: &[Card],
 ) -> Result<Option<Vec<Line>>, AllocError> {
-    if !are_printable(cards) {
-        remarks.leave_out(alloc, subject, b"", RemarkReason::NoAscii, b"")?;
+    if !cards.iter().all(|card| card.is_printable()) {
+        remarks.tell_left_out(alloc, subject, b"", RemarkReason::NoAscii, b"")?;
         return Ok(None);
     }
     let mut lines = Vec::with_capacity(alloc, cards.len())?;

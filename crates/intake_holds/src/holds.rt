@@ -10,7 +10,8 @@ use crate::errors::HoldError;
 use fields::{Class, HoldDate, Id, Reason as HoldReason};
 use intake_cards::{Deed, RemarkReason, Remarks, Subject};
 use intake_read::{
-    OddOperand, WideHold, WideHoldKind, WideOperand, WideRelease, tell_no_decision, tell_odd,
+    FaultyOperand, WideHold, WideHoldKind, WideOperand, WideRelease, tell_dropped_operands,
+    tell_faulty_operands,
 };
 use mcs::Release;
 use std::alloc::{AllocError, Global};
@@ -268,7 +269,7 @@ fn tell_fixcat_left_out(
     remarks: &mut Remarks,
     subject: &Subject<'_>,
 ) -> Result<(), AllocError> {
-    remarks.leave_out(alloc, subject, b"FIXCAT", RemarkReason::Fixcat, b"")
+    remarks.tell_left_out(alloc, subject, b"FIXCAT", RemarkReason::Fixcat, b"")
 }
 
 // Remarks on the operands that are dropped: those that change no decision, and the faulty ones.
@@ -277,10 +278,10 @@ fn tell_all_dropped_operands(
     remarks: &mut Remarks,
     subject: &Subject<'_>,
     dropped: &[WideOperand],
-    faulty: &[OddOperand],
+    faulty: &[FaultyOperand],
 ) -> Result<(), AllocError> {
-    tell_no_decision(alloc, remarks, subject, dropped)?;
-    tell_odd(alloc, remarks, subject, faulty, Deed::Dropped)
+    tell_dropped_operands(alloc, remarks, subject, dropped)?;
+    tell_faulty_operands(alloc, remarks, subject, faulty, Deed::Dropped)
 }
 
 /// Carries the hold: returns it, or `None` for FIXCAT. `own` is the SYSMOD in which it is stated: the hold is internal
@@ -310,7 +311,7 @@ pub fn carry_hold(
         remarks,
         &subject,
         stated.dropped.as_slice(),
-        stated.odd.as_slice(),
+        stated.faulty.as_slice(),
     )?;
     let internal = is_internal(own, stated);
     Ok(Some(make_hold(alloc, remarks, &subject, stated, key, internal)?))
@@ -339,7 +340,7 @@ pub(crate) fn carry_release(
         remarks,
         &subject,
         stated.dropped.as_slice(),
-        stated.odd.as_slice(),
+        stated.faulty.as_slice(),
     )?;
     Ok(key)
 }

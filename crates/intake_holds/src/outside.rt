@@ -203,10 +203,10 @@ pub fn read_statements(
         let Some(card) = cards.next_card(notes)? else {
             break;
         };
-        held.add_if_hold(alloc, reader.take(&card)?)?;
+        held.add_if_hold(alloc, reader.read_card(&card)?)?;
     }
     cards.note_end(notes)?;
-    held.add_if_hold(alloc, reader.take_end()?)?;
+    held.add_if_hold(alloc, reader.read_end()?)?;
     held.end_file(alloc)?;
     let file = reader.into_file()?;
     Ok(file)

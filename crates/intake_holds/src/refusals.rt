@@ -4,17 +4,17 @@ use crate::faulty_operands::reason_or_missing;
 use crate::holds::{HoldFault, hold_key, hold_subject, release_key, release_subject};
 use intake_cards::{Deed, RemarkReason, Remarks, Subject};
 use intake_read::{
-    OddOperand, WideFile, WideHold, WideHoldKind, WideOther, WideRelease, hold_kind, missing_word,
+    FaultyOperand, WideFile, WideHold, WideHoldKind, WideOther, WideRelease, missing_word,
 };
 use std::alloc::{AllocError, Global};
 
 // Whether an operand of this name is part of the key of a hold. A second one leaves open which is meant.
 fn is_key_operand(name: &[u8]) -> bool {
-    hold_kind(name).is_some() || matches!(name, b"REASON" | b"FMID")
+    WideHoldKind::read(name).is_some() || matches!(name, b"REASON" | b"FMID")
 }
 
 // The first faulty operand that is part of the key of a hold, or `None` if there is none.
-fn faulty_key_operand(faulty: &[OddOperand]) -> Option<&OddOperand> {
+fn faulty_key_operand(faulty: &[FaultyOperand]) -> Option<&FaultyOperand> {
     faulty
         .iter()
         .find(|entry| is_key_operand(entry.operand.name.as_slice()))
@@ -26,7 +26,7 @@ fn refuse_if_faulty(
     alloc: Global,
     remarks: &mut Remarks,
     subject: &Subject<'_>,
-    faulty: &[OddOperand],
+    faulty: &[FaultyOperand],
     fault: Option<HoldFault>,
 ) -> Result<bool, AllocError> {
     if let Some(entry) = faulty_key_operand(faulty) {
@@ -66,7 +66,7 @@ pub(crate) fn refuse_hold(
 ) -> Result<bool, AllocError> {
     let subject = hold_subject(stated);
     let fault = hold_key(stated).err();
-    refuse_if_faulty(alloc, remarks, &subject, stated.odd.as_slice(), fault)
+    refuse_if_faulty(alloc, remarks, &subject, stated.faulty.as_slice(), fault)
 }
 
 // Refuses the release, with a remark, if it cannot be carried, and returns whether that is so.
@@ -77,7 +77,7 @@ fn refuse_release(
 ) -> Result<bool, AllocError> {
     let subject = release_subject(stated);
     let fault = release_key(stated).err();
-    refuse_if_faulty(alloc, remarks, &subject, stated.odd.as_slice(), fault)
+    refuse_if_faulty(alloc, remarks, &subject, stated.faulty.as_slice(), fault)
 }
 
 // Refuses, with remarks, those of the holds that cannot be carried, and returns whether there are any.
@@ -104,7 +104,7 @@ fn is_broken_hold(other: &WideOther) -> bool {
 fn is_fixcat(other: &WideOther) -> bool {
     let mut has_fixcat = false;
     for operand in other.operands.iter() {
-        match hold_kind(operand.name.as_slice()) {
+        match WideHoldKind::read(operand.name.as_slice()) {
             Some(WideHoldKind::Fixcat) => has_fixcat = true,
             Some(_) => return false,
             None => {}

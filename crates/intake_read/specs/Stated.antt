@@ -1,5 +1,7 @@
 -- The texts of a file's statements, as bytes.
-use Rattle.std.specs.Prelude.{◌↔◌, ℕ, List, [], map, Option, Some, None, option_map, Contains, Vec}
+use Rattle.std.specs.Prelude.{◌↔◌, ◌==◌, ◌||◌, ℕ, List, [], map, filter, length, nat_lt, Option, Some, None, option_map}
+use Rattle.std.specs.Prelude.{Contains, Vec}
+use Rattle.std.specs.List.{slice_split}
 use Rattle.std.specs.declared.alloc.Global.{Global}
 use Rattle.terms.specs.Types.{Text, Id}
 
@@ -13,6 +15,10 @@ text_in stated = option_map (λ t. t.items) stated
 abbrev pub value_text : Option (Vec ℕ Global) → Text
 value_text None = []
 value_text (Some value) = value.items
+
+-- the members of a list, with blanks or commas between them
+abbrev pub members : Text → List Text
+members list = filter (λ m. nat_lt 0 (length m)) (slice_split (λ b. b == 32 || b == 44) list)
 
 -- the same ids, in whatever order
 abbrev pub AreSame : List (Vec ℕ Global) → List Id → Type 0

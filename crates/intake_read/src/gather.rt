@@ -6,8 +6,8 @@ use crate::items::{
 use crate::make::{
     make_assign, make_element, make_hold, make_if, make_other, make_release, make_sysmod, make_ver,
 };
-use crate::meaning::{ItemWord, WideWord, meaning_of};
-use crate::operands::members;
+use crate::meaning::{ItemWord, WideWord};
+use crate::operands::upper_case_members;
 use crate::statement::WideStatement;
 use intake_cards::{Card, CardPlace};
 use std::alloc::{AllocError, Global};
@@ -83,13 +83,11 @@ impl FileSoFar {
 
     /// Notes what columns 73 to 80 of the card hold.
     pub fn note_tail(&mut self, card: &Card) -> Result<(), AllocError> {
-        let mut tail = [b' '; 8];
-        tail.copy_from_slice(&card.text[72..]);
         self.file.notes.push(Note {
             place: card.place,
-            reason: NoteReason::TextIn73,
+            reason: NoteReason::TextInNumbers,
             count: 1,
-            tail,
+            tail: card.number_columns(),
         })?;
         Ok(())
     }
@@ -99,7 +97,7 @@ impl FileSoFar {
         if statement.has_lower {
             self.note_lower_case(statement.place)?;
         }
-        match meaning_of(statement.word.as_slice()) {
+        match WideWord::read(statement.word.as_slice()) {
             WideWord::Header(kind) => {
                 let sysmod = make_sysmod(self.alloc, kind, statement)?;
                 self.begin_sysmod(sysmod)
@@ -184,7 +182,7 @@ impl FileSoFar {
 
     // Adds a `++VER` to the SYSMOD that is begun, or as a statement that makes no item if no SYSMOD is begun.
     fn add_ver(&mut self, statement: WideStatement) -> Result<(), WideError> {
-        let Some(srels) = members(self.alloc, statement.name.as_slice())? else {
+        let Some(srels) = upper_case_members(self.alloc, statement.name.as_slice())? else {
             return self.add_other(OtherReason::NoName, statement);
         };
         let Some(sysmod) = &mut self.begun else {

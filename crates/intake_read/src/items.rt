@@ -16,7 +16,7 @@ pub struct WideOperand {
 }
 
 impl WideOperand {
-    /// What its parentheses hold, and nothing where it has none.
+    /// What its parentheses hold; empty if it has none.
     pub fn text(&self) -> &[u8]
         ensures { result.now ≡ value_text self.now.value }
     {
@@ -27,9 +27,9 @@ impl WideOperand {
     }
 }
 
-/// Why an operand could not be taken for what its name says.
+/// Why an operand cannot be read as what its name says.
 #[derive(Clone, Copy, Debug, PartialEq, Eq)]
-pub enum OddReason {
+pub enum OperandFault {
     /// The statement has no operand of this name.
     Unknown,
     /// It is the second one of its name in the statement.
@@ -38,11 +38,11 @@ pub enum OddReason {
     BadValue,
 }
 
-/// An operand that could not be taken for what its name says.
+/// An operand that cannot be read as what its name says.
 #[derive(Drop)]
-pub struct OddOperand {
+pub struct FaultyOperand {
     pub operand: WideOperand,
-    pub reason: OddReason,
+    pub reason: OperandFault,
 }
 
 /// `++FUNCTION`, `++PTF`, `++APAR` or `++USERMOD`, with the statements that belong to it.
@@ -50,11 +50,11 @@ pub struct OddOperand {
 pub struct WideSysmod {
     pub place: CardPlace,
     pub kind: Kind,
-    /// What stands in the header's parentheses, in upper case; empty where there are none.
+    /// What stands in the header's parentheses, in upper case; empty if there are none.
     pub id: Vec<u8>,
     /// REWORK, DESC, FILES, RFDSNPFX, RFDSNTYPE (RFDSNTYP), FESN, as they stand.
     pub dropped: Vec<WideOperand>,
-    pub odd: Vec<OddOperand>,
+    pub faulty: Vec<FaultyOperand>,
     pub vers: Vec<WideVer>,
     pub holds: Vec<WideHold>,
     pub elements: Vec<WideElement>,
@@ -74,7 +74,7 @@ pub struct WideVer {
     pub npre: Vec<Vec<u8>>,
     pub delete: Vec<Vec<u8>>,
     pub version: Vec<Vec<u8>>,
-    pub odd: Vec<OddOperand>,
+    pub faulty: Vec<FaultyOperand>,
     pub ifs: Vec<WideIf>,
 }
 
@@ -85,7 +85,7 @@ pub struct WideIf {
     pub fmid: Option<Vec<u8>>,
     pub then: bool,
     pub req: Vec<Vec<u8>>,
-    pub odd: Vec<OddOperand>,
+    pub faulty: Vec<FaultyOperand>,
 }
 
 /// The kind of a hold or a release; `ERR`, `SYS` and the full words alike.
@@ -97,13 +97,26 @@ pub enum WideHoldKind {
     Fixcat,
 }
 
+impl WideHoldKind {
+    /// The kind that a word of `++HOLD` or `++RELEASE` names, or `None` if it names none.
+    pub fn read(word: &[u8]) -> Option<WideHoldKind> {
+        match word {
+            b"ERROR" | b"ERR" => Some(WideHoldKind::Error),
+            b"SYSTEM" | b"SYS" => Some(WideHoldKind::System),
+            b"USER" => Some(WideHoldKind::User),
+            b"FIXCAT" => Some(WideHoldKind::Fixcat),
+            _ => None,
+        }
+    }
+}
+
 /// `++HOLD`.
 #[derive(Drop)]
 pub struct WideHold {
     pub place: CardPlace,
-    /// What stands in its parentheses, in upper case; empty where there are none.
+    /// What stands in its parentheses, in upper case; empty if there are none.
     pub id: Vec<u8>,
-    /// None: it has no word for its kind. A second word is among the odd operands.
+    /// `None` if it has no word for its kind. A second word is among the faulty operands.
     pub kind: Option<WideHoldKind>,
     pub reason: Option<Vec<u8>>,
     pub fmid: Option<Vec<u8>>,
@@ -113,7 +126,7 @@ pub struct WideHold {
     pub comment: Option<Vec<u8>>,
     /// RESOLVER and CATEGORY, as they stand.
     pub dropped: Vec<WideOperand>,
-    pub odd: Vec<OddOperand>,
+    pub faulty: Vec<FaultyOperand>,
 }
 
 /// `++RELEASE`.
@@ -126,7 +139,7 @@ pub struct WideRelease {
     pub fmid: Option<Vec<u8>>,
     /// RESOLVER, CATEGORY, CLASS, DATE and COMMENT, as they stand.
     pub dropped: Vec<WideOperand>,
-    pub odd: Vec<OddOperand>,
+    pub faulty: Vec<FaultyOperand>,
 }
 
 /// `++ASSIGN`.
@@ -136,7 +149,7 @@ pub struct WideAssign {
     /// As it is typed, in lower case too.
     pub source: Option<Vec<u8>>,
     pub to: Vec<Vec<u8>>,
-    pub odd: Vec<OddOperand>,
+    pub faulty: Vec<FaultyOperand>,
 }
 
 /// A statement that brings, updates or deletes an element: `++MAC`, `++MOD`, `++ZAP`, `++PROGRAM`, each data element
@@ -150,7 +163,7 @@ pub struct WideElement {
     pub name: Vec<u8>,
     pub distlib: Option<Vec<u8>>,
     pub syslib: Option<Vec<u8>>,
-    /// What RELFILE says, where its text is in another file.
+    /// What RELFILE says, if its text is in another file.
     pub relfile: Option<Vec<u8>>,
     /// The library of the modules that are assembled of it.
     pub distmod: Option<Vec<u8>>,
@@ -160,13 +173,13 @@ pub struct WideElement {
     pub libraries: Vec<WideOperand>,
     /// All its other operands, as they stand: SSI, ALIAS, DELETE, LMOD and so on.
     pub operands: Vec<WideOperand>,
-    /// Operands that come twice or whose value is none.
-    pub odd: Vec<OddOperand>,
-    /// The cards behind it, up to the next statement.
+    /// Operands that are given twice or have a bad value.
+    pub faulty: Vec<FaultyOperand>,
+    /// The cards after it, up to the next statement.
     pub inline: Vec<Card>,
 }
 
-/// Why a statement is none of the others.
+/// Why a statement makes no SYSMOD, `++VER`, hold, element or other item.
 #[derive(Clone, Copy, Debug, PartialEq, Eq, Error)]
 pub enum OtherReason {
     /// `++FEATURE`, `++PRODUCT` or `++NULL`.
@@ -178,10 +191,10 @@ pub enum OtherReason {
     /// Its word is no statement's.
     #[error("no statement has this word")]
     UnknownWord,
-    /// It ends without its period, where the next statement or the file's end comes.
+    /// The next statement, or the end of the file, comes before its period.
     #[error("its period is missing")]
     NoPeriod,
-    /// A parenthesis is open where the next statement or the file's end comes.
+    /// A parenthesis is open at the next statement, or at the end of the file.
     #[error("a parenthesis is open")]
     OpenParenthesis,
     /// A closing parenthesis has no partner, or a list follows no word.
@@ -204,8 +217,8 @@ pub enum OtherReason {
     Misplaced,
 }
 
-/// A statement that is none of the others: one of those that are known by name alone, or one that has something wrong
-/// with it.
+/// A statement that makes no SYSMOD, `++VER`, hold, element or other item: one that is only known by name, or one that
+/// has something wrong with it.
 #[derive(Drop)]
 pub struct WideOther {
     pub place: CardPlace,
@@ -224,7 +237,7 @@ pub enum NoteReason {
     /// Words in lower case are read in upper case.
     LowerCase,
     /// Columns 73 to 80 hold something that is no number; they are not read. Each card has a note of its own.
-    TextIn73,
+    TextInNumbers,
 }
 
 /// Something that was read otherwise than it stands: the first statement or card with it, and how many there are.

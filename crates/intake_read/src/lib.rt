@@ -1,6 +1,6 @@
 //! The statements of a shop's files, in the wide grammar of SMP/E, as plain structs, and the remarks on those that
-//! could not be taken for what they say. Only `WideOperand::text` has a contract: of the other functions it is proved
-//! that they never panic, and only tested that they read each statement as SMP/E does. Every call that allocates fails
+//! could not be read as what they say. Only `WideOperand::text` and `list_members` have contracts: of the other functions
+//! it is proved that they never panic, and only tested that they read each statement as SMP/E does. Every call that allocates fails
 //! with `AllocError` if memory runs out.
 #![tactic(auto)]
 
@@ -17,11 +17,10 @@ mod statement;
 pub use errors::WideError;
 pub use intake_cards::{Card, CardPlace};
 pub use items::{
-    Note, NoteReason, OddOperand, OddReason, OtherReason, SwallowedStatement, WideAssign,
+    FaultyOperand, Note, NoteReason, OperandFault, OtherReason, SwallowedStatement, WideAssign,
     WideElement, WideFile, WideHold, WideHoldKind, WideIf, WideOperand, WideOther, WideRelease,
     WideSysmod, WideVer,
 };
-pub use make::hold_kind;
-pub use meaning::is_element;
+pub use operands::list_members;
 pub use read::WideReader;
-pub use remarks::{missing_word, tell_no_decision, tell_odd};
+pub use remarks::{missing_word, tell_dropped_operands, tell_faulty_operands};

@@ -1,41 +1,16 @@
 //! Items made of statements.
 use crate::items::{
-    OddOperand, OddReason, OtherReason, WideAssign, WideElement, WideHold, WideHoldKind, WideIf,
-    WideOperand, WideOther, WideRelease, WideSysmod, WideVer,
+    FaultyOperand, OperandFault, OtherReason, WideAssign, WideElement, WideHold, WideHoldKind,
+    WideIf, WideOperand, WideOther, WideRelease, WideSysmod, WideVer,
 };
 use crate::meaning::is_word_of;
-use crate::operands::{keep_odd, take_flag, take_list, take_text, take_value};
+use crate::operands::{fill_flag, fill_list, fill_text, fill_value, keep_faulty};
 use crate::statement::WideStatement;
-use intake_cards::CardPlace;
 use std::alloc::{AllocError, Global};
 use terms::Kind;
 
 /// Operands of headers that change no decision.
 const DROPPED: &[u8] = b"REWORK DESC DESCRIPTION FILES RFDSNPFX RFDSNTYPE RFDSNTYP FESN";
-
-// A SYSMOD of this kind at this place, with neither id nor statements.
-fn empty_sysmod(alloc: Global, place: CardPlace, kind: Kind) -> WideSysmod {
-    WideSysmod {
-        place,
-        kind,
-        id: Vec::new(alloc),
-        dropped: Vec::new(alloc),
-        odd: Vec::new(alloc),
-        vers: Vec::new(alloc),
-        holds: Vec::new(alloc),
-        elements: Vec::new(alloc),
-        others: Vec::new(alloc),
-    }
-}
-
-// Adds an operand of a header: all that change no decision are dropped, any other is odd.
-fn add_to_sysmod(sysmod: &mut WideSysmod, operand: WideOperand) -> Result<(), AllocError> {
-    if is_word_of(DROPPED, operand.name.as_slice()) {
-        sysmod.dropped.push(operand)?;
-        return Ok(());
-    }
-    keep_odd(&mut sysmod.odd, operand, OddReason::Unknown)
-}
 
 /// The SYSMOD that the header begins.
 pub(crate) fn make_sysmod(
@@ -43,7 +18,17 @@ pub(crate) fn make_sysmod(
     kind: Kind,
     statement: WideStatement,
 ) -> Result<WideSysmod, AllocError> {
-    let mut sysmod = empty_sysmod(alloc, statement.place, kind);
+    let mut sysmod = WideSysmod {
+        place: statement.place,
+        kind,
+        id: Vec::new(alloc),
+        dropped: Vec::new(alloc),
+        faulty: Vec::new(alloc),
+        vers: Vec::new(alloc),
+        holds: Vec::new(alloc),
+        elements: Vec::new(alloc),
+        others: Vec::new(alloc),
+    };
     if let Some(reason) = statement.fault {
         sysmod.id = statement.name.clone()?;
         sysmod.others.push(make_other(reason, statement))?;
@@ -51,7 +36,11 @@ pub(crate) fn make_sysmod(
     }
     sysmod.id = statement.name;
     for operand in statement.operands {
-        add_to_sysmod(&mut sysmod, operand)?;
+        if is_word_of(DROPPED, operand.name.as_slice()) {
+            sysmod.dropped.push(operand)?;
+        } else {
+            keep_faulty(&mut sysmod.faulty, operand, OperandFault::Unknown)?;
+        }
     }
     Ok(sysmod)
 }
@@ -72,7 +61,7 @@ pub(crate) fn make_ver(
         npre: Vec::new(alloc),
         delete: Vec::new(alloc),
         version: Vec::new(alloc),
-        odd: Vec::new(alloc),
+        faulty: Vec::new(alloc),
         ifs: Vec::new(alloc),
     };
     for operand in statement.operands {
@@ -83,16 +72,16 @@ pub(crate) fn make_ver(
 
 // Adds an operand of a `++VER`.
 fn add_to_ver(alloc: Global, ver: &mut WideVer, operand: WideOperand) -> Result<(), AllocError> {
-    let odd = &mut ver.odd;
+    let faulty = &mut ver.faulty;
     match operand.name.as_slice() {
-        b"FMID" => take_value(alloc, &mut ver.fmid, operand, odd),
-        b"PRE" => take_list(alloc, &mut ver.pre, operand, odd),
-        b"REQ" => take_list(alloc, &mut ver.req, operand, odd),
-        b"SUP" => take_list(alloc, &mut ver.sup, operand, odd),
-        b"NPRE" => take_list(alloc, &mut ver.npre, operand, odd),
-        b"DELETE" => take_list(alloc, &mut ver.delete, operand, odd),
-        b"VERSION" => take_list(alloc, &mut ver.version, operand, odd),
-        _ => keep_odd(odd, operand, OddReason::Unknown),
+        b"FMID" => fill_value(alloc, &mut ver.fmid, operand, faulty),
+        b"PRE" => fill_list(alloc, &mut ver.pre, operand, faulty),
+        b"REQ" => fill_list(alloc, &mut ver.req, operand, faulty),
+        b"SUP" => fill_list(alloc, &mut ver.sup, operand, faulty),
+        b"NPRE" => fill_list(alloc, &mut ver.npre, operand, faulty),
+        b"DELETE" => fill_list(alloc, &mut ver.delete, operand, faulty),
+        b"VERSION" => fill_list(alloc, &mut ver.version, operand, faulty),
+        _ => keep_faulty(faulty, operand, OperandFault::Unknown),
     }
 }
 
@@ -103,44 +92,33 @@ pub(crate) fn make_if(alloc: Global, statement: WideStatement) -> Result<WideIf,
         fmid: None,
         then: false,
         req: Vec::new(alloc),
-        odd: Vec::new(alloc),
+        faulty: Vec::new(alloc),
     };
     for operand in statement.operands {
-        let odd = &mut condition.odd;
+        let faulty = &mut condition.faulty;
         match operand.name.as_slice() {
-            b"FMID" => take_value(alloc, &mut condition.fmid, operand, odd)?,
-            b"REQ" => take_list(alloc, &mut condition.req, operand, odd)?,
-            b"THEN" => take_flag(&mut condition.then, operand, odd)?,
-            _ => keep_odd(odd, operand, OddReason::Unknown)?,
+            b"FMID" => fill_value(alloc, &mut condition.fmid, operand, faulty)?,
+            b"REQ" => fill_list(alloc, &mut condition.req, operand, faulty)?,
+            b"THEN" => fill_flag(&mut condition.then, operand, faulty)?,
+            _ => keep_faulty(faulty, operand, OperandFault::Unknown)?,
         }
     }
     Ok(condition)
 }
 
-/// The kind of holds that a word names, or `None` if it names none.
-pub fn hold_kind(word: &[u8]) -> Option<WideHoldKind> {
-    match word {
-        b"ERROR" | b"ERR" => Some(WideHoldKind::Error),
-        b"SYSTEM" | b"SYS" => Some(WideHoldKind::System),
-        b"USER" => Some(WideHoldKind::User),
-        b"FIXCAT" => Some(WideHoldKind::Fixcat),
-        _ => None,
-    }
-}
-
-// Puts the kind that the operand names into the slot of its statement. The operand is odd if the slot is filled, or if
+// Puts the kind that the operand names into the slot of its statement. The operand is faulty if the slot is filled, or if
 // it has parentheses.
-fn take_kind(
+fn fill_kind(
     slot: &mut Option<WideHoldKind>,
     kind: WideHoldKind,
     operand: WideOperand,
-    odd: &mut Vec<OddOperand>,
+    faulty: &mut Vec<FaultyOperand>,
 ) -> Result<(), AllocError> {
     if slot.is_some() {
-        return keep_odd(odd, operand, OddReason::Repeated);
+        return keep_faulty(faulty, operand, OperandFault::Repeated);
     }
     if operand.value.is_some() {
-        return keep_odd(odd, operand, OddReason::BadValue);
+        return keep_faulty(faulty, operand, OperandFault::BadValue);
     }
     *slot = Some(kind);
     Ok(())
@@ -158,7 +136,7 @@ pub(crate) fn make_hold(alloc: Global, statement: WideStatement) -> Result<WideH
         date: None,
         comment: None,
         dropped: Vec::new(alloc),
-        odd: Vec::new(alloc),
+        faulty: Vec::new(alloc),
     };
     for operand in statement.operands {
         add_to_hold(alloc, &mut hold, operand)?;
@@ -168,21 +146,21 @@ pub(crate) fn make_hold(alloc: Global, statement: WideStatement) -> Result<WideH
 
 // Adds an operand of a `++HOLD`.
 fn add_to_hold(alloc: Global, hold: &mut WideHold, operand: WideOperand) -> Result<(), AllocError> {
-    let odd = &mut hold.odd;
-    if let Some(kind) = hold_kind(operand.name.as_slice()) {
-        return take_kind(&mut hold.kind, kind, operand, odd);
+    let faulty = &mut hold.faulty;
+    if let Some(kind) = WideHoldKind::read(operand.name.as_slice()) {
+        return fill_kind(&mut hold.kind, kind, operand, faulty);
     }
     match operand.name.as_slice() {
-        b"REASON" => take_value(alloc, &mut hold.reason, operand, odd),
-        b"FMID" => take_value(alloc, &mut hold.fmid, operand, odd),
-        b"CLASS" => take_value(alloc, &mut hold.class, operand, odd),
-        b"DATE" => take_value(alloc, &mut hold.date, operand, odd),
-        b"COMMENT" => take_text(&mut hold.comment, operand, odd),
+        b"REASON" => fill_value(alloc, &mut hold.reason, operand, faulty),
+        b"FMID" => fill_value(alloc, &mut hold.fmid, operand, faulty),
+        b"CLASS" => fill_value(alloc, &mut hold.class, operand, faulty),
+        b"DATE" => fill_value(alloc, &mut hold.date, operand, faulty),
+        b"COMMENT" => fill_text(&mut hold.comment, operand, faulty),
         b"RESOLVER" | b"CATEGORY" => {
             hold.dropped.push(operand)?;
             Ok(())
         }
-        _ => keep_odd(odd, operand, OddReason::Unknown),
+        _ => keep_faulty(faulty, operand, OperandFault::Unknown),
     }
 }
 
@@ -198,7 +176,7 @@ pub(crate) fn make_release(
         reason: None,
         fmid: None,
         dropped: Vec::new(alloc),
-        odd: Vec::new(alloc),
+        faulty: Vec::new(alloc),
     };
     for operand in statement.operands {
         add_to_release(alloc, &mut release, operand)?;
@@ -212,18 +190,18 @@ fn add_to_release(
     release: &mut WideRelease,
     operand: WideOperand,
 ) -> Result<(), AllocError> {
-    let odd = &mut release.odd;
-    if let Some(kind) = hold_kind(operand.name.as_slice()) {
-        return take_kind(&mut release.kind, kind, operand, odd);
+    let faulty = &mut release.faulty;
+    if let Some(kind) = WideHoldKind::read(operand.name.as_slice()) {
+        return fill_kind(&mut release.kind, kind, operand, faulty);
     }
     match operand.name.as_slice() {
-        b"REASON" => take_value(alloc, &mut release.reason, operand, odd),
-        b"FMID" => take_value(alloc, &mut release.fmid, operand, odd),
+        b"REASON" => fill_value(alloc, &mut release.reason, operand, faulty),
+        b"FMID" => fill_value(alloc, &mut release.fmid, operand, faulty),
         b"RESOLVER" | b"CATEGORY" | b"CLASS" | b"DATE" | b"COMMENT" => {
             release.dropped.push(operand)?;
             Ok(())
         }
-        _ => keep_odd(odd, operand, OddReason::Unknown),
+        _ => keep_faulty(faulty, operand, OperandFault::Unknown),
     }
 }
 
@@ -236,14 +214,14 @@ pub(crate) fn make_assign(
         place: statement.place,
         source: None,
         to: Vec::new(alloc),
-        odd: Vec::new(alloc),
+        faulty: Vec::new(alloc),
     };
     for operand in statement.operands {
-        let odd = &mut assign.odd;
+        let faulty = &mut assign.faulty;
         match operand.name.as_slice() {
-            b"SOURCEID" => take_text(&mut assign.source, operand, odd)?,
-            b"TO" => take_list(alloc, &mut assign.to, operand, odd)?,
-            _ => keep_odd(odd, operand, OddReason::Unknown)?,
+            b"SOURCEID" => fill_text(&mut assign.source, operand, faulty)?,
+            b"TO" => fill_list(alloc, &mut assign.to, operand, faulty)?,
+            _ => keep_faulty(faulty, operand, OperandFault::Unknown)?,
         }
     }
     Ok(assign)
@@ -265,7 +243,7 @@ pub(crate) fn make_element(
         assem: Vec::new(alloc),
         libraries: Vec::new(alloc),
         operands: Vec::new(alloc),
-        odd: Vec::new(alloc),
+        faulty: Vec::new(alloc),
         inline: statement.inline,
     };
     for operand in statement.operands {
@@ -280,13 +258,13 @@ fn add_to_element(
     element: &mut WideElement,
     operand: WideOperand,
 ) -> Result<(), AllocError> {
-    let odd = &mut element.odd;
+    let faulty = &mut element.faulty;
     match operand.name.as_slice() {
-        b"DISTLIB" => take_value(alloc, &mut element.distlib, operand, odd),
-        b"SYSLIB" => take_value(alloc, &mut element.syslib, operand, odd),
-        b"RELFILE" => take_value(alloc, &mut element.relfile, operand, odd),
-        b"DISTMOD" => take_value(alloc, &mut element.distmod, operand, odd),
-        b"ASSEM" => take_list(alloc, &mut element.assem, operand, odd),
+        b"DISTLIB" => fill_value(alloc, &mut element.distlib, operand, faulty),
+        b"SYSLIB" => fill_value(alloc, &mut element.syslib, operand, faulty),
+        b"RELFILE" => fill_value(alloc, &mut element.relfile, operand, faulty),
+        b"DISTMOD" => fill_value(alloc, &mut element.distmod, operand, faulty),
+        b"ASSEM" => fill_list(alloc, &mut element.assem, operand, faulty),
         b"TXLIB" | b"LKLIB" | b"FROMDS" => {
             element.libraries.push(operand)?;
             Ok(())

@@ -25,7 +25,46 @@ pub(crate) enum ItemWord {
     Unknown,
 }
 
+impl WideWord {
+    /// The meaning of a statement's word, which is given without its `++`.
+    pub(crate) fn read(word: &[u8]) -> WideWord {
+        match word {
+            b"FUNCTION" => WideWord::Header(Kind::Function),
+            b"PTF" => WideWord::Header(Kind::Ptf),
+            b"APAR" => WideWord::Header(Kind::Apar),
+            b"USERMOD" => WideWord::Header(Kind::Usermod),
+            _ => WideWord::Item(ItemWord::read(word)),
+        }
+    }
+
+    /// Whether a statement of this word needs what stands in parentheses after the word.
+    pub(crate) fn needs_name(self) -> bool {
+        match self {
+            WideWord::Header(_) => true,
+            WideWord::Item(word) => matches!(
+                word,
+                ItemWord::Ver | ItemWord::Hold | ItemWord::Release | ItemWord::Element
+            ),
+        }
+    }
+}
+
 impl ItemWord {
+    // The meaning of a word that is no header's, which is given without its `++`.
+    fn read(word: &[u8]) -> ItemWord {
+        match word {
+            b"VER" => ItemWord::Ver,
+            b"IF" => ItemWord::If,
+            b"HOLD" => ItemWord::Hold,
+            b"RELEASE" => ItemWord::Release,
+            b"ASSIGN" => ItemWord::Assign,
+            b"JCLIN" | b"MOVE" | b"RENAME" | b"DELETE" => ItemWord::LoadModules,
+            b"FEATURE" | b"PRODUCT" | b"NULL" => ItemWord::NoService,
+            _ if is_element(word) => ItemWord::Element,
+            _ => ItemWord::Unknown,
+        }
+    }
+
     /// Whether no SYSMOD is left out if a statement of this word is at fault, because such a statement is kept beside
     /// the SYSMODs.
     pub(crate) fn stands_alone(self) -> bool {
@@ -74,51 +113,14 @@ fn has_language(word: &[u8]) -> bool {
     is_word_of(LANGUAGES, language) && may_have_language(element)
 }
 
-/// Whether the word, without its `++`, is that of a statement for an element.
-pub fn is_element(word: &[u8]) -> bool {
+// Whether the word, without its `++`, is that of a statement for an element.
+fn is_element(word: &[u8]) -> bool {
     is_word_of(PLAIN_ELEMENTS, word) || may_have_language(word) || has_language(word)
 }
 
-// The meaning of a word that is no header's, which is given without its `++`.
-fn item_word(word: &[u8]) -> ItemWord {
-    match word {
-        b"VER" => ItemWord::Ver,
-        b"IF" => ItemWord::If,
-        b"HOLD" => ItemWord::Hold,
-        b"RELEASE" => ItemWord::Release,
-        b"ASSIGN" => ItemWord::Assign,
-        b"JCLIN" | b"MOVE" | b"RENAME" | b"DELETE" => ItemWord::LoadModules,
-        b"FEATURE" | b"PRODUCT" | b"NULL" => ItemWord::NoService,
-        _ if is_element(word) => ItemWord::Element,
-        _ => ItemWord::Unknown,
-    }
-}
-
-/// The meaning of a statement's word, which is given without its `++`.
-pub(crate) fn meaning_of(word: &[u8]) -> WideWord {
-    match word {
-        b"FUNCTION" => WideWord::Header(Kind::Function),
-        b"PTF" => WideWord::Header(Kind::Ptf),
-        b"APAR" => WideWord::Header(Kind::Apar),
-        b"USERMOD" => WideWord::Header(Kind::Usermod),
-        _ => WideWord::Item(item_word(word)),
-    }
-}
-
-/// Whether a statement of this word needs what stands in parentheses after the word.
-pub(crate) fn needs_name(meaning: WideWord) -> bool {
-    match meaning {
-        WideWord::Header(_) => true,
-        WideWord::Item(word) => matches!(
-            word,
-            ItemWord::Ver | ItemWord::Hold | ItemWord::Release | ItemWord::Element
-        ),
-    }
-}
-
 /// Whether cards after a statement of this word may be its text.
-pub(crate) fn takes_text(word: &[u8]) -> bool {
-    match meaning_of(word) {
+pub(crate) fn may_have_inline_text(word: &[u8]) -> bool {
+    match WideWord::read(word) {
         WideWord::Item(ItemWord::Element | ItemWord::Unknown) => true,
         WideWord::Item(ItemWord::LoadModules) => word == b"JCLIN".as_slice(),
         _ => false,

@@ -1,88 +1,127 @@
 //! The values of operands.
-use crate::items::{OddOperand, OddReason, WideOperand};
-use std::alloc::{AllocError, Global};
-use std::mem;
+ghost use Rattle.std.specs.Prelude.{◌≡◌, ◌==◌, ◌||◌, IfOk, map, filter, nat_lt, length};
+ghost use Rattle.std.specs.List.{slice_split};
+ghost use Rattle.intake_read.specs.Stated.{members};
 
-/// The members of a list in upper case, which blanks and commas separate. Returns `None` if there are none, or if one
-/// has a list of its own.
-pub(crate) fn members(alloc: Global, text: &[u8]) -> Result<Option<Vec<Vec<u8>>>, AllocError> {
-    let mut list = Vec::new(alloc);
-    let mut member = Vec::new(alloc);
-    for byte in text {
-        match byte {
-            b'(' | b')' => return Ok(None),
-            b' ' | b',' => {
-                if !member.is_empty() {
-                    list.push(mem::replace(&mut member, Vec::new(alloc)))?;
-                }
-            }
-            _ => member.push(byte.to_ascii_uppercase())?,
+use crate::items::{FaultyOperand, OperandFault, WideOperand};
+use std::alloc::{AllocError, Global};
+
+// The parts of a list between its blanks and commas, empty ones too.
+fn parts(alloc: Global, list: &[u8]) -> Result<Vec<&[u8]>, AllocError>
+    ensures { IfOk result (λ found. map (λ part. part.now) found.items
+        ≡ slice_split (λ b. b == 32 || b == 44) list.now) }
+{
+    list.split(|b| *b == b' ' || *b == b',').collect(alloc)
+}
+
+// Whether the part is not empty.
+fn is_filled(part: &[u8]) -> bool
+    ensures { result ≡ nat_lt 0 (length part.now) }
+{
+    !part.is_empty()
+}
+
+// The parts that are not empty.
+fn nonempty_parts<'a>(alloc: Global, parts: &[&'a [u8]]) -> Result<Vec<&'a [u8]>, AllocError>
+    ensures { IfOk result (λ found. map (λ part. part.now) found.items
+        ≡ filter (λ part. nat_lt 0 (length part)) (map (λ part. part.now) parts.now)) }
+{
+    let mut found = Vec::new(alloc);
+    for part in parts {
+        if !is_filled(*part) {
+            continue;
         }
+        found.push(*part)?;
     }
-    if !member.is_empty() {
-        list.push(member)?;
+    Ok(found)
+}
+
+/// The members of a list, which blanks and commas separate.
+pub fn list_members(alloc: Global, list: &[u8]) -> Result<Vec<&[u8]>, AllocError>
+    ensures { IfOk result (λ found. map (λ member. member.now) found.items ≡ members list.now) }
+{
+    nonempty_parts(alloc, &parts(alloc, list)?)
+}
+
+/// The members of a list in upper case. Returns `None` if there are none, or if one has a list of its own.
+pub(crate) fn upper_case_members(
+    alloc: Global,
+    list: &[u8],
+) -> Result<Option<Vec<Vec<u8>>>, AllocError> {
+    let mut members = Vec::new(alloc);
+    for member in list_members(alloc, list)? {
+        members.push(upper_case(alloc, member)?)?;
     }
-    if list.is_empty() {
+    if members.is_empty() || list.iter().any(|byte| matches!(*byte, b'(' | b')')) {
         return Ok(None);
     }
-    Ok(Some(list))
+    Ok(Some(members))
+}
+
+// The text in upper case.
+fn upper_case(alloc: Global, text: &[u8]) -> Result<Vec<u8>, AllocError> {
+    let mut upper = Vec::with_capacity(alloc, text.len())?;
+    for byte in text {
+        upper.push(byte.to_ascii_uppercase())?;
+    }
+    Ok(upper)
 }
 
 // The only member of a list in upper case. Returns `None` if the list has not just one member.
-fn only_member(alloc: Global, text: &[u8]) -> Result<Option<Vec<u8>>, AllocError> {
-    let Some(mut list) = members(alloc, text)? else {
+fn only_member(alloc: Global, list: &[u8]) -> Result<Option<Vec<u8>>, AllocError> {
+    let Some(mut members) = upper_case_members(alloc, list)? else {
         return Ok(None);
     };
-    if list.len() != 1 {
+    if members.len() != 1 {
         return Ok(None);
     }
-    Ok(list.pop())
+    Ok(members.pop())
 }
 
-/// Keeps an operand that could not be taken for what its name says.
-pub(crate) fn keep_odd(
-    odd: &mut Vec<OddOperand>,
+/// Keeps an operand that cannot be read as what its name says.
+pub(crate) fn keep_faulty(
+    faulty: &mut Vec<FaultyOperand>,
     operand: WideOperand,
-    reason: OddReason,
+    reason: OperandFault,
 ) -> Result<(), AllocError> {
-    odd.push(OddOperand { operand, reason })?;
+    faulty.push(FaultyOperand { operand, reason })?;
     Ok(())
 }
 
-/// Puts the operand's list into the slot of its statement. The operand is odd if the slot is filled, or if it has no
+/// Puts the operand's list into the slot of its statement. The operand is faulty if the slot is filled, or if it has no
 /// list.
-pub(crate) fn take_list(
+pub(crate) fn fill_list(
     alloc: Global,
     slot: &mut Vec<Vec<u8>>,
     operand: WideOperand,
-    odd: &mut Vec<OddOperand>,
+    faulty: &mut Vec<FaultyOperand>,
 ) -> Result<(), AllocError> {
     if !slot.is_empty() {
-        return keep_odd(odd, operand, OddReason::Repeated);
+        return keep_faulty(faulty, operand, OperandFault::Repeated);
     }
     let members = match &operand.value {
-        Some(value) => members(alloc, value.as_slice())?,
+        Some(value) => upper_case_members(alloc, value.as_slice())?,
         None => None,
     };
     match members {
-        Some(list) => {
-            *slot = list;
+        Some(members) => {
+            *slot = members;
             Ok(())
         }
-        None => keep_odd(odd, operand, OddReason::BadValue),
+        None => keep_faulty(faulty, operand, OperandFault::BadValue),
     }
 }
 
-/// Puts the operand's one value into the slot of its statement. The operand is odd if the slot is filled, or if it has
+/// Puts the operand's one value into the slot of its statement. The operand is faulty if the slot is filled, or if it has
 /// not just one value.
-pub(crate) fn take_value(
+pub(crate) fn fill_value(
     alloc: Global,
     slot: &mut Option<Vec<u8>>,
     operand: WideOperand,
-    odd: &mut Vec<OddOperand>,
+    faulty: &mut Vec<FaultyOperand>,
 ) -> Result<(), AllocError> {
     if slot.is_some() {
-        return keep_odd(odd, operand, OddReason::Repeated);
+        return keep_faulty(faulty, operand, OperandFault::Repeated);
     }
     let member = match &operand.value {
         Some(value) => only_member(alloc, value.as_slice())?,
@@ -93,22 +132,22 @@ pub(crate) fn take_value(
             *slot = Some(value);
             Ok(())
         }
-        None => keep_odd(odd, operand, OddReason::BadValue),
+        None => keep_faulty(faulty, operand, OperandFault::BadValue),
     }
 }
 
-/// Puts what the operand's parentheses hold into the slot of its statement, unchanged. The operand is odd if the slot
+/// Puts what the operand's parentheses hold into the slot of its statement, unchanged. The operand is faulty if the slot
 /// is filled, or if it has no parentheses.
-pub(crate) fn take_text(
+pub(crate) fn fill_text(
     slot: &mut Option<Vec<u8>>,
     operand: WideOperand,
-    odd: &mut Vec<OddOperand>,
+    faulty: &mut Vec<FaultyOperand>,
 ) -> Result<(), AllocError> {
     if slot.is_some() {
-        return keep_odd(odd, operand, OddReason::Repeated);
+        return keep_faulty(faulty, operand, OperandFault::Repeated);
     }
     if operand.value.is_none() {
-        return keep_odd(odd, operand, OddReason::BadValue);
+        return keep_faulty(faulty, operand, OperandFault::BadValue);
     }
     let WideOperand {
         place: _,
@@ -119,17 +158,17 @@ pub(crate) fn take_text(
     Ok(())
 }
 
-/// Sets the flag of the operand's statement. The operand is odd if the flag is set, or if it has parentheses.
-pub(crate) fn take_flag(
+/// Sets the flag of the operand's statement. The operand is faulty if the flag is set, or if it has parentheses.
+pub(crate) fn fill_flag(
     slot: &mut bool,
     operand: WideOperand,
-    odd: &mut Vec<OddOperand>,
+    faulty: &mut Vec<FaultyOperand>,
 ) -> Result<(), AllocError> {
     if *slot {
-        return keep_odd(odd, operand, OddReason::Repeated);
+        return keep_faulty(faulty, operand, OperandFault::Repeated);
     }
     if operand.value.is_some() {
-        return keep_odd(odd, operand, OddReason::BadValue);
+        return keep_faulty(faulty, operand, OperandFault::BadValue);
     }
     *slot = true;
     Ok(())

@@ -2,8 +2,8 @@
 use crate::errors::WideError;
 use crate::gather::FileSoFar;
 use crate::items::{OtherReason, SwallowedStatement, WideFile, WideHold};
-use crate::meaning::{is_text_elsewhere, takes_text};
-use crate::statement::{WideStatement, statement_of};
+use crate::meaning::{is_text_elsewhere, may_have_inline_text};
+use crate::statement::WideStatement;
 use intake_cards::{Card, CardPiece, CardPlace, CardScanner, Open, Tail, Token, is_word_byte};
 use std::alloc::{AllocError, Global};
 
@@ -35,8 +35,8 @@ pub struct WideReader {
     gathered: FileSoFar,
 }
 
-// The letters and digits at the beginning, in upper case.
-fn upper_word(alloc: Global, text: &[u8]) -> Result<Vec<u8>, AllocError> {
+// The word at the beginning of the text, in upper case; empty if none begins there.
+fn first_word(alloc: Global, text: &[u8]) -> Result<Vec<u8>, AllocError> {
     let mut word = Vec::new(alloc);
     for byte in text {
         if !is_word_byte(*byte) {
@@ -47,7 +47,7 @@ fn upper_word(alloc: Global, text: &[u8]) -> Result<Vec<u8>, AllocError> {
     Ok(word)
 }
 
-// What follows the first opening parenthesis.
+// What follows the first opening parenthesis; empty if there is none.
 fn after_parenthesis(text: &[u8]) -> &[u8] {
     match text.iter().position(|byte| *byte == b'(') {
         Some(place) => &text[place + 1..],
@@ -61,12 +61,12 @@ fn swallowed_statement(
     comment: CardPlace,
     card: &Card,
 ) -> Result<SwallowedStatement, AllocError> {
-    let text = &card.text[2..72];
+    let text = card.columns_after_plus_signs();
     Ok(SwallowedStatement {
         place: card.place,
         comment,
-        word: upper_word(alloc, text)?,
-        name: upper_word(alloc, after_parenthesis(text).trim_ascii_start())?,
+        word: first_word(alloc, text)?,
+        name: first_word(alloc, after_parenthesis(text).trim_ascii_start())?,
     })
 }
 
@@ -81,7 +81,8 @@ fn missing_statement_hint(card: &Card) -> &'static str {
     }
 }
 
-// Whether cards after the statement of these pieces are its text.
+// Whether cards after the statement of these pieces may be its text: its word may have one, and no operand says that
+// the text is elsewhere.
 fn may_have_inline(pieces: &[CardPiece]) -> bool {
     let mut has_word = false;
     for piece in pieces {
@@ -89,7 +90,7 @@ fn may_have_inline(pieces: &[CardPiece]) -> bool {
             if has_word && is_text_elsewhere(word.as_slice()) {
                 return false;
             }
-            if !has_word && !takes_text(word.as_slice()) {
+            if !has_word && !may_have_inline_text(word.as_slice()) {
                 return false;
             }
             has_word = true;
@@ -133,12 +134,12 @@ impl WideReader {
             }
             CardPart::Own => {
                 self.note_tail(card)?;
-                self.scanner.take_card(card)?;
+                self.scanner.scan_card(card)?;
                 self.end_line(card);
                 self.end_own_text()
             }
             CardPart::Before | CardPart::Behind => {
-                self.scanner.take_card(card)?;
+                self.scanner.scan_card(card)?;
                 self.end_line(card);
                 self.blame_text_after(card)
             }
@@ -152,7 +153,8 @@ impl WideReader {
         self.place = card.place;
         self.note_tail(card)?;
         self.is_cut = false;
-        self.scanner.take_columns(card.place, &card.text[2..72])?;
+        self.scanner
+            .scan_columns(card.place, card.columns_after_plus_signs())?;
         self.end_line(card);
         self.end_own_text()
     }
@@ -178,10 +180,7 @@ impl WideReader {
 
     // Makes a statement of the pieces that were scanned, and takes them out of the scanner.
     fn take_statement(&mut self) -> Result<WideStatement, AllocError> {
-        let open = self.scanner.open();
-        let has_lower = self.scanner.has_lower();
-        let pieces = self.scanner.take_pieces();
-        let mut statement = statement_of(self.alloc, self.place, pieces, open, has_lower)?;
+        let mut statement = WideStatement::take_scanned(self.alloc, self.place, &mut self.scanner)?;
         if self.is_cut {
             statement.fault = Some(OtherReason::LongLine);
         }

@@ -1,10 +1,10 @@
-//! Remarks on operands and statements that are dropped, or could not be taken for what they say.
-use crate::items::{OddOperand, OddReason, OtherReason, WideOperand, WideOther};
+//! Remarks on operands and statements that are dropped, or cannot be read as what they say.
+use crate::items::{FaultyOperand, OperandFault, OtherReason, WideOperand, WideOther};
 use intake_cards::{Deed, RemarkReason, Remarks, Subject};
 use std::alloc::{AllocError, Global};
 
 /// Remarks on each of the operands that it is dropped because it changes no decision.
-pub fn tell_no_decision(
+pub fn tell_dropped_operands(
     alloc: Global,
     remarks: &mut Remarks,
     subject: &Subject<'_>,
@@ -23,17 +23,17 @@ pub fn tell_no_decision(
     Ok(())
 }
 
-/// Remarks on each of the odd operands: what is done with it, and why.
-pub fn tell_odd(
+/// Remarks on each of the faulty operands: what is done with it, and why.
+pub fn tell_faulty_operands(
     alloc: Global,
     remarks: &mut Remarks,
     subject: &Subject<'_>,
-    odd: &[OddOperand],
+    faulty: &[FaultyOperand],
     deed: Deed,
 ) -> Result<(), AllocError> {
-    for odd_operand in odd {
-        let operand = &odd_operand.operand;
-        let reason = RemarkReason::from(odd_operand.reason);
+    for entry in faulty {
+        let operand = &entry.operand;
+        let reason = RemarkReason::from(entry.reason);
         remarks.tell(
             alloc,
             subject,
@@ -58,12 +58,12 @@ pub fn missing_word(other: &WideOther) -> &'static [u8] {
     }
 }
 
-impl From<OddReason> for RemarkReason {
-    fn from(reason: OddReason) -> RemarkReason {
+impl From<OperandFault> for RemarkReason {
+    fn from(reason: OperandFault) -> RemarkReason {
         match reason {
-            OddReason::Unknown => RemarkReason::UnknownOperand,
-            OddReason::Repeated => RemarkReason::Twice,
-            OddReason::BadValue => RemarkReason::BadValue,
+            OperandFault::Unknown => RemarkReason::UnknownOperand,
+            OperandFault::Repeated => RemarkReason::Twice,
+            OperandFault::BadValue => RemarkReason::BadValue,
         }
     }
 }

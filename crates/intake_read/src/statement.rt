@@ -1,7 +1,7 @@
 //! A statement as it stands: its word, its name and its operands.
 use crate::items::{OtherReason, WideOperand};
-use crate::meaning::{is_read_in_upper_case, meaning_of, needs_name};
-use intake_cards::{Card, CardPiece, CardPlace, Open, Token};
+use crate::meaning::{WideWord, is_read_in_upper_case};
+use intake_cards::{Card, CardPiece, CardPlace, CardScanner, Open, Token};
 use std::alloc::{AllocError, Global};
 
 /// A statement as it stands.
@@ -45,6 +45,48 @@ fn has_lower(text: &[u8]) -> bool {
 }
 
 impl WideStatement {
+    /// The statement of the cards that were scanned, which begins at this place. Takes their pieces out of the scanner.
+    pub(crate) fn take_scanned(
+        alloc: Global,
+        place: CardPlace,
+        scanner: &mut CardScanner,
+    ) -> Result<WideStatement, AllocError> {
+        let is_open = matches!(scanner.open(), Open::Parenthesis(_));
+        let mut begun = BegunStatement {
+            statement: WideStatement {
+                place,
+                word: Vec::new(alloc),
+                name: Vec::new(alloc),
+                operands: Vec::new(alloc),
+                fault: None,
+                inline: Vec::new(alloc),
+                has_lower: scanner.has_lower(),
+            },
+            has_word: false,
+            has_name: false,
+            is_ended: false,
+        };
+        for piece in scanner.take_pieces() {
+            begun.add_piece(piece)?;
+        }
+        let BegunStatement {
+            mut statement,
+            has_word: _,
+            has_name: _,
+            is_ended,
+        } = begun;
+        match (is_ended, is_open) {
+            (true, true) => statement.blame(OtherReason::TextBehind),
+            (false, true) => statement.blame(OtherReason::OpenParenthesis),
+            (false, false) => statement.blame(OtherReason::NoPeriod),
+            (true, false) => {}
+        }
+        if statement.name.is_empty() && WideWord::read(statement.word.as_slice()).needs_name() {
+            statement.blame(OtherReason::NoName);
+        }
+        Ok(statement)
+    }
+
     /// Notes what is wrong with it. Only the first fault counts.
     pub(crate) fn blame(&mut self, fault: OtherReason) {
         if self.fault.is_none() {
@@ -113,49 +155,4 @@ impl BegunStatement {
         self.has_name = true;
         self.statement.name = name;
     }
-}
-
-/// The statement of these pieces, which begins at this place. `open` is what is open after them: it tells why the
-/// statement has no period.
-pub(crate) fn statement_of(
-    alloc: Global,
-    place: CardPlace,
-    pieces: Vec<CardPiece>,
-    open: Open,
-    has_lower: bool,
-) -> Result<WideStatement, AllocError> {
-    let mut begun = BegunStatement {
-        statement: WideStatement {
-            place,
-            word: Vec::new(alloc),
-            name: Vec::new(alloc),
-            operands: Vec::new(alloc),
-            fault: None,
-            inline: Vec::new(alloc),
-            has_lower,
-        },
-        has_word: false,
-        has_name: false,
-        is_ended: false,
-    };
-    for piece in pieces {
-        begun.add_piece(piece)?;
-    }
-    let BegunStatement {
-        mut statement,
-        has_word: _,
-        has_name: _,
-        is_ended,
-    } = begun;
-    let is_open = matches!(open, Open::Parenthesis(_));
-    match (is_ended, is_open) {
-        (true, true) => statement.blame(OtherReason::TextBehind),
-        (false, true) => statement.blame(OtherReason::OpenParenthesis),
-        (false, false) => statement.blame(OtherReason::NoPeriod),
-        (true, false) => {}
-    }
-    if statement.name.is_empty() && needs_name(meaning_of(statement.word.as_slice())) {
-        statement.blame(OtherReason::NoName);
-    }
-    Ok(statement)
 }

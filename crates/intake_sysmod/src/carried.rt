@@ -4,14 +4,14 @@ ghost use Rattle.intake_sysmod.specs.NoLooser.{IsNoLooser};
 
 use crate::changes::add_elements;
 use crate::ids::read_id_or_remark;
-use crate::others::tell_others;
+use crate::others::tell_other_statements;
 use crate::passing::{MOST_ELEMENTS, remark_passed_over};
 use crate::users::Users;
 use crate::vers::read_vers;
 use fields::spelling::kind_text;
 use intake_cards::{Deed, RemarkReason, Remarks, Subject};
 use intake_elements::Options;
-use intake_read::{WideSysmod, tell_no_decision, tell_odd};
+use intake_read::{WideSysmod, tell_dropped_operands, tell_faulty_operands};
 use std::alloc::{AllocError, Global};
 use sysmods_values::{Sysmod, Ver};
 
@@ -25,7 +25,7 @@ fn subject_of(stated: &WideSysmod) -> Subject<'_> {
 }
 
 // Remarks on the operands of the header, and on the statements that are carried nowhere. Returns whether the SYSMOD can
-// be carried with them.
+// be carried without them.
 fn remark_on_header_and_others(
     alloc: Global,
     options: &Options,
@@ -33,20 +33,20 @@ fn remark_on_header_and_others(
     stated: &WideSysmod,
 ) -> Result<bool, AllocError> {
     let subject = subject_of(stated);
-    tell_no_decision(alloc, remarks, &subject, stated.dropped.as_slice())?;
-    tell_odd(
+    tell_dropped_operands(alloc, remarks, &subject, stated.dropped.as_slice())?;
+    tell_faulty_operands(
         alloc,
         remarks,
         &subject,
-        stated.odd.as_slice(),
+        stated.faulty.as_slice(),
         Deed::LeftOut,
     )?;
-    let others = tell_others(alloc, options, remarks, stated.others.as_slice())?;
+    let is_whole = tell_other_statements(alloc, options, remarks, stated.others.as_slice())?;
     if stated.elements.len() > MOST_ELEMENTS && !options.decide {
-        remarks.leave_out(alloc, &subject, b"", RemarkReason::TooMany, b"")?;
+        remarks.tell_left_out(alloc, &subject, b"", RemarkReason::TooMany, b"")?;
         return Ok(false);
     }
-    Ok(others && stated.odd.is_empty())
+    Ok(is_whole && stated.faulty.is_empty())
 }
 
 // The SYSMOD with these `++VER`s.
@@ -90,20 +90,20 @@ fn try_to_carry(
     }
     remark_passed_over(alloc, options, users, remarks, &subject, stated)?;
     if sysmod.changes.len() > MOST_ELEMENTS {
-        remarks.leave_out(alloc, &subject, b"", RemarkReason::TooMany, b"")?;
+        remarks.tell_left_out(alloc, &subject, b"", RemarkReason::TooMany, b"")?;
         return Ok(None);
     }
     Ok(Some(with_vers(sysmod, vers)))
 }
 
-// Remarks that a SYSMOD is left out, and counts it if it has elements, NPRE or DELETE, which forbid others.
+// Remarks that a SYSMOD is left out, and counts it if it has elements, NPRE or DELETE: these would forbid others.
 fn remark_left_out(
     alloc: Global,
     remarks: &mut Remarks,
     stated: &WideSysmod,
 ) -> Result<(), AllocError> {
     let subject = subject_of(stated);
-    remarks.leave_out(alloc, &subject, b"", RemarkReason::WholeSysmod, b"")?;
+    remarks.tell_left_out(alloc, &subject, b"", RemarkReason::WholeSysmod, b"")?;
     let forbids = !stated.elements.is_empty()
         || stated
             .vers
@@ -117,7 +117,7 @@ fn remark_left_out(
 
 /// The SYSMOD without its holds, with remarks on what differs. Returns `None`, with remarks, if it is left out. The
 /// options must be in order (`Options::sort`).
-pub fn carried_sysmod(
+pub fn carry_sysmod(
     alloc: Global,
     options: &Options,
     users: &Users<'_>,

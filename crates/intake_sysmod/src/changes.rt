@@ -9,7 +9,7 @@ ghost use Rattle.intake_sysmod.specs.NoLooser.{IsElementDone};
 use crate::passing::is_passed_over;
 use crate::users::Users;
 use intake_cards::{RemarkReason, Remarks, Subject};
-use intake_elements::{Options, change_of, module_change, modules_of, subject_of};
+use intake_elements::{Options, are_both, change_of, module_change, modules_of, subject_of};
 use intake_read::{WideElement, WideSysmod};
 use std::alloc::{AllocError, Global};
 use sysmods_values::{ElemChange, Sysmod};
@@ -31,7 +31,7 @@ fn add_change(
         return Ok(true);
     }
     if !options.decide {
-        remarks.leave_out(alloc, subject, b"", RemarkReason::Twice, b"")?;
+        remarks.tell_left_out(alloc, subject, b"", RemarkReason::Twice, b"")?;
         return Ok(false);
     }
     remarks.tell_carried(alloc, subject, b"", RemarkReason::FallTogether, b"")?;
@@ -88,13 +88,6 @@ fn add_modules(
         all = are_both(all, put);
     }
     Ok(all)
-}
-
-// Whether both are true. A function, because its contract tells the proofs of its callers what follows.
-fn are_both(first: bool, second: bool) -> bool
-    ensures { IsTrue result → IsTrue first × IsTrue second }
-{
-    first && second
 }
 
 // Adds the change of the statement, and those of the modules that are assembled of its element, to a SYSMOD with

@@ -1,11 +1,11 @@
-//! Which SYSMODs of the files change an element, by the numbers of elements.
+//! Which SYSMODs of the files change an element, by the keys of elements.
 ghost use Rattle.std.specs.Prelude.{◌≡◌, IfOk, IfSome, OnOk, IsTrue, All, Some};
 ghost use Rattle.std.specs.Ordering.{nat_cmp};
 ghost use Rattle.std.specs.BTreeMap.{get};
 ghost use Rattle.intake_sysmod.specs.declared.element_users.ElementUser.TheVariants.{Only as IsOnly};
 ghost use Rattle.intake_sysmod.specs.Users.{run_of, Covers, IsUser, UsersGrow, IsKnown, KnowsRun};
 
-use crate::passing::has_many;
+use crate::passing::has_large_sysmod;
 use fields::Id;
 use intake_elements::{Options, keys_of};
 use intake_read::{WideFile, WideSysmod};
@@ -46,7 +46,7 @@ fn with_user(before: Option<ElementUser>, user: ElementUser) -> ElementUser
     }
 }
 
-// Adds the SYSMOD of the id to the users of the element with the number.
+// Adds the SYSMOD of the id to the users of the element with the key.
 fn add_user(users: &mut BTreeMap<u64, ElementUser>, key: u64, id: &[u8]) -> Result<(), AllocError>
     ensures has { OnOk result (IsUser users.new key id.now) }
     ensures grows { OnOk result (UsersGrow users.old users.new) }
@@ -56,7 +56,7 @@ fn add_user(users: &mut BTreeMap<u64, ElementUser>, key: u64, id: &[u8]) -> Resu
     Ok(())
 }
 
-// Adds the SYSMOD of the id to the users of each of the elements with the numbers.
+// Adds the SYSMOD of the id to the users of each of the elements with the keys.
 fn add_user_of_keys(
     users: &mut BTreeMap<u64, ElementUser>,
     keys: &[u64],
@@ -126,7 +126,7 @@ pub(crate) fn known_users(
 ) -> Result<BTreeMap<u64, ElementUser>, AllocError>
     ensures { IfOk result (λ users. KnowsRun users (run_of files.now)) }
 {
-    if !options.decide || !files.iter().any(has_many) {
+    if !options.decide || !files.iter().any(has_large_sysmod) {
         return Ok(BTreeMap::new(alloc));
     }
     let users = users_of_files(alloc, files)?;
@@ -143,8 +143,8 @@ fn is_only_of(user: ElementUser, id: &[u8]) -> bool
     }
 }
 
-// Whether the SYSMOD of the id is the only user of the element with the number.
-fn is_only(users: &BTreeMap<u64, ElementUser>, key: u64, id: &[u8]) -> bool
+// Whether the SYSMOD of the id is the only user of the element with the key.
+fn is_only_user(users: &BTreeMap<u64, ElementUser>, key: u64, id: &[u8]) -> bool
     ensures { IsTrue result → get nat_cmp users.now key ≡ Some (IsOnly id.now) }
 {
     match users.get(&key) {
@@ -153,12 +153,16 @@ fn is_only(users: &BTreeMap<u64, ElementUser>, key: u64, id: &[u8]) -> bool
     }
 }
 
-/// Whether the SYSMOD of the id is the only user of each of the elements with the numbers.
-pub(crate) fn are_only(users: &BTreeMap<u64, ElementUser>, keys: &[u64], id: &[u8]) -> bool
+/// Whether the SYSMOD of the id is the only user of each of the elements with the keys.
+pub(crate) fn is_only_user_of_all(
+    users: &BTreeMap<u64, ElementUser>,
+    keys: &[u64],
+    id: &[u8],
+) -> bool
     ensures { IsTrue result → All (λ key. get nat_cmp users.now key ≡ Some (IsOnly id.now)) keys.now }
 {
     for key in keys {
-        if !is_only(users, *key, id) {
+        if !is_only_user(users, *key, id) {
             return false;
         }
     }

@@ -55,7 +55,7 @@ pub(crate) fn read_ids_or_remark(
     ensures { IfOk result (λ found. IfSome found (λ ids. AreSame stated.now ids)) }
 {
     let Some(ids) = read_list(alloc, stated)? else {
-        remarks.leave_out(
+        remarks.tell_left_out(
             alloc,
             subject,
             operand,
@@ -65,7 +65,7 @@ pub(crate) fn read_ids_or_remark(
         return Ok(None);
     };
     if ids.len() > MOST_IDS {
-        remarks.leave_out(alloc, subject, operand, RemarkReason::LongList, b"")?;
+        remarks.tell_left_out(alloc, subject, operand, RemarkReason::LongList, b"")?;
         return Ok(None);
     }
     if ids.len() != stated.len() {
@@ -86,7 +86,7 @@ pub(crate) fn read_id_or_remark(
 {
     let id = Id::read(stated);
     if id.is_none() {
-        remarks.leave_out(alloc, subject, operand, RemarkReason::BadId, stated)?;
+        remarks.tell_left_out(alloc, subject, operand, RemarkReason::BadId, stated)?;
     }
     Ok(id)
 }

@@ -5,7 +5,7 @@ ghost use Rattle.intake_sysmod.specs.NoLooser.{IsIf};
 
 use crate::ids::{read_id_or_remark, read_ids_or_remark};
 use intake_cards::{Deed, RemarkReason, Remarks, Subject};
-use intake_read::{WideIf, tell_odd};
+use intake_read::{WideIf, tell_faulty_operands};
 use std::alloc::{AllocError, Global};
 use sysmods_values::IfReq;
 
@@ -26,18 +26,18 @@ fn read_if(
         word: b"IF",
         id: own,
     };
-    if !stated.odd.is_empty() {
-        tell_odd(
+    if !stated.faulty.is_empty() {
+        tell_faulty_operands(
             alloc,
             remarks,
             &subject,
-            stated.odd.as_slice(),
+            stated.faulty.as_slice(),
             Deed::LeftOut,
         )?;
         return Ok(None);
     }
     let Some(fmid) = &stated.fmid else {
-        remarks.leave_out(alloc, &subject, b"FMID", RemarkReason::Missing, b"")?;
+        remarks.tell_left_out(alloc, &subject, b"FMID", RemarkReason::Missing, b"")?;
         return Ok(None);
     };
     let Some(function) = read_id_or_remark(alloc, remarks, &subject, b"FMID", fmid.as_slice())?
@@ -49,11 +49,11 @@ fn read_if(
         return Ok(None);
     };
     if req.is_empty() {
-        remarks.leave_out(alloc, &subject, b"REQ", RemarkReason::Missing, b"")?;
+        remarks.tell_left_out(alloc, &subject, b"REQ", RemarkReason::Missing, b"")?;
         return Ok(None);
     }
     if req.iter().any(|id| id.as_bytes() == own) {
-        remarks.leave_out(alloc, &subject, b"REQ", RemarkReason::NamesItself, own)?;
+        remarks.tell_left_out(alloc, &subject, b"REQ", RemarkReason::NamesItself, own)?;
         return Ok(None);
     }
     Ok(Some(IfReq { function, req }))
@@ -77,7 +77,7 @@ pub(crate) fn read_ifs(
         ifs.push(condition)?;
     }
     if ifs.len() > MOST_IFS {
-        remarks.leave_out(alloc, subject, b"IF", RemarkReason::TooMany, b"")?;
+        remarks.tell_left_out(alloc, subject, b"IF", RemarkReason::TooMany, b"")?;
         return Ok(None);
     }
     Ok(Some(ifs))

@@ -5,15 +5,15 @@ use intake_elements::Options;
 use intake_read::{OtherReason, WideOther, missing_word};
 use std::alloc::{AllocError, Global};
 
-/// Remarks on the statements of a SYSMOD or of a file that are carried nowhere, and returns whether a SYSMOD can be
-/// carried without them.
-pub fn tell_others(
+/// Remarks on the statements of a SYSMOD or of a file that are carried nowhere. Returns whether a SYSMOD can be carried
+/// without them.
+pub fn tell_other_statements(
     alloc: Global,
     options: &Options,
     remarks: &mut Remarks,
     others: &[WideOther],
 ) -> Result<bool, AllocError> {
-    let mut good = true;
+    let mut is_whole = true;
     for other in others {
         let subject = Subject {
             place: other.place,
@@ -26,9 +26,9 @@ pub fn tell_others(
             remarks.tell_dropped(alloc, &subject, b"", RemarkReason::LoadModules, b"")?;
         } else {
             let reason = RemarkReason::from(other.reason);
-            remarks.leave_out(alloc, &subject, missing_word(other), reason, b"")?;
-            good = false;
+            remarks.tell_left_out(alloc, &subject, missing_word(other), reason, b"")?;
+            is_whole = false;
         }
     }
-    Ok(good)
+    Ok(is_whole)
 }

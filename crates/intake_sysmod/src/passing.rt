@@ -12,7 +12,7 @@ use std::alloc::{AllocError, Global};
 pub(crate) const MOST_ELEMENTS: usize = 999;
 
 /// Whether a SYSMOD of the file has more elements than one may have.
-pub(crate) fn has_many(file: &WideFile) -> bool {
+pub(crate) fn has_large_sysmod(file: &WideFile) -> bool {
     file.sysmods
         .iter()
         .any(|sysmod| sysmod.elements.len() > MOST_ELEMENTS)

@@ -3,8 +3,8 @@ ghost use Rattle.std.specs.Prelude.{◌≡◌, IfOk, IsTrue, All};
 ghost use Rattle.intake_elements.specs.Elements.{HasNoLevel};
 ghost use Rattle.intake_sysmod.specs.Users.{run_of, IsAlone};
 
-use crate::element_users::{ElementUser, are_only, known_users};
-use intake_elements::{Options, has_level, has_odd_modules, keys_of};
+use crate::element_users::{ElementUser, is_only_user_of_all, known_users};
+use intake_elements::{Options, has_faulty_modules, has_level, keys_of};
 use intake_read::{WideElement, WideFile, WideSysmod};
 use std::alloc::{AllocError, Global};
 use std::collections::BTreeMap;
@@ -54,10 +54,10 @@ impl<'a> Users<'a> {
         ensures { IfOk result (λ alone. IsTrue alone → All HasNoLevel element.now.operands.items
             × IsAlone self.now stated.now.id.items element.now) }
     {
-        if has_level(element) || has_odd_modules(element) {
+        if has_level(element) || has_faulty_modules(element) {
             return Ok(false);
         }
         let keys = keys_of(alloc, element)?;
-        Ok(are_only(&self.by_key, keys.as_slice(), stated.id.as_slice()))
+        Ok(is_only_user_of_all(&self.by_key, keys.as_slice(), stated.id.as_slice()))
     }
 }

@@ -7,7 +7,7 @@ use crate::ids::{read_id_or_remark, read_ids_or_remark};
 use crate::ifs::read_ifs;
 use fields::{Id, IdList};
 use intake_cards::{Deed, RemarkReason, Remarks, Subject};
-use intake_read::{WideSysmod, WideVer, tell_odd};
+use intake_read::{WideSysmod, WideVer, tell_faulty_operands};
 use std::alloc::{AllocError, Global};
 use sysmods_values::IfReq;
 use terms::Kind;
@@ -107,9 +107,9 @@ pub(crate) fn read_operands(
         word: b"VER",
         id: own,
     };
-    if !stated.odd.is_empty() {
-        let odd = stated.odd.as_slice();
-        tell_odd(alloc, remarks, &subject, odd, Deed::LeftOut)?;
+    if !stated.faulty.is_empty() {
+        let odd = stated.faulty.as_slice();
+        tell_faulty_operands(alloc, remarks, &subject, odd, Deed::LeftOut)?;
         return Ok(None);
     }
     if !stated.version.is_empty() {
@@ -142,22 +142,22 @@ fn check_operands(
 ) -> Result<bool, AllocError> {
     let own = subject.id;
     if let Some(operand) = operand_with_own_id(own, fmid, lists) {
-        remarks.leave_out(alloc, subject, operand, RemarkReason::NamesItself, own)?;
+        remarks.tell_left_out(alloc, subject, operand, RemarkReason::NamesItself, own)?;
         return Ok(false);
     }
     if kind == Kind::Function {
         return Ok(true);
     }
     if fmid.is_none() {
-        remarks.leave_out(alloc, subject, b"FMID", RemarkReason::Missing, b"")?;
+        remarks.tell_left_out(alloc, subject, b"FMID", RemarkReason::Missing, b"")?;
         return Ok(false);
     }
     if !lists.npre.is_empty() {
-        remarks.leave_out(alloc, subject, b"NPRE", RemarkReason::NotInService, b"")?;
+        remarks.tell_left_out(alloc, subject, b"NPRE", RemarkReason::NotInService, b"")?;
         return Ok(false);
     }
     if !lists.delete.is_empty() {
-        remarks.leave_out(alloc, subject, b"DELETE", RemarkReason::NotInService, b"")?;
+        remarks.tell_left_out(alloc, subject, b"DELETE", RemarkReason::NotInService, b"")?;
         return Ok(false);
     }
     Ok(true)

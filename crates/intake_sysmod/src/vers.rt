@@ -63,7 +63,7 @@ fn vers_for_srels(
     let mut vers = Vec::with_capacity(alloc, stated.srels.len())?;
     for srel in stated.srels.iter() {
         let Some(srel) = Srel::read(srel.as_slice()) else {
-            remarks.leave_out(
+            remarks.tell_left_out(
                 alloc,
                 subject,
                 b"SREL",
@@ -93,7 +93,7 @@ fn vers_of_statement(
         id: sysmod.id.as_slice(),
     };
     if stated.srels.is_empty() {
-        remarks.leave_out(alloc, &subject, b"SREL", RemarkReason::Missing, b"")?;
+        remarks.tell_left_out(alloc, &subject, b"SREL", RemarkReason::Missing, b"")?;
         return Ok(None);
     }
     match read_operands(alloc, remarks, sysmod, stated)? {
@@ -171,16 +171,16 @@ pub(crate) fn read_vers(
     };
     if vers.is_empty() {
         if !has_faulty_ver(sysmod) {
-            remarks.leave_out(alloc, subject, b"VER", RemarkReason::Missing, b"")?;
+            remarks.tell_left_out(alloc, subject, b"VER", RemarkReason::Missing, b"")?;
         }
         return Ok(None);
     }
     if vers.len() > MOST_VERS {
-        remarks.leave_out(alloc, subject, b"VER", RemarkReason::TooMany, b"")?;
+        remarks.tell_left_out(alloc, subject, b"VER", RemarkReason::TooMany, b"")?;
         return Ok(None);
     }
     if let Some(ver) = first_conflicting_ver(sysmod.kind, vers.as_slice()) {
-        remarks.leave_out(
+        remarks.tell_left_out(
             alloc,
             subject,
             b"VER",

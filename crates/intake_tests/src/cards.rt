@@ -1,6 +1,6 @@
 //! Files as cards: lines and records, the codes, and what no card should have.
 
-use intake_cards::{CardError, CardOddity, CardPlace, Cards, Code, Layout, Tail, read_cards};
+use intake_cards::{CardError, CardNoteReason, CardPlace, Cards, Code, Layout, Tail, read_cards};
 use std::alloc::{AllocError, Global};
 use std::process::Abort;
 use std::test::Fail;
@@ -64,7 +64,7 @@ fn lines_may_end_in_each_way(rt: HostRuntime) -> Result<(), Fail> {
     ];
     for file in files {
         let cards = read_cards(rt.alloc(), 3, file, None, None)?;
-        assert_eq!(rt; (cards.form, cards.code), (Layout::Text, Code::Ascii));
+        assert_eq!(rt; (cards.layout, cards.code), (Layout::Text, Code::Ascii));
         check_texts(&rt, rt.alloc(), &cards, &lines)?;
         let last = cards.cards.last().ok_or("no card")?;
         assert_eq!(rt; last.place, CardPlace { file: 3, card: 3 });
@@ -78,7 +78,7 @@ fn a_file_of_records_is_told(rt: HostRuntime) -> Result<(), Fail> {
     let lines: [&[u8]; 2] = [b"++PTF(UA00001).", b"++VER(Z038)."];
     let records = records(rt.alloc(), &lines)?;
     let cards = read_cards(rt.alloc(), 0, records.as_slice(), None, None)?;
-    assert_eq!(rt; (cards.form, cards.code), (Layout::Records, Code::Ascii));
+    assert_eq!(rt; (cards.layout, cards.code), (Layout::Records, Code::Ascii));
     check_texts(&rt, rt.alloc(), &cards, &lines)?;
     let none = read_cards(rt.alloc(), 0, b"", None, None)?;
     assert!(rt; none.cards.is_empty());
@@ -93,7 +93,7 @@ fn ebcdic_is_told(rt: HostRuntime) -> Result<(), Fail> {
     records.extend_from_slice(&[0x00, 0x15, 0x25, 0x0A].repeat(rt.alloc(), 20)?)?;
     let cards = read_cards(rt.alloc(), 0, records.as_slice(), None, None)?;
     assert_eq!(rt;
-        (cards.form, cards.code, cards.cards.len()),
+        (cards.layout, cards.code, cards.cards.len()),
         (Layout::Records, Code::Ibm1047, 3)
     );
     let first = cards.cards.first().ok_or("no card")?;
@@ -107,7 +107,7 @@ fn ebcdic_is_told(rt: HostRuntime) -> Result<(), Fail> {
     lines.extend_from_slice(SET)?;
     lines.extend_from_slice(b"\x0D\x25")?;
     let cards = read_cards(rt.alloc(), 0, lines.as_slice(), None, None)?;
-    assert_eq!(rt; (cards.form, cards.code), (Layout::Text, Code::Ibm1047));
+    assert_eq!(rt; (cards.layout, cards.code), (Layout::Text, Code::Ibm1047));
     let lines: [&[u8]; 2] = [b"SET BDY(A$#@).", b"SET BDY(A$#@)."];
     check_texts(&rt, rt.alloc(), &cards, &lines)
 }
@@ -145,8 +145,8 @@ fn a_line_longer_than_a_card_is_told(rt: HostRuntime) -> Result<(), Fail> {
     let cut = read_cards(rt.alloc(), 0, long.as_slice(), None, None)?;
     let note = cut.notes.first().ok_or("no note")?;
     assert_eq!(rt;
-        (note.oddity, note.first.card, note.cards),
-        (CardOddity::LongLine, 1, 1)
+        (note.reason, note.first.card, note.cards),
+        (CardNoteReason::LongLine, 1, 1)
     );
     let mut are_cut = Vec::new(rt.alloc());
     for card in cut.cards.as_slice() {
@@ -157,8 +157,8 @@ fn a_line_longer_than_a_card_is_told(rt: HostRuntime) -> Result<(), Fail> {
     let cards = read_cards(rt.alloc(), 0, blanks.as_slice(), None, None)?;
     let note = cards.notes.first().ok_or("no note")?;
     assert_eq!(rt;
-        (note.oddity, note.first.card, note.cards),
-        (CardOddity::BlanksBehind80, 1, 1)
+        (note.reason, note.first.card, note.cards),
+        (CardNoteReason::BlanksBehind80, 1, 1)
     );
     let short = line_of(rt.alloc(), b'A', 163, b"")?;
     let refused = read_cards(rt.alloc(), 0, short.as_slice(), Some(Layout::Records), None).err();
@@ -172,12 +172,12 @@ fn odd_characters_are_noted(rt: HostRuntime) -> Result<(), Fail> {
     let cards = read_cards(rt.alloc(), 0, bytes, None, None)?;
     let mut found = Vec::new(rt.alloc());
     for note in cards.notes.as_slice() {
-        found.push((note.oddity, note.first.card, note.cards))?;
+        found.push((note.reason, note.first.card, note.cards))?;
     }
     let wanted = [
-        (CardOddity::ByteOrderMark, 1, 1),
-        (CardOddity::Tab, 2, 2),
-        (CardOddity::NotPrintable, 3, 2),
+        (CardNoteReason::ByteOrderMark, 1, 1),
+        (CardNoteReason::Tab, 2, 2),
+        (CardNoteReason::NotPrintable, 3, 2),
     ];
     assert_eq!(rt; found.as_slice(), wanted.as_slice());
     let lines: [&[u8]; 4] = [b"++PTF(UA00001).", b"\tX", b"\x00\t", b"\xDC"];
@@ -223,8 +223,8 @@ fn a_letter_of_utf_8_has_one_column(rt: HostRuntime) -> Result<(), Fail> {
 
 #[test]
 fn what_ends_a_file_is_passed_over(rt: HostRuntime) -> Result<(), Fail> {
-    let padded = (CardOddity::Padding, 1);
-    let ended = (CardOddity::Delimiter, 2);
+    let padded = (CardNoteReason::Padding, 1);
+    let ended = (CardNoteReason::Delimiter, 2);
     for (file, wanted) in [
         (b"LIST.\n\x1A".as_slice(), padded),
         (b"LIST.\n\x00\x00\x00".as_slice(), padded),
@@ -234,12 +234,12 @@ fn what_ends_a_file_is_passed_over(rt: HostRuntime) -> Result<(), Fail> {
         let cards = read_cards(rt.alloc(), 0, file, None, None)?;
         check_texts(&rt, rt.alloc(), &cards, &[b"LIST."])?;
         let note = cards.notes.first().ok_or("no note")?;
-        assert_eq!(rt; (note.oddity, note.first.card), wanted);
+        assert_eq!(rt; (note.reason, note.first.card), wanted);
     }
     let mut records = records(rt.alloc(), &[b"LIST.", b"/* A */"])?;
     records.extend_from_slice(&[0; 100])?;
     let cards = read_cards(rt.alloc(), 0, records.as_slice(), None, None)?;
-    assert_eq!(rt; cards.form, Layout::Records);
+    assert_eq!(rt; cards.layout, Layout::Records);
     check_texts(&rt, rt.alloc(), &cards, &[b"LIST.", b"/* A */"])
 }
 

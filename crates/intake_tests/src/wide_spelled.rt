@@ -2,9 +2,9 @@
 
 use intake_cards::{CardReader, Code, Layout};
 use intake_read::{
-    NoteReason, OddOperand, OddReason, OtherReason, WideAssign, WideElement, WideError, WideFile,
-    WideHold, WideHoldKind, WideIf, WideOperand, WideOther, WideReader, WideRelease, WideSysmod,
-    WideVer,
+    FaultyOperand, NoteReason, OperandFault, OtherReason, WideAssign, WideElement, WideError,
+    WideFile, WideHold, WideHoldKind, WideIf, WideOperand, WideOther, WideReader, WideRelease,
+    WideSysmod, WideVer,
 };
 use std::alloc::{AllocError, AllocFailed, Global};
 use terms::Kind;
@@ -87,12 +87,12 @@ impl Spelled {
         Ok(())
     }
 
-    fn odd(&mut self, odd: &[OddOperand]) -> Result<(), AllocError> {
+    fn odd(&mut self, odd: &[FaultyOperand]) -> Result<(), AllocError> {
         for one in odd {
             let mark = match one.reason {
-                OddReason::Unknown => b"unknown:".as_slice(),
-                OddReason::Repeated => b"again:".as_slice(),
-                OddReason::BadValue => b"bad:".as_slice(),
+                OperandFault::Unknown => b"unknown:".as_slice(),
+                OperandFault::Repeated => b"again:".as_slice(),
+                OperandFault::BadValue => b"bad:".as_slice(),
             };
             self.operand(mark, &one.operand)?;
         }
@@ -106,7 +106,7 @@ impl Spelled {
             self.put(b" THEN")?;
         }
         self.words(b"REQ", condition.req.as_slice())?;
-        self.odd(condition.odd.as_slice())
+        self.odd(condition.faulty.as_slice())
     }
 
     fn ver(&mut self, ver: &WideVer) -> Result<(), AllocError> {
@@ -119,7 +119,7 @@ impl Spelled {
         self.words(b"NPRE", ver.npre.as_slice())?;
         self.words(b"DELETE", ver.delete.as_slice())?;
         self.words(b"VERSION", ver.version.as_slice())?;
-        self.odd(ver.odd.as_slice())?;
+        self.odd(ver.faulty.as_slice())?;
         for condition in ver.ifs.as_slice() {
             self.condition(condition)?;
         }
@@ -146,7 +146,7 @@ impl Spelled {
         self.value(b"DATE", &hold.date)?;
         self.value(b"COMMENT", &hold.comment)?;
         self.operands(b"-", hold.dropped.as_slice())?;
-        self.odd(hold.odd.as_slice())
+        self.odd(hold.faulty.as_slice())
     }
 
     fn release(&mut self, release: &WideRelease) -> Result<(), AllocError> {
@@ -156,14 +156,14 @@ impl Spelled {
         self.value(b"REASON", &release.reason)?;
         self.value(b"FMID", &release.fmid)?;
         self.operands(b"-", release.dropped.as_slice())?;
-        self.odd(release.odd.as_slice())
+        self.odd(release.faulty.as_slice())
     }
 
     fn assign(&mut self, assign: &WideAssign) -> Result<(), AllocError> {
         self.put(b"; ASSIGN")?;
         self.value(b"SOURCEID", &assign.source)?;
         self.words(b"TO", assign.to.as_slice())?;
-        self.odd(assign.odd.as_slice())
+        self.odd(assign.faulty.as_slice())
     }
 
     fn element(&mut self, element: &WideElement) -> Result<(), AllocError> {
@@ -176,7 +176,7 @@ impl Spelled {
         self.value(b"RELFILE", &element.relfile)?;
         self.operands(b"in ", element.libraries.as_slice())?;
         self.operands(b"", element.operands.as_slice())?;
-        self.odd(element.odd.as_slice())?;
+        self.odd(element.faulty.as_slice())?;
         self.put(b" +")?;
         self.number(element.inline.len())
     }
@@ -202,7 +202,7 @@ impl Spelled {
         })?;
         self.put(sysmod.id.as_slice())?;
         self.operands(b"-", sysmod.dropped.as_slice())?;
-        self.odd(sysmod.odd.as_slice())?;
+        self.odd(sysmod.faulty.as_slice())?;
         for ver in sysmod.vers.as_slice() {
             self.ver(ver)?;
         }
@@ -249,7 +249,7 @@ impl Spelled {
         for note in file.notes.as_slice() {
             self.put(match note.reason {
                 NoteReason::LowerCase => b"; lower ",
-                NoteReason::TextIn73 => b"; behind 72 ",
+                NoteReason::TextInNumbers => b"; behind 72 ",
             })?;
             self.number(note.place.card)?;
             self.put(b" x ")?;
@@ -358,11 +358,11 @@ pub(crate) fn read_whole(
         let Some(card) = cards.next_card(&mut notes)? else {
             break;
         };
-        if let Some(hold) = reader.take(&card)? {
+        if let Some(hold) = reader.read_card(&card)? {
             holds.push(hold)?;
         }
     }
-    if let Some(hold) = reader.take_end()? {
+    if let Some(hold) = reader.read_end()? {
         holds.push(hold)?;
     }
     let file = reader.into_file()?;

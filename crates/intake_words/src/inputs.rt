@@ -1,7 +1,9 @@
 //! The files that are read, by their numbers.
 
 use crate::fault::IntakeFault;
-use intake_cards::{Card, CardNote, CardOddity, CardPlace, CardReader, Code, Layout, read_cards};
+use intake_cards::{
+    Card, CardNote, CardNoteReason, CardPlace, CardReader, Code, Layout, read_cards,
+};
 use std::alloc::{AllocError, Global};
 
 /// A file that was read: its name, and how it is laid out.
@@ -87,8 +89,8 @@ pub fn read_file_cards(
         Ok(read) => read,
         Err(error) => return Err(IntakeFault::of_cards(alloc, name, error)),
     };
-    sources.add(alloc, name, read.form)?;
-    describe_assumptions(alloc, name, read.form, read.code, &read.notes, remarks)?;
+    sources.add(alloc, name, read.layout)?;
+    describe_assumptions(alloc, name, read.layout, read.code, &read.notes, remarks)?;
     Ok(read.cards)
 }
 
@@ -105,7 +107,7 @@ pub fn open_cards<'a>(
     let file = sources.all.len();
     match CardReader::open(file, bytes, form, code) {
         Ok(cards) => {
-            sources.add(alloc, name, cards.form)?;
+            sources.add(alloc, name, cards.layout)?;
             Ok(cards)
         }
         Err(error) => Err(IntakeFault::of_cards(alloc, name, error)),
@@ -129,7 +131,7 @@ pub fn describe_assumptions(
     for note in notes {
         let first = note.first.card;
         let count = note.cards;
-        let words = oddity_words(note.oddity);
+        let words = oddity_words(note.reason);
         let line = format!(in alloc; "{name} {unit} {first}: {words}: in {count} cards\n")?;
         remarks.extend_from_slice(line.as_bytes())?;
     }
@@ -154,15 +156,15 @@ fn code_words(code: Code) -> &'static str {
 }
 
 // The oddity in words.
-fn oddity_words(oddity: CardOddity) -> &'static str {
+fn oddity_words(oddity: CardNoteReason) -> &'static str {
     match oddity {
-        CardOddity::ByteOrderMark => "a byte order mark is passed over",
-        CardOddity::BlanksBehind80 => "blanks after column 80 are passed over",
-        CardOddity::LongLine => "more than 80 columns",
-        CardOddity::Padding =>
+        CardNoteReason::ByteOrderMark => "a byte order mark is passed over",
+        CardNoteReason::BlanksBehind80 => "blanks after column 80 are passed over",
+        CardNoteReason::LongLine => "more than 80 columns",
+        CardNoteReason::Padding =>
             "NULs or the end of file of older systems at its end are passed over",
-        CardOddity::Delimiter => "a delimiter of JCL at its end is passed over",
-        CardOddity::Tab => "a tab counts as one column",
-        CardOddity::NotPrintable => "characters that are no ASCII",
+        CardNoteReason::Delimiter => "a delimiter of JCL at its end is passed over",
+        CardNoteReason::Tab => "a tab counts as one column",
+        CardNoteReason::NotPrintable => "characters that are no ASCII",
     }
 }
