@@ -40,12 +40,10 @@ pub struct Options {
 impl Options {
     /// The SYSLIB that goes with the DISTLIB, or `None` if the caller names none for it.
     pub(crate) fn syslib_for(&self, distlib: Name) -> Option<Name> {
-        for pair in self.syslibs.iter() {
-            if pair.distlib == distlib {
-                return Some(pair.syslib);
-            }
-        }
-        None
+        self.syslibs
+            .iter()
+            .find(|pair| pair.distlib == distlib)
+            .map(|pair| pair.syslib)
     }
 
     /// The file with the text of the element whose statement begins at this place, or `None` if there is none. The

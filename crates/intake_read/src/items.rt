@@ -269,8 +269,8 @@ pub struct WideFile {
     pub sysmods: Vec<WideSysmod>,
     pub releases: Vec<WideRelease>,
     pub assigns: Vec<WideAssign>,
-    /// `++FEATURE`, `++PRODUCT` and `++NULL`, wherever they stand, and each `++HOLD`, `++RELEASE` and `++ASSIGN` that is
-    /// at fault.
+    /// `++FEATURE`, `++PRODUCT` and `++NULL`, wherever they stand, and each `++HOLD`, `++RELEASE` and `++ASSIGN` that
+    /// has a fault.
     pub others: Vec<WideOther>,
     /// Those that stand in comments.
     pub swallowed: Vec<SwallowedStatement>,

@@ -1,7 +1,7 @@
 //! The statements of a shop's files, in the wide grammar of SMP/E, as plain structs, and the remarks on those that
-//! could not be read as what they say. Only `WideOperand::text` and `list_members` have contracts: of the other functions
-//! it is proved that they never panic, and only tested that they read each statement as SMP/E does. Every call that allocates fails
-//! with `AllocError` if memory runs out.
+//! cannot be read as what they say. `WideOperand::text` and `list_members` have contracts. Of the other functions it is
+//! proved that they never panic, and only tested that they read each statement as SMP/E does. Every call that allocates
+//! fails with `AllocError` if memory runs out.
 #![tactic(auto)]
 
 mod errors;

@@ -106,8 +106,8 @@ pub(crate) fn make_if(alloc: Global, statement: WideStatement) -> Result<WideIf,
     Ok(condition)
 }
 
-// Puts the kind that the operand names into the slot of its statement. The operand is faulty if the slot is filled, or if
-// it has parentheses.
+// Puts the kind that the operand names into the slot of its statement. The operand is faulty if the slot is filled, or
+// if it has parentheses.
 fn fill_kind(
     slot: &mut Option<WideHoldKind>,
     kind: WideHoldKind,

@@ -112,8 +112,8 @@ pub(crate) fn fill_list(
     }
 }
 
-/// Puts the operand's one value into the slot of its statement. The operand is faulty if the slot is filled, or if it has
-/// not just one value.
+/// Puts the operand's one value into the slot of its statement. The operand is faulty if the slot is filled, or if it
+/// has not just one value.
 pub(crate) fn fill_value(
     alloc: Global,
     slot: &mut Option<Vec<u8>>,
@@ -136,8 +136,8 @@ pub(crate) fn fill_value(
     }
 }
 
-/// Puts what the operand's parentheses hold into the slot of its statement, unchanged. The operand is faulty if the slot
-/// is filled, or if it has no parentheses.
+/// Puts what the operand's parentheses hold into the slot of its statement, unchanged. The operand is faulty if the
+/// slot is filled, or if it has no parentheses.
 pub(crate) fn fill_text(
     slot: &mut Option<Vec<u8>>,
     operand: WideOperand,

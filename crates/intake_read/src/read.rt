@@ -20,7 +20,7 @@ enum CardPart {
     Inline,
 }
 
-/// Reads the statements of a file's cards, which it takes one after the other.
+/// Reads the statements of a file's cards, which it is given one after the other.
 #[derive(Drop)]
 pub struct WideReader {
     alloc: Global,
@@ -100,7 +100,7 @@ fn may_have_inline(pieces: &[CardPiece]) -> bool {
 }
 
 impl WideReader {
-    /// A reader that has taken no card.
+    /// A reader that has read no card.
     pub fn new(alloc: Global) -> WideReader {
         WideReader {
             alloc,
@@ -135,12 +135,12 @@ impl WideReader {
             CardPart::Own => {
                 self.note_tail(card)?;
                 self.scanner.scan_card(card)?;
-                self.end_line(card);
+                self.end_card(card);
                 self.end_own_text()
             }
             CardPart::Before | CardPart::Behind => {
                 self.scanner.scan_card(card)?;
-                self.end_line(card);
+                self.end_card(card);
                 self.blame_text_after(card)
             }
         }
@@ -155,13 +155,13 @@ impl WideReader {
         self.is_cut = false;
         self.scanner
             .scan_columns(card.place, card.columns_after_plus_signs())?;
-        self.end_line(card);
+        self.end_card(card);
         self.end_own_text()
     }
 
-    // Notes that the card's line is cut at column 80, unless it is cut inside a comment, where nothing is lost. A `*/`
-    // after column 80 ends the comment.
-    fn end_line(&mut self, card: &Card) {
+    // Ends a card that was scanned: notes that its line is cut at column 80, unless it is cut inside a comment, where
+    // nothing is lost. A `*/` after column 80 ends the comment.
+    fn end_card(&mut self, card: &Card) {
         let is_open = matches!(self.scanner.open(), Open::Comment(_));
         if is_open && card.ends_comment {
             self.scanner.end_comment();
@@ -233,17 +233,17 @@ impl WideReader {
         Ok(())
     }
 
-    /// Takes the next card. If it ends a hold outside SYSMODs, it hands out that hold. Returns `NoStatement` if more
+    /// Reads the next card. If it ends a hold outside SYSMODs, it hands out that hold. Returns `NoStatement` if more
     /// than blanks and comments stands before the first statement, and `Statement` if a statement that belongs to a
     /// SYSMOD, or that is not known, stands before the first SYSMOD.
-    pub fn take(&mut self, card: &Card) -> Result<Option<WideHold>, WideError> {
+    pub fn read_card(&mut self, card: &Card) -> Result<Option<WideHold>, WideError> {
         self.add_card(card)?;
         Ok(self.gathered.take_hold())
     }
 
     /// Ends the last statement, and hands it out if it is a hold outside SYSMODs. Returns `OpenComment` if a comment is
     /// open after the last card.
-    pub fn take_end(&mut self) -> Result<Option<WideHold>, WideError> {
+    pub fn read_end(&mut self) -> Result<Option<WideHold>, WideError> {
         if let Open::Comment(place) = self.scanner.open() {
             return Err(WideError::OpenComment { place });
         }
@@ -251,7 +251,7 @@ impl WideReader {
         Ok(self.gathered.take_hold())
     }
 
-    /// All statements but the holds that `take` and `take_end` handed out. Call it after `take_end`.
+    /// All statements but the holds that `read_card` and `read_end` handed out. Call it after `read_end`.
     pub fn into_file(self) -> Result<WideFile, WideError> {
         let WideReader {
             alloc: _,
