@@ -1,19 +1,15 @@
 -- The operands of a shop's commands: those that have one of some names, and the members of their lists.
-use Rattle.std.specs.Prelude.{◌==◌, ◌||◌, ◌&&◌, ◌-◌, Bool, false, not, List, [], ◌∷◌, ◌++◌}
-use Rattle.std.specs.Prelude.{if◌then◌else◌, filter, map, is_none, length, nat_lt, nat_eq, take, drop, codes}
-use Rattle.std.specs.List.{list_any, flat_map, slice_split, starts_with}
+use Rattle.std.specs.Prelude.{◌&&◌, ◌-◌, Bool, false, not, List, [], ◌∷◌, ◌++◌}
+use Rattle.std.specs.Prelude.{if◌then◌else◌, filter, map, is_none, length, nat_eq, take, drop, codes}
+use Rattle.std.specs.List.{list_any, flat_map, starts_with}
 use Rattle.std.specs.Str.{bytes_eq}
 use Rattle.terms.specs.declared.kinds.Kind.{Kind}
 use Rattle.terms.specs.declared.kinds.Kind.TheVariants.{Apar, Usermod}
 use Rattle.terms.specs.Types.{Text}
 use Rattle.terms.specs.Lookups.{is_in}
-use Rattle.intake_read.specs.Stated.{value_text}
+use Rattle.intake_read.specs.Stated.{value_text, members}
 use Rattle.intake_read.specs.declared.items.WideOperand.{WideOperand}
 use Rattle.intake_asked.specs.declared.known.KnownSysmod.{KnownSysmod}
-
--- The members of a list, with blanks or commas between them.
-abbrev pub members : Text → List Text
-members list = filter (λ m. nat_lt 0 (length m)) (slice_split (λ b. b == 32 || b == 44) list)
 
 abbrev pub is_called : List Text → WideOperand → Bool
 is_called names operand = is_in names operand.name.items

@@ -1,4 +1,4 @@
-//! What APPLY and ACCEPT disregard.
+//! What APPLY and ACCEPT bypass.
 ghost use Rattle.std.specs.Prelude.{◌≡◌, [], ◌∷◌, IsTrue, IfOk, codes, map};
 ghost use Rattle.fields.specs.Choices.{reasons_in};
 ghost use Rattle.terms.specs.Types.{TheseReasons};
@@ -11,7 +11,7 @@ use fields::{Bypass, Class, Reason, Reasons};
 use intake_read::WideOperand;
 use std::alloc::{AllocError, Global};
 
-// Whether the flags are set for which BYPASS has a member, and no others.
+// Whether each of the flags of `bypass` is set just if the shop's BYPASS has its member.
 fn says_flags(bypassed: &[WideOperand], bypass: &Bypass) -> bool
     ensures pre { IsTrue result → bypass.now.pre ≡ has (codes "PRE" ∷ []) bypassed.now }
     ensures req { IsTrue result → bypass.now.req ≡ has (codes "REQ" ∷ []) bypassed.now }
@@ -26,8 +26,8 @@ fn says_flags(bypassed: &[WideOperand], bypass: &Bypass) -> bool
         && bypass.applycheck == has_operand(&[b"APPLYCHECK"], bypassed)
 }
 
-// Whether the members of these names have lists, and these name just the reasons.
-fn says_list(
+// Whether BYPASS has members of these names, each of them with a list, and the lists name just the reasons.
+fn says_these_reasons(
     alloc: Global,
     names: &[&[u8]],
     bypassed: &[WideOperand],
@@ -60,7 +60,7 @@ fn says_reasons(
     match reasons {
         Reasons::None => Ok(!has_operand(names, bypassed)),
         Reasons::Any => Ok(has_operand_without_list(names, bypassed)),
-        Reasons::These(list) => says_list(alloc, names, bypassed, list.as_slice()),
+        Reasons::These(list) => says_these_reasons(alloc, names, bypassed, list.as_slice()),
     }
 }
 
@@ -77,7 +77,7 @@ fn says_classes(
     are_wanted_texts(alloc, classes, &wanted)
 }
 
-/// Whether `bypass` disregards just what the members of a shop's BYPASS ask for.
+/// Whether `bypass` bypasses just what the members of a shop's BYPASS ask for.
 pub(crate) fn says_bypass(
     alloc: Global,
     bypassed: &[WideOperand],

@@ -14,7 +14,9 @@ use crate::bypasses::says_bypass;
 use crate::known::KnownSysmod;
 use crate::lists::{grouped_ids, select_names, selected_ids};
 use crate::names::{known_members, known_operands};
-use crate::operands::{has_operand, has_operand_without_list, have_names, members_of_operands};
+use crate::operands::{
+    has_operand, has_operand_without_list, have_only_names, members_of_operands,
+};
 use crate::same::{are_none, are_wanted_texts, is_only_wanted_text};
 use crate::scan::WideCommand;
 use crate::selections::says_selection;
@@ -42,8 +44,8 @@ fn word_of(command: &Command) -> CommandWord
     }
 }
 
-/// Whether the word is RESETRC, LOG or DEBUG. Such a command changes no decision: return codes keep no command from
-/// running here, and there is no log.
+/// Whether the command of this word changes no decision: RESETRC, LOG and DEBUG. Here no return code keeps a later
+/// command from running, and there is no log.
 pub fn changes_no_decision(word: &[u8]) -> bool
     ensures { result ≡ is_no_decision word.now }
 {
@@ -57,7 +59,7 @@ fn says_check(operands: &[WideOperand], check: bool) -> bool
     check == has_operand_without_list(&[b"CHECK", b"C"], operands)
 }
 
-// Whether an APPLY or an ACCEPT chooses and disregards just what the shop's command asks for.
+// Whether an APPLY or an ACCEPT chooses and bypasses just what the shop's command asks for, and checks only if it does.
 fn says_install(
     alloc: Global,
     known: &Option<Vec<KnownSysmod>>,
@@ -78,8 +80,9 @@ fn says_install(
     Ok(bypass)
 }
 
-// Whether the RECEIVE takes SYSMODs if SYSMODS is there or HOLDDATA is not, and holds likewise.
-fn says_kinds(operands: &[WideOperand], receive: &ReceiveWhat) -> bool
+// Whether the RECEIVE takes SYSMODs just if the operands have SYSMODS or lack HOLDDATA, and holds just if they have
+// HOLDDATA or lack SYSMODS.
+fn says_received_kinds(operands: &[WideOperand], receive: &ReceiveWhat) -> bool
     ensures sysmods { IsTrue result → receive.now.sysmods
         ≡ (has (codes "SYSMODS" ∷ codes "SYSMOD" ∷ []) operands.now || not (has (codes "HOLDDATA" ∷ []) operands.now)) }
     ensures holddata { IsTrue result → receive.now.holddata
@@ -98,13 +101,13 @@ fn says_receive(
 ) -> Result<bool, AllocError>
     ensures { IfOk result (λ says. IsTrue says → SaysReceive operands.now receive.now) }
 {
-    if !says_kinds(operands, receive) {
+    if !says_received_kinds(operands, receive) {
         return Ok(false);
     }
     says_source(alloc, operands, &receive.source)
 }
 
-// Whether the source ids are just those of SOURCEID: one or none.
+// Whether the source id is the only one that SOURCEID names, or SOURCEID names none and there is none.
 fn says_source(
     alloc: Global,
     operands: &[WideOperand],
@@ -120,8 +123,12 @@ fn says_source(
     is_only_wanted_text(alloc, source, &wanted)
 }
 
-// Whether the ids are just those of SELECT.
-fn says_ids(alloc: Global, operands: &[WideOperand], ids: &[Id]) -> Result<bool, AllocError>
+// Whether the ids that a REJECT rejects are just those of SELECT.
+fn says_rejected_ids(
+    alloc: Global,
+    operands: &[WideOperand],
+    ids: &[Id],
+) -> Result<bool, AllocError>
     ensures { IfOk result (λ says. IsTrue says → AreThese ids.now (listed select_names operands.now)) }
 {
     let wanted = members_of_operands(alloc, select_names(), operands)?;
@@ -198,7 +205,7 @@ fn says_operands(
     match command {
         Command::Set(zone) => says_zone(alloc, operands, *zone),
         Command::Receive(what) => says_receive(alloc, operands, what),
-        Command::Reject(ids) => says_ids(alloc, operands, ids.as_slice()),
+        Command::Reject(ids) => says_rejected_ids(alloc, operands, ids.as_slice()),
         Command::Apply(install) => says_install(alloc, known, wide, install),
         Command::Accept(install) => says_install(alloc, known, wide, install),
         Command::Restore { list, check } => says_restore(alloc, operands, list, *check),
@@ -215,17 +222,17 @@ fn has_word(wide: &WideCommand, word: CommandWord) -> bool
 }
 
 // Whether the shop's command has no operands but those that a command of the word may have.
-fn has_known_operands(wide: &WideCommand, word: CommandWord) -> bool
+fn has_only_known_operands(wide: &WideCommand, word: CommandWord) -> bool
     ensures { IsTrue result → All (λ o. IsTrue (is_in (known_operands word) o.name.items)) wide.now.operands.items }
 {
-    have_names(known_operands(word), wide.operands.as_slice())
+    have_only_names(known_operands(word), wide.operands.as_slice())
 }
 
 // Whether the BYPASS of the shop's command has no members but those that it may have in a command of the word.
-fn has_known_members(wide: &WideCommand, word: CommandWord) -> bool
+fn has_only_known_members(wide: &WideCommand, word: CommandWord) -> bool
     ensures { IsTrue result → All (λ o. IsTrue (is_in (known_members word) o.name.items)) wide.now.bypassed.items }
 {
-    have_names(known_members(word), wide.bypassed.as_slice())
+    have_only_names(known_members(word), wide.bypassed.as_slice())
 }
 
 /// Whether the command says just what the shop's command `wide` asks for.
@@ -241,17 +248,17 @@ pub fn says(
     if !has_word(wide, word) {
         return Ok(false);
     }
-    if !has_known_operands(wide, word) {
+    if !has_only_known_operands(wide, word) {
         return Ok(false);
     }
-    if !has_known_members(wide, word) {
+    if !has_only_known_members(wide, word) {
         return Ok(false);
     }
     says_operands(alloc, known, wide, command)
 }
 
-/// Whether the commands say, one after the other, just what the shop's commands `wide` ask for. Of these the ones that
-/// change no decision are passed over.
+/// Whether the commands say, one after the other, just what the shop's commands `wide` ask for. Those of the shop's
+/// commands that change no decision are passed over.
 pub fn are_said(
     alloc: Global,
     known: &Option<Vec<KnownSysmod>>,

@@ -1,11 +1,12 @@
-//! The SYSMODs that a list names, with their types and source ids.
+//! The SYSMODs that are known beside the commands, from a list with their types and source ids. GROUPEXTEND and a
+//! SOURCEID with an asterisk choose among them.
 
 use fields::spelling::read_kind;
 use fields::{Id, Source};
 use std::alloc::{AllocError, Global};
 use terms::Kind;
 
-/// A SYSMOD that is known.
+/// A SYSMOD that is known, with its type and its source ids.
 #[derive(Debug, Drop)]
 pub struct KnownSysmod {
     pub id: Id,
@@ -13,19 +14,21 @@ pub struct KnownSysmod {
     pub sources: Vec<Source>,
 }
 
-/// The list, or the first line that is not in form, from 1. A line has an id, a type and source ids, with blanks,
-/// commas, bars or quotes between. A line of titles at the beginning, blank lines and lines of dashes say nothing.
+/// What `read_known` returns: the SYSMODs of a list, or its first line that is not in form. A line has an id, a type
+/// and source ids, with blanks, commas, bars or quotes between. A line of titles at the beginning is skipped, and so
+/// are blank lines and lines of dashes.
 #[derive(Debug, Drop)]
 pub enum KnownList {
     Sysmods(Vec<KnownSysmod>),
+    /// The number of the line. The first line has the number 1.
     BadLine(usize),
 }
 
-/// Reads the list. Returns `BadLine` for the first line that is not in form.
+/// Reads a list of known SYSMODs.
 pub fn read_known(alloc: Global, bytes: &[u8]) -> Result<KnownList, AllocError> {
     let mut sysmods = Vec::new(alloc);
     for (place, line) in bytes.split(|byte| *byte == b'\n').enumerate() {
-        if is_blank_or_remark(line) {
+        if is_blank_or_rule(line) {
             continue;
         }
         match read_known_sysmod(alloc, line)? {
@@ -37,20 +40,21 @@ pub fn read_known(alloc: Global, bytes: &[u8]) -> Result<KnownList, AllocError> 
     Ok(KnownList::Sysmods(sysmods))
 }
 
-// Whether the character stands between the words of a line.
-fn separates_words(byte: u8) -> bool {
+// Whether the character separates the words of a line.
+fn is_separator(byte: u8) -> bool {
     matches!(byte, b' ' | b',' | b'|' | b'"' | b'\t' | b'\r')
 }
 
-// Whether the line says nothing of a SYSMOD: it is blank, or a line of dashes.
-fn is_blank_or_remark(line: &[u8]) -> bool {
-    line.iter().all(|byte| separates_words(*byte) || matches!(byte, b'-' | b'+'))
+// Whether the line is blank, or a rule of dashes and plus signs, as databases print it under titles.
+fn is_blank_or_rule(line: &[u8]) -> bool {
+    line.iter()
+        .all(|byte| is_separator(*byte) || matches!(byte, b'-' | b'+'))
 }
 
 // The SYSMOD of a line, or `None` if the line is not in form.
 fn read_known_sysmod(alloc: Global, line: &[u8]) -> Result<Option<KnownSysmod>, AllocError> {
     let mut words: Vec<&[u8]> = Vec::new(alloc);
-    for word in line.split(|byte| separates_words(*byte)) {
+    for word in line.split(|byte| is_separator(*byte)) {
         if !word.is_empty() {
             words.push(word)?;
         }

@@ -1,4 +1,4 @@
-//! What the lists of a command name.
+//! The ids that SELECT, GROUP, EXCLUDE and GROUPEXTEND of a command name.
 ghost use Rattle.std.specs.Prelude.{◌≡◌, [], IfOk, map, filter, not, if◌then◌else◌};
 ghost use Rattle.terms.specs.Lookups.{is_in};
 ghost use Rattle.intake_asked.specs.Words.{selected, grouped, excluded, kept_out, is_kept_out, listed, stands_alone};
@@ -66,7 +66,7 @@ pub(crate) fn grouped_ids(alloc: Global, operands: &[WideOperand]) -> Result<Vec
     Ok(ids)
 }
 
-// Whether GROUPEXTEND with these members keeps SYSMODs of the kind out.
+// Whether GROUPEXTEND with these members keeps SYSMODs of the kind out: NOAPARS and NOUSERMODS do.
 fn is_kind_kept_out(members: &[&[u8]], kind: Kind) -> bool
     ensures { result ≡ is_kept_out (map (λ member. member.now) members.now) kind }
 {
@@ -77,8 +77,8 @@ fn is_kind_kept_out(members: &[&[u8]], kind: Kind) -> bool
     }
 }
 
-// The ids of the known SYSMODs that GROUPEXTEND with these members keeps out by their kinds.
-fn known_ids_of_kinds<'a>(
+// The ids of the known SYSMODs of those kinds that GROUPEXTEND with these members keeps out.
+fn ids_of_kept_out_kinds<'a>(
     alloc: Global,
     known: &'a [KnownSysmod],
     members: &[&[u8]],
@@ -115,7 +115,8 @@ fn without_named<'a>(
     Ok(left)
 }
 
-// The ids of the known SYSMODs that GROUPEXTEND keeps out: neither SELECT nor GROUP names them.
+// The ids of the known SYSMODs that GROUPEXTEND keeps out: those of the kinds that its members name, except those that
+// SELECT or GROUP names.
 fn ids_kept_out<'a>(
     alloc: Global,
     known: &'a [KnownSysmod],
@@ -124,7 +125,7 @@ fn ids_kept_out<'a>(
     ensures { IfOk result (λ ids. map (λ id. id.now) ids.items ≡ kept_out known.now operands.now) }
 {
     let members = members_of_operands(alloc, groupextend_names(), operands)?;
-    let ids = known_ids_of_kinds(alloc, known, &members)?;
+    let ids = ids_of_kept_out_kinds(alloc, known, &members)?;
     let mut named = members_of_operands(alloc, select_names(), operands)?;
     let mut grouped = members_of_operands(alloc, group_names(), operands)?;
     named.append(&mut grouped)?;

@@ -1,11 +1,11 @@
-//! The words of SMP/E's commands, with their abbreviations.
+//! The operands of SMP/E's commands and the members of BYPASS, with their abbreviations.
 ghost use Rattle.std.specs.Prelude.{◌≡◌, map};
 ghost use Rattle.intake_asked.specs.KnownWords.{known_operands, known_members};
 
 use terms::CommandWord;
 
 /// The operands of APPLY and ACCEPT.
-const INSTALL: &[&[u8]] = &[
+const INSTALL_OPERANDS: &[&[u8]] = &[
     b"FUNCTIONS",
     b"FUNCTION",
     b"PTFS",
@@ -41,7 +41,7 @@ const INSTALL: &[&[u8]] = &[
 ];
 
 /// The operands of RECEIVE.
-const RECEIVE: &[&[u8]] = &[
+const RECEIVE_OPERANDS: &[&[u8]] = &[
     b"SYSMODS",
     b"SYSMOD",
     b"HOLDDATA",
@@ -56,7 +56,7 @@ const RECEIVE: &[&[u8]] = &[
 ];
 
 /// The operands of RESTORE.
-const RESTORE: &[&[u8]] = &[
+const RESTORE_OPERANDS: &[&[u8]] = &[
     b"SELECT",
     b"S",
     b"GROUP",
@@ -100,16 +100,16 @@ const ACCEPT_MEMBERS: &[&[u8]] = &[
     b"HOLDFIXCAT",
 ];
 
-/// The operands that a shop's command of this word may have, those that change no decision too.
+/// The operands that a shop's command of this word may have, also those that change no decision.
 pub(crate) fn known_operands(word: CommandWord) -> &'static [&'static [u8]]
     ensures { map (λ name. name.now) result.now ≡ known_operands word }
 {
     match word {
         CommandWord::Set => &[b"BDY", b"BOUNDARY", b"OPTIONS"],
-        CommandWord::Receive => RECEIVE,
+        CommandWord::Receive => RECEIVE_OPERANDS,
         CommandWord::Reject => &[b"SELECT", b"S", b"COMPRESS", b"C", b"RETRY", b"SIZE"],
-        CommandWord::Apply | CommandWord::Accept => INSTALL,
-        CommandWord::Restore => RESTORE,
+        CommandWord::Apply | CommandWord::Accept => INSTALL_OPERANDS,
+        CommandWord::Restore => RESTORE_OPERANDS,
         CommandWord::List => &[b"TEXT"],
         CommandWord::Report => &[b"ERRSYSMODS", b"NOPUNCH"],
     }

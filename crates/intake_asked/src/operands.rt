@@ -1,16 +1,14 @@
 //! Operands that have one of some names, and the members of their lists.
-ghost use Rattle.std.specs.Prelude.{◌≡◌, ◌↔◌, ◌==◌, ◌||◌, ◌&&◌, is_none, IsTrue, IfOk, All, map, filter};
-ghost use Rattle.std.specs.Prelude.{if◌then◌else◌, [], nat_lt, length};
-ghost use Rattle.std.specs.List.{slice_split};
-ghost use Rattle.intake_read.specs.Stated.{value_text};
-ghost use Rattle.intake_asked.specs.Words.{is_called, has, stands_alone, members, listed};
+ghost use Rattle.std.specs.Prelude.{◌≡◌, ◌↔◌, ◌&&◌, is_none, IsTrue, IfOk, All, map, if◌then◌else◌, []};
+ghost use Rattle.intake_read.specs.Stated.{value_text, members};
+ghost use Rattle.intake_asked.specs.Words.{is_called, has, stands_alone, listed};
 
-use intake_read::WideOperand;
+use intake_read::{WideOperand, list_members};
 use rec80::is_among;
 use std::alloc::{AllocError, Global};
 
 // Whether the operand has one of the names.
-fn has_name(names: &[&[u8]], operand: &WideOperand) -> bool
+fn has_any_name(names: &[&[u8]], operand: &WideOperand) -> bool
     ensures { result ≡ is_called (map (λ name. name.now) names.now) operand.now }
 {
     is_among(names, operand.name.as_slice())
@@ -20,14 +18,14 @@ fn has_name(names: &[&[u8]], operand: &WideOperand) -> bool
 pub(crate) fn has_operand(names: &[&[u8]], operands: &[WideOperand]) -> bool
     ensures { result ≡ has (map (λ name. name.now) names.now) operands.now }
 {
-    operands.iter().any(|operand| has_name(names, operand))
+    operands.iter().any(|operand| has_any_name(names, operand))
 }
 
 // Whether the operand has one of the names and no list.
 fn is_without_list(names: &[&[u8]], operand: &WideOperand) -> bool
     ensures { result ≡ (is_called (map (λ name. name.now) names.now) operand.now && is_none operand.now.value) }
 {
-    has_name(names, operand) && operand.value.is_none()
+    has_any_name(names, operand) && operand.value.is_none()
 }
 
 /// Whether an operand of one of the names has no list.
@@ -39,52 +37,15 @@ pub(crate) fn has_operand_without_list(names: &[&[u8]], operands: &[WideOperand]
         .any(|operand| is_without_list(names, operand))
 }
 
-/// Whether each operand has one of the names.
-pub(crate) fn have_names(names: &[&[u8]], operands: &[WideOperand]) -> bool
+/// Whether no operand has another name than one of these.
+pub(crate) fn have_only_names(names: &[&[u8]], operands: &[WideOperand]) -> bool
     ensures { IsTrue result ↔ All (λ operand. IsTrue (is_called (map (λ name. name.now) names.now) operand))
         operands.now }
 {
-    operands.iter().all(|operand| has_name(names, operand))
+    operands.iter().all(|operand| has_any_name(names, operand))
 }
 
-// The parts of a list between its blanks and commas, empty ones too.
-fn parts(alloc: Global, list: &[u8]) -> Result<Vec<&[u8]>, AllocError>
-    ensures { IfOk result (λ found. map (λ part. part.now) found.items
-        ≡ slice_split (λ b. b == 32 || b == 44) list.now) }
-{
-    list.split(|b| *b == b' ' || *b == b',').collect(alloc)
-}
-
-// Whether the part is not empty.
-fn is_filled(part: &[u8]) -> bool
-    ensures { result ≡ nat_lt 0 (length part.now) }
-{
-    !part.is_empty()
-}
-
-// The parts that are not empty.
-fn nonempty_parts<'a>(alloc: Global, parts: &[&'a [u8]]) -> Result<Vec<&'a [u8]>, AllocError>
-    ensures { IfOk result (λ found. map (λ part. part.now) found.items
-        ≡ filter (λ part. nat_lt 0 (length part)) (map (λ part. part.now) parts.now)) }
-{
-    let mut found = Vec::new(alloc);
-    for part in parts {
-        if !is_filled(*part) {
-            continue;
-        }
-        found.push(*part)?;
-    }
-    Ok(found)
-}
-
-// The members of a list, which blanks and commas separate.
-fn members(alloc: Global, list: &[u8]) -> Result<Vec<&[u8]>, AllocError>
-    ensures { IfOk result (λ found. map (λ member. member.now) found.items ≡ members list.now) }
-{
-    nonempty_parts(alloc, &parts(alloc, list)?)
-}
-
-// The members of the operand, or an empty list if it has none of the names.
+// The members of the operand's list, or an empty list if the operand has none of the names.
 fn operand_members<'a>(
     alloc: Global,
     names: &[&[u8]],
@@ -94,13 +55,13 @@ fn operand_members<'a>(
         ≡ (if is_called (map (λ name. name.now) names.now) operand.now then members (value_text operand.now.value)
         else [])) }
 {
-    if !has_name(names, operand) {
+    if !has_any_name(names, operand) {
         return Ok(Vec::new(alloc));
     }
-    members(alloc, operand.text())
+    list_members(alloc, operand.text())
 }
 
-/// The members of the operands of these names.
+/// The members of the lists of all operands that have one of the names.
 pub(crate) fn members_of_operands<'a>(
     alloc: Global,
     names: &[&[u8]],

@@ -7,7 +7,7 @@ use fields::{Class, Id, Reason, Source, ZoneName};
 use rec80::is_among;
 use std::alloc::{AllocError, Global};
 
-/// A value that is a text.
+/// A value that is a word of a command: an id, a source id, a reason, a class, or the name of a zone.
 pub(crate) trait Worded {
     ghost use Rattle.std.specs.Prelude.{◌≡◌, ℕ, List};
 
@@ -69,7 +69,7 @@ pub(crate) fn texts_of<T: Worded>(alloc: Global, values: &[T]) -> Result<Vec<&[u
     Ok(words)
 }
 
-// Whether each of the texts is among the others.
+// Whether each of the texts is one of the others.
 fn are_among(texts: &[&[u8]], others: &[&[u8]]) -> bool
     ensures { IsTrue result ↔ All (λ text. IsTrue (is_in (map (λ other. other.now) others.now) text.now)) texts.now }
 {
@@ -111,7 +111,7 @@ pub(crate) fn is_only_wanted_text<T: Worded>(
     Ok(have_same_texts(words.as_slice(), wanted))
 }
 
-/// Whether there is no text. The contract says so for the texts behind the references.
+/// Whether there are no texts. `is_empty` says this of the references, its contract here says it of the texts.
 pub(crate) fn are_none(texts: &[&[u8]]) -> bool
     ensures { IsTrue result → map (λ text. text.now) texts.now ≡ [] }
 {

@@ -17,7 +17,7 @@ pub enum CommandEnd {
     NoPeriod,
     /// A parenthesis is open where the file ends.
     OpenParenthesis,
-    /// A comment is open where the file ends, which opens there.
+    /// A comment is open where the file ends. This is where it opens.
     OpenComment(CardPlace),
 }
 
@@ -25,38 +25,40 @@ pub enum CommandEnd {
 #[derive(Drop)]
 pub struct WideCommand {
     pub place: CardPlace,
-    /// Its word, where it has one, and what stands in parentheses directly after it.
+    /// Its word, and the list in parentheses directly after it. A command that begins with a list has an empty word.
     pub head: WideOperand,
     pub operands: Vec<WideOperand>,
-    /// The words of BYPASS's list, each with the list after it, all at the place of BYPASS.
+    /// The members of its BYPASS operands, each with the list after it, all at the place of their BYPASS.
     pub bypassed: Vec<WideOperand>,
     pub end: CommandEnd,
     /// It has words in lower case.
     pub has_lower_case: bool,
-    /// It begins on the card on which another command ends.
-    pub is_behind: bool,
+    /// It begins on the card on which the command before it ends.
+    pub shares_card: bool,
 }
 
-/// What stands in a comment that opens inside a command and goes on after its card.
+/// A comment that opens inside a command and goes on after its card. It may hide operands that were meant to be read.
 #[derive(Drop)]
 pub struct CommandComment {
     /// Where it opens.
     pub place: CardPlace,
     /// The word of the command.
     pub command: Vec<u8>,
-    /// What it has on later cards, with a blank between two of them.
+    /// Its text on later cards, with a blank between the texts of two cards.
     pub text: Vec<u8>,
 }
 
-/// The commands of a file, the cards that are cut at column 80 outside comments, and comments that may hide operands.
+/// The commands of a file, and what may have changed their meaning unseen.
 #[derive(Drop)]
 pub struct WideCommands {
     pub commands: Vec<WideCommand>,
+    /// The cards that are cut at column 80 outside comments.
     pub cut: Vec<CardPlace>,
+    /// The comments that may hide operands.
     pub comments: Vec<CommandComment>,
 }
 
-/// Where the scanner is.
+/// What the next character belongs to.
 #[derive(Clone, Copy, Debug, PartialEq, Eq)]
 enum Within {
     Words,
@@ -94,9 +96,9 @@ pub fn wide_commands(alloc: Global, cards: &[Card]) -> Result<WideCommands, Allo
     for card in cards {
         scanner.keep_comment_text(&card.text[..COLUMNS])?;
         for byte in &card.text[..COLUMNS] {
-            scanner.take_byte(*byte, card.place)?;
+            scanner.read_byte(*byte, card.place)?;
         }
-        scanner.take_byte(b' ', card.place)?;
+        scanner.read_byte(b' ', card.place)?;
         if card.ends_comment && scanner.is_in_comment() {
             scanner.close_comment()?;
         } else if card.is_cut && !scanner.is_in_comment() {
@@ -127,22 +129,23 @@ fn bypass_members(alloc: Global, operands: &[WideOperand]) -> Result<Vec<WideOpe
     Ok(members)
 }
 
-// The words of BYPASS's list, each with the list after it, all at the place of BYPASS.
+// The members of a BYPASS, each with the list after it, all at the place of the BYPASS. A period does not end its list,
+// so it belongs to a word.
 fn read_bypass_list(alloc: Global, bypass: &WideOperand) -> Result<Vec<WideOperand>, AllocError> {
     let place = bypass.place;
     let mut scanner = CommandScanner::new(alloc);
     for byte in bypass.text() {
         if *byte == b'.' && scanner.depth == 0 {
-            scanner.put_in_word(*byte, place)?;
+            scanner.add_to_word(*byte, place)?;
         } else {
-            scanner.put_byte(*byte, place)?;
+            scanner.add_byte(*byte, place)?;
         }
     }
     Ok(scanner.words)
 }
 
 impl CommandScanner {
-    // A scanner that has taken no card.
+    // A scanner that has read no card.
     fn new(alloc: Global) -> CommandScanner {
         CommandScanner {
             alloc,
@@ -196,8 +199,8 @@ impl CommandScanner {
         Ok(())
     }
 
-    // Takes the next character of a card.
-    fn take_byte(&mut self, byte: u8, place: CardPlace) -> Result<(), AllocError> {
+    // Reads the next character of a card.
+    fn read_byte(&mut self, byte: u8, place: CardPlace) -> Result<(), AllocError> {
         match self.within {
             Within::Comment => self.within = after_comment_byte(byte),
             Within::Star if byte == b'/' => self.close_comment()?,
@@ -205,29 +208,30 @@ impl CommandScanner {
             Within::Slash if byte == b'*' => {
                 self.within = Within::Comment;
                 self.comment = place;
-                self.put_byte(b' ', place)?;
+                self.add_byte(b' ', place)?;
             }
             Within::Slash => {
-                self.put_byte(b'/', place)?;
-                self.take_outside_comment(byte, place)?;
+                self.add_byte(b'/', place)?;
+                self.read_outside_comment(byte, place)?;
             }
-            Within::Words => self.take_outside_comment(byte, place)?,
+            Within::Words => self.read_outside_comment(byte, place)?,
         }
         Ok(())
     }
 
-    // Takes a character outside comments, which may begin one.
-    fn take_outside_comment(&mut self, byte: u8, place: CardPlace) -> Result<(), AllocError> {
+    // Reads a character outside comments. A slash is kept back, because it may begin a comment.
+    fn read_outside_comment(&mut self, byte: u8, place: CardPlace) -> Result<(), AllocError> {
         if byte == b'/' {
             self.within = Within::Slash;
             return Ok(());
         }
         self.within = Within::Words;
-        self.put_byte(byte, place)
+        self.add_byte(byte, place)
     }
 
-    // Adds a character that belongs to no comment.
-    fn put_byte(&mut self, byte: u8, place: CardPlace) -> Result<(), AllocError> {
+    // Adds a character that belongs to no comment to a word or a list, or ends the command with it. It is read in upper
+    // case, and a tab as a blank.
+    fn add_byte(&mut self, byte: u8, place: CardPlace) -> Result<(), AllocError> {
         if byte.is_ascii_lowercase() {
             self.has_lower_case = true;
         }
@@ -237,7 +241,7 @@ impl CommandScanner {
             byte.to_ascii_uppercase()
         };
         if self.depth > 0 {
-            return self.put_in_list(byte);
+            return self.add_to_list(byte);
         }
         match byte {
             b' ' | b',' => {
@@ -246,12 +250,12 @@ impl CommandScanner {
             }
             b'(' => self.open_list(place),
             b'.' => self.end_command(place),
-            _ => self.put_in_word(byte, place),
+            _ => self.add_to_word(byte, place),
         }
     }
 
     // Adds a character to the word, or begins a word with it.
-    fn put_in_word(&mut self, byte: u8, place: CardPlace) -> Result<(), AllocError> {
+    fn add_to_word(&mut self, byte: u8, place: CardPlace) -> Result<(), AllocError> {
         if !self.in_word {
             self.begin_word(place)?;
         }
@@ -290,7 +294,7 @@ impl CommandScanner {
     }
 
     // Adds a character to the list. One blank stands for blanks side by side, and none for those at either end.
-    fn put_in_list(&mut self, byte: u8) -> Result<(), AllocError> {
+    fn add_to_list(&mut self, byte: u8) -> Result<(), AllocError> {
         match byte {
             b'(' => self.depth = self.depth.saturating_add(1),
             b')' => self.depth = self.depth.saturating_sub(1),
@@ -324,7 +328,8 @@ impl CommandScanner {
         Ok(())
     }
 
-    // Makes a command of the words so far, with this end. A period by itself is no command.
+    // Makes a command of the words so far, with this end. Without words there is none: a period by itself is no
+    // command.
     fn end_begun_command(&mut self, end: CommandEnd) -> Result<(), AllocError> {
         let words = std::mem::replace(&mut self.words, Vec::new(self.alloc));
         let mut words = words.into_iter();
@@ -332,7 +337,7 @@ impl CommandScanner {
             return Ok(());
         };
         let begins = head.place;
-        let is_behind = match self.ended {
+        let shares_card = match self.ended {
             Some(ended) => ended == begins,
             None => false,
         };
@@ -349,7 +354,7 @@ impl CommandScanner {
             bypassed: Vec::new(self.alloc),
             end,
             has_lower_case,
-            is_behind,
+            shares_card,
         })?;
         Ok(())
     }
@@ -379,7 +384,7 @@ fn after_comment_byte(byte: u8) -> Within {
     }
 }
 
-// The text before the end of a comment, or the whole text if no comment ends in it.
+// The text before the end of a comment, or the whole text if no comment ends in it, without blanks at either end.
 fn without_comment_end(text: &[u8]) -> &[u8] {
     for place in 0..text.len() {
         if let Some((front, rest)) = text.split_at_checked(place) {

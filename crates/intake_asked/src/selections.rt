@@ -8,13 +8,13 @@ use crate::known::KnownSysmod;
 use crate::lists::{grouped_ids, groupextend_names, ids_excluded, selected_ids};
 use crate::operands::{has_operand, members_of_operands};
 use crate::same::are_wanted_texts;
-use crate::sources::sources;
+use crate::sources::sources_of_members;
 use fields::{Id, Selection, Source};
 use intake_read::WideOperand;
 use std::alloc::{AllocError, Global};
 
 /// The known SYSMODs, or an empty list if none are given.
-pub(crate) fn known_or_none(known: &Option<Vec<KnownSysmod>>) -> &[KnownSysmod]
+pub(crate) fn known_sysmods(known: &Option<Vec<KnownSysmod>>) -> &[KnownSysmod]
     ensures { result.now ≡ known_in known.now }
 {
     match known {
@@ -23,7 +23,7 @@ pub(crate) fn known_or_none(known: &Option<Vec<KnownSysmod>>) -> &[KnownSysmod]
     }
 }
 
-// Whether the types, and GROUPEXTEND, are chosen just if an operand asks for them.
+// Whether each type, and GROUPEXTEND, is chosen just if an operand asks for it.
 fn says_types(operands: &[WideOperand], selection: &Selection) -> bool
     ensures functions { IsTrue result
         → selection.now.functions ≡ has (codes "FUNCTIONS" ∷ codes "FUNCTION" ∷ []) operands.now }
@@ -40,7 +40,7 @@ fn says_types(operands: &[WideOperand], selection: &Selection) -> bool
         && selection.groupextend == has_operand(groupextend_names(), operands)
 }
 
-// Whether the ids are just those of SELECT, unless GROUP takes these.
+// Whether the ids are just those of SELECT, or there are none because a GROUP without a list takes them.
 fn says_select(alloc: Global, operands: &[WideOperand], ids: &[Id]) -> Result<bool, AllocError>
     ensures { IfOk result (λ are. IsTrue are → AreThese ids.now (selected operands.now)) }
 {
@@ -48,7 +48,7 @@ fn says_select(alloc: Global, operands: &[WideOperand], ids: &[Id]) -> Result<bo
     are_wanted_texts(alloc, ids, &wanted)
 }
 
-// Whether the ids are just those of GROUP, with those that it takes from SELECT.
+// Whether the ids are just those of GROUP, with those of SELECT if GROUP has no list.
 fn says_group(alloc: Global, operands: &[WideOperand], ids: &[Id]) -> Result<bool, AllocError>
     ensures { IfOk result (λ are. IsTrue are → AreThese ids.now (grouped operands.now)) }
 {
@@ -89,14 +89,15 @@ fn says_sources(
         (listed (codes "SOURCEID" ∷ []) operands.now)) }
 {
     let members = members_of_operands(alloc, &[b"SOURCEID"], operands)?;
-    let Some(wanted) = sources(alloc, known, &members)? else {
+    let Some(wanted) = sources_of_members(alloc, known, &members)? else {
         return Ok(false);
     };
     are_wanted_texts(alloc, source_ids, &wanted)
 }
 
-// Whether the SYSMODs are known that GROUPEXTEND keeps out, or it keeps out none.
-fn is_enough_known(
+// Whether it is known which SYSMODs GROUPEXTEND keeps out: some are given as known, or it has no member that keeps any
+// out.
+fn are_kept_out_known(
     alloc: Global,
     known: &Option<Vec<KnownSysmod>>,
     operands: &[WideOperand],
@@ -142,7 +143,7 @@ pub(crate) fn says_selection(
 ) -> Result<bool, AllocError>
     ensures { IfOk result (λ says. IsTrue says → SaysSelection known.now operands.now selection.now) }
 {
-    let list = known_or_none(known);
+    let list = known_sysmods(known);
     let lists = says_lists(alloc, list, operands, selection)?;
     if !lists {
         return Ok(false);
@@ -151,7 +152,7 @@ pub(crate) fn says_selection(
     if !sources {
         return Ok(false);
     }
-    let enough = is_enough_known(alloc, known, operands)?;
+    let enough = are_kept_out_known(alloc, known, operands)?;
     if !enough {
         return Ok(false);
     }

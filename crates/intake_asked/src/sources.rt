@@ -30,7 +30,7 @@ fn known_sources(alloc: Global, known: &[KnownSysmod]) -> Result<Vec<&[u8]>, All
     Ok(all)
 }
 
-// The source ids that begin with the text.
+// Those of the source ids that begin with the text before the asterisk.
 fn sources_with_prefix<'a>(
     alloc: Global,
     all: &[&'a [u8]],
@@ -66,7 +66,7 @@ fn sources_of_member<'a>(
     }
 }
 
-// A list of only this text.
+// A list of only this text, which is a source id without an asterisk.
 fn single_source(alloc: Global, text: &[u8]) -> Result<Vec<&[u8]>, AllocError>
     ensures { IfOk result (λ list. map (λ source. source.now) list.items ≡ text.now ∷ []) }
 {
@@ -75,8 +75,9 @@ fn single_source(alloc: Global, text: &[u8]) -> Result<Vec<&[u8]>, AllocError>
     Ok(list)
 }
 
-/// The source ids that the members name. Returns `None` if a member names no known one.
-pub(crate) fn sources<'a>(
+/// The source ids that the members of SOURCEID name. Returns `None` if a member with an asterisk names none, because no
+/// known source id begins so.
+pub(crate) fn sources_of_members<'a>(
     alloc: Global,
     known: &'a [KnownSysmod],
     members: &[&'a [u8]],

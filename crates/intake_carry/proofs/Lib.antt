@@ -1,3 +1,2 @@
-pub mod Becoming
 pub mod HeldKeys
 pub mod WithHolds

@@ -1,8 +1,6 @@
 -- What becomes of the statements of files: the items of PTFIN and of the hold file, in order.
 use Rattle.std.specs.Prelude.{◌≡◌, ◌&&◌, not, Bool, false, List, [], ◌∷◌, ◌++◌, map, Option, Some, None, IfSome}
-use Rattle.std.specs.Prelude.{IsPermutation}
 use Rattle.std.specs.List.{filter, flat_map, list_any}
-use Rattle.std.specs.List.Sorted.{IsSortedByKey}
 use Rattle.terms.specs.Types as terms
 use Rattle.terms.specs.Global.{has_key}
 use Rattle.mcs.specs.declared.file.Item.{Item}
@@ -14,9 +12,9 @@ use Rattle.intake_read.specs.declared.items.WideHold.{WideHold}
 use Rattle.intake_read.specs.declared.items.WideFile.{WideFile}
 use Rattle.intake_sysmod.specs.NoLooser.{IsNoLooser}
 use Rattle.intake_sysmod.specs.Users.{run_of}
-use Rattle.intake_carry.specs.declared.placed.PlacedItem.{PlacedItem}
-use Rattle.intake_carry.specs.Become.{Become}
-use Rattle.intake_carry.specs.Holds.{place_cmp, HoldBecomes, LeftHoldBecomes, ReleaseBecomes}
+use Rattle.intake_holds.specs.declared.placed.PlacedItem.{PlacedItem}
+use Rattle.intake_holds.specs.Become.{Become}
+use Rattle.intake_holds.specs.Holds.{HoldBecomes, LeftHoldBecomes, ReleaseBecomes, AreInOrder}
 
 -- the item that a SYSMOD is, if it is carried
 abbrev pub item_in : Option terms.Sysmod → List Item
@@ -60,13 +58,6 @@ is_held items (Release r) = false
 -- The hold was internal in a copy of a SYSMOD that is left out, and the copy that is carried has one of its key.
 abbrev pub is_held_by_copy : List Item → PlacedItem → Bool
 is_held_by_copy items p = p.was_internal && is_held items p.item
-
--- the items by the places of their statements, from the first file to the last
-pub record AreInOrder (placed : List PlacedItem) (items : List HoldItem) : Type 0 where
-  pub ordered : List PlacedItem
-  pub same : IsPermutation placed ordered
-  pub rising : IsSortedByKey (λ p. p.place) place_cmp ordered
-  pub items_are : items ≡ map (λ p. p.item) ordered
 
 -- PTFIN has what the SYSMODs of the files become, in their order, and then assignments. The hold file has the holds and
 -- releases that are outside SYSMODs, in the order of their statements, but no hold of a copy that is left out if the

@@ -2,9 +2,10 @@
 ghost use Rattle.std.specs.Prelude.{◌≡◌, ◌++◌, OnOk, map};
 ghost use Rattle.mcs.specs.declared.file.Item.TheVariants as item;
 
-use crate::odd::{has_odd, leave_out_odd};
+use crate::sysmods::stated_text;
 use fields::{Id, Source};
 use intake_cards::{RemarkReason, Remarks, Subject};
+use intake_holds::{has_faulty_operand, tell_left_out_for_faulty_operands};
 use intake_read::{WideAssign, WideFile};
 use mcs::{Assign, Item};
 use std::alloc::{AllocError, Global};
@@ -13,10 +14,10 @@ use std::collections::BTreeSet;
 /// The most ids that an assignment may have.
 const MOST_IDS: usize = 1000;
 
-/// The source of the SYSMODs with stand-ins.
-const STAND_IN: &[u8] = b"STANDIN";
+/// The source id of the SYSMODs with stand-ins.
+const STAND_IN_SOURCE: &[u8] = b"STANDIN";
 
-// Appends an assignment for each 1,000 ids, which are the most that one may have.
+// Appends assignments of the ids to the source, as many as they need with at most 1,000 ids each.
 fn push_in_parts(
     alloc: Global,
     assigns: &mut Vec<Assign>,
@@ -32,7 +33,7 @@ fn push_in_parts(
     Ok(())
 }
 
-// The ids in their order, each once. A remark says which text is no id, and which id is named again.
+// The ids in their order, each once. Remarks say which texts are no ids, and which ids are named again.
 fn distinct_ids(
     alloc: Global,
     remarks: &mut Remarks,
@@ -55,30 +56,28 @@ fn distinct_ids(
     Ok(ids)
 }
 
-// Checks the operands of an `++ASSIGN`: remarks on those that it may not have, and on those that it lacks. Returns
-// whether there is nothing to remark. If `source` is empty, SOURCEID is missing.
+// Leaves an `++ASSIGN` out, with a remark, for each operand that is faulty or missing. Returns whether there is none.
 fn check_assign(
     alloc: Global,
     remarks: &mut Remarks,
     subject: &Subject<'_>,
-    source: &[u8],
     stated: &WideAssign,
 ) -> Result<bool, AllocError> {
-    let odd = stated.faulty.as_slice();
-    leave_out_odd(alloc, remarks, subject, odd)?;
-    let lacks_source = source.is_empty() && !has_odd(odd, b"SOURCEID");
+    let faulty = stated.faulty.as_slice();
+    tell_left_out_for_faulty_operands(alloc, remarks, subject, faulty)?;
+    let lacks_source = subject.id.is_empty() && !has_faulty_operand(faulty, b"SOURCEID");
     if lacks_source {
         remarks.tell_left_out(alloc, subject, b"SOURCEID", RemarkReason::Missing, b"")?;
     }
-    let lacks_ids = stated.to.is_empty() && !has_odd(odd, b"TO");
+    let lacks_ids = stated.to.is_empty() && !has_faulty_operand(faulty, b"TO");
     if lacks_ids {
         remarks.tell_left_out(alloc, subject, b"TO", RemarkReason::Missing, b"")?;
     }
-    Ok(odd.is_empty() && !lacks_source && !lacks_ids)
+    Ok(faulty.is_empty() && !lacks_source && !lacks_ids)
 }
 
-// The source that an `++ASSIGN` states, read in upper case. Returns `None`, with a remark, if it has not the form of a
-// source id.
+// The source id that an `++ASSIGN` states, read in upper case. Returns `None`, with a remark, if it has not the form of
+// one: if it has periods it is one of SMP/E's long source ids, which are dropped.
 fn read_source(
     alloc: Global,
     remarks: &mut Remarks,
@@ -100,24 +99,21 @@ fn read_source(
     Ok(Some(source))
 }
 
-// Carries an `++ASSIGN`: appends its assignments, if its operands are in order. Remarks say what is left out and what
-// differs.
+// Carries an `++ASSIGN`: appends its assignments, if none of its operands is faulty or missing. Remarks say what is
+// left out and what differs.
 fn carry_assign(
     alloc: Global,
     remarks: &mut Remarks,
     assigns: &mut Vec<Assign>,
     stated: &WideAssign,
 ) -> Result<(), AllocError> {
-    let stated_source: &[u8] = match &stated.source {
-        Some(text) => text.as_slice(),
-        None => b"",
-    };
+    let stated_source = stated_text(&stated.source);
     let subject = Subject {
         place: stated.place,
         word: b"ASSIGN",
         id: stated_source,
     };
-    if !check_assign(alloc, remarks, &subject, stated_source, stated)? {
+    if !check_assign(alloc, remarks, &subject, stated)? {
         return Ok(());
     }
     let Some(source) = read_source(alloc, remarks, &subject, stated_source)? else {
@@ -130,8 +126,9 @@ fn carry_assign(
     push_in_parts(alloc, assigns, source, ids.as_slice())
 }
 
-/// The assignments of the files, and after them those of the source STANDIN, to the SYSMODs with stand-ins.
-pub(crate) fn assigns_of(
+/// Carries the assignments of the files, and adds those of the source id STANDIN to the SYSMODs with stand-ins. Remarks
+/// say what is left out and what differs.
+pub(crate) fn carry_assigns(
     alloc: Global,
     remarks: &mut Remarks,
     files: &[WideFile],
@@ -142,7 +139,7 @@ pub(crate) fn assigns_of(
             carry_assign(alloc, remarks, &mut assigns, stated)?;
         }
     }
-    if let Some(source) = Source::read(STAND_IN) {
+    if let Some(source) = Source::read(STAND_IN_SOURCE) {
         push_in_parts(
             alloc,
             &mut assigns,
@@ -153,7 +150,7 @@ pub(crate) fn assigns_of(
     Ok(assigns)
 }
 
-/// Adds the assignments after the items.
+/// Adds the assignments after the other items of PTFIN.
 pub(crate) fn append_assigns(items: &mut Vec<Item>, assigns: Vec<Assign>) -> Result<(), AllocError>
     ensures { OnOk result (items.new.items ≡ items.old.items ++ map item.Assign assigns.items) }
 {

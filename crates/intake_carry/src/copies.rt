@@ -5,7 +5,7 @@ use intake_read::{CardPlace, WideFile, WideSysmod};
 use std::alloc::{AllocError, Global};
 use std::collections::{BTreeMap, BTreeSet};
 
-/// A copy of a SYSMOD: its level, and where it begins.
+/// A copy of a SYSMOD: the level that its REWORK states, and where it begins.
 #[derive(Clone, Copy)]
 struct SysmodCopy {
     rework: u64,
@@ -22,8 +22,9 @@ pub(crate) struct OtherCopies {
     ids: BTreeSet<Id>,
 }
 
-// The number that the digits spell, or the greatest if it is greater; 0 if there are other characters.
-fn number_of(text: &[u8]) -> u64 {
+// The level that the text of a REWORK spells: `u64::MAX` if it is greater than that, 0 if the text has other characters
+// than digits.
+fn read_level(text: &[u8]) -> u64 {
     let mut number = 0u64;
     for byte in text {
         if !byte.is_ascii_digit() {
@@ -39,14 +40,14 @@ fn number_of(text: &[u8]) -> u64 {
 fn rework_level(sysmod: &WideSysmod) -> u64 {
     for operand in sysmod.dropped.iter() {
         if operand.name.as_slice() == b"REWORK".as_slice() {
-            return number_of(operand.text());
+            return read_level(operand.text());
         }
     }
     0
 }
 
 impl OtherCopies {
-    /// The copies of SYSMODs of the files that are not carried.
+    /// Finds these copies among the SYSMODs of the files.
     pub(crate) fn of_files(alloc: Global, files: &[WideFile]) -> Result<OtherCopies, AllocError> {
         let mut best = BTreeMap::new(alloc);
         let mut others = OtherCopies {
@@ -61,8 +62,8 @@ impl OtherCopies {
         Ok(others)
     }
 
-    // Notes one more copy of a SYSMOD. Of this copy and the best one so far the better one is kept in `best`, and the
-    // other one is noted as not carried. A SYSMOD whose id has not the form of one is skipped.
+    // Notes one more copy of a SYSMOD. The better one of this copy and the best one so far is kept in `best`, and the
+    // other one is noted as not carried. A SYSMOD is skipped if its id has not the form of an id.
     fn note_copy(
         &mut self,
         best: &mut BTreeMap<Id, SysmodCopy>,
@@ -89,13 +90,13 @@ impl OtherCopies {
         Ok(())
     }
 
-    /// Whether the SYSMOD is a copy that is not carried.
-    pub(crate) fn has(&self, sysmod: &WideSysmod) -> bool {
+    /// Whether the SYSMOD is a copy that is not carried, because another one is.
+    pub(crate) fn is_other_copy(&self, sysmod: &WideSysmod) -> bool {
         self.places.contains(&sysmod.place)
     }
 
     /// Whether the files have the SYSMOD of this id more than once.
-    pub(crate) fn has_several(&self, id: &[u8]) -> bool {
+    pub(crate) fn is_repeated(&self, id: &[u8]) -> bool {
         match Id::read(id) {
             Some(id) => self.ids.contains(&id),
             None => false,

@@ -1,30 +1,30 @@
-//! The statements of files.
-ghost use Rattle.std.specs.Prelude.{◌≡◌, ◌++◌, IfOk, IsFalse, List, OnOk, map};
+//! What becomes of the statements of files.
+ghost use Rattle.std.specs.Prelude.{◌≡◌, ◌++◌, [], IfOk, List, OnOk, map};
 ghost use Rattle.terms.specs.Types as terms;
 ghost use Rattle.mcs.specs.declared.file.Item.TheVariants as item;
 ghost use Rattle.intake_read.specs.declared.items.WideHold.{WideHold};
-ghost use Rattle.intake_carry.specs.Become.{Become};
-ghost use Rattle.intake_carry.specs.Carried.{item_in, AreInOrder, SysmodBecomes, FileBecomes, FilesBecome};
-ghost use Rattle.intake_carry.specs.Outside.{AreCarried};
+ghost use Rattle.intake_holds.specs.Become.{Become};
+ghost use Rattle.intake_holds.specs.Holds.{AreInOrder};
+ghost use Rattle.intake_carry.specs.Carried.{item_in, SysmodBecomes, FileBecomes, FilesBecome};
+ghost use Rattle.intake_holds.specs.Outside.{AreCarried};
 
-use crate::assigns::{append_assigns, assigns_of};
+use crate::assigns::{append_assigns, carry_assigns};
 use crate::copies::OtherCopies;
-use crate::errors::HoldError;
-use crate::held_copies::without_held;
-use crate::names::sort_and_check_stand_ins;
+use crate::held_copies::without_held_already;
 use crate::narrowed::{NarrowError, Narrowed};
-use crate::notes::{tell_notes, tell_swallowed};
-use crate::outside::{FileRemarks, OutsideHolds};
-use crate::placed::{PlacedItem, carry_releases, items_in_order};
-use crate::refusals::refuse_statements;
-use crate::sysmods::{CarriedPart, carry_with_holds};
+use crate::notes::{tell_notes, tell_swallowed_statements};
+use crate::stand_ins::sort_and_check_stand_ins;
+use crate::sysmods::{CarriedSysmod, carry_with_holds};
 use intake_cards::Remarks;
-use intake_read::WideFile;
+use intake_holds::{
+    FileRemarks, HoldError, OutsideHolds, PlacedItem, carry_releases, items_in_order,
+};
+use intake_read::{WideFile, WideSysmod};
 use intake_sysmod::{Options, Users, tell_other_statements};
 use mcs::Item;
 use std::alloc::{AllocError, Global};
 
-/// SYSMODs, and the holds and releases of the hold file.
+/// What becomes of SYSMODs and releases: items of PTFIN, and of the hold file.
 #[derive(Drop)]
 pub(crate) struct CarriedItems {
     pub items: Vec<Item>,
@@ -32,12 +32,23 @@ pub(crate) struct CarriedItems {
 }
 
 impl CarriedItems {
+    // No items.
+    fn new(alloc: Global) -> CarriedItems
+        ensures items { result.items.items ≡ [] }
+        ensures outside { result.outside.items ≡ [] }
+    {
+        CarriedItems {
+            items: Vec::new(alloc),
+            outside: Vec::new(alloc),
+        }
+    }
+
     // Adds one more SYSMOD, if it is carried, and its holds for the hold file.
-    fn push(&mut self, part: CarriedPart) -> Result<(), AllocError>
+    fn push(&mut self, part: CarriedSysmod) -> Result<(), AllocError>
         ensures items { OnOk result (self.new.items.items ≡ self.old.items.items ++ item_in part.sysmod) }
         ensures outside { OnOk result (self.new.outside.items ≡ self.old.outside.items ++ part.outside.items) }
     {
-        let CarriedPart {
+        let CarriedSysmod {
             sysmod,
             mut outside,
         } = part;
@@ -59,31 +70,28 @@ impl CarriedItems {
     }
 }
 
-// The SYSMODs of a file, and their holds. Returns `BadHold` if a hold has no key, `Memory` if memory runs out.
+// Carries SYSMODs with their holds. Returns `BadHold` if a hold has no key, `Memory` if memory runs out.
 fn carry_sysmods(
     alloc: Global,
     options: &Options,
     users: &Users<'_>,
     copies: &OtherCopies,
     remarks: &mut Remarks,
-    file: &WideFile,
+    sysmods: &[WideSysmod],
 ) -> Result<CarriedItems, HoldError>
-    ensures { IfOk result (λ all. Become (SysmodBecomes options.now.decide users.now) file.now.sysmods.items
-        all.items.items all.outside.items) }
+    ensures { IfOk result (λ all. Become (SysmodBecomes options.now.decide users.now) sysmods.now all.items.items
+        all.outside.items) }
 {
-    let mut gathered = CarriedItems {
-        items: Vec::new(alloc),
-        outside: Vec::new(alloc),
-    };
-    for stated in file.sysmods.iter() {
+    let mut gathered = CarriedItems::new(alloc);
+    for stated in sysmods {
         let part = carry_with_holds(alloc, options, users, copies, remarks, stated)?;
         gathered.push(part)?;
     }
     Ok(gathered)
 }
 
-// The SYSMODs and the releases of a file. The remarks on its holds outside SYSMODs are put between the remarks on both.
-// Returns `BadHold` if a hold or a release has no key, `Memory` if memory runs out.
+// Carries the SYSMODs and the releases of a file. The remarks on its holds outside SYSMODs come between the remarks on
+// both. Returns `BadHold` if a hold or a release has no key, `Memory` if memory runs out.
 fn carry_file(
     alloc: Global,
     options: &Options,
@@ -96,17 +104,18 @@ fn carry_file(
     ensures { IfOk result (λ all. FileBecomes options.now.decide users.now file.now all.items.items all.outside.items) }
 {
     tell_notes(alloc, remarks, file.notes.as_slice())?;
-    tell_swallowed(alloc, remarks, file.swallowed.as_slice())?;
-    let mut gathered = carry_sysmods(alloc, options, users, copies, remarks, file)?;
+    tell_swallowed_statements(alloc, remarks, file.swallowed.as_slice())?;
+    let sysmods = file.sysmods.as_slice();
+    let mut gathered = carry_sysmods(alloc, options, users, copies, remarks, sysmods)?;
     let _ = tell_other_statements(alloc, options, remarks, file.others.as_slice())?;
-    remarks.append(held.next_file(alloc))?;
+    remarks.append(held.take_next_file(alloc))?;
     let mut releases = carry_releases(alloc, remarks, file.releases.as_slice())?;
     gathered.outside.append(&mut releases)?;
     Ok(gathered)
 }
 
-// The SYSMODs and the releases of all files. Returns `BadHold` if a hold or a release has no key, `Memory` if memory
-// runs out.
+// Carries the SYSMODs and the releases of all files. Returns `BadHold` if a hold or a release has no key, `Memory` if
+// memory runs out.
 fn carry_files(
     alloc: Global,
     options: &Options,
@@ -119,10 +128,7 @@ fn carry_files(
     ensures { IfOk result (λ all. Become (FileBecomes options.now.decide users.now) files.now all.items.items
         all.outside.items) }
 {
-    let mut gathered = CarriedItems {
-        items: Vec::new(alloc),
-        outside: Vec::new(alloc),
-    };
+    let mut gathered = CarriedItems::new(alloc);
     for file in files {
         let more = carry_file(alloc, options, users, copies, remarks, held, file)?;
         gathered.append(more)?;
@@ -130,41 +136,9 @@ fn carry_files(
     Ok(gathered)
 }
 
-// Remarks on the holds and releases that cannot be carried, with those remarks that were made as the files were read.
-// Returns whether there are any besides the holds outside SYSMODs, which were refused as they were read.
-fn refuse_files(
-    alloc: Global,
-    remarks: &mut Remarks,
-    refusals: &mut FileRemarks,
-    files: &[WideFile],
-) -> Result<bool, AllocError> {
-    let mut any = false;
-    for file in files {
-        remarks.append(refusals.next_file(alloc))?;
-        if refuse_statements(alloc, remarks, file)? {
-            any = true;
-        }
-    }
-    Ok(any)
-}
-
-// Remarks on all holds and releases that cannot be carried. Returns whether there are any, those included that were
-// refused as they were read.
-fn refuse_files_and_holds(
-    alloc: Global,
-    remarks: &mut Remarks,
-    held: &mut OutsideHolds,
-    files: &[WideFile],
-) -> Result<bool, AllocError>
-    ensures same { held.new.placed ≡ held.old.placed }
-    ensures refused { IfOk result (λ any. IsFalse any → IsFalse held.old.is_refused) }
-{
-    let any = refuse_files(alloc, remarks, &mut held.refusals, files)?;
-    Ok(any || held.is_refused)
-}
-
-// The items with the assignments, and the hold file's in their order, with all remarks.
-fn finish_items(
+// The items of PTFIN, with the assignments after them, and those of the hold file in their order, with all remarks. The
+// names of stand-ins are checked here, because any of the files may have an element of such a name.
+fn make_narrowed(
     alloc: Global,
     mut remarks: Remarks,
     files: &[WideFile],
@@ -176,16 +150,16 @@ fn finish_items(
     ensures in_order { IfOk result (λ narrowed. AreInOrder outside.items narrowed.hold_items.items) }
 {
     sort_and_check_stand_ins(alloc, &mut remarks, files)?;
-    let assigns = assigns_of(alloc, &mut remarks, files)?;
+    let assigns = carry_assigns(alloc, &mut remarks, files)?;
     append_assigns(&mut items, assigns)?;
     let hold_items = items_in_order(alloc, outside)?;
     Ok(Narrowed::new(items, hold_items, remarks))
 }
 
-/// What the files state, as RECEIVE takes it, in the order of the files: each SYSMOD that is carried is no looser than
-/// it is stated, and no ERROR, SYSTEM or USER hold or release is lost. `held` is what becomes of their holds outside
-/// SYSMODs. The remarks tell all else. Returns `Refused`, with all remarks, if a hold or a release of such a kind
-/// cannot be carried, and `Memory` if memory runs out.
+/// Makes items that RECEIVE takes of what the files state, in the order of the files. Each SYSMOD that is carried is no
+/// looser than it is stated, and no ERROR, SYSTEM or USER hold or release is lost. `held` has the files' holds outside
+/// SYSMODs, which were carried as they were read. Remarks say what is left out and what differs. Returns `Refused`,
+/// with all remarks, if a hold or a release of such a kind cannot be carried, and `Memory` if memory runs out.
 pub fn narrow(
     alloc: Global,
     files: &[WideFile],
@@ -201,7 +175,7 @@ pub fn narrow(
     let copies = OtherCopies::of_files(alloc, files)?;
     let mut remarks = Remarks::new(alloc);
     let mut held = held;
-    if refuse_files_and_holds(alloc, &mut remarks, &mut held, files)? {
+    if held.refuse_all(alloc, &mut remarks, files)? {
         return Err(NarrowError::Refused(remarks.list));
     }
     let mut held_remarks = held.remarks;
@@ -220,8 +194,14 @@ pub fn narrow(
         Err(HoldError::BadHold) => return Err(NarrowError::Refused(remarks.list)),
     };
     let CarriedItems { items, outside } = gathered;
-    let mut outside = without_held(alloc, &mut remarks, &copies, items.as_slice(), outside)?;
+    let mut outside = without_held_already(
+        alloc,
+        &mut remarks,
+        &copies,
+        items.as_slice(),
+        outside,
+    )?;
     outside.append(&mut held.placed)?;
-    let narrowed = finish_items(alloc, remarks, files, items, outside)?;
+    let narrowed = make_narrowed(alloc, remarks, files, items, outside)?;
     Ok(narrowed)
 }

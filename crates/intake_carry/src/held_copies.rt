@@ -1,4 +1,5 @@
-//! Holds of copies that are left out, of which the copy that is carried has one of the same key.
+//! Holds that were internal in a copy of a SYSMOD that is left out. If the copy that is carried has a hold of the same
+//! key, they are dropped.
 ghost use Rattle.std.specs.Prelude.{◌≡◌, ◌++◌, not, List, IfOk, OnOk};
 ghost use Rattle.std.specs.List.{filter, flat_map};
 ghost use Rattle.terms.specs.Types as terms;
@@ -7,9 +8,9 @@ ghost use Rattle.intake_carry.specs.Carried.{holds_of, is_held, is_held_by_copy}
 ghost use Rattle.intake_carry.specs.Keys.{AreKeysOf};
 
 use crate::copies::OtherCopies;
-use crate::placed::PlacedItem;
 use fields::{Id, Reason as HoldReason};
 use intake_cards::{CardPlace, RemarkReason, Remarks, Subject};
+use intake_holds::PlacedItem;
 use mcs::{HoldItem, Item};
 use std::alloc::{AllocError, Global};
 use std::collections::BTreeSet;
@@ -37,7 +38,7 @@ fn add_keys(keys: &mut BTreeSet<HoldKey>, holds: &[Hold]) -> Result<(), AllocErr
     Ok(())
 }
 
-// The holds of an item, which are internal.
+// The internal holds of an item.
 fn holds_of(item: &Item) -> &[Hold]
     ensures { result.now ≡ holds_of item.now }
 {
@@ -47,7 +48,7 @@ fn holds_of(item: &Item) -> &[Hold]
     }
 }
 
-// The keys of the holds that the items have.
+// The keys of the internal holds of the items.
 fn internal_keys(alloc: Global, items: &[Item]) -> Result<BTreeSet<HoldKey>, AllocError>
     ensures { IfOk result (λ keys. AreKeysOf keys (flat_map holds_of items.now)) }
 {
@@ -58,7 +59,7 @@ fn internal_keys(alloc: Global, items: &[Item]) -> Result<BTreeSet<HoldKey>, All
     Ok(keys)
 }
 
-// Whether a hold has one of the keys.
+// Whether the item is a hold with one of the keys.
 fn is_held(keys: &BTreeSet<HoldKey>, item: &HoldItem) -> bool
     ensures { (items : List AnItem) → AreKeysOf keys.now (flat_map holds_of items) → result ≡ is_held items item.now }
 {
@@ -85,8 +86,9 @@ fn keep_unheld(keys: &BTreeSet<HoldKey>, mut placed: Vec<PlacedItem>) -> Vec<Pla
     placed
 }
 
-// Remarks what becomes of a hold that was internal in a copy of a SYSMOD.
-fn remark_on_copy_hold(
+// Remarks what becomes of a hold that was internal in a SYSMOD that is not carried: it is dropped because it is held
+// already, or it is in the hold file. The latter was told before unless the SYSMOD is repeated (`tell_left_out_holds`).
+fn tell_copy_hold(
     alloc: Global,
     remarks: &mut Remarks,
     keys: &BTreeSet<HoldKey>,
@@ -109,14 +111,14 @@ fn remark_on_copy_hold(
             reason,
         );
     }
-    if copies.has_several(hold.id.as_bytes()) {
+    if copies.is_repeated(hold.id.as_bytes()) {
         return remarks.tell_carried(alloc, &subject, b"", RemarkReason::HeldOutside, b"");
     }
     Ok(())
 }
 
-// Remarks what becomes of each of the holds that were internal in a copy of a SYSMOD.
-fn remark_on_copy_holds(
+// Remarks what becomes of each of the holds that were internal in a SYSMOD that is not carried.
+fn tell_copy_holds(
     alloc: Global,
     remarks: &mut Remarks,
     keys: &BTreeSet<HoldKey>,
@@ -126,7 +128,7 @@ fn remark_on_copy_holds(
     for placed_item in placed {
         match &placed_item.item {
             HoldItem::Hold(hold) if placed_item.was_internal => {
-                remark_on_copy_hold(alloc, remarks, keys, copies, placed_item.place, hold)?
+                tell_copy_hold(alloc, remarks, keys, copies, placed_item.place, hold)?
             }
             HoldItem::Hold(_) | HoldItem::Release(_) => {}
         }
@@ -134,9 +136,10 @@ fn remark_on_copy_holds(
     Ok(())
 }
 
-/// The holds and releases. Left out are holds that were internal in a copy of a SYSMOD that is not carried, if a SYSMOD
-/// of the items has a hold of the same key. Remarks say what becomes of the holds of such copies.
-pub(crate) fn without_held(
+/// The holds and releases of the hold file, without the holds that are held already: they were internal in a copy of a
+/// SYSMOD that is not carried, and a SYSMOD of the items has a hold of the same key. Remarks say what becomes of each
+/// hold that was internal in such a copy.
+pub(crate) fn without_held_already(
     alloc: Global,
     remarks: &mut Remarks,
     copies: &OtherCopies,
@@ -147,6 +150,6 @@ pub(crate) fn without_held(
         ≡ filter (λ p. not (is_held_by_copy items.now p)) placed.items) }
 {
     let keys = internal_keys(alloc, items)?;
-    remark_on_copy_holds(alloc, remarks, &keys, copies, placed.as_slice())?;
+    tell_copy_holds(alloc, remarks, &keys, copies, placed.as_slice())?;
     Ok(keep_unheld(&keys, placed))
 }

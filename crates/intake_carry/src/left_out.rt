@@ -1,53 +1,48 @@
 //! The holds of SYSMODs that are left out.
 ghost use Rattle.std.specs.Prelude.{[], IfOk};
-ghost use Rattle.intake_carry.specs.Become.{Become};
-ghost use Rattle.intake_carry.specs.Holds.{LeftHoldBecomes};
+ghost use Rattle.intake_holds.specs.Become.{Become};
+ghost use Rattle.intake_holds.specs.Holds.{LeftHoldBecomes};
 
 use crate::copies::OtherCopies;
-use crate::errors::HoldError;
-use crate::holds::{carry_hold, is_on};
-use crate::placed::PlacedItem;
-use intake_cards::{RemarkReason, Remarks, Subject};
+use intake_cards::{RemarkReason, Remarks};
+use intake_holds::{HoldError, PlacedItem, carry_hold, hold_subject, is_internal_in};
 use intake_read::{WideHold, WideHoldKind, WideSysmod};
 use mcs::HoldItem;
 use std::alloc::{AllocError, Global};
 
 /// Remarks that a hold of a SYSMOD is in the hold file.
-pub(crate) fn tell_outside(
+pub(crate) fn tell_hold_outside(
     alloc: Global,
     remarks: &mut Remarks,
     stated: &WideHold,
 ) -> Result<(), AllocError> {
-    let subject = Subject {
-        place: stated.place,
-        word: b"HOLD",
-        id: stated.id.as_slice(),
-    };
+    let subject = hold_subject(stated);
     remarks.tell_carried(alloc, &subject, b"", RemarkReason::HeldOutside, b"")
 }
 
-/// Remarks that the holds of a SYSMOD that is left out are in the hold file. The internal holds of a SYSMOD with
-/// several copies get their remarks later, when it is known which holds the carried copy has (`without_held`).
-pub(crate) fn tell_left_outside(
+/// Remarks that the holds of a SYSMOD that is left out are in the hold file. If the files have the SYSMOD more than
+/// once, its internal holds get their remarks later, when it is known which holds the carried copy has
+/// (`without_held_already`).
+pub(crate) fn tell_left_out_holds(
     alloc: Global,
     copies: &OtherCopies,
     remarks: &mut Remarks,
     stated: &WideSysmod,
 ) -> Result<(), AllocError> {
     let id = stated.id.as_slice();
-    let has_copies = copies.has_several(id);
+    let is_repeated = copies.is_repeated(id);
     for hold in stated.holds.iter() {
-        let is_told_later = has_copies && is_on(id, hold);
+        let is_told_later = is_repeated && is_internal_in(id, hold);
         if hold.kind != Some(WideHoldKind::Fixcat) && !is_told_later {
-            tell_outside(alloc, remarks, hold)?;
+            tell_hold_outside(alloc, remarks, hold)?;
         }
     }
     Ok(())
 }
 
-/// The holds of a SYSMOD that is left out, each external, but for those of FIXCAT. Remarks say what differs. Returns
-/// `BadHold` if one has no key, `Memory` if memory runs out.
-pub(crate) fn carry_left_holds(
+/// Carries the holds of a SYSMOD that is left out: returns each as an external one, but none of FIXCAT. Remarks say
+/// what differs. Returns `BadHold` if one has no key, `Memory` if memory runs out.
+pub(crate) fn carry_left_out_holds(
     alloc: Global,
     remarks: &mut Remarks,
     stated: &WideSysmod,
@@ -59,7 +54,7 @@ pub(crate) fn carry_left_holds(
         let Some(carried) = carry_hold(alloc, remarks, hold, None)? else {
             continue;
         };
-        let was_internal = is_on(stated.id.as_slice(), hold);
+        let was_internal = is_internal_in(stated.id.as_slice(), hold);
         left.push(PlacedItem {
             place: hold.place,
             item: HoldItem::Hold(carried),

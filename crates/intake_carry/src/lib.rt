@@ -4,22 +4,15 @@
 #![tactic(auto)]
 
 mod assigns;
-mod comment;
 mod copies;
-mod errors;
 mod files;
 mod held_copies;
-mod holds;
 mod left_out;
-mod names;
 mod narrowed;
 mod notes;
-mod odd;
-mod outside;
-mod placed;
-mod refusals;
+mod stand_ins;
 mod sysmods;
 
 pub use files::narrow;
+pub use intake_holds::{OutsideHolds, read_statements};
 pub use narrowed::{NarrowError, Narrowed, Tally};
-pub use outside::{OutsideHolds, read_statements};

@@ -1,4 +1,4 @@
-//! The outcome of narrowing: the statements of SMP/E as those of the profile.
+//! What `narrow` returns: the items that RECEIVE takes, with the remarks and their counts.
 ghost use Rattle.std.specs.Prelude.{◌≡◌};
 
 use intake_cards::{Deed, Remark, RemarkList, RemarkReason, Remarks, StandIn};
@@ -55,15 +55,15 @@ impl<T: Drop> From<AllocFailed<T>> for NarrowError {
     }
 }
 
-/// How many statements of each kind are left out.
+/// How many statements of each sort are left out.
 #[derive(Clone, Copy)]
 struct LeftOutCounts {
     sysmods: usize,
     holds: usize,
     releases: usize,
     assigns: usize,
-    /// The `++ASSIGN` that was counted last.
-    assign: Option<CardPlace>,
+    /// Where the `++ASSIGN` begins that was counted last.
+    last_assign: Option<CardPlace>,
 }
 
 impl LeftOutCounts {
@@ -74,18 +74,18 @@ impl LeftOutCounts {
             holds: 0,
             releases: 0,
             assigns: 0,
-            assign: None,
+            last_assign: None,
         };
         for place in 0..remarks.len() {
             if let Some(remark) = remarks.get(place) {
-                counts.add(&remark);
+                counts.count(&remark);
             }
         }
         counts
     }
 
     // Counts the statement of the remark, if the remark says that it is left out.
-    fn add(&mut self, remark: &Remark<'_>) {
+    fn count(&mut self, remark: &Remark<'_>) {
         if remark.reason == RemarkReason::WholeSysmod {
             self.sysmods = self.sysmods.saturating_add(1);
         }
@@ -95,30 +95,26 @@ impl LeftOutCounts {
         if remark.deed != Deed::LeftOut {
             return;
         }
-        if remark.statement == b"++ASSIGN".as_slice() {
-            self.add_assign(remark);
-        }
-        if remark.reason == RemarkReason::Fixcat {
-            if remark.statement == b"++HOLD".as_slice() {
-                self.holds = self.holds.saturating_add(1);
-            }
-            if remark.statement == b"++RELEASE".as_slice() {
-                self.releases = self.releases.saturating_add(1);
-            }
+        let is_fixcat = remark.reason == RemarkReason::Fixcat;
+        match remark.statement {
+            b"++ASSIGN" => self.count_assign(remark),
+            b"++HOLD" if is_fixcat => self.holds = self.holds.saturating_add(1),
+            b"++RELEASE" if is_fixcat => self.releases = self.releases.saturating_add(1),
+            _ => {}
         }
     }
 
-    // Counts an `++ASSIGN` once, and does not count one of which only an id is left out.
-    fn add_assign(&mut self, remark: &Remark<'_>) {
-        if remark.reason != RemarkReason::BadId && self.assign != Some(remark.place) {
+    // Counts the `++ASSIGN` of the remark, but only once, and not if only one of its ids is left out.
+    fn count_assign(&mut self, remark: &Remark<'_>) {
+        if remark.reason != RemarkReason::BadId && self.last_assign != Some(remark.place) {
             self.assigns = self.assigns.saturating_add(1);
-            self.assign = Some(remark.place);
+            self.last_assign = Some(remark.place);
         }
     }
 }
 
 impl Narrowed {
-    /// The items with the remarks, counted.
+    /// The items with the remarks. Both are counted.
     pub(crate) fn new(items: Vec<Item>, hold_items: Vec<HoldItem>, remarks: Remarks) -> Narrowed
         ensures items { result.items.items ≡ items.items }
         ensures holds { result.hold_items.items ≡ hold_items.items }
@@ -159,10 +155,7 @@ impl Narrowed {
 fn count_sysmods(items: &[Item]) -> usize {
     items
         .iter()
-        .filter(|item| match item {
-            Item::Sysmod(_) => true,
-            Item::Assign(_) => false,
-        })
+        .filter(|item| matches!(item, Item::Sysmod(_)))
         .count()
 }
 
@@ -170,14 +163,11 @@ fn count_sysmods(items: &[Item]) -> usize {
 fn count_releases(items: &[HoldItem]) -> usize {
     items
         .iter()
-        .filter(|item| match item {
-            HoldItem::Release(_) => true,
-            HoldItem::Hold(_) => false,
-        })
+        .filter(|item| matches!(item, HoldItem::Release(_)))
         .count()
 }
 
-// How many holds there are inside the SYSMODs and outside.
+// How many holds the SYSMODs and the hold file have.
 fn count_holds(items: &[Item], outside: &[HoldItem]) -> usize {
     let mut holds = outside.len().saturating_sub(count_releases(outside));
     for item in items {

@@ -1,10 +1,11 @@
-//! Remarks on what was read otherwise than it is written.
+//! Remarks on what was read otherwise than it is written, and on statements that were not read.
 
 use intake_cards::{RemarkReason, Remarks, Subject};
 use intake_read::{Note, NoteReason, SwallowedStatement};
 use std::alloc::{AllocError, Global};
 
-/// Remarks on what was read otherwise than it is written: where it occurs first, and how often.
+/// Remarks on what was read otherwise than it is written. Lower case is told where it occurs first, with how often it
+/// occurs, and columns 73 to 80 with the text that they hold.
 pub(crate) fn tell_notes(
     alloc: Global,
     remarks: &mut Remarks,
@@ -16,23 +17,24 @@ pub(crate) fn tell_notes(
             word: b"",
             id: b"",
         };
-        let reason = match note.reason {
-            NoteReason::LowerCase => RemarkReason::LowerCase,
-            NoteReason::TextInNumbers => RemarkReason::TextInNumbers,
-        };
-        if note.reason == NoteReason::TextInNumbers {
-            remarks.tell_dropped(alloc, &subject, b"", reason, note.tail.trim_ascii())?;
-            continue;
+        match note.reason {
+            NoteReason::LowerCase => {
+                let count = note.count;
+                let count_text = format!(in alloc; "{count} in all")?;
+                let text = count_text.as_bytes();
+                remarks.tell_carried(alloc, &subject, b"", RemarkReason::LowerCase, text)?;
+            }
+            NoteReason::TextInNumbers => {
+                let text = note.tail.trim_ascii();
+                remarks.tell_dropped(alloc, &subject, b"", RemarkReason::TextInNumbers, text)?;
+            }
         }
-        let count = note.count;
-        let count_text = format!(in alloc; "{count} in all")?;
-        remarks.tell_carried(alloc, &subject, b"", reason, count_text.as_bytes())?;
     }
     Ok(())
 }
 
-/// Remarks on each statement inside a comment, with the card on which the comment opens.
-pub(crate) fn tell_swallowed(
+/// Remarks that each statement inside a comment is left out, with the card on which the comment opens.
+pub(crate) fn tell_swallowed_statements(
     alloc: Global,
     remarks: &mut Remarks,
     swallowed: &[SwallowedStatement],

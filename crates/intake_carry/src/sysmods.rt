@@ -2,26 +2,26 @@
 ghost use Rattle.std.specs.Prelude.{◌≡◌, ◌++◌, ◌∷◌, [], IfOk, IfSome, OnOk, IsTrue, IsFalse, Some};
 ghost use Rattle.terms.specs.declared.kinds.HoldKind.TheVariants.{System};
 ghost use Rattle.intake_sysmod.specs.NoLooser.{IsNoLooser};
-ghost use Rattle.intake_carry.specs.Become.{Become};
+ghost use Rattle.intake_holds.specs.Become.{Become};
 ghost use Rattle.mcs.specs.declared.hold_item.HoldItem.TheVariants.{Hold as AHold};
-ghost use Rattle.intake_carry.specs.Holds.{placed_at, HoldBecomes};
+ghost use Rattle.intake_holds.specs.Holds.{placed_at, HoldBecomes};
 ghost use Rattle.intake_carry.specs.Carried.{item_in, HoldsBecome, SysmodBecomes};
 
 use crate::copies::OtherCopies;
-use crate::errors::HoldError;
-use crate::holds::{carry_hold, is_on};
-use crate::left_out::{carry_left_holds, tell_left_outside, tell_outside};
-use crate::placed::{PlacedItem, push_hold};
+use crate::left_out::{carry_left_out_holds, tell_hold_outside, tell_left_out_holds};
 use fields::spelling::kind_text;
 use intake_cards::{CardPlace, RemarkReason, Remarks, Subject};
+use intake_holds::{HoldError, PlacedItem, carry_hold, hold_subject, is_internal_in, push_item};
 use intake_read::{WideHold, WideSysmod};
 use intake_sysmod::{Options, Users, carry_sysmod};
+use mcs::HoldItem;
 use std::alloc::{AllocError, Global};
 use sysmods_values::{Hold, Sysmod};
 
-/// A SYSMOD that is carried, or none if it is left out, and those of its holds that go to the hold file.
+/// What becomes of a SYSMOD: itself with its internal holds, or `None` if it is left out, and those of its holds that
+/// go to the hold file.
 #[derive(Drop)]
-pub(crate) struct CarriedPart {
+pub(crate) struct CarriedSysmod {
     pub sysmod: Option<Sysmod>,
     pub outside: Vec<PlacedItem>,
 }
@@ -44,7 +44,7 @@ fn place_hold(
         sysmod.push_hold(hold)?;
         Ok(())
     } else {
-        push_hold(outside, place, hold)?;
+        push_item(outside, place, HoldItem::Hold(hold))?;
         Ok(())
     }
 }
@@ -69,47 +69,43 @@ fn place_holds(
             continue;
         };
         if !carried.internal {
-            tell_outside(alloc, remarks, hold)?;
+            tell_hold_outside(alloc, remarks, hold)?;
         }
         place_hold(sysmod, &mut outside, hold.place, carried)?;
     }
     Ok(outside)
 }
 
-// Whether both holds are of one kind, on one SYSMOD, for one reason.
-fn are_of_same_reason(hold: &WideHold, later: &WideHold) -> bool {
+// Whether both holds have the same key: they are of one kind, on one SYSMOD, for one reason.
+fn have_same_key(hold: &WideHold, later: &WideHold) -> bool {
     hold.kind == later.kind
         && hold.id.as_slice() == later.id.as_slice()
         && stated_text(&hold.reason) == stated_text(&later.reason)
 }
 
-// The text, or an empty one if none is stated.
-fn stated_text(stated: &Option<Vec<u8>>) -> &[u8] {
+/// The text, or an empty one if none is stated.
+pub(crate) fn stated_text(stated: &Option<Vec<u8>>) -> &[u8] {
     match stated {
         Some(text) => text.as_slice(),
         None => b"",
     }
 }
 
-// Remarks on each internal hold that another one of its reason follows: RECEIVE keeps the later one.
+// Remarks on each internal hold that a later one of the same key follows: RECEIVE keeps only the later one.
 fn tell_later_holds(
     alloc: Global,
     remarks: &mut Remarks,
     stated: &WideSysmod,
 ) -> Result<(), AllocError> {
     let holds = stated.holds.as_slice();
-    for (place, hold) in holds.iter().enumerate() {
-        let is_internal = is_on(stated.id.as_slice(), hold);
+    for (index, hold) in holds.iter().enumerate() {
+        let is_internal = is_internal_in(stated.id.as_slice(), hold);
         let has_later = holds
             .iter()
-            .skip(place.saturating_add(1))
-            .any(|later| are_of_same_reason(hold, later));
+            .skip(index.saturating_add(1))
+            .any(|later| have_same_key(hold, later));
         if is_internal && has_later {
-            let subject = Subject {
-                place: hold.place,
-                word: b"HOLD",
-                id: hold.id.as_slice(),
-            };
+            let subject = hold_subject(hold);
             let reason = stated_text(&hold.reason);
             remarks.tell_carried(alloc, &subject, b"REASON", RemarkReason::LaterHold, reason)?;
         }
@@ -117,28 +113,28 @@ fn tell_later_holds(
     Ok(())
 }
 
-// The SYSMOD with its internal holds, and its other holds for the hold file. Returns `BadHold` if a hold has no key,
-// `Memory` if memory runs out.
+// Carries the holds of a SYSMOD that is carried: the internal ones in it, the others in the hold file. Returns
+// `BadHold` if a hold has no key, `Memory` if memory runs out.
 fn carry_holds(
     alloc: Global,
     remarks: &mut Remarks,
     stated: &WideSysmod,
     mut sysmod: Sysmod,
-) -> Result<CarriedPart, HoldError>
+) -> Result<CarriedSysmod, HoldError>
     requires { sysmod.holds ≡ [] }
     ensures same { IfOk result (λ part. IfSome part.sysmod (λ s. s ≡ record sysmod { holds = s.holds })) }
     ensures held { IfOk result (λ part. HoldsBecome stated.now part.sysmod part.outside.items) }
 {
     tell_later_holds(alloc, remarks, stated)?;
     let outside = place_holds(alloc, remarks, stated, &mut sysmod)?;
-    Ok(CarriedPart {
+    Ok(CarriedSysmod {
         sysmod: Some(sysmod),
         outside,
     })
 }
 
 // Remarks that another copy of the SYSMOD is carried.
-fn remark_other_copy(
+fn tell_other_copy(
     alloc: Global,
     remarks: &mut Remarks,
     stated: &WideSysmod,
@@ -151,8 +147,9 @@ fn remark_other_copy(
     remarks.tell_left_out(alloc, &subject, b"", RemarkReason::OtherCopy, b"")
 }
 
-// The SYSMOD without its holds. Returns `None`, with a remark, if it is left out or another copy of it is carried.
-fn carry_copy(
+// Carries a SYSMOD without its holds. Returns `None`, with a remark, if it is left out or another copy of it is
+// carried.
+fn carry_without_holds(
     alloc: Global,
     options: &Options,
     users: &Users<'_>,
@@ -163,15 +160,15 @@ fn carry_copy(
     ensures { IfOk result (λ found. IfSome found (λ sysmod.
         IsNoLooser options.now.decide users.now stated.now sysmod × (sysmod.holds ≡ []))) }
 {
-    if copies.has(stated) {
-        remark_other_copy(alloc, remarks, stated)?;
+    if copies.is_other_copy(stated) {
+        tell_other_copy(alloc, remarks, stated)?;
         return Ok(None);
     }
     carry_sysmod(alloc, options, users, remarks, stated)
 }
 
-/// The SYSMOD, if it is carried, and its holds. Remarks say why it is left out, and what differs. Returns `BadHold`
-/// if a hold has no key, `Memory` if memory runs out.
+/// Carries a SYSMOD with its holds. If it is left out, all its holds go to the hold file. Remarks say why it is left
+/// out, and what differs. Returns `BadHold` if a hold has no key, `Memory` if memory runs out.
 pub(crate) fn carry_with_holds(
     alloc: Global,
     options: &Options,
@@ -179,14 +176,14 @@ pub(crate) fn carry_with_holds(
     copies: &OtherCopies,
     remarks: &mut Remarks,
     stated: &WideSysmod,
-) -> Result<CarriedPart, HoldError>
+) -> Result<CarriedSysmod, HoldError>
     ensures { IfOk result (λ part. SysmodBecomes options.now.decide users.now stated.now (item_in part.sysmod)
         part.outside.items) }
 {
-    let Some(sysmod) = carry_copy(alloc, options, users, copies, remarks, stated)? else {
-        tell_left_outside(alloc, copies, remarks, stated)?;
-        let outside = carry_left_holds(alloc, remarks, stated)?;
-        return Ok(CarriedPart {
+    let Some(sysmod) = carry_without_holds(alloc, options, users, copies, remarks, stated)? else {
+        tell_left_out_holds(alloc, copies, remarks, stated)?;
+        let outside = carry_left_out_holds(alloc, remarks, stated)?;
+        return Ok(CarriedSysmod {
             sysmod: None,
             outside,
         });

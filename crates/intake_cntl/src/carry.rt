@@ -44,7 +44,7 @@ pub(crate) fn carry_command(
     if wide.head.value.is_some() {
         remark_on_command(remarks, wide, Deed::Refused, RemarkReason::BadValue)?;
     }
-    if wide.is_behind {
+    if wide.shares_card {
         remark_on_command(remarks, wide, Deed::Carried, RemarkReason::OwnCard)?;
     }
     let contexts = operand_contexts(alloc, &vocabulary, known, wide)?;

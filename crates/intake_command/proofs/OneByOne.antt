@@ -4,7 +4,7 @@ use Rattle.std.proofs.Common.{subst}
 use Rattle.std.proofs.lemmas.List.{take_all}
 use Rattle.terms.specs.Types.{Text}
 use Rattle.intake_read.specs.declared.items.WideFile.{WideFile}
-use Rattle.intake_carry.proofs.Becoming.{become_more}
+use Rattle.intake_holds.proofs.Becoming.{become_more}
 use Rattle.intake_asked.proofs.Passing.{map_next}
 use Rattle.intake_command.specs.Acts.{Gives}
 use Rattle.intake_command.specs.Done.{HasDone}

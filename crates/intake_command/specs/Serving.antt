@@ -15,7 +15,7 @@ use Rattle.mcs.specs.declared.file.Item.{Item}
 use Rattle.mcs.specs.declared.hold_item.HoldItem.{HoldItem}
 use Rattle.intake_read.specs.declared.items.WideFile.{WideFile}
 use Rattle.intake_read.specs.declared.items.WideHold.{WideHold}
-use Rattle.intake_carry.specs.Become.{Become}
+use Rattle.intake_holds.specs.Become.{Become}
 use Rattle.intake_carry.specs.Carried.{FilesBecome}
 use Rattle.intake_asked.specs.declared.known.KnownSysmod.{KnownSysmod}
 use Rattle.intake_asked.specs.declared.scan.WideCommand.{WideCommand}

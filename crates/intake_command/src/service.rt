@@ -5,7 +5,7 @@ ghost use Rattle.mcs.specs.Files as ptfin;
 ghost use Rattle.mcs.specs.HoldItems as hold;
 ghost use Rattle.intake_read.specs.declared.items.WideHold.{WideHold};
 ghost use Rattle.intake_carry.specs.Carried.{FilesBecome};
-ghost use Rattle.intake_carry.specs.Outside.{AreCarried, CarriesHolds};
+ghost use Rattle.intake_holds.specs.Outside.{AreCarried, CarriesHolds};
 ghost use Rattle.intake_command.specs.Acts.{IsQuiet, Gives};
 ghost use Rattle.intake_command.specs.Done.{HasDone};
 ghost use Rattle.intake_command.specs.Serving.{AreRead, ServesFiles, KeepsService, DraftsRemarks, IsWithin, folder_of};

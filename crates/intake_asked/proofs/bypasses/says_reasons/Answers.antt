@@ -7,7 +7,7 @@ use Rattle.intake_asked.proofs.bypasses.says_reasons.Goals as goal
 
 pub returns-in-These : goal.returns-in-These
 returns-in-These c =
-    IfOk-weaker c.says_list.result _ _ (λ says said t.
+    IfOk-weaker c.says_these_reasons.result _ _ (λ says said t.
     subst (λ r. SaysReasons (map (λ n. n.now) c.args.names.now) c.args.bypassed.now (reasons_in r)) (sym c.in-These.is)
     (subst (λ rs. SaysReasons (map (λ n. n.now) c.args.names.now) c.args.bypassed.now (TheseReasons rs))
-    c.as_slice.ensures.items (said t))) c.says_list.ensures
+    c.as_slice.ensures.items (said t))) c.says_these_reasons.ensures

@@ -13,8 +13,8 @@ returns c =
     record {
       word = subst (λ w. wide.head.name.items ≡ word_text w) is (c.has_word.ensures c.if-not-has_word.false);
       no_other = subst (λ w. All (λ o. IsTrue (is_in (known_operands w) o.name.items)) wide.operands.items) is
-          (c.has_known_operands.ensures c.if-not-has_known_operands.false);
+          (c.has_only_known_operands.ensures c.if-not-has_only_known_operands.false);
       no_other_member = subst (λ w. All (λ o. IsTrue (is_in (known_members w) o.name.items)) wide.bypassed.items) is
-          (c.has_known_members.ensures c.if-not-has_known_members.false);
+          (c.has_only_known_members.ensures c.if-not-has_only_known_members.false);
       operands = said t;
     }) c.says_operands.ensures

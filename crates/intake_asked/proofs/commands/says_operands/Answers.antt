@@ -15,9 +15,10 @@ returns-in-Set c =
 
 pub returns-in-Reject : goal.returns-in-Reject
 returns-in-Reject c =
-    subst (λ cmd. IfOk c.says_ids.result (λ s. IsTrue s
+    subst (λ cmd. IfOk c.says_rejected_ids.result (λ s. IsTrue s
     → SaysOperands c.args.known.now c.args.wide.now (command_of cmd))) (sym c.in-Reject.is)
-    (subst (λ ids. IfOk c.says_ids.result (λ s. IsTrue s
+    (subst (λ ids. IfOk c.says_rejected_ids.result (λ s. IsTrue s
     → AreThese ids (listed select_names c.args.wide.now.operands.items))) c.as_slice.ensures.items
-    (subst (λ ops. IfOk c.says_ids.result (λ s. IsTrue s → AreThese c.as_slice.result.now (listed select_names ops)))
-    c.as_slice-operands.ensures.value c.says_ids.ensures))
+    (subst (λ ops. IfOk c.says_rejected_ids.result (λ s. IsTrue s
+    → AreThese c.as_slice.result.now (listed select_names ops)))
+    c.as_slice-operands.ensures.value c.says_rejected_ids.ensures))

@@ -9,8 +9,8 @@ use Rattle.intake_asked.proofs.commands.says_receive.Goals as goal
 pub returns : goal.returns
 returns c =
     IfOk-weaker c.says_source.result _ _ (λ says said t. record {
-      sysmods = c.says_kinds.ensures.sysmods c.if-not-says_kinds.false;
-      holddata = c.says_kinds.ensures.holddata c.if-not-says_kinds.false;
+      sysmods = c.says_received_kinds.ensures.sysmods c.if-not-says_received_kinds.false;
+      holddata = c.says_received_kinds.ensures.holddata c.if-not-says_received_kinds.false;
       source = subst (λ (w : ReceiveWhat). AreThese (one_of w.source) (listed (codes "SOURCEID" ∷ []) c.args.operands.now))
           c.receive.view_is (said t);
     }) c.says_source.ensures

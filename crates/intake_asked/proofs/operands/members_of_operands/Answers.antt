@@ -2,8 +2,8 @@ use Rattle.std.proofs.Common.{◌∙◌, [], ap, map, arith}
 use Rattle.std.specs.Prelude.{if◌then◌else◌}
 use Rattle.std.proofs.lemmas.List.{take_all}
 use Rattle.intake_read.specs.declared.items.WideOperand.{WideOperand}
-use Rattle.intake_read.specs.Stated.{value_text}
-use Rattle.intake_asked.specs.Words.{is_called, members, listed}
+use Rattle.intake_read.specs.Stated.{value_text, members}
+use Rattle.intake_asked.specs.Words.{is_called, listed}
 use Rattle.intake_asked.proofs.Passing.{flat_map_next, more_found}
 use Rattle.intake_asked.proofs.operands.members_of_operands.Goals as goal
 

@@ -11,7 +11,7 @@ returns c = λ t.
     let types = c.says_types.ensures in
     let seen = c.selection.view_is in
     let ops = c.args.operands.now in
-    let list = c.known_or_none-list.ensures in
+    let list = c.known_sysmods-list.ensures in
     let given = known_in c.args.known.now in
     record {
       functions = types.functions t;

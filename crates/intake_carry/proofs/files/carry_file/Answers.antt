@@ -1,6 +1,7 @@
 use Rattle.std.proofs.Common.{[], subst}
-use Rattle.intake_carry.specs.Become.{Become}
-use Rattle.intake_carry.specs.Holds.{ReleaseBecomes}
+use Rattle.intake_holds.specs.Become.{Become}
+use Rattle.intake_holds.specs.Holds.{ReleaseBecomes}
+use Rattle.intake_carry.specs.Carried.{SysmodBecomes}
 use Rattle.intake_carry.proofs.files.carry_file.Goals as goal
 
 pub returns : goal.returns
@@ -11,7 +12,8 @@ returns c =
       of_sysmods = g.outside.items;
       releases = releases;
       outside_are = c.in_ok-append-2.ensures.items;
-      sysmods_become = c.in_ok-gathered.ensures;
+      sysmods_become = subst (λ l. Become (SysmodBecomes c.args.options.now.decide c.args.users.now) l g.items.items
+          g.outside.items) c.as_slice-sysmods.ensures.value c.in_ok-gathered.ensures;
       releases_become = subst (λ l. Become ReleaseBecomes l [] releases) c.as_slice-4.ensures.value
           c.in_ok-releases.ensures;
     }

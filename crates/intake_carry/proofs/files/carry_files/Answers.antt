@@ -1,7 +1,10 @@
 use Rattle.std.proofs.Common.{arith}
 use Rattle.intake_carry.specs.Carried.{FileBecomes}
-use Rattle.intake_carry.proofs.Becoming.{become_next, become_whole}
+use Rattle.intake_holds.proofs.Becoming.{become_next, become_whole}
 use Rattle.intake_carry.proofs.files.carry_files.Goals as goal
+
+pub loop-file-init : goal.loop-file-init
+loop-file-init c = (c.new-gathered.ensures.items, c.new-gathered.ensures.outside)
 
 pub loop-file-preserved : goal.loop-file-preserved
 loop-file-preserved c =

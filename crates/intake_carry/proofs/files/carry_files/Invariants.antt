@@ -1,5 +1,5 @@
 use Rattle.std.proofs.Common.{take}
-use Rattle.intake_carry.specs.Become.{Become}
+use Rattle.intake_holds.specs.Become.{Become}
 use Rattle.intake_carry.specs.Carried.{FileBecomes}
 use Rattle.intake_carry.proofs.files.carry_files.Given as goal
 

@@ -1,8 +1,8 @@
 use Rattle.std.proofs.Common.{take}
-use Rattle.intake_carry.specs.Become.{Become}
+use Rattle.intake_holds.specs.Become.{Become}
 use Rattle.intake_carry.specs.Carried.{SysmodBecomes}
 use Rattle.intake_carry.proofs.files.carry_sysmods.Given as goal
 
 abbrev pub invariant-loop-stated : goal.invariant-loop-stated
 invariant-loop-stated l = Become (SysmodBecomes l.options.decide l.users)
-    (take l.stated-index l.file.sysmods.items) l.gathered.items.items l.gathered.outside.items
+    (take l.stated-index l.sysmods) l.gathered.items.items l.gathered.outside.items

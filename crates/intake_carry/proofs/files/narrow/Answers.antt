@@ -1,8 +1,9 @@
 use Rattle.std.proofs.Common.{◌≡◌, ◌++◌, not, List, subst, ap, ◌∙◌}
 use Rattle.std.specs.List.{filter}
 use Rattle.mcs.specs.declared.file.Item.{Item}
-use Rattle.intake_carry.specs.Become.{Become}
-use Rattle.intake_carry.specs.Carried.{FileBecomes, AreInOrder, is_held_by_copy}
+use Rattle.intake_holds.specs.Become.{Become}
+use Rattle.intake_holds.specs.Holds.{AreInOrder}
+use Rattle.intake_carry.specs.Carried.{FileBecomes, is_held_by_copy}
 use Rattle.intake_sysmod.specs.Users.{run_of}
 use Rattle.intake_carry.proofs.files.narrow.Goals as goal
 
@@ -12,7 +13,7 @@ returns c = λ holds carried.
     let files = c.args.files.now in
     let held = c.args.held.placed.items in
     let kept = c.in_ok-outside.outside.items in
-    let all = c.in_ok-append.ensures.items ∙ ap (λ p. kept ++ p.items) c.refuse_files_and_holds.ensures.same
+    let all = c.in_ok-append.ensures.items ∙ ap (λ p. kept ++ p.items) c.refuse_all.ensures.same
     ∙ ap (λ k. k ++ held) (subst (λ (i : List Item). kept ≡ filter (λ p. not (is_held_by_copy i p))
     gathered.outside.items) c.as_slice.ensures.value c.in_ok-outside.ensures) in
     record {
@@ -24,7 +25,7 @@ returns c = λ holds carried.
       become = subst (λ d. Become (FileBecomes d (run_of files)) files gathered.items.items gathered.outside.items)
           c.sort.ensures (subst (λ r. Become (FileBecomes c.sort.new.self.decide r) files gathered.items.items
           gathered.outside.items) c.in_ok-users.ensures c.in-Ok.ensures);
-      holds_become = carried (c.in_ok-refuse_files_and_holds.ensures.refused c.if-branch.false);
+      holds_become = carried (c.in_ok-refuse_all.ensures.refused c.if-branch.false);
       in_order = subst (λ l. AreInOrder l c.in_ok-narrowed.narrowed.hold_items.items) all
           c.in_ok-narrowed.ensures.in_order;
     }

@@ -1,6 +1,6 @@
 use Rattle.std.proofs.Common.{subst, sym, ap, Some}
-use Rattle.intake_carry.specs.Become.{Become}
-use Rattle.intake_carry.specs.Holds.{HoldBecomes}
+use Rattle.intake_holds.specs.Become.{Become}
+use Rattle.intake_holds.specs.Holds.{HoldBecomes}
 use Rattle.terms.specs.Types.{Sysmod}
 use Rattle.intake_carry.proofs.sysmods.carry_holds.Goals as goal
 

@@ -2,8 +2,8 @@ use Rattle.std.proofs.Common.{ap, sym, subst, refl, length, arith, ◌∙◌, []
 use Rattle.std.specs.Prelude.{◌↔◌, IsTrue}
 use Rattle.std.proofs.lemmas.Option.{same_Some}
 use Rattle.terms.specs.Types.{Sysmod, Id}
-use Rattle.intake_carry.specs.Holds.{HoldBecomes, IsLeftOut, IsInternal}
-use Rattle.intake_carry.proofs.Becoming.{become_next, become_whole, hold_put, system_carried}
+use Rattle.intake_holds.specs.Holds.{HoldBecomes, IsLeftOut, IsInternal}
+use Rattle.intake_holds.proofs.Becoming.{become_next, become_whole, hold_put, system_carried}
 use Rattle.intake_carry.proofs.sysmods.place_holds.Goals as goal
 
 pub place_hold-requires : goal.place_hold-requires

@@ -1,6 +1,6 @@
 use Rattle.std.proofs.Common.{◌≡◌, Some, take}
-use Rattle.intake_carry.specs.Become.{Become}
-use Rattle.intake_carry.specs.Holds.{HoldBecomes}
+use Rattle.intake_holds.specs.Become.{Become}
+use Rattle.intake_holds.specs.Holds.{HoldBecomes}
 use Rattle.intake_carry.proofs.sysmods.place_holds.Given as goal
 
 abbrev pub invariant-loop-hold : goal.invariant-loop-hold

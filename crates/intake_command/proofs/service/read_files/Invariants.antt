@@ -2,7 +2,7 @@ use Rattle.std.proofs.Common.{map, take}
 use Rattle.std.specs.String.{string_bytes}
 use Rattle.intake_command.specs.Done.{HasDone}
 use Rattle.intake_command.specs.Serving.{AreRead}
-use Rattle.intake_carry.specs.Outside.{CarriesHolds}
+use Rattle.intake_holds.specs.Outside.{CarriesHolds}
 use Rattle.intake_command.proofs.service.read_files.Given as goal
 
 abbrev pub invariant-loop-name : goal.invariant-loop-name

@@ -1,0 +1,10 @@
+use Rattle.std.proofs.Common.{◌∙◌, subst, sym}
+use Rattle.intake_holds.specs.Holds.{AreInOrder}
+use Rattle.intake_carry.proofs.files.make_narrowed.Goals as goal
+
+pub returns-clause-items : goal.returns-clause-items
+returns-clause-items c = (c.in_ok-assigns.assigns.items, c.new.ensures.items ∙ c.in_ok-append_assigns.ensures)
+
+pub returns-clause-in_order : goal.returns-clause-in_order
+returns-clause-in_order c =
+    subst (AreInOrder c.args.outside.items) (sym c.new.ensures.holds) c.in_ok-hold_items.ensures

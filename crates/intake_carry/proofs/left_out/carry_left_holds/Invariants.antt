@@ -1,8 +1,0 @@
-use Rattle.std.proofs.Common.{[], take}
-use Rattle.intake_carry.specs.Become.{Become}
-use Rattle.intake_carry.specs.Holds.{LeftHoldBecomes}
-use Rattle.intake_carry.proofs.left_out.carry_left_holds.Given as goal
-
-abbrev pub invariant-loop-hold : goal.invariant-loop-hold
-invariant-loop-hold l = Become (LeftHoldBecomes l.stated.id.items) (take l.hold-index l.stated.holds.items) []
-    l.left.items

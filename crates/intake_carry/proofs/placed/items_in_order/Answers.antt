@@ -1,9 +1,0 @@
-use Rattle.intake_carry.proofs.placed.items_in_order.Goals as goal
-
-pub returns : goal.returns
-returns c = record {
-  ordered = c.sort_by_place.result.items;
-  same = c.sort_by_place.ensures.same;
-  rising = c.sort_by_place.ensures.rising;
-  items_are = c.in_ok-items.ensures;
-}

@@ -1,0 +1,3 @@
+pub mod Become
+pub mod Holds
+pub mod Outside

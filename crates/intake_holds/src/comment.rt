@@ -1,0 +1,99 @@
+//! COMMENT of a hold. Some shops draw a box around its text: rows of asterisks above and below, and an asterisk at
+//! either end of each line, as in `**** * SEE APAR * * UA00001 * ****`. The asterisks are left away here.
+
+use intake_cards::{RemarkReason, Remarks, Subject, lay_out_comment};
+use std::alloc::{AllocError, Global};
+
+/// The most characters that a COMMENT may have.
+const MOST_CHARACTERS: usize = 200;
+
+// Whether a record may have the character.
+fn is_printable(byte: u8) -> bool {
+    (0x20..=0x7e).contains(&byte)
+}
+
+// The character that stands for one of a COMMENT: brackets for parentheses, and `?` for what no record may have.
+fn replacement(byte: u8) -> u8 {
+    match byte {
+        b'(' => b'[',
+        b')' => b']',
+        _ if is_printable(byte) => byte,
+        _ => b'?',
+    }
+}
+
+// The text, or its first 200 characters without blanks at their end if it is longer.
+fn cut_at_limit(text: &[u8]) -> &[u8] {
+    match text.split_at_checked(MOST_CHARACTERS) {
+        Some((front, _)) => front.trim_ascii_end(),
+        None => text,
+    }
+}
+
+// Whether the word is an edge of a box: an asterisk, or a row of them.
+fn is_box_edge(word: &[u8]) -> bool {
+    !word.is_empty() && word.iter().all(|b| *b == b'*')
+}
+
+// The text without the edges of boxes, and without blanks at its beginning.
+fn without_box_edges(alloc: Global, text: &[u8]) -> Result<Vec<u8>, AllocError> {
+    let mut kept = Vec::with_capacity(alloc, text.len())?;
+    for word in text.split(|byte| *byte == b' ') {
+        if is_box_edge(word) {
+            continue;
+        }
+        if !kept.is_empty() {
+            kept.push(b' ')?;
+        }
+        kept.extend_from_slice(word)?;
+    }
+    Ok(kept)
+}
+
+/// The text of a COMMENT as it is carried, with a remark on how it differs. Returns `None` if none is stated, or, with
+/// a remark, if nothing is left of it.
+pub(crate) fn read_comment(
+    alloc: Global,
+    remarks: &mut Remarks,
+    subject: &Subject<'_>,
+    stated: &Option<Vec<u8>>,
+) -> Result<Option<String>, AllocError> {
+    let Some(stated) = stated else {
+        return Ok(None);
+    };
+    let text = stated.as_slice();
+    let mut replaced = Vec::with_capacity(alloc, text.len())?;
+    for byte in &without_box_edges(alloc, text)? {
+        replaced.push(replacement(*byte))?;
+    }
+    let layout = lay_out_comment(alloc, replaced.as_slice())?;
+    let comment = cut_at_limit(layout.as_slice());
+    if comment.is_empty() {
+        remarks.tell_dropped(alloc, subject, b"COMMENT", RemarkReason::BadValue, text)?;
+        return Ok(None);
+    }
+    if let Some(reason) = comment_difference(text, layout.as_slice()) {
+        remarks.tell_carried(alloc, subject, b"COMMENT", reason, text)?;
+    }
+    Ok(Some(String::from_utf8_lossy(alloc, comment)?))
+}
+
+// The first way in which the COMMENT as it is laid out differs from the stated one, or `None` if it does not differ.
+fn comment_difference(stated: &[u8], layout: &[u8]) -> Option<RemarkReason> {
+    if layout.len() > MOST_CHARACTERS {
+        return Some(RemarkReason::CutComment);
+    }
+    if stated.split(|b| *b == b' ').any(is_box_edge) {
+        return Some(RemarkReason::Box);
+    }
+    if stated.iter().any(|b| matches!(*b, b'(' | b')')) {
+        return Some(RemarkReason::Brackets);
+    }
+    if !stated.iter().all(|b| is_printable(*b)) {
+        return Some(RemarkReason::Unprintable);
+    }
+    if layout != stated {
+        return Some(RemarkReason::Blanks);
+    }
+    None
+}
