@@ -2,7 +2,9 @@
 
 use crate::fault::IntakeFault;
 use crate::options::CardOptions;
-use intake_cards::{Card, CardNote, CardNoteReason, CardPlace, CardReader, Code, Layout, read_cards};
+use intake_cards::{
+    Card, CardNote, CardNoteReason, CardPlace, CardReader, Code, Layout, read_cards,
+};
 use std::alloc::{AllocError, Global};
 
 /// A file that was read: its name, and how it is laid out.
