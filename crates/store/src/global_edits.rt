@@ -76,8 +76,8 @@ fn add_waiting<S: Alter>(
     Ok(())
 }
 
-// Makes the edit. A SYSMOD that is received waits; edits that remove or replace rows first write those that wait. A
-// SYSMOD of which `stated` has no statements is not received.
+// Makes the edit. A SYSMOD that is received waits; one of which `stated` has no statements is not written at all. Edits
+// that replace a SYSMOD's sources or remove a SYSMOD first write those that wait. Edits of holds do not.
 fn write_edit<S: Alter>(
     alloc: Global,
     tx: &mut Transaction<'_, S>,

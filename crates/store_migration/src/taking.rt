@@ -28,8 +28,9 @@ fn convert_tables<S: Alter>(
     write_number(tx)
 }
 
-/// Makes the tables of the schema the store's. Under schema 1 it moves the sources of all SYSMODs, which are these.
-/// Returns an error if the database refuses a table or a row, if the disk fails or if memory runs out.
+/// Makes the tables of the schema the store's, and moves the sources of these SYSMODs to their table: under schema 1
+/// those of all, and under a later schema none. Returns an error if the database refuses a table or a row, if the disk
+/// fails or if memory runs out.
 pub fn convert_and_commit<S: Alter>(
     conn: &mut Connection<S>,
     schema: Schema,

@@ -23,7 +23,8 @@ use store_sysmods::{ElemRow, HeadRow, IfRow, VerRow};
 use sysmods_values::{Action, ElemChange, Sysmod, Ver};
 use terms::Kind;
 
-// Whether the operands of the `++VER` are those of a SYSMOD of this kind.
+// Whether a SYSMOD of this kind may have the operands of the `++VER`. Only a function may lack an FMID, or have NPRE or
+// DELETE.
 fn suits_kind(kind: Kind, ver: &Ver) -> bool
     ensures { IsTrue result ↔ VerSuitsKind kind ver.now }
 {

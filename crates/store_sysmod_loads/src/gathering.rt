@@ -171,7 +171,7 @@ fn fill_ver(alloc: Global, ifs: &mut VecDeque<IfRow>, id: Id, row: VerRow) -> Re
 }
 
 // Whether a SYSMOD with these `++VER`s may have another one, and the row has the next number for its SREL.
-fn comes_next(vers: &[Ver], row: &VerRow) -> bool
+fn may_come_next(vers: &[Ver], row: &VerRow) -> bool
     ensures { IsTrue result ↔ (length vers.now < 8) × (row.now.number ≡ number_behind vers.now row.now.ver) }
 {
     vers.len() < MOST_VERS && row.number == number_after(vers, &row.ver) as u64
@@ -200,7 +200,7 @@ pub(crate) fn take_vers(
 {
     let mut vers = Vec::new(alloc);
     while let Some(row) = pop_row_of(rows, id) {
-        if !comes_next(vers.as_slice(), &row) {
+        if !may_come_next(vers.as_slice(), &row) {
             return Err(ReadError::BadRow);
         }
         let ver = fill_ver(alloc, ifs, id, row)?;

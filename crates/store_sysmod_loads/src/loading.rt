@@ -66,7 +66,7 @@ impl InTwoTables for IfRow {
 }
 
 // The items of both lists as one list, sorted by their keys.
-fn merge_sorted<T: WholeTable>(
+fn append_and_sort<T: WholeTable>(
     mut items: Vec<<T::Rows as FromRow>::Item>,
     mut more: Vec<<T::Rows as FromRow>::Item>,
 ) -> Result<Vec<<T::Rows as FromRow>::Item>, AllocError>
@@ -105,7 +105,7 @@ fn load_both_tables<S: Alter, T: InTwoTables>(
 {
     let firsts = load_query::<S, T::Firsts>(alloc, conn, &[])?;
     let furthers = load_query::<S, T::Furthers>(alloc, conn, &[])?;
-    let rows = merge_sorted::<T::Firsts>(firsts, furthers)?;
+    let rows = append_and_sort::<T::Firsts>(firsts, furthers)?;
     Ok(rows)
 }
 

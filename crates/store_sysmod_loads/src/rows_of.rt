@@ -85,8 +85,9 @@ pub(crate) fn gather_sysmods(alloc: Global, rows: FlatRows) -> Result<Vec<Sysmod
     take_all_sysmods(alloc, &mut heads, &mut vers, &mut ifs, &mut elems)
 }
 
-/// The SYSMODs whose rows the tables of the schema hold. Returns `BadRow` if the rows stand for no SYSMODs, `Memory` if
-/// memory runs out, and `Fault` if the disk fails or the tables are others.
+/// The SYSMODs whose rows the tables of the schema hold. Its contract is about rows; `load_sysmods` derives from it the
+/// one about inventories. Returns `BadRow` if the rows stand for no SYSMODs, `Memory` if memory runs out, and `Fault` if
+/// the disk fails or the tables are others.
 pub(crate) fn load_sysmods_by_rows<S: Alter>(
     alloc: Global,
     conn: &mut Connection<S>,

@@ -52,8 +52,8 @@ pub struct ElemRow {
     pub change: ElemChange,
 }
 
-// The records of a replacement. Returns `BadRow` if there is none.
-fn read_replacement(
+// The records of a replacement in the next column. Returns `BadRow` if there is none.
+fn read_replacement_lines(
     alloc: Global,
     columns: &mut Columns<'_>,
     elem_type: ElemType,
@@ -85,7 +85,7 @@ fn parse_update(alloc: Global, records: Vec<Line>, name: &[u8]) -> Result<Update
 }
 
 // The update of the element of this type and name in the next column. Returns `BadRow` if elements of this type have no
-// updates.
+// updates, or if the records are no update of the element.
 fn read_update(
     alloc: Global,
     columns: &mut Columns<'_>,
@@ -123,7 +123,7 @@ fn read_action(
     let syslib = columns.optional()?;
     match (updates, distlib, syslib) {
         (false, Some(distlib), Some(syslib)) => {
-            let lines = read_replacement(alloc, columns, elem_type)?;
+            let lines = read_replacement_lines(alloc, columns, elem_type)?;
             columns.expect_end()?;
             Ok(Action::Replaces {
                 distlib,

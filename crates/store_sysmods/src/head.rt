@@ -39,7 +39,7 @@ pub(crate) const INSERT_MANY: &str = sysmod_columns!(insert_many_text);
 const DELETE: &str = "DELETE FROM sysmod WHERE id = ?1";
 
 // How many characters the name of a source has at most under schema 1.
-const MOST_CHARACTERS: usize = 8;
+const LONGEST_SOURCE: usize = 8;
 
 // ---- as it is read
 
@@ -65,7 +65,7 @@ impl Keyed for HeadRow {
 fn is_short(name: Source) -> bool
     ensures { IsTrue result ↔ (length name ≤ 8) }
 {
-    name.as_bytes().len() <= MOST_CHARACTERS
+    name.as_bytes().len() <= LONGEST_SOURCE
 }
 
 // Whether each name of a source is one that schema 1 allows.

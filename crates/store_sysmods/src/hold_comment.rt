@@ -5,7 +5,7 @@ ghost use Rattle.terms.specs.Forms.{BeginsDark};
 ghost use Rattle.store_schema.specs.Forms.{IsComment, IsPaired};
 
 /// The greatest number of characters in a comment.
-const LONGEST: usize = 200;
+const LONGEST_COMMENT: usize = 200;
 
 // Whether there is a first character, and it is not a blank.
 fn begins_with_nonblank(text: &[u8]) -> bool
@@ -60,7 +60,7 @@ fn is_paired(text: &[u8]) -> bool
 pub(crate) fn is_comment(text: &[u8]) -> bool
     ensures { IsTrue result ↔ IsComment text.now }
 {
-    text.len() <= LONGEST
+    text.len() <= LONGEST_COMMENT
         && begins_with_nonblank(text)
         && ends_with_nonblank(text)
         && is_printable(text)

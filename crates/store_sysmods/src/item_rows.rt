@@ -17,7 +17,7 @@ pub(crate) trait ItemRows {
 
     ghost of_item: { Self → List Self.Item → Self.Item → List Row };
 
-    /// Adds the rows of the item.
+    /// Adds the rows of the item. `front` has the items of the list before it.
     fn append_rows(
         &self,
         rows: &mut Vec<Cells>,

@@ -194,7 +194,7 @@ impl Keyed for EntryNumber {
     }
 }
 
-// A number from 2 on, because the number 1 has no row.
+// The number in the next column. Returns `BadRow` if it is below 2, because the number 1 has no row.
 fn read_number(columns: &mut Columns<'_>) -> Result<VerNumber, ReadError>
     ensures read { IfOk result (λ n. (columns.old ≡ Int (pos n) ∷ columns.new) × (2 ≤ n) × (n < 2 ^ 63)) }
     ensures none { IsErrOf result ReadError.BadRow → (n : ℕ) (rest : SqlRow) → 2 ≤ n

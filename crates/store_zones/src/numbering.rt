@@ -14,7 +14,7 @@ use std::collections::VecDeque;
 use store_rows::ReadError;
 use zones_maps::{Applied, Entry};
 
-// The same date, with this number of a `++VER`.
+// When the SYSMOD was applied or accepted, by the `++VER` of this number instead, or none if it was not.
 fn applied_with_number(applied: Option<Applied>, number: VerNumber) -> Option<Applied>
     ensures { result ≡ option_map (λ a. an_applied a.date number) applied }
 {

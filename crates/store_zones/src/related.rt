@@ -43,7 +43,7 @@ fn lists_all_related_zones(heads: &[ZoneHead]) -> bool
 }
 
 // Whether the two heads do not name the same related zone.
-fn have_own_related_zones(head: &ZoneHead, other: &ZoneHead) -> bool
+fn name_different_zones(head: &ZoneHead, other: &ZoneHead) -> bool
     ensures { IsTrue result ↔ HeadsAreApart head.now other.now }
 {
     match head.related {
@@ -53,10 +53,10 @@ fn have_own_related_zones(head: &ZoneHead, other: &ZoneHead) -> bool
 }
 
 // Whether none of these heads names the same related zone as the other head.
-fn has_own_related_zone(heads: &[ZoneHead], other: &ZoneHead) -> bool
+fn names_zone_of_none(heads: &[ZoneHead], other: &ZoneHead) -> bool
     ensures { IsTrue result ↔ All (λ head. HeadsAreApart head other.now) heads.now }
 {
-    heads.iter().all(|head| have_own_related_zones(head, other))
+    heads.iter().all(|head| name_different_zones(head, other))
 }
 
 // Whether no two heads name the same related zone.
@@ -64,15 +64,15 @@ fn each_has_own_related_zone(heads: &[ZoneHead]) -> bool
     ensures { IsTrue result ↔ AllPairs HeadsAreApart heads.now }
 {
     for i in 0..heads.len() {
-        if !has_own_related_zone(&heads[..i], &heads[i]) {
+        if !names_zone_of_none(&heads[..i], &heads[i]) {
             return false;
         }
     }
     true
 }
 
-/// Hands the heads back if they are related as they must be. Returns `BadRow` if one of them names a distribution zone
-/// that does not exist, or if two of them name the same one.
+/// Hands the heads back if they are related as they must be. Returns `BadRow` if one of them names a zone that is not a
+/// distribution zone of its SREL among them, or if two of them name the same one.
 pub(crate) fn require_related(heads: Vec<ZoneHead>) -> Result<Vec<ZoneHead>, ReadError>
     ensures same { IfOk result (λ same. same.items ≡ heads.items) }
     ensures related { IfOk result (λ same. AreRelated same.items) }

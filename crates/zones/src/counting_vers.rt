@@ -61,7 +61,7 @@ fn push_if_not_first(pick: Pick, picks: &mut Vec<Pick>) -> Result<(), AllocError
     Ok(())
 }
 
-// The number by which the entry's SYSMOD was installed, or 1 if it is not applied.
+// The pick of the entry's SYSMOD: the number of the `++VER` that installed it, or 1 if it is not applied.
 fn kept_pick(entry: &Entry) -> Pick
     ensures { result ≡ kept_pick entry.now }
 {
@@ -71,7 +71,7 @@ fn kept_pick(entry: &Entry) -> Pick
     }
 }
 
-// The picks of the applied SYSMODs.
+// The picks of the applied SYSMODs whose number is not 1.
 fn kept_picks(alloc: Global, zone: &Zone) -> Result<Vec<Pick>, AllocError>
     ensures form { IsZone zone.now }
     ensures picks { IfOk result (λ picks. picks.items ≡ filter is_further (map kept_pick zone.now.entries)) }
@@ -94,7 +94,7 @@ fn first_fitting(zone: &Zone, candidates: &IdList, vers: &[Ver]) -> Option<usize
         .position(|ver| fits(zone, candidates, ver))
 }
 
-// The number of the first `++VER` that fits, or 1 if none fits.
+// The number of the first `++VER` that fits, or 1 if none fits. A single `++VER` has the number 1 in either case.
 fn fitting_number(zone: &Zone, candidates: &IdList, vers: &[Ver]) -> VerNumber
     ensures { result ≡ unwrap_or (position (fits zone.now (is_in candidates.now))
         (filter (λ v. bytes_eq v.srel zone.now.srel) vers.now)) 0 + 1 }
@@ -123,7 +123,7 @@ fn fitting_pick(zone: &Zone, candidates: &IdList, sysmod: &Sysmod) -> Pick
     }
 }
 
-// The picks of the received SYSMODs that are not applied.
+// The picks of the received SYSMODs that are not applied, as far as their number is not 1.
 fn fitting_picks(
     alloc: Global,
     global: &GlobalZone,

@@ -55,7 +55,7 @@ impl<'a, 'b> ZoneLess<'a, 'b> {
         Some(element)
     }
 
-    /// Whether the chain of the id contains one of the deletions.
+    /// Whether the chain of the id contains one of the deletions, whether or not the id is applied.
     pub fn deletes(&self, id: Id) -> bool
         ensures { result ≡ is_cut self.now id }
     {
@@ -109,7 +109,7 @@ impl<'a, 'b> TakesOut for ZoneLess<'a, 'b> {
 
     ghost is_gone = { is_gone };
 
-    // Whether it is applied and the deletions take it out.
+    // Whether the id is applied and the deletions take it out.
     fn takes_out(&self, id: Id) -> bool {
         self.zone.is_applied(id) && self.deletes(id)
     }

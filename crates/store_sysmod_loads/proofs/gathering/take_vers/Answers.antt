@@ -9,8 +9,8 @@ use Rattle.store_sysmod_loads.specs.Runs.{AreBare, ver_rows, HasIfs, HasAllIfs, 
 use Rattle.store_sysmod_loads.proofs.RunLemmas.{vers_told, ver_ifs_more, vers_step, vers_end, next_left}
 use Rattle.store_sysmod_loads.proofs.gathering.take_vers.Goals as goal
 
-pub returns-then-not-comes_next-clause-none : goal.returns-then-not-comes_next-clause-none
-returns-then-not-comes_next-clause-none c bad others rest more small h =
+pub returns-then-not-may_come_next-clause-none : goal.returns-then-not-may_come_next-clause-none
+returns-then-not-may_come_next-clause-none c bad others rest more small h =
     let vers = c.loop-row.vers.items in
     let it = c.loop-row.invariant.only others rest more h in
     let there = subst (λ (rows : List VerRow). HasVersBehind vers c.args.id rows c.loop-row.ifs.items it.0 rest more)
@@ -20,8 +20,8 @@ returns-then-not-comes_next-clause-none c bad others rest more small h =
     let all = ap length it.1 ∙ length-append vers it.0 in
     let one = ap length step.3 in
     let short : length vers < 8 = omega (arith, small, all, one) in
-    let next : c.comes_next.result ≡ true = c.comes_next.ensures.1 (rw c.as_slice.ensures.value (short, step.4)) in
-    let other : c.comes_next.result ≡ false = c.if-not-comes_next.true in
+    let next : c.may_come_next.result ≡ true = c.may_come_next.ensures.1 (rw c.as_slice.ensures.value (short, step.4)) in
+    let other : c.may_come_next.result ≡ false = c.if-not-may_come_next.true in
     absurd cc
 
 pub returns-in_err-ver-clause-none : goal.returns-in_err-ver-clause-none
@@ -45,7 +45,7 @@ loop-row-preserved c =
     let pushed : c.push.new.self.items ≡ c.loop-row.vers.items ++ c.in_ok-ver.ver ∷ [] = grind (arith, common_steps) in
     let grown : c.push.new.self.items ≡ vers ++ ver ∷ [] = pushed ∙ ap (λ v. vers ++ v ∷ []) c.in_ok-ver.ensures.same in
     let bare = subst AreBare c.in-Some.ensures.some.0 c.loop-row.invariant.bare in
-    let next = rw c.as_slice.ensures.value at (c.comes_next.ensures.0 c.if-not-comes_next.false) in
+    let next = rw c.as_slice.ensures.value at (c.may_come_next.ensures.0 c.if-not-may_come_next.false) in
     let number : row.number ≡ number_behind vers row.ver = next.1 in
     let taken = subst (λ n. HasIfs x row.ver.srel n 1 c.loop-row.ifs.items found c.fill_ver.new.ifs.items) number
     c.in_ok-ver.ensures.taken in

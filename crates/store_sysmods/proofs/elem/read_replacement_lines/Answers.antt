@@ -4,7 +4,7 @@ use Rattle.std.proofs.lemmas.List.{nil_from_length}
 use Rattle.store_schema.specs.Rows.{records}
 use Rattle.store_schema.proofs.OneState.{are_records}
 use Rattle.store_schema.proofs.Spelled.{text_same}
-use Rattle.store_sysmods.proofs.elem.read_replacement.Goals as goal
+use Rattle.store_sysmods.proofs.elem.read_replacement_lines.Goals as goal
 
 pub returns-then-is_empty-clause-none : goal.returns-then-is_empty-clause-none
 returns-then-is_empty-clause-none c bad text rest forms some same =

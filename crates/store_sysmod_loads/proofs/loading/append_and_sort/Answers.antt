@@ -1,5 +1,5 @@
 use Rattle.std.proofs.Common.{IsPermutation, sym, subst}
-use Rattle.store_sysmod_loads.proofs.loading.merge_sorted.Goals as goal
+use Rattle.store_sysmod_loads.proofs.loading.append_and_sort.Goals as goal
 
 pub returns-clause-only : goal.returns-clause-only
 returns-clause-only g c xs same rises =
