@@ -235,7 +235,8 @@ impl<'a> Asked<'a> {
         Ok(ids)
     }
 
-    // What the SYSMOD requires, what applied SYSMODs state for it, and the reason IDs of its ERROR holds.
+    // What the SYSMOD requires, what applied SYSMODs state for it, and under GROUPEXTEND the reason IDs of its ERROR
+    // holds.
     fn requisites_and_reasons(&self, alloc: Global, id: Id) -> Result<Vec<Id>, AllocError>
         ensures { IfOk result (λ ids. ids.items
             ≡ required_of self.now.scope.now.zone (taken_up self.now.scope.now self.now.seen.now.keys)

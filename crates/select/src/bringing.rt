@@ -89,7 +89,7 @@ impl<'a> Asked<'a> {
             .collect(alloc)
     }
 
-    // The `++VER`s that fit of those that grow and name the function.
+    // The fitting `++VER`s of the SYSMODs that grow and name the function.
     fn fitting_vers_of_namers(
         &self,
         alloc: Global,
@@ -117,8 +117,9 @@ impl<'a> Asked<'a> {
         self.scope.unsupplied(alloc, ids.as_slice())
     }
 
-    // What the search asks for after an open id. One that grew from the start has been asked already, and one that was
-    // a candidate from the start was known when others were asked.
+    // What an open id brings in. One that grew from the start has asked already. One that was a candidate from the
+    // start but did not grow asks now, by itself: those that name it already counted it as a candidate when they were
+    // asked.
     fn brought_by(&self, alloc: Global, id: Id) -> Result<Vec<Id>, AllocError>
         ensures { IfOk result (λ found. found.items ≡ brought_by self.now.scope.now self.now.seen.now.keys id) }
     {

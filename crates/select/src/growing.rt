@@ -40,7 +40,7 @@ fn insert_next_asked(
     Ok(())
 }
 
-// What an id of the start asks for, or nothing if it brings no others in.
+// What an id of the start asks for before anything else is asked for, or nothing if it brings no others in.
 fn asked_by_start_id(alloc: Global, scope: &Selecting, id: Id) -> Result<Vec<Id>, AllocError>
     ensures { IfOk result (λ found. found.items ≡ asked_first scope.now id) }
 {

@@ -113,11 +113,12 @@ impl<'a> Selecting<'a> {
 fn any_supersedes(vers: &[Ver], srel: Srel, id: Id) -> bool
     ensures { result ≡ list_any (λ v. bytes_eq v.srel srel && is_in v.sup id) vers.now }
 {
-    vers.iter().any(|ver| is_for_and_supersedes(ver, srel, id))
+    vers.iter()
+        .any(|ver| is_for_srel_and_supersedes(ver, srel, id))
 }
 
 // Whether the `++VER` is for the SREL and names the id in SUP.
-fn is_for_and_supersedes(ver: &Ver, srel: Srel, id: Id) -> bool
+fn is_for_srel_and_supersedes(ver: &Ver, srel: Srel, id: Id) -> bool
     ensures { result ≡ (bytes_eq ver.now.srel srel && is_in ver.now.sup id) }
 {
     ver.srel == srel && ver.supersedes(id)

@@ -29,7 +29,7 @@ pub(crate) fn brings_others(selection: &Selection, id: Id) -> bool
 
 impl<'a> Selecting<'a> {
     // Whether the id is received and its SYSMOD passes all filters.
-    fn passes_filters(&self, id: Id) -> bool
+    fn passes_its_filters(&self, id: Id) -> bool
         ensures { result ≡ option_map_or (passes_filters self.now.global self.now.zone self.now.selection)
             (sysmod_of self.now.global id) false }
     {
@@ -43,7 +43,7 @@ impl<'a> Selecting<'a> {
     fn is_mass_chosen(&self, id: Id) -> bool
         ensures { result ≡ is_mass_chosen_in self.now id }
     {
-        has_mass_choice(self.selection) && self.passes_filters(id)
+        has_mass_choice(self.selection) && self.passes_its_filters(id)
     }
 
     /// Whether the search starts with the id: it is open, and the mass choice, SELECT or GROUP names it.
