@@ -12,7 +12,7 @@ ghost use Rattle.terms.specs.Types.{Text};
 ghost use Rattle.change.specs.Elements.{AreElementsAfter, IsInstallOf};
 
 use crate::folding::element_after;
-use crate::grouping::changes_by_element;
+use crate::grouping::changers_by_element;
 use crate::ordering::sort_by_over;
 use fields::Id;
 use std::alloc::{AllocError, Global};
@@ -46,9 +46,9 @@ pub(crate) fn elements_after(
         dels: deletions,
         zone,
     };
-    let changes = changes_by_element(alloc, vers.global(), effective)?;
+    let by_element = changers_by_element(alloc, vers.global(), effective)?;
     let mut elements = Vec::new(alloc);
-    for (element, changers) in &changes {
+    for (element, changers) in &by_element {
         let base = left.element(element.0, element.1);
         let ordered = sort_by_over(alloc, overs, changers)?;
         let changed = element_after(alloc, vers, base, element.0, element.1, &ordered)?;

@@ -16,7 +16,7 @@ use zones::{Element, Entry, Zone, ZoneEdits, is_same_as_existing, is_same_entry}
 pub(crate) type ElementEdit = Edit<Element, (ElemType, Name)>;
 
 /// Puts the entry, unless the zone already has the same one.
-pub(crate) fn put_entry(
+pub(crate) fn put_differing_entry(
     zone: &Zone,
     entry: Entry,
     zone_edits: &mut ZoneEdits,
@@ -34,7 +34,7 @@ pub(crate) fn put_entry(
 }
 
 /// Removes the entry, if the zone has it.
-pub(crate) fn remove_entry(
+pub(crate) fn remove_existing_entry(
     zone: &Zone,
     id: Id,
     zone_edits: &mut ZoneEdits,
@@ -48,7 +48,7 @@ pub(crate) fn remove_entry(
 }
 
 /// Adds those of these edits of elements that change something.
-pub(crate) fn edit_elements(
+pub(crate) fn add_differing_edits(
     zone: &Zone,
     edits: Vec<ElementEdit>,
     zone_edits: &mut ZoneEdits,

@@ -33,7 +33,7 @@ pub(crate) fn find_effective(
 {
     let seen = all_superseded(alloc, vers, kept)?;
     let ids = IdList::from_vec(unseen_among(alloc, kept.as_slice(), &seen)?);
-    let superseded = superseded_pairs(alloc, vers, ids.as_slice())?;
+    let superseded = pairs_with_superseders(alloc, vers, ids.as_slice())?;
     Ok(Effective { ids, superseded })
 }
 
@@ -86,7 +86,7 @@ fn unseen_among(alloc: Global, ids: &[Id], seen: &IndexSet<Id>) -> Result<Vec<Id
 }
 
 // Pairs of an id and one of these SYSMODs that supersedes it.
-fn superseded_pairs(
+fn pairs_with_superseders(
     alloc: Global,
     vers: &VerChoice<'_>,
     ids: &[Id],

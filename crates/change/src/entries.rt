@@ -6,7 +6,7 @@ ghost use Rattle.change.specs.Entries.{is_open, IsAppliedEntry, IsOtherEntry};
 ghost use Rattle.change.specs.Entries.{HasPutEntries};
 
 use crate::deleting::{Deleting, entry_left};
-use crate::differing::{put_entry, remove_entry};
+use crate::differing::{put_differing_entry, remove_existing_entry};
 use crate::plan::Plan;
 use fields::{Attest, Id, IdList};
 use sorted::lists::listed;
@@ -33,9 +33,9 @@ pub(crate) fn put_entries(
         };
         entry.attest();
         if entry.has_content() {
-            put_entry(deleting.left.zone, entry, zone_edits)?;
+            put_differing_entry(deleting.left.zone, entry, zone_edits)?;
         } else {
-            remove_entry(deleting.left.zone, *id, zone_edits)?;
+            remove_existing_entry(deleting.left.zone, *id, zone_edits)?;
         }
     }
     Ok(())

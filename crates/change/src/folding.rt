@@ -97,14 +97,14 @@ fn fold_changes(
     vers.global().attest();
     let mut element = start;
     for id in changers {
-        let change = change_of(vers.global(), *id, elem_type, name);
+        let change = known_change(vers.global(), *id, elem_type, name);
         element = apply_change(alloc, vers.owner(*id), *id, change, element)?;
     }
     Ok(element.unwrap())
 }
 
-// The SYSMOD's statement for the element.
-fn change_of(global: &GlobalZone, id: Id, elem_type: ElemType, name: Name) -> &ElemChange
+// The SYSMOD's statement for the element, which must exist.
+fn known_change(global: &GlobalZone, id: Id, elem_type: ElemType, name: Name) -> &ElemChange
     requires { IsTrue (has_change global.now id elem_type name) }
     ensures change { change_of global.now id elem_type name ≡ Some result.now }
     ensures elem_type { result.now.elem_type ≡ elem_type }

@@ -10,7 +10,7 @@ use sysmods::GlobalZone;
 use terms::ElemType;
 
 /// The elements that these SYSMODs change, each with those of them that change it, in their order.
-pub(crate) fn changes_by_element(
+pub(crate) fn changers_by_element(
     alloc: Global,
     global: &GlobalZone,
     ids: &[Id],

@@ -17,7 +17,7 @@ ghost use Rattle.change.specs.Puts.{AreElementEdits, with_elements, less_element
 
 use crate::changed_elements::elements_after;
 use crate::deleting::Deleting;
-use crate::differing::{ElementEdit, edit_elements};
+use crate::differing::{ElementEdit, add_differing_edits};
 use crate::entries::put_entries;
 use crate::plan::{Plan, make_plan};
 use fields::{Attest, Id, IdList, YyDdd};
@@ -102,7 +102,7 @@ fn edits_of(
     let mut overs = installing.overs;
     let effective = plan.effective.as_slice();
     let edits = element_edits(alloc, &deleting, &mut overs, effective)?;
-    edit_elements(zone, edits.into_vec(), &mut zone_edits)?;
+    add_differing_edits(zone, edits.into_vec(), &mut zone_edits)?;
     Ok(zone_edits)
 }
 

@@ -17,7 +17,7 @@ use terms::ElemType;
 use zones::{Entry, Zone, ZoneDelta, ZoneEdits, are_same_elements, entry_less};
 
 /// What changes in a target zone when the kept SYSMODs are taken off it. Elements that they change become those of the
-/// distribution zone. Each edit changes something.
+/// distribution zone, which is `accepted`. Each edit changes something.
 pub fn restore(
     alloc: Global,
     global: &GlobalZone,

@@ -18,7 +18,7 @@ pub(crate) struct Claim {
 
 impl Claim {
     /// Whether both claims are on one element.
-    pub(crate) fn is_beside(&self, other: &Claim) -> bool
+    pub(crate) fn is_on_same_element(&self, other: &Claim) -> bool
         ensures { IsTrue result ↔ (self.now.element ≡ other.now.element) }
     {
         self.element == other.element

@@ -34,7 +34,7 @@ fn with_deleted(vers: &VerChoice<'_>, dels: &IdList, own: OwnFaults, id: Id) -> 
 
 // The faults of all candidates. `deleted` is set for those that pass the earlier tests and that these deletions take
 // out.
-fn all_marked_deleted_by(
+fn mark_deleted_by(
     alloc: Global,
     vers: &VerChoice<'_>,
     dels: &IdList,
@@ -55,7 +55,7 @@ fn all_marked_deleted_by(
 
 /// The faults of all candidates, given those of the tests of their own. `deleted` is set for those that pass these
 /// tests and that the DELETE of one that passes them takes out.
-pub(crate) fn all_marked_deleted(
+pub(crate) fn mark_deleted(
     alloc: Global,
     vers: &VerChoice<'_>,
     ids: &[Id],
@@ -74,5 +74,5 @@ pub(crate) fn all_marked_deleted(
         passing.push(ids[i])?;
     }
     let dels = IdList::from_vec(deletions(alloc, vers, passing.as_slice())?);
-    all_marked_deleted_by(alloc, vers, &dels, ids, faults)
+    mark_deleted_by(alloc, vers, &dels, ids, faults)
 }

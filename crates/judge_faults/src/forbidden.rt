@@ -35,7 +35,7 @@ fn add_forbidden_by(
     Ok(())
 }
 
-/// Which ids the applied functions forbid.
+/// For each id, the applied functions that forbid it.
 pub(crate) fn forbidders(
     alloc: Global,
     vers: &VerChoice<'_>,

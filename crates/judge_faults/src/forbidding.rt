@@ -6,7 +6,7 @@ ghost use Rattle.judge_faults.specs.Forbidding.{AreCandidates, IsOfNamed, IsByNp
 ghost use Rattle.judge_faults.specs.Sharing.{Marks};
 
 use crate::own::{OwnFaults, own_faults_at};
-use crate::sharing::shared_places;
+use crate::sharing::element_clash_places;
 use fields::Id;
 use indexmap::IndexSet;
 use std::alloc::{AllocError, Global};
@@ -87,7 +87,7 @@ pub(crate) fn clashing_places(
         places.keys) }
     ensures same { overs.new ≡ overs.old }
 {
-    let mut marked = shared_places(alloc, overs, ids, faults)?;
+    let mut marked = element_clash_places(alloc, overs, ids, faults)?;
     let vers = overs.vers();
     for i in 0..ids.len() {
         mark_by_npre(vers, ids, faults, i, &mut marked)?;

@@ -14,12 +14,12 @@ use std::alloc::{AllocError, Global};
 use sysmods::Overs;
 
 // Whether the two need no comparison: they are claims of one candidate, or both are marked already.
-fn is_settled(one: &Claim, other: &Claim, shared: &IndexSet<usize>) -> bool
-    ensures settled { IsTrue result → (one.now.id ≡ other.now.id) ⊎ (Contains shared.now.keys one.now.place
-        × Contains shared.now.keys other.now.place) }
+fn is_settled(one: &Claim, other: &Claim, marked: &IndexSet<usize>) -> bool
+    ensures settled { IsTrue result → (one.now.id ≡ other.now.id) ⊎ (Contains marked.now.keys one.now.place
+        × Contains marked.now.keys other.now.place) }
     ensures own { one.now.id ≡ other.now.id → IsTrue result }
 {
-    one.id == other.id || shared.contains(&one.place) && shared.contains(&other.place)
+    one.id == other.id || marked.contains(&one.place) && marked.contains(&other.place)
 }
 
 // Marks two claims on one element if they clash.
@@ -28,18 +28,18 @@ fn mark_pair(
     overs: &mut Overs<'_, '_>,
     one: &Claim,
     other: &Claim,
-    shared: &mut IndexSet<usize>,
+    marked: &mut IndexSet<usize>,
 ) -> Result<(), AllocError>
     ensures marks { OnOk result (Marks (IsOfPair overs.old.global.now (choice overs.old) one.now other.now)
-        shared.old.keys shared.new.keys) }
+        marked.old.keys marked.new.keys) }
     ensures same { overs.new ≡ overs.old }
 {
-    if is_settled(one, other, shared) {
+    if is_settled(one, other, marked) {
         return Ok(());
     }
     if may_not_share(alloc, overs, one.id, other.id)? {
-        shared.insert(one.place)?;
-        shared.insert(other.place)?;
+        marked.insert(one.place)?;
+        marked.insert(other.place)?;
     }
     Ok(())
 }
@@ -50,14 +50,14 @@ fn mark_against(
     overs: &mut Overs<'_, '_>,
     claim: &Claim,
     others: &[Claim],
-    shared: &mut IndexSet<usize>,
+    marked: &mut IndexSet<usize>,
 ) -> Result<(), AllocError>
     ensures marks { OnOk result (Marks (IsAgainst overs.old.global.now (choice overs.old) claim.now others.now)
-        shared.old.keys shared.new.keys) }
+        marked.old.keys marked.new.keys) }
     ensures same { overs.new ≡ overs.old }
 {
     for other in others {
-        mark_pair(alloc, overs, claim, other, shared)?;
+        mark_pair(alloc, overs, claim, other, marked)?;
     }
     Ok(())
 }
@@ -76,22 +76,22 @@ fn add_claim(
     overs: &mut Overs<'_, '_>,
     claim: &Claim,
     claimants: &mut Claimants,
-    shared: &mut IndexSet<usize>,
+    marked: &mut IndexSet<usize>,
 ) -> Result<(), AllocError>
     ensures taken { OnOk result ((claims : List Claim) (before : List ℕ)
         → AreMarked overs.old.global.now (choice overs.old) claims claimants.old.chain.items claimants.old.others.items
-        before shared.old.keys
+        before marked.old.keys
         → AreMarked overs.old.global.now (choice overs.old) (claims ++ claim.now ∷ []) claimants.new.chain.items
-        claimants.new.others.items before shared.new.keys) }
+        claimants.new.others.items before marked.new.keys) }
     ensures same { overs.new ≡ overs.old }
 {
     let Some(place) = place_in_chain(alloc, overs, claimants.chain.as_slice(), claim)? else {
-        mark_against(alloc, overs, claim, claimants.chain.as_slice(), shared)?;
-        mark_against(alloc, overs, claim, claimants.others.as_slice(), shared)?;
+        mark_against(alloc, overs, claim, claimants.chain.as_slice(), marked)?;
+        mark_against(alloc, overs, claim, claimants.others.as_slice(), marked)?;
         claimants.others.push(*claim)?;
         return Ok(());
     };
-    mark_against(alloc, overs, claim, claimants.others.as_slice(), shared)?;
+    mark_against(alloc, overs, claim, claimants.others.as_slice(), marked)?;
     claimants.chain.insert(place, *claim)?;
     Ok(())
 }
@@ -101,10 +101,10 @@ fn mark_clashes(
     alloc: Global,
     overs: &mut Overs<'_, '_>,
     claims: &[Claim],
-    shared: &mut IndexSet<usize>,
+    marked: &mut IndexSet<usize>,
 ) -> Result<(), AllocError>
     ensures marks { OnOk result (Marks (IsAmong (Clashes overs.old.global.now (choice overs.old)) claims.now)
-        shared.old.keys shared.new.keys) }
+        marked.old.keys marked.new.keys) }
     ensures same { overs.new ≡ overs.old }
 {
     let mut claimants = Claimants {
@@ -112,7 +112,7 @@ fn mark_clashes(
         others: Vec::new(alloc),
     };
     for claim in claims {
-        add_claim(alloc, overs, claim, &mut claimants, shared)?;
+        add_claim(alloc, overs, claim, &mut claimants, marked)?;
     }
     Ok(())
 }
@@ -124,7 +124,7 @@ fn run_end(claims: &[Claim], start: usize) -> usize
 {
     let first = &claims[start];
     let mut end = start + 1;
-    while end < claims.len() && claims[end].is_beside(first) {
+    while end < claims.len() && claims[end].is_on_same_element(first) {
         end += 1;
     }
     end
@@ -132,25 +132,25 @@ fn run_end(claims: &[Claim], start: usize) -> usize
 
 /// The places of the candidates that pass the tests of their own and change an element that they may not share with
 /// another such one.
-pub(crate) fn shared_places(
+pub(crate) fn element_clash_places(
     alloc: Global,
     overs: &mut Overs<'_, '_>,
     ids: &[Id],
     faults: &[OwnFaults],
 ) -> Result<IndexSet<usize>, AllocError>
     requires { length faults.now ≡ length ids.now }
-    ensures shared { IfOk result (λ shared. (n : ℕ) → Contains shared.keys n
+    ensures clashing { IfOk result (λ places. (n : ℕ) → Contains places.keys n
         ↔ IsClashing overs.old.global.now (choice overs.old) ids.now faults.now n) }
     ensures same { overs.new ≡ overs.old }
 {
     let all = claims_of(alloc, overs.vers().global(), ids, faults)?;
     let claims = all.as_slice();
-    let mut shared = IndexSet::new(alloc);
+    let mut marked = IndexSet::new(alloc);
     let mut start = 0;
     while start < claims.len() {
         let end = run_end(claims, start);
-        mark_clashes(alloc, overs, &claims[start..end], &mut shared)?;
+        mark_clashes(alloc, overs, &claims[start..end], &mut marked)?;
         start = end;
     }
-    Ok(shared)
+    Ok(marked)
 }

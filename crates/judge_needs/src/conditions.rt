@@ -79,7 +79,7 @@ impl<'a, 'b> Conditions<'a, 'b> {
     }
 
     /// The requisites of a candidate by `++IF`, its own and those that others state for it, in its view of the zone.
-    pub(crate) fn requisites(&self, alloc: Global, id: Id) -> Result<IdList, AllocError>
+    pub(crate) fn requisites_by_if(&self, alloc: Global, id: Id) -> Result<IdList, AllocError>
         ensures { IfOk result (λ ids. (z : AnId) → Contains ids z
             ↔ Contains (asked (setting_of self.now.scope) [] id Ifreq) z) }
     {

@@ -78,7 +78,7 @@ fn add_needs_of_candidate(
     add_open_needs(scope, left, id, NeedKind::Fmid, fmid.as_slice(), needs)?;
     add_open_needs(scope, left, id, NeedKind::Pre, scope.pre(id), needs)?;
     add_open_needs(scope, left, id, NeedKind::Req, scope.req(id), needs)?;
-    let by_ifs = conditions.requisites(alloc, id)?;
+    let by_ifs = conditions.requisites_by_if(alloc, id)?;
     add_open_needs(scope, left, id, NeedKind::Ifreq, by_ifs.as_slice(), needs)?;
     let reasons = open_reasons(alloc, scope, id)?;
     add_open_needs(

@@ -13,7 +13,7 @@ use solve::{Kept, Need, System, empty_rows};
 use std::alloc::{AllocError, Global};
 use terms::NeedKind;
 
-// Adds the need to the row of its candidate, unless it is served.
+// Adds the need, of the kind and id in `meant`, to the row of its candidate, unless it is served.
 fn add_if_open(
     rows: &mut [Vec<(NeedKind, Id)>],
     kept: &Kept,
@@ -53,7 +53,7 @@ pub(crate) fn open_needs(
 }
 
 // The needs sorted by kind and id, each once.
-fn without_doubles(mut needs: Vec<(NeedKind, Id)>) -> Vec<(NeedKind, Id)>
+fn sorted_without_doubles(mut needs: Vec<(NeedKind, Id)>) -> Vec<(NeedKind, Id)>
     ensures { AreEachOnce needs.items result.items }
 {
     needs.sort_unstable();
@@ -68,7 +68,7 @@ pub(crate) fn sorted_open_needs(
 ) -> Result<Vec<OpenNeed>, AllocError>
     ensures { IfOk result (λ needs. AreNeedsOf unserved.now (map need_view needs.items)) }
 {
-    without_doubles(Vec::from_slice(alloc, unserved)?)
+    sorted_without_doubles(Vec::from_slice(alloc, unserved)?)
         .into_iter()
         .map(|(kind, id)| OpenNeed { kind, id })
         .collect(alloc)

@@ -40,7 +40,7 @@ pub(crate) fn eligible_flags(alloc: Global, sets: &[TestSet]) -> Result<Vec<bool
 }
 
 // Adds one need to the system, by the numbers of its candidate and of those that serve it.
-fn number_need(
+fn add_numbered_need(
     alloc: Global,
     ids: &IndexSet<Id>,
     served: &BTreeSet<(Id, u32)>,
@@ -59,7 +59,7 @@ fn number_need(
     Ok(())
 }
 
-// The system of candidates with these flags and these needs.
+// The system of candidates with these eligibility flags and these needs. `served` says who serves the need for an id.
 fn system_with_needs(
     alloc: Global,
     ids: &IndexSet<Id>,
@@ -77,13 +77,13 @@ fn system_with_needs(
     let mut system = System::new(alloc, eligible)?;
     for i in 0..stated.len() {
         let need = need_at(stated, i);
-        number_need(alloc, ids, served, need, &mut system)?;
+        add_numbered_need(alloc, ids, served, need, &mut system)?;
     }
     Ok(system)
 }
 
-/// The system of candidates with these flags and these needs. `superseded` has the candidates with the ids that they
-/// supersede, because they may serve needs for these.
+/// The system of candidates, which are eligible by these flags, and of these needs. `superseded` has the candidates
+/// with the ids that they supersede, because they may serve needs for these.
 pub(crate) fn numbered_system(
     alloc: Global,
     ids: &IndexSet<Id>,

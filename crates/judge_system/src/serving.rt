@@ -80,7 +80,7 @@ pub(crate) fn served_pairs(
 }
 
 // The places of the id and of its superseders, as far as they are candidates. They serve a need that a superseder may
-// serve.
+// serve. `kind` is here for the contract only.
 fn own_and_superseding_places(
     alloc: Global,
     ids: &IndexSet<Id>,

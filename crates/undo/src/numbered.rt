@@ -52,7 +52,7 @@ fn rules_of_steps(
 {
     let start = start_flags(alloc, ids, table.as_slice())?;
     let mut rules = Rules::new(alloc, start.as_slice())?;
-    // `size` is a `u32`, so all places in the table fit into 32 bits.
+    // For the proofs only: `size` is a `u32`, so all places in the table fit into 32 bits. The call does nothing.
     let _ = rules.size();
     for step in steps {
         rules.add_rule(rule_of(alloc, table, step)?)?;

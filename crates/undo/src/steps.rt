@@ -25,8 +25,9 @@ fn push_step_from_group(
     Ok(())
 }
 
-/// All steps of a RESTORE: from each applied SYSMOD to the elements that it changes, from these to the SYSMODs that the
-/// distribution zone does not supply, and from each group to the SYSMOD that depends on it.
+/// All steps of a RESTORE: from each applied SYSMOD to the elements that it changes, from an element to the applied
+/// SYSMODs that change it and that the distribution zone does not supply, and from each group to the SYSMOD that
+/// depends on it.
 pub(crate) fn all_steps(
     alloc: Global,
     scope: &RestoreScope<'_, '_>,
@@ -42,8 +43,8 @@ pub(crate) fn all_steps(
             push_step(&mut steps, these, element_node(change))?;
         }
     }
-    let others = unaccepted_among(alloc, scope.accepted, scope.applied)?;
-    for other in others.as_slice() {
+    let unaccepted = unaccepted_among(alloc, scope.accepted, scope.applied)?;
+    for other in unaccepted.as_slice() {
         let shared = global.changes_of(*other);
         for change in shared {
             let these = vec![in alloc; element_node(change)]?;

@@ -58,7 +58,7 @@ fn is_at_other_level(scope: &RestoreScope<'_, '_>, change: &ElemChange) -> bool
     }
 }
 
-// Whether one of these statements is for an element of such another level.
+// Whether one of these statements is for an element at such a level.
 fn is_any_at_other_level(scope: &RestoreScope<'_, '_>, changes: &[ElemChange]) -> bool
     ensures { result ≡ list_any (is_behind (restoring_of scope.now)) changes.now }
 {

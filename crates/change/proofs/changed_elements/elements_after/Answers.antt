@@ -17,10 +17,10 @@ use Rattle.change.proofs.changed_elements.elements_after.Goals as goal
 
 -- the lists are by the elements of the global zone
 by_element : (c : After-deref) → AreByElement c.args.overs.now.global.now c.args.effective.now
-    c.in_ok-changes.changes
+    c.in_ok-by_element.by_element
 by_element c =
-    subst (λ g. AreByElement g c.args.effective.now c.in_ok-changes.changes)
-    (c.global.ensures ∙ ap (λ v. v.global.now) c.vers-vers.ensures) c.in_ok-changes.ensures
+    subst (λ g. AreByElement g c.args.effective.now c.in_ok-by_element.by_element)
+    (c.global.ensures ∙ ap (λ v. v.global.now) c.vers-vers.ensures) c.in_ok-by_element.ensures
 
 -- the item has all that change its element
 changers_are : (c : After-deref) → c.deref.result.now
@@ -31,7 +31,7 @@ changers_are c =
     ∙ first_listed c.args.overs.now.global.now (choice c.args.overs.now) c.args.zone.now c.args.deletions.now
     c.args.effective.now c.into_iter-element-iterator.result c.loop-element.element-iterator c.next.new.self
     (c.in-Some.element.now, c.in-Some.changers.now) c.loop-element.elements.items c.in-Some.ensures.steps
-    c.loop-element.invariant.made c.in_ok-changes.changes c.into_iter-element-iterator.ensures.into_iter_gives.0
+    c.loop-element.invariant.made c.in_ok-by_element.by_element c.into_iter-element-iterator.ensures.into_iter_gives.0
     (by_element c)
 
 -- the base is what is left of the zone's element
@@ -102,7 +102,7 @@ element_after-requires-clause-some c =
     (element_of (zone_less g chosen c.args.deletions.now c.args.zone.now) k.0 k.1)
     (λ nil. first_some g chosen c.args.zone.now c.args.deletions.now c.args.effective.now
     c.into_iter-element-iterator.result c.loop-element.element-iterator c.next.new.self (k, c.in-Some.changers.now)
-    c.loop-element.elements.items c.in-Some.ensures.steps c.loop-element.invariant.made c.in_ok-changes.changes
+    c.loop-element.elements.items c.in-Some.ensures.steps c.loop-element.invariant.made c.in_ok-by_element.by_element
     c.into_iter-element-iterator.ensures.into_iter_gives.0 (by_element at)
     (sym c.deref.ensures.value ∙ nil))
     (c.requires.some k.0 k.1)) [
@@ -115,7 +115,7 @@ pub loop-element-init : goal.loop-element-init
 loop-element-init c = record {
   overs = refl;
   made = made_none c.args.overs.now.global.now (choice c.args.overs.now) c.args.zone.now c.args.deletions.now
-      c.args.effective.now c.in_ok-changes.changes c.into_iter-element-iterator.result c.new-elements.result.items
+      c.args.effective.now c.in_ok-by_element.by_element c.into_iter-element-iterator.result c.new-elements.result.items
       c.into_iter-element-iterator.ensures.into_iter_gives.0 c.new-elements.ensures.items
       c.into_iter-element-iterator.ensures.into_iter_gives.6;
 }
@@ -149,9 +149,10 @@ loop-element-preserved c =
 pub returns : goal.returns
 returns c =
     made_all c.args.overs.now.global.now (choice c.args.overs.now) c.args.zone.now c.args.deletions.now
-    c.args.effective.now c.in_ok-changes.changes c.into_iter-element-iterator.result c.loop-element.element-iterator
-    c.loop-element.elements.items c.into_iter-element-iterator.ensures.into_iter_gives.0 c.in-None.ensures.steps.0
-    (subst (λ g. AreByElement g c.args.effective.now c.in_ok-changes.changes)
-    (c.global.ensures ∙ ap (λ v. v.global.now) c.vers-vers.ensures) c.in_ok-changes.ensures)
+    c.args.effective.now c.in_ok-by_element.by_element c.into_iter-element-iterator.result
+    c.loop-element.element-iterator c.loop-element.elements.items c.into_iter-element-iterator.ensures.into_iter_gives.0
+    c.in-None.ensures.steps.0
+    (subst (λ g. AreByElement g c.args.effective.now c.in_ok-by_element.by_element)
+    (c.global.ensures ∙ ap (λ v. v.global.now) c.vers-vers.ensures) c.in_ok-by_element.ensures)
     c.into_iter-element-iterator.ensures.into_iter_gives.5
     c.into_iter-element-iterator.ensures.into_iter_gives.6 c.loop-element.invariant.made

@@ -8,8 +8,8 @@ use Rattle.change.proofs.Made.{after_applied, after_other}
 use Rattle.change.proofs.Put.{put_none, put_next}
 use Rattle.change.proofs.entries.put_entries.Goals.{After-attest}
 use Rattle.change.proofs.entries.put_entries.Goals.{then-contains+in_ok-entry, else-contains+in_ok-entry-2}
-use Rattle.change.proofs.entries.put_entries.Goals.{then-has_content+in_ok-put_entry}
-use Rattle.change.proofs.entries.put_entries.Goals.{else-has_content+in_ok-remove_entry}
+use Rattle.change.proofs.entries.put_entries.Goals.{then-has_content+in_ok-put_differing_entry}
+use Rattle.change.proofs.entries.put_entries.Goals.{else-has_content+in_ok-remove_existing_entry}
 use Rattle.change.proofs.entries.put_entries.Goals as goal
 
 pub loop-id-init : goal.loop-id-init
@@ -30,9 +30,9 @@ is_after c =
           w.in_ok-entry-2.ensures.entry)
     ]
 
-pub put_entry-requires-clause-waived : goal.put_entry-requires-clause-waived
-put_entry-requires-clause-waived c =
-    (is_after (goal.at.put_entry-requires-clause-waived c).After-attest).waives
+pub put_differing_entry-requires-clause-waived : goal.put_differing_entry-requires-clause-waived
+put_differing_entry-requires-clause-waived c =
+    (is_after (goal.at.put_differing_entry-requires-clause-waived c).After-attest).waives
 
 pub loop-id-preserved : goal.loop-id-preserved
 loop-id-preserved c =
@@ -50,14 +50,14 @@ loop-id-preserved c =
       e,
       made,
       elim c.if-has_content.branch [
-        | then-has_content+in_ok-put_entry w ↦
+        | then-has_content+in_ok-put_differing_entry w ↦
             subst₂ (λ v zone_edits. AddsEntryEdit d.left.zone.now v c.loop-id.zone_edits zone_edits)
             (sym (ap (λ b. if b then Put e else Remove x) (sym c.has_content.ensures ∙ w.if-has_content.true)))
-            (sym w.zone_edits-is) w.in_ok-put_entry.ensures
-        | else-has_content+in_ok-remove_entry w ↦
+            (sym w.zone_edits-is) w.in_ok-put_differing_entry.ensures
+        | else-has_content+in_ok-remove_existing_entry w ↦
             subst₂ (λ v zone_edits. AddsEntryEdit d.left.zone.now v c.loop-id.zone_edits zone_edits)
             (sym (ap (λ b. if b then Put e else Remove x) (sym c.has_content.ensures ∙ w.if-has_content.false)))
-            (sym w.zone_edits-is) w.in_ok-remove_entry.ensures
+            (sym w.zone_edits-is) w.in_ok-remove_existing_entry.ensures
       ],
     )
     c.loop-id.invariant

@@ -25,7 +25,7 @@ loop-id-preserved c =
     let x = c.id-item.result in
     let below = c.loop-id-test.true in
     let new = c.in_ok-element.element in
-    let statement = c.change_of-change.ensures in
+    let statement = c.known_change-change.ensures in
     record {
       folded = subst
           (λ l. IsFolded g chosen c.args.elem_type c.args.name l c.args.start new)
@@ -33,7 +33,7 @@ loop-id-preserved c =
           (fold_more g chosen c.args.elem_type c.args.name (take k xs) x c.args.start c.loop-id.element new
           (newest (λ v w. IsOver chosen w v) xs k x c.requires.order below c.id-item.is)
           (not_over_itself c.args.vers.now (rw c.global.ensures at c.attest.ensures) x) c.loop-id.invariant.folded
-          (step_by g chosen c.args.elem_type c.args.name x c.owner.result c.change_of-change.result.now
+          (step_by g chosen c.args.elem_type c.args.name x c.owner.result c.known_change-change.result.now
           c.loop-id.element new (rw c.global-in-loop-id.ensures at statement.change) statement.elem_type statement.name
           c.owner.ensures c.in_ok-element.ensures.made));
       keyed = subst₂ (λ type name. IfSome new (λ e. (e.elem_type ≡ type) × (e.name ≡ name))) statement.elem_type

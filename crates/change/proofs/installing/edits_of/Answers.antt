@@ -42,8 +42,8 @@ element_edits-requires-clause-some c = λ type name changed.
     (members_are i c.args.dels.now c.args.plan.now ids c.requires.plan c.as_slice-effective.ensures.items)
     c.requires.base type name changed)
 
-pub edit_elements-requires-clause-rising : goal.edit_elements-requires-clause-rising
-edit_elements-requires-clause-rising c = λ i j d less below.
+pub add_differing_edits-requires-clause-rising : goal.add_differing_edits-requires-clause-rising
+add_differing_edits-requires-clause-rising c = λ i j d less below.
     let key = edit_key element_key in
     let xs = c.into_vec.result.items in
     ap is_lt (sym (cmp_keys (key (get_or xs i d)) (key (get_or xs j d)))) ∙ c.into_vec.ensures.rising i j d less below
@@ -69,15 +69,15 @@ returns-clause-installs c =
     subst (λ ids. IsPlan (i ids) dels plan) (sym c.as_slice-kept.ensures.items)
     (subst (λ v. IsPlan (installation_by v is) dels plan) (sym c.vers-vers.ensures) c.requires.plan) in
     let made = c.in_ok-edits.ensures in
-    subst (λ v. (new : Zone) → IsEdited c.edit_elements.new.zone_edits zone new
+    subst (λ v. (new : Zone) → IsEdited c.add_differing_edits.new.zone_edits zone new
     → HasInstalled (installation_by v is) new)
     c.vers-vers.ensures
-    (subst (λ ids. (new : Zone) → IsEdited c.edit_elements.new.zone_edits zone new → HasInstalled (i ids) new)
+    (subst (λ ids. (new : Zone) → IsEdited c.add_differing_edits.new.zone_edits zone new → HasInstalled (i ids) new)
     c.as_slice-kept.ensures.items
     (installs d is.bypassed.now is.date (rw c.global.ensures at c.attest.ensures)
     c.attest_lists.ensures.form c.attest_lists.ensures.lists dels_are plan c.new-zone_edits.result
     c.put_entries.new.zone_edits
-    c.edit_elements.new.zone_edits c.in_ok-edits.edits made.elements planned c.in_ok-put_entries.ensures
+    c.add_differing_edits.new.zone_edits c.in_ok-edits.edits made.elements planned c.in_ok-put_entries.ensures
     (made.after (i d.kept.now) (record {
       global = ap (λ v. v.global.now) c.vers-vers.ensures;
       choice = ap choice c.vers-vers.ensures;
@@ -87,12 +87,12 @@ returns-clause-installs c =
           c.as_slice-effective.ensures.items;
     }))
     made.edits_are
-    (subst (λ es. HasEditedElements zone es c.put_entries.new.zone_edits c.edit_elements.new.zone_edits)
-    c.into_vec.ensures.items c.in_ok-edit_elements.ensures)))
+    (subst (λ es. HasEditedElements zone es c.put_entries.new.zone_edits c.add_differing_edits.new.zone_edits)
+    c.into_vec.ensures.items c.in_ok-add_differing_edits.ensures)))
 
 pub returns-clause-differs : goal.returns-clause-differs
 returns-clause-differs c =
-    let done = c.in_ok-edit_elements.ensures in
+    let done = c.in_ok-add_differing_edits.ensures in
     record {
       entries = subst (All (ChangesEntry c.args.installing.zone.now)) (sym done.entries)
           c.in_ok-put_entries.ensures.differ;

@@ -17,6 +17,6 @@ returns-clause-clashing c =
     let old = c.in_ok-marked.marked.keys in
     let new = c.loop-i.marked.keys in
     let done : c.loop-i.i ≡ length ids = omega arith in
-    clashing_both ids faults choices c.args.overs.now.global.now old new c.in_ok-marked.ensures.shared
+    clashing_both ids faults choices c.args.overs.now.global.now old new c.in_ok-marked.ensures.clashing
     (before_all ids faults choices old new (subst (λ n. Marks (IsByNpreBefore choices ids faults n) old new) done
     (rw (c.vers-vers.ensures ∙ c.in_ok-marked.ensures.same) at c.loop-i.invariant)))

@@ -7,5 +7,5 @@ abbrev pub invariant-loop-other : goal.invariant-loop-other
 invariant-loop-other l = record {
   same : l.overs ≡ l.fn.overs;
   marks : Marks (IsAgainst l.fn.overs.global.now (choice l.fn.overs) l.claim (take l.other-index l.others))
-      l.fn.shared.keys l.shared.keys;
+      l.fn.marked.keys l.marked.keys;
 }

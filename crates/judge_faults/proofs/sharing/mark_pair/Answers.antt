@@ -9,7 +9,7 @@ pub returns-in_ok-insert-2-clause-marks : goal.returns-in_ok-insert-2-clause-mar
 returns-in_ok-insert-2-clause-marks c =
     let one = c.args.one.now in
     let other = c.args.other.now in
-    let old = c.args.shared.now.keys in
+    let old = c.args.marked.now.keys in
     let middle = c.insert.new.self.keys in
     let new = c.insert-then-branch.new.self.keys in
     pair_marked c.args.overs.now.global.now (choice c.args.overs.now) one other old middle new (

@@ -10,10 +10,10 @@ use Rattle.judge_system.proofs.needs.sorted_open_needs.Goals as goal
 pub returns : goal.returns
 returns c =
     let row = c.args.unserved.now in
-    let once = c.without_doubles.result.items in
+    let once = c.sorted_without_doubles.result.items in
     let made : IfOk c.collect.result (λ found. found.items ≡ map open_need once) = search rules in
     let needs = are_needs row once (subst (λ l. AreEachOnce l once) c.in_ok-from_slice.ensures.items
-    c.without_doubles.ensures) in
+    c.sorted_without_doubles.ensures) in
     IfOk-weaker c.collect.result (λ found. found.items ≡ map open_need once)
     (λ found. AreNeedsOf row (map need_view found.items))
     (λ found is. subst (AreNeedsOf row) (sym (ap (map need_view) is ∙ map-map need_view open_need once)) needs) made

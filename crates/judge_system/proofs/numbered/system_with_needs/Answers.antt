@@ -9,8 +9,8 @@ use Rattle.judge_system.proofs.numbered.system_with_needs.Goals as goal
 pub loop-i-preserved : goal.loop-i-preserved
 loop-i-preserved c =
     needs_next c.args.ids.now.keys c.args.served.now.keys c.args.eligible.items c.args.stated.now c.loop-i.i
-    c.need_at-need.result c.loop-i.system c.number_need.new.system c.need_at-need.ensures c.in_ok-number_need.ensures
-    c.loop-i.invariant
+    c.need_at-need.result c.loop-i.system c.add_numbered_need.new.system c.need_at-need.ensures
+    c.in_ok-add_numbered_need.ensures c.loop-i.invariant
 
 pub returns : goal.returns
 returns c =
@@ -18,7 +18,7 @@ returns c =
     subst (λ l. HasNeeds c.args.ids.now.keys c.args.served.now.keys c.args.eligible.items l c.loop-i.system)
     (take_all c.loop-i.i c.args.stated.now whole) c.loop-i.invariant
 
-pub number_need-requires-clause-of : goal.number_need-requires-clause-of
-number_need-requires-clause-of c =
+pub add_numbered_need-requires-clause-of : goal.add_numbered_need-requires-clause-of
+add_numbered_need-requires-clause-of c =
     All-found (λ (w : RequisiteOf). Contains c.args.ids.now.keys w.of) c.args.stated.now c.loop-i.i
     c.need_at-need.result c.requires.within c.need_at-need.ensures

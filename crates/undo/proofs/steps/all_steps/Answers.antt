@@ -36,6 +36,6 @@ returns c =
     ∙ ap (flat_map (to_elements r)) (take_all c.loop-id.id-index applied (omega arith) ∙ scope.has_applied))
     (ap (flat_map (from_elements r))
     (take_all c.loop-other.other-index c.as_slice-other-items.result.now (omega arith)
-    ∙ c.as_slice-other-items.ensures.value ∙ c.in_ok-others.ensures
+    ∙ c.as_slice-other-items.ensures.value ∙ c.in_ok-unaccepted.ensures
     ∙ ap (filter (λ y. not (is_supplied scope.accepted.now y))) scope.has_applied)))
     (ap (flat_map (from_groups r)) (take_all c.loop-by.by-index applied (omega arith) ∙ scope.has_applied))

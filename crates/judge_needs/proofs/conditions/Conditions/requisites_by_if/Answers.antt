@@ -9,7 +9,7 @@ use Rattle.judge_needs.specs.declared.stated.StatedRequisite.{StatedRequisite}
 use Rattle.judge_needs.specs.Conditions.{is_there}
 use Rattle.zones.specs.Scopes.{choice_of}
 use Rattle.judge_needs.proofs.Stating.{stated_left}
-use Rattle.judge_needs.proofs.conditions.Conditions.requisites.Goals as goal
+use Rattle.judge_needs.proofs.conditions.Conditions.requisites_by_if.Goals as goal
 
 pub returns : goal.returns
 returns c =

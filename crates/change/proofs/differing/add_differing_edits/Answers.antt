@@ -9,7 +9,7 @@ use Rattle.sorted.specs.Edits.{edit_key}
 use Rattle.zones_maps.specs.Differing.{HasEditedElements}
 use Rattle.change.proofs.ElementEdits.{AreDone, done_none, done_next, done_all, entries_stay}
 use Rattle.change.proofs.Yielded.{one_more, one_less, all_yielded}
-use Rattle.change.proofs.differing.edit_elements.Goals as goal
+use Rattle.change.proofs.differing.add_differing_edits.Goals as goal
 
 pub loop-edit-init : goal.loop-edit-init
 loop-edit-init c = record {

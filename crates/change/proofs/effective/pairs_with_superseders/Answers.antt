@@ -3,7 +3,7 @@ use Rattle.std.proofs.lemmas.List.{take_all}
 use Rattle.sysmods.specs.Choices.{choice}
 use Rattle.change.specs.Superseded.{ArePaired}
 use Rattle.change.proofs.TakingEffect.{paired_next}
-use Rattle.change.proofs.effective.superseded_pairs.Goals as goal
+use Rattle.change.proofs.effective.pairs_with_superseders.Goals as goal
 
 pub loop-id-preserved : goal.loop-id-preserved
 loop-id-preserved c =

@@ -1,6 +1,6 @@
 use Rattle.std.proofs.lemmas.List.Filters.{dedup_is}
 use Rattle.judge_system.proofs.EachKind.{need_eq, sorted_once}
-use Rattle.judge_system.proofs.needs.without_doubles.Goals as goal
+use Rattle.judge_system.proofs.needs.sorted_without_doubles.Goals as goal
 
 pub returns : goal.returns
 returns c =

@@ -1,6 +1,6 @@
 use Rattle.std.proofs.Common.{take}
 use Rattle.change.specs.Grouping.{AddsBy, AreByElement}
-use Rattle.change.proofs.grouping.changes_by_element.Given as goal
+use Rattle.change.proofs.grouping.changers_by_element.Given as goal
 
 -- the SYSMODs so far are added
 abbrev pub invariant-loop-id : goal.invariant-loop-id

@@ -1,7 +1,7 @@
 use Rattle.std.proofs.Common.{◌≡◌, ◌++◌, length}
 use Rattle.std.specs.Vec.Iter.{into_iter_items, into_iter_len}
 use Rattle.change.proofs.ElementEdits.{AreDone}
-use Rattle.change.proofs.differing.edit_elements.Given as goal
+use Rattle.change.proofs.differing.add_differing_edits.Given as goal
 
 -- the edits so far are done
 abbrev pub invariant-loop-edit : goal.invariant-loop-edit

@@ -1,5 +1,5 @@
 use Rattle.std.proofs.lemmas.Option.{slice_get_within}
-use Rattle.judge_system.proofs.numbered.number_need.Goals as goal
+use Rattle.judge_system.proofs.numbered.add_numbered_need.Goals as goal
 
 pub returns : goal.returns
 returns c =

@@ -1,7 +1,7 @@
 use Rattle.std.proofs.Common.{◌∙◌, sym, ap}
 use Rattle.std.specs.Prelude.{option_copied}
 use Rattle.terms.proofs.ChangedElements.{change_there}
-use Rattle.change.proofs.folding.change_of.Goals as goal
+use Rattle.change.proofs.folding.known_change.Goals as goal
 
 pub returns-clause-change : goal.returns-clause-change
 returns-clause-change c = sym c.change_of.ensures ∙ ap option_copied c.unwrap.ensures

@@ -7,7 +7,7 @@ use Rattle.sorted.specs.ElementKeys.{key_cmp}
 use Rattle.sorted.specs.Lists.{Adds}
 use Rattle.change.specs.Grouping.{AddsBy}
 use Rattle.change.proofs.Grouped.{by_next, changers_next}
-use Rattle.change.proofs.grouping.changes_by_element.Goals as goal
+use Rattle.change.proofs.grouping.changers_by_element.Goals as goal
 
 pub loop-change-preserved : goal.loop-change-preserved
 loop-change-preserved c =

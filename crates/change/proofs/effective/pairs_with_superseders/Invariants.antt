@@ -1,7 +1,7 @@
 use Rattle.std.proofs.Common.{◌≡◌, ◌++◌, map, take}
 use Rattle.sysmods.specs.Choices.{choice}
 use Rattle.change.specs.Superseded.{ArePaired}
-use Rattle.change.proofs.effective.superseded_pairs.Given as goal
+use Rattle.change.proofs.effective.pairs_with_superseders.Given as goal
 
 abbrev pub invariant-loop-id : goal.invariant-loop-id
 invariant-loop-id l = ArePaired (choice l.vers) (take l.id-index l.ids) l.pairs.items
