@@ -15,7 +15,8 @@ use crate::verdict::verdict_word;
 use fields::spelling::{hold_text, need_text};
 use fields::{Bypass, Id};
 use report::{
-    Fact, LineWord, ReportLine, Requisite, Resolution, Status, append_words, class_text, date_text,
+    Fact, LineWord, ReportLine, Requisite, Resolution, Status, append_words, class_or_dash,
+    date_or_dash,
 };
 use std::alloc::AllocError;
 use sysmods_values::Hold;
@@ -203,8 +204,8 @@ fn put_bypassed_hold(
     let hold_word = LineWord::Text(b"hold");
     let reason = LineWord::Text(hold.reason.as_bytes());
     let (of_class, of_date) = (LineWord::Text(b"CLASS"), LineWord::Text(b"DATE"));
-    let class = LineWord::Text(class_text(&hold.class));
-    let date = LineWord::Text(date_text(&hold.date));
+    let class = LineWord::Text(class_or_dash(&hold.class));
+    let date = LineWord::Text(date_or_dash(&hold.date));
     let of_comment = LineWord::Text(b"COMMENT");
     let comment = LineWord::Text(comment_text(&hold.comment));
     let words = [

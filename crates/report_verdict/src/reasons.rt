@@ -14,7 +14,7 @@ use crate::grounds::Grounds;
 use crate::statuses::is_delete_test;
 use fields::spelling::{hold_text, test_text, type_text};
 use fields::{Bypass, Id, Name};
-use report::{Fact, Found, LineWord, Maker, Rank, append_words, id_text};
+use report::{Fact, Found, LineWord, Maker, Rank, append_words, id_or_dash};
 use std::alloc::AllocError;
 use sysmods_values::Hold;
 use terms::{ElemType, HoldKind, Test};
@@ -248,7 +248,7 @@ fn put_ver_reason(
     let ver = LineWord::Text(b"VER");
     let number = LineWord::Number(number);
     let of_fmid = LineWord::Text(b"FMID");
-    let fmid = LineWord::Text(id_text(fmid));
+    let fmid = LineWord::Text(id_or_dash(fmid));
     let fits_word = LineWord::Text(b"fits");
     let words = [code, ver, number, of_fmid, fmid, fits_word];
     append_words(b"   ", &words, text)

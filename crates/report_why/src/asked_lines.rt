@@ -8,7 +8,9 @@ ghost use Rattle.report.specs.FactViews.{answer_view};
 use crate::fact_words::resolution_word;
 use fields::Id;
 use fields::spelling::{hold_text, need_text};
-use report::{LineWord, Requisite, Resolution, append_words, class_text, date_text};
+use report::{
+    HOLD_WIDTH, LineWord, Requisite, Resolution, append_words, class_or_dash, date_or_dash,
+};
 use std::alloc::AllocError;
 use sysmods_values::Hold;
 
@@ -99,12 +101,12 @@ pub(crate) fn put_hold(
     ensures { OnOk result (text.new.items
         ≡ text.old.items ++ fact_text (HoldFact hold.now (option_map answer_view resolution.now))) }
 {
-    let kind = LineWord::Left(6, hold_text(hold.kind));
+    let kind = LineWord::Left(HOLD_WIDTH, hold_text(hold.kind));
     let reason = LineWord::Text(hold.reason.as_bytes());
     let mark = LineWord::If(hold.internal, b"INTERNAL", b"EXTERNAL");
     let (of_class, of_date) = (LineWord::Text(b"CLASS"), LineWord::Text(b"DATE"));
-    let class = LineWord::Text(class_text(&hold.class));
-    let date = LineWord::Text(date_text(&hold.date));
+    let class = LineWord::Text(class_or_dash(&hold.class));
+    let date = LineWord::Text(date_or_dash(&hold.date));
     match resolution {
         Some(answer) => {
             let answered = LineWord::Text(resolution_word(answer));
