@@ -6,6 +6,7 @@ ghost use Rattle.report_why.specs.FactText.{id_lines, answer_lines, comment_line
 ghost use Rattle.report.specs.FactViews.{answer_view};
 
 use crate::fact_words::resolution_word;
+use crate::indent::INDENT;
 use fields::Id;
 use fields::spelling::{hold_text, need_text};
 use report::{
@@ -19,11 +20,11 @@ fn put_id_lines(word: &[u8], ids: &[Id], text: &mut Vec<u8>) -> Result<(), Alloc
     ensures { OnOk result (text.new.items ≡ text.old.items ++ id_lines word.now ids.now) }
 {
     if ids.is_empty() {
-        return append_words(b"   ", &[LineWord::Text(word), LineWord::Text(b"-")], text);
+        return append_words(INDENT, &[LineWord::Text(word), LineWord::Text(b"-")], text);
     }
     for id in ids {
         append_words(
-            b"   ",
+            INDENT,
             &[LineWord::Text(word), LineWord::Text(id.as_bytes())],
             text,
         )?;
@@ -81,7 +82,7 @@ fn put_comment(comment: &Option<String>, text: &mut Vec<u8>) -> Result<(), Alloc
 {
     match comment {
         Some(comment) => append_words(
-            b"   ",
+            INDENT,
             &[
                 LineWord::Text(b"COMMENT"),
                 LineWord::Text(comment.as_bytes()),

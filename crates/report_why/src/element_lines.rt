@@ -5,6 +5,7 @@ ghost use Rattle.report_why.specs.FactText.{maker_line, fact_text};
 ghost use Rattle.report.specs.FactViews.{maker_view, found_view};
 
 use crate::fact_words::rank_text;
+use crate::indent::INDENT;
 use fields::Name;
 use fields::spelling::type_text;
 use report::{ELEM_TYPE_WIDTH, Found, LineWord, Maker, NAME_WIDTH, append_words};
@@ -17,7 +18,7 @@ fn put_maker(word: &[u8], maker: Maker, text: &mut Vec<u8>) -> Result<(), AllocE
 {
     let id = LineWord::Text(maker.id.as_bytes());
     append_words(
-        b"   ",
+        INDENT,
         &[
             LineWord::Text(word),
             id,
