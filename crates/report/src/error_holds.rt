@@ -18,7 +18,8 @@ pub(crate) struct OpenErrorHold {
     pub(crate) reason: Id,
 }
 
-// Appends the hold if it is an ERROR hold whose reason the zone does not supply.
+// Appends the hold if it is an ERROR hold whose reason the zone does not supply. The caller has only ERROR holds; the
+// clause is about any hold, so the kind is tested too.
 fn append_if_open_error_hold(
     zone: &Zone,
     id: Id,

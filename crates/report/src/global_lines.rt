@@ -4,7 +4,7 @@ ghost use Rattle.machine.specs.Outcome.{list_global};
 ghost use Rattle.machine.specs.Report.{line_text};
 ghost use Rattle.report.specs.Paged.{Paged};
 
-use crate::line_words::{LineWord, put_words};
+use crate::line_words::{HOLD_WIDTH, LineWord, TYPE_WIDTH, put_words};
 use crate::page::Page;
 use crate::sink::Sink;
 use fields::spelling::{hold_text, kind_text};
@@ -17,7 +17,7 @@ pub(crate) fn put_global<W: Sink>(global: &GlobalZone, page: &mut Page<'_, W>)
     for sysmod in global.sysmods() {
         let words = [
             LineWord::Text(sysmod.id.as_bytes()),
-            LineWord::Left(8, kind_text(sysmod.kind)),
+            LineWord::Left(TYPE_WIDTH, kind_text(sysmod.kind)),
             LineWord::Text(b"SOURCEID"),
             LineWord::Sources(sysmod.sources.as_slice()),
         ];
@@ -26,7 +26,7 @@ pub(crate) fn put_global<W: Sink>(global: &GlobalZone, page: &mut Page<'_, W>)
     for hold in global.holds() {
         let words = [
             LineWord::Text(hold.id.as_bytes()),
-            LineWord::Left(6, hold_text(hold.kind)),
+            LineWord::Left(HOLD_WIDTH, hold_text(hold.kind)),
             LineWord::Text(hold.reason.as_bytes()),
             LineWord::If(hold.internal, b"INTERNAL", b"EXTERNAL"),
         ];

@@ -31,6 +31,7 @@ fn errsysmod_lines(
         let ids = resolvers(alloc, &vers, zone.srel(), error.reason)?;
         lines.push(ReportLine::Errsysmod {
             id: error.id,
+            // (each id has the form of a reason)
             reason: Reason::read(error.reason.as_bytes()).unwrap(),
             resolvers: Vec::from_slice(alloc, ids.as_slice())?,
         })?;

@@ -14,6 +14,18 @@ use std::alloc::AllocError;
 use terms::ZoneKind;
 use zones::Applied;
 
+/// The width of the type of a SYSMOD in a line.
+pub const TYPE_WIDTH: usize = 8;
+
+/// The width of the kind of a hold in a line.
+pub const HOLD_WIDTH: usize = 6;
+
+/// The width of the type of an element in a line.
+pub const ELEM_TYPE_WIDTH: usize = 5;
+
+/// The width of the name of an element in a line.
+pub const NAME_WIDTH: usize = 8;
+
 /// A word of a line.
 #[derive(Clone, Copy)]
 pub enum LineWord<'a> {

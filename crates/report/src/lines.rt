@@ -11,7 +11,7 @@ ghost use Rattle.report.specs.Paged.{Paged};
 ghost use Rattle.judge_system.specs.Views.{failure_view};
 ghost use Rattle.report.specs.Views.{header_view, refusal_view, place_view, status_view, line_view};
 
-use crate::line_words::{LineWord, put_words};
+use crate::line_words::{LineWord, TYPE_WIDTH, put_words};
 use crate::outcome::{Header, Place, Refusal, ReportLine, Status};
 use crate::page::Page;
 use crate::sink::Sink;
@@ -145,7 +145,7 @@ fn put_status<'a, W: Sink>(id: Id, place: &'a Place, status: &'a Status, page: &
     ensures { Paged W.Sink page.old page.new (words_line (id ∷ left_in 8 (place_text (place_view place.now))
         ∷ status_word (status_view status.now) ∷ status_detail (status_view status.now))) }
 {
-    let place = LineWord::Left(8, place_text(place));
+    let place = LineWord::Left(TYPE_WIDTH, place_text(place));
     let word = LineWord::Text(status_word(status));
     match status_detail(status) {
         Some(detail) => put_words(id.as_bytes(), &[place, word, LineWord::Text(detail)], page),

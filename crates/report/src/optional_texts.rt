@@ -5,7 +5,7 @@ ghost use Rattle.machine.specs.Report.{optional_text};
 use fields::{Class, HoldDate, Id};
 
 /// The id, or `-`.
-pub fn id_text(id: &Option<Id>) -> &[u8]
+pub fn id_or_dash(id: &Option<Id>) -> &[u8]
     ensures { result.now ≡ optional_text id.now }
 {
     match id {
@@ -15,7 +15,7 @@ pub fn id_text(id: &Option<Id>) -> &[u8]
 }
 
 /// The class, or `-`.
-pub fn class_text(class: &Option<Class>) -> &[u8]
+pub fn class_or_dash(class: &Option<Class>) -> &[u8]
     ensures { result.now ≡ optional_text class.now }
 {
     match class {
@@ -25,7 +25,7 @@ pub fn class_text(class: &Option<Class>) -> &[u8]
 }
 
 /// The date, or `-`.
-pub fn date_text(date: &Option<HoldDate>) -> &[u8]
+pub fn date_or_dash(date: &Option<HoldDate>) -> &[u8]
     ensures { result.now ≡ optional_text date.now }
 {
     match date {

@@ -17,20 +17,32 @@ use crate::zone_lines::put_zone;
 use fields::spelling::command_code_text;
 use terms::IdRefusal;
 
+// The return code of a line for what was done, and of a list.
+const DONE_CODE: u8 = 0;
+
+// The return code of a line that warns.
+const WARNING_CODE: u8 = 4;
+
+// The return code of a line for what could not be done.
+const FAILED_CODE: u8 = 8;
+
+// The return code of a refused command or command file.
+const REFUSED_CODE: u8 = 12;
+
 // The return code of a line: 8 or 4 for what was not done, otherwise 0.
 fn line_code(line: &ReportLine) -> u8
     ensures code { result ≡ line_code (line_view line.now) }
     ensures most { result ≤ 12 }
 {
     match line {
-        ReportLine::Nothing | ReportLine::Errsysmod { .. } => 4,
+        ReportLine::Nothing | ReportLine::Errsysmod { .. } => WARNING_CODE,
         ReportLine::Status { status, .. } => match status {
-            Status::Already | Status::Unknown => 4,
-            Status::Refused(IdRefusal::NoHold | IdRefusal::Internal) => 4,
-            Status::Refused(_) => 8,
-            Status::Failed(_) | Status::Deleted | Status::Missing => 8,
-            Status::NoVer | Status::NotApplied => 8,
-            _ => 0,
+            Status::Already | Status::Unknown => WARNING_CODE,
+            Status::Refused(IdRefusal::NoHold | IdRefusal::Internal) => WARNING_CODE,
+            Status::Refused(_) => FAILED_CODE,
+            Status::Failed(_) | Status::Deleted | Status::Missing => FAILED_CODE,
+            Status::NoVer | Status::NotApplied => FAILED_CODE,
+            _ => DONE_CODE,
         },
     }
 }
@@ -74,20 +86,20 @@ fn put_outcome<W: Sink>(outcome: &Outcome<'_>, page: &mut Page<'_, W>) -> u8
         Outcome::ListedGlobal { header, global } => {
             put_header(header, page);
             put_global(global, page);
-            put_code(0, page);
-            0
+            put_code(DONE_CODE, page);
+            DONE_CODE
         }
         Outcome::Listed { header, zone, text } => {
             put_header(header, page);
             put_zone(zone, *text, page);
-            put_code(0, page);
-            0
+            put_code(DONE_CODE, page);
+            DONE_CODE
         }
         Outcome::Refused { header, refusal } => {
             put_header(header, page);
             put_refusal(refusal, page);
-            put_code(12, page);
-            12
+            put_code(REFUSED_CODE, page);
+            REFUSED_CODE
         }
         Outcome::Control { number, code } => {
             let words = [
@@ -96,7 +108,7 @@ fn put_outcome<W: Sink>(outcome: &Outcome<'_>, page: &mut Page<'_, W>) -> u8
                 LineWord::Text(command_code_text(*code)),
             ];
             put_words(b"CONTROL", &words, page);
-            12
+            REFUSED_CODE
         }
     }
 }

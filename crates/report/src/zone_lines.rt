@@ -6,7 +6,7 @@ ghost use Rattle.machine.specs.Report.{words_line, entry_text, line_text};
 ghost use Rattle.report.specs.Paged.{Paged};
 ghost use Rattle.report.specs.WordTexts.{word_text};
 
-use crate::line_words::{LineWord, put_words};
+use crate::line_words::{ELEM_TYPE_WIDTH, LineWord, NAME_WIDTH, put_words};
 use crate::page::Page;
 use crate::sink::Sink;
 use fields::spelling::type_text;
@@ -34,8 +34,8 @@ fn put_element<W: Sink>(element: &Element, text: bool, page: &mut Page<'_, W>)
     ensures { Paged W.Sink page.old page.new (flat_map line_text (element_lines text element.now)) }
 {
     let words = [
-        LineWord::Left(5, type_text(element.elem_type)),
-        LineWord::Left(8, element.name.as_bytes()),
+        LineWord::Left(ELEM_TYPE_WIDTH, type_text(element.elem_type)),
+        LineWord::Left(NAME_WIDTH, element.name.as_bytes()),
         LineWord::Text(b"FMID"),
         LineWord::Text(element.fmid.as_bytes()),
         LineWord::Text(b"RMID"),

@@ -11,11 +11,13 @@ ghost use Rattle.report_verdict.specs.Verdict.{bypassed_told, besides_told};
 ghost use Rattle.report_verdict.specs.Grounds.{basis_of};
 
 use crate::grounds::Grounds;
+use crate::indent::INDENT;
 use crate::verdict::verdict_word;
 use fields::spelling::{hold_text, need_text};
 use fields::{Bypass, Id};
 use report::{
-    Fact, LineWord, ReportLine, Requisite, Resolution, Status, append_words, class_text, date_text,
+    Fact, LineWord, ReportLine, Requisite, Resolution, Status, append_words, class_or_dash,
+    date_or_dash,
 };
 use std::alloc::AllocError;
 use sysmods_values::Hold;
@@ -56,7 +58,7 @@ fn put_supplier_line<'a>(
             let id = LineWord::WithColon(id);
             let by = LineWord::Text(by.as_bytes());
             let word = LineWord::Text(verdict_word(status));
-            append_words(b"   ", &[supply, kind, id, by, word], text)
+            append_words(INDENT, &[supply, kind, id, by, word], text)
         }
         ReportLine::Nothing => Ok(()),
         ReportLine::Errsysmod { .. } => Ok(()),
@@ -98,7 +100,7 @@ fn put_suppliers<'a>(
 }
 
 // Appends what becomes of the SYSMODs that would supply an open requisite.
-fn put_resolution_suppliers<'a>(
+fn put_suppliers_if_open<'a>(
     kind: NeedKind,
     id: &'a [u8],
     answer: &'a Resolution,
@@ -115,7 +117,7 @@ fn put_resolution_suppliers<'a>(
 }
 
 // Appends what becomes of the SYSMODs that would supply the requisite, or resolve the ERROR hold, of this fact.
-fn put_fact_suppliers(
+fn put_suppliers_of_fact(
     fact: &Fact<'_>,
     lines: &[ReportLine],
     text: &mut Vec<u8>,
@@ -124,7 +126,7 @@ fn put_fact_suppliers(
         ≡ text.old.items ++ supply_told (map line_view lines.now) (fact_view fact.now)) }
 {
     match fact {
-        Fact::Requisite { requisite, answer } => put_resolution_suppliers(
+        Fact::Requisite { requisite, answer } => put_suppliers_if_open(
             requisite.kind,
             requisite.id.as_bytes(),
             answer,
@@ -132,7 +134,7 @@ fn put_fact_suppliers(
             text,
         ),
         Fact::Hold { hold, resolution } => match resolution {
-            Some(answer) => put_resolution_suppliers(
+            Some(answer) => put_suppliers_if_open(
                 NeedKind::HoldError,
                 hold.reason.as_bytes(),
                 answer,
@@ -172,11 +174,11 @@ fn put_bypassed_requisite(
     let bypassed = LineWord::Text(b"BYPASSED");
     let kind = LineWord::Text(need_text(requisite.kind));
     let id = LineWord::Text(requisite.id.as_bytes());
-    append_words(b"   ", &[bypassed, kind, id], text)
+    append_words(INDENT, &[bypassed, kind, id], text)
 }
 
 // The comment of a hold, or `-`.
-fn comment_text(comment: &Option<String>) -> &[u8]
+fn comment_or_dash(comment: &Option<String>) -> &[u8]
     ensures { result.now ≡ optional_text (option_map string_bytes comment.now) }
 {
     match comment {
@@ -203,14 +205,14 @@ fn put_bypassed_hold(
     let hold_word = LineWord::Text(b"hold");
     let reason = LineWord::Text(hold.reason.as_bytes());
     let (of_class, of_date) = (LineWord::Text(b"CLASS"), LineWord::Text(b"DATE"));
-    let class = LineWord::Text(class_text(&hold.class));
-    let date = LineWord::Text(date_text(&hold.date));
+    let class = LineWord::Text(class_or_dash(&hold.class));
+    let date = LineWord::Text(date_or_dash(&hold.date));
     let of_comment = LineWord::Text(b"COMMENT");
-    let comment = LineWord::Text(comment_text(&hold.comment));
+    let comment = LineWord::Text(comment_or_dash(&hold.comment));
     let words = [
         bypassed, kind, hold_word, reason, of_class, class, of_date, date, of_comment, comment,
     ];
-    append_words(b"   ", &words, text)
+    append_words(INDENT, &words, text)
 }
 
 // Appends the line of a requisite or a hold that BYPASS covers.
@@ -226,8 +228,8 @@ fn put_bypassed_fact(bypass: &Bypass, fact: &Fact<'_>, text: &mut Vec<u8>) -> Re
     }
 }
 
-// Appends what becomes of the SYSMODs that would supply the requisites of these facts.
-fn put_all_suppliers(
+// Appends what becomes of the SYSMODs that would supply the requisites, or resolve the ERROR holds, of these facts.
+fn put_suppliers_of_facts(
     facts: &[Fact<'_>],
     lines: &[ReportLine],
     text: &mut Vec<u8>,
@@ -236,7 +238,7 @@ fn put_all_suppliers(
         ++ flat_map (supply_told (map line_view lines.now)) (map fact_view facts.now)) }
 {
     for fact in facts {
-        put_fact_suppliers(fact, lines, text)?;
+        put_suppliers_of_fact(fact, lines, text)?;
     }
     Ok(())
 }
@@ -268,6 +270,6 @@ pub(crate) fn put_suppliers_and_bypassed(
     if !is_candidate(status) {
         return Ok(());
     }
-    put_all_suppliers(grounds.facts, grounds.lines, text)?;
+    put_suppliers_of_facts(grounds.facts, grounds.lines, text)?;
     put_bypassed_facts(grounds.bypass, grounds.facts, text)
 }

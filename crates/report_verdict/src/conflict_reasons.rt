@@ -5,6 +5,7 @@ ghost use Rattle.report_verdict.specs.Verdict.{element_reason, apart_text, confl
 ghost use Rattle.report_verdict.specs.declared.conflict.Conflict.TheVariants.{Deletes, Forbids, ForbiddenBy, Shares};
 
 use crate::conflict::{Apart, Conflict};
+use crate::indent::INDENT;
 use crate::statuses::{is_clash_test, is_delete_test};
 use fields::spelling::{test_text, type_text};
 use fields::{Id, Name};
@@ -26,7 +27,7 @@ fn put_deletes<'a>(test: Test, by: &'a Id, id: &'a Id, text: &mut Vec<u8>) -> Re
     let by = LineWord::Text(by.as_bytes());
     let chain = LineWord::Text(b"is in its chain");
     let words = [code, delete, id, of, by, chain];
-    append_words(b"   ", &words, text)
+    append_words(INDENT, &words, text)
 }
 
 // Appends that NPRE names another candidate, if that decides the test.
@@ -41,7 +42,7 @@ fn put_forbids(test: Test, id: &Id, text: &mut Vec<u8>) -> Result<(), AllocError
     let id = LineWord::Text(id.as_bytes());
     let selected = LineWord::Text(b"is selected too");
     let words = [code, npre, id, selected];
-    append_words(b"   ", &words, text)
+    append_words(INDENT, &words, text)
 }
 
 // Appends that another candidate names the id in NPRE, if that decides the test.
@@ -55,7 +56,7 @@ fn put_forbidden_by(test: Test, id: &Id, text: &mut Vec<u8>) -> Result<(), Alloc
     let id = LineWord::Text(id.as_bytes());
     let forbids = LineWord::Text(b"is selected too and has it in NPRE");
     let words = [code, id, forbids];
-    append_words(b"   ", &words, text)
+    append_words(INDENT, &words, text)
 }
 
 // The words for why two candidates may not change one element.
@@ -89,7 +90,7 @@ fn put_shares<'a>(
     let with = LineWord::Text(with.as_bytes());
     let why = LineWord::Text(apart_text(apart));
     let words = [code, elem_type, name, with, why];
-    append_words(b"   ", &words, text)
+    append_words(INDENT, &words, text)
 }
 
 // Appends the line of a failed test that rests on this conflict, if it does.

@@ -35,7 +35,7 @@ fn forbids(vers: &VerChoice<'_>, first: Id, second: Id) -> bool
     vers.npre(first).contains(&second)
 }
 
-// Adds the conflict if the condition holds, and otherwise nothing. Each caller states both cases by one clause.
+// Adds the conflict if `is_so`. It stands apart so that the clause of its caller needs no cases.
 fn push_conflict_if(
     is_so: bool,
     conflict: Conflict,

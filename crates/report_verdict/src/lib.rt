@@ -9,6 +9,7 @@ mod conflict;
 mod conflict_reasons;
 mod conflicts;
 mod grounds;
+mod indent;
 mod reasons;
 mod statuses;
 mod verdict;

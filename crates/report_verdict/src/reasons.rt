@@ -11,10 +11,11 @@ ghost use Rattle.report_verdict.specs.Grounds.{basis_of};
 
 use crate::conflict_reasons::put_conflicts;
 use crate::grounds::Grounds;
+use crate::indent::INDENT;
 use crate::statuses::is_delete_test;
 use fields::spelling::{hold_text, test_text, type_text};
 use fields::{Bypass, Id, Name};
-use report::{Fact, Found, LineWord, Maker, Rank, append_words, id_text};
+use report::{Fact, Found, LineWord, Maker, Rank, append_words, id_or_dash};
 use std::alloc::AllocError;
 use sysmods_values::Hold;
 use terms::{ElemType, HoldKind, Test};
@@ -52,7 +53,7 @@ fn is_regression_test(test: Test) -> bool
     matches!(test, Test::Regression)
 }
 
-// Whether it decides the test that there is no element to update.
+// Whether this is the test that fails if there is no element to update.
 fn is_update_test(test: Test) -> bool
     ensures { result ≡ by_update test }
 {
@@ -66,7 +67,7 @@ fn is_target_test(test: Test) -> bool
     matches!(test, Test::NotInTarget)
 }
 
-// Whether it decides the test that several `++VER`s fit.
+// Whether this is the test that fails if several `++VER`s fit.
 fn is_several_fit_test(test: Test) -> bool
     ensures { result ≡ by_vers test }
 {
@@ -98,7 +99,7 @@ fn put_hold_reason(
     let hold_word = LineWord::Text(b"hold");
     let reason = LineWord::Text(hold.reason.as_bytes());
     let words = [code, kind, hold_word, reason];
-    append_words(b"   ", &words, text)
+    append_words(INDENT, &words, text)
 }
 
 // Appends the line of a SYSMOD that made the element, unless the id is over it. The word is `RMID` or `UMID`.
@@ -123,7 +124,7 @@ fn put_maker_reason<'a>(
     let id = LineWord::Text(maker.id.as_bytes());
     let not_over = LineWord::Text(b"is not required or superseded by it");
     let words = [code, elem_type, name, word, id, not_over];
-    append_words(b"   ", &words, text)
+    append_words(INDENT, &words, text)
 }
 
 // Appends the lines of the SYSMODs that made the element and that the id is not over.
@@ -164,7 +165,7 @@ fn put_owner_reason<'a>(
     let belongs = LineWord::Text(b"it belongs to");
     let owner = LineWord::Text(found.fmid.as_bytes());
     let words = [code, elem_type, name, belongs, owner];
-    append_words(b"   ", &words, text)
+    append_words(INDENT, &words, text)
 }
 
 // Appends the lines of an element that the zone has, if they decide the test.
@@ -207,7 +208,7 @@ fn put_missing_element_reason(
     let name = LineWord::WithColon(name.as_bytes());
     let none = LineWord::Text(b"there is none to update");
     let words = [code, elem_type, name, none];
-    append_words(b"   ", &words, text)
+    append_words(INDENT, &words, text)
 }
 
 // Appends the lines of an element that the id changes, if they decide the test.
@@ -248,10 +249,10 @@ fn put_ver_reason(
     let ver = LineWord::Text(b"VER");
     let number = LineWord::Number(number);
     let of_fmid = LineWord::Text(b"FMID");
-    let fmid = LineWord::Text(id_text(fmid));
+    let fmid = LineWord::Text(id_or_dash(fmid));
     let fits_word = LineWord::Text(b"fits");
     let words = [code, ver, number, of_fmid, fmid, fits_word];
-    append_words(b"   ", &words, text)
+    append_words(INDENT, &words, text)
 }
 
 // Appends the line of an id in DELETE that is in the id's own chain, if that decides the test.
@@ -267,7 +268,7 @@ fn put_delete_reason(test: Test, id: &Id, own: bool, text: &mut Vec<u8>) -> Resu
     let id = LineWord::Text(id.as_bytes());
     let chain = LineWord::Text(b"is in its own chain");
     let words = [code, delete, id, chain];
-    append_words(b"   ", &words, text)
+    append_words(INDENT, &words, text)
 }
 
 // Appends the line of an applied SYSMOD that NPRE names, if that decides the test.
@@ -283,7 +284,7 @@ fn put_npre_reason(test: Test, id: &Id, applied: bool, text: &mut Vec<u8>) -> Re
     let id = LineWord::Text(id.as_bytes());
     let applied_word = LineWord::Text(b"is applied");
     let words = [code, npre, id, applied_word];
-    append_words(b"   ", &words, text)
+    append_words(INDENT, &words, text)
 }
 
 // Appends the line of an applied function whose NPRE names the id, if that decides the test.
@@ -297,7 +298,7 @@ fn put_forbidden_reason(test: Test, id: &Id, text: &mut Vec<u8>) -> Result<(), A
     let id = LineWord::Text(id.as_bytes());
     let forbids = LineWord::Text(b"is applied and has it in NPRE");
     let words = [code, id, forbids];
-    append_words(b"   ", &words, text)
+    append_words(INDENT, &words, text)
 }
 
 // Appends the lines of the failed test that rest on this fact.
@@ -362,7 +363,7 @@ pub(crate) fn put_failed_test(
         let code = LineWord::Text(test_text(test));
         let none = LineWord::Text(b"no related target zone has applied it");
         let words = [code, none];
-        return append_words(b"   ", &words, text);
+        return append_words(INDENT, &words, text);
     }
     put_reasons(grounds.bypass, grounds.facts, test, text)?;
     put_conflicts(grounds.conflicts, test, text)

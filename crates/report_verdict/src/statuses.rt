@@ -88,7 +88,7 @@ fn passes_alone(status: &Status) -> bool
     }
 }
 
-// What a line may say about a candidate.
+/// What a line may say about a candidate.
 #[derive(Clone, Copy)]
 pub(crate) enum Saying {
     ChainDeleted,
@@ -96,8 +96,8 @@ pub(crate) enum Saying {
     PassesAlone,
 }
 
-// Whether the status of a candidate says so.
-fn status_says(saying: Saying, status: &Status) -> bool
+// Whether the status says this of its candidate.
+fn has_saying(saying: Saying, status: &Status) -> bool
     ensures { result ≡ says saying (status_view status.now) }
 {
     match saying {
@@ -108,12 +108,12 @@ fn status_says(saying: Saying, status: &Status) -> bool
 }
 
 // Adds the id of the line, if its status says so about that id.
-fn push_id_if(saying: Saying, line: &ReportLine, found: &mut Vec<Id>) -> Result<(), AllocError>
+fn push_id_saying(saying: Saying, line: &ReportLine, found: &mut Vec<Id>) -> Result<(), AllocError>
     ensures { OnOk result (found.new.items ≡ found.old.items ++ id_where (says saying) (line_view line.now)) }
 {
     match line {
         ReportLine::Status { id, status, .. } => {
-            if status_says(saying, status) {
+            if has_saying(saying, status) {
                 found.push(*id)?;
             }
             Ok(())
@@ -129,7 +129,7 @@ fn ids_saying(alloc: Global, saying: Saying, lines: &[ReportLine]) -> Result<Vec
 {
     let mut found = Vec::new(alloc);
     for line in lines {
-        push_id_if(saying, line, &mut found)?;
+        push_id_saying(saying, line, &mut found)?;
     }
     Ok(found)
 }
@@ -151,8 +151,8 @@ fn is_among(ids: &[Id], id: Id) -> bool
     ids.contains(&id)
 }
 
-/// If the id fails J8 (a DELETE takes out its chain), the other candidates whose DELETEs decide that: those that fail
-/// at most tests that depend on others.
+/// If the id fails J8 (a DELETE takes out its chain), the other candidates whose DELETEs decide that: those that pass
+/// every test that does not depend on other candidates.
 pub(crate) fn deleters(alloc: Global, lines: &[ReportLine], id: Id) -> Result<Vec<Id>, AllocError>
     ensures { IfOk result (λ ids. ids.items ≡ deleters (map line_view lines.now) id) }
 {

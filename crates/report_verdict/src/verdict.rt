@@ -15,6 +15,7 @@ ghost use Rattle.report_verdict.specs.Grounds.{basis_of};
 
 use crate::besides::put_suppliers_and_bypassed;
 use crate::grounds::Grounds;
+use crate::indent::INDENT;
 use crate::reasons::put_failed_test;
 use fields::Id;
 use fields::spelling::need_text;
@@ -23,7 +24,10 @@ use report::{Fact, LineWord, ReportLine, Resolution, Status, append_words};
 use std::alloc::AllocError;
 use terms::NeedKind;
 
-// Whether the need is of this kind and for this id. Kinds are compared by their words in the report.
+// Why a need is open if the facts do not say why.
+const UNSUPPLIED: &[u8] = b"nothing supplies it";
+
+// Whether the need is of this kind and for this id. No two kinds have one word, and the clause compares the words.
 fn matches_need(need: &OpenNeed, kind: NeedKind, id: &[u8]) -> bool
     ensures { result ≡ (bytes_eq (need_text need.now.kind) (need_text kind) && bytes_eq need.now.id id.now) }
 {
@@ -84,7 +88,7 @@ fn put_open_need<'a>(
     let ids = LineWord::Ids(ids);
     let would = LineWord::Text(b"would supply it");
     let words = [need_word, kind, id, ids, would];
-    append_words(b"   ", &words, text)
+    append_words(INDENT, &words, text)
 }
 
 // Appends the line of a need, with the reason why it is open.
@@ -100,10 +104,10 @@ fn put_need_line<'a>(
     let id = LineWord::WithColon(need.id.as_bytes());
     let why = LineWord::Text(why);
     let words = [need_word, kind, id, why];
-    append_words(b"   ", &words, text)
+    append_words(INDENT, &words, text)
 }
 
-// Appends the line of an open need, by how its fact says that it is resolved.
+// Appends the line of an open need. `answer` is what the facts say of it, if one of them is about it.
 fn put_need_resolution<'a>(
     need: &'a OpenNeed,
     answer: Option<&'a Resolution>,
@@ -113,11 +117,11 @@ fn put_need_resolution<'a>(
         ++ need_line (need_view need.now) (supply_words (option_map (λ a. answer_view a.now) answer.entry))) }
 {
     let Some(answer) = answer else {
-        return put_need_line(need, b"nothing supplies it", text);
+        return put_need_line(need, UNSUPPLIED, text);
     };
     match answer {
-        Resolution::Supplied(_) => put_need_line(need, b"nothing supplies it", text),
-        Resolution::Waived => put_need_line(need, b"nothing supplies it", text),
+        Resolution::Supplied(_) => put_need_line(need, UNSUPPLIED, text),
+        Resolution::Waived => put_need_line(need, UNSUPPLIED, text),
         Resolution::ByItself => put_need_line(need, b"it supplies this itself", text),
         Resolution::Open(ids) => put_open_need(need, ids.as_slice(), text),
     }
@@ -144,7 +148,7 @@ fn put_causer(id: Id, causer: &Id, text: &mut Vec<u8>) -> Result<(), AllocError>
     }
     let word = LineWord::Text(b"CAUSER");
     let causer = LineWord::Text(causer.as_bytes());
-    append_words(b"   ", &[word, causer], text)
+    append_words(INDENT, &[word, causer], text)
 }
 
 // Appends the lines of the failed tests.

@@ -6,9 +6,12 @@ ghost use Rattle.report_why.specs.FactText.{id_lines, answer_lines, comment_line
 ghost use Rattle.report.specs.FactViews.{answer_view};
 
 use crate::fact_words::resolution_word;
+use crate::indent::INDENT;
 use fields::Id;
 use fields::spelling::{hold_text, need_text};
-use report::{LineWord, Requisite, Resolution, append_words, class_text, date_text};
+use report::{
+    HOLD_WIDTH, LineWord, Requisite, Resolution, append_words, class_or_dash, date_or_dash,
+};
 use std::alloc::AllocError;
 use sysmods_values::Hold;
 
@@ -17,11 +20,11 @@ fn put_id_lines(word: &[u8], ids: &[Id], text: &mut Vec<u8>) -> Result<(), Alloc
     ensures { OnOk result (text.new.items ≡ text.old.items ++ id_lines word.now ids.now) }
 {
     if ids.is_empty() {
-        return append_words(b"   ", &[LineWord::Text(word), LineWord::Text(b"-")], text);
+        return append_words(INDENT, &[LineWord::Text(word), LineWord::Text(b"-")], text);
     }
     for id in ids {
         append_words(
-            b"   ",
+            INDENT,
             &[LineWord::Text(word), LineWord::Text(id.as_bytes())],
             text,
         )?;
@@ -79,7 +82,7 @@ fn put_comment(comment: &Option<String>, text: &mut Vec<u8>) -> Result<(), Alloc
 {
     match comment {
         Some(comment) => append_words(
-            b"   ",
+            INDENT,
             &[
                 LineWord::Text(b"COMMENT"),
                 LineWord::Text(comment.as_bytes()),
@@ -99,12 +102,12 @@ pub(crate) fn put_hold(
     ensures { OnOk result (text.new.items
         ≡ text.old.items ++ fact_text (HoldFact hold.now (option_map answer_view resolution.now))) }
 {
-    let kind = LineWord::Left(6, hold_text(hold.kind));
+    let kind = LineWord::Left(HOLD_WIDTH, hold_text(hold.kind));
     let reason = LineWord::Text(hold.reason.as_bytes());
     let mark = LineWord::If(hold.internal, b"INTERNAL", b"EXTERNAL");
     let (of_class, of_date) = (LineWord::Text(b"CLASS"), LineWord::Text(b"DATE"));
-    let class = LineWord::Text(class_text(&hold.class));
-    let date = LineWord::Text(date_text(&hold.date));
+    let class = LineWord::Text(class_or_dash(&hold.class));
+    let date = LineWord::Text(date_or_dash(&hold.date));
     match resolution {
         Some(answer) => {
             let answered = LineWord::Text(resolution_word(answer));

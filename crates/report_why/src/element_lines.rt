@@ -5,9 +5,10 @@ ghost use Rattle.report_why.specs.FactText.{maker_line, fact_text};
 ghost use Rattle.report.specs.FactViews.{maker_view, found_view};
 
 use crate::fact_words::rank_text;
+use crate::indent::INDENT;
 use fields::Name;
 use fields::spelling::type_text;
-use report::{Found, LineWord, Maker, append_words};
+use report::{ELEM_TYPE_WIDTH, Found, LineWord, Maker, NAME_WIDTH, append_words};
 use std::alloc::AllocError;
 use terms::ElemType;
 
@@ -17,7 +18,7 @@ fn put_maker(word: &[u8], maker: Maker, text: &mut Vec<u8>) -> Result<(), AllocE
 {
     let id = LineWord::Text(maker.id.as_bytes());
     append_words(
-        b"   ",
+        INDENT,
         &[
             LineWord::Text(word),
             id,
@@ -38,8 +39,8 @@ pub(crate) fn put_element<'a>(
     ensures { OnOk result (text.new.items ≡ text.old.items
         ++ fact_text (ElementFact elem_type name.now replaces (option_map found_view found.now))) }
 {
-    let elem_type = LineWord::Left(5, type_text(elem_type));
-    let name = LineWord::Left(8, name.as_bytes());
+    let elem_type = LineWord::Left(ELEM_TYPE_WIDTH, type_text(elem_type));
+    let name = LineWord::Left(NAME_WIDTH, name.as_bytes());
     let change = LineWord::If(replaces, b"REPLACES", b"UPDATES");
     let fmid = LineWord::Text(b"FMID");
     let Some(found) = found else {

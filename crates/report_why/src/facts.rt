@@ -43,7 +43,7 @@ pub struct Lookups<'a> {
 }
 
 impl<'a> Lookups<'a> {
-    /// Looks this up in the zone, once for all ids.
+    /// Looks up, once for all ids, what their facts need of the global zone and the zone.
     pub fn find(alloc: Global, global: &'a GlobalZone, zone: &'a Zone) -> Result<Self, AllocError>
         ensures global { IfOk result (λ found. found.global.now ≡ global.now) }
         ensures zone { IfOk result (λ found. found.zone.now ≡ zone.now) }

@@ -17,7 +17,7 @@ fn is_forbidden_by(asking: &Asking<'_, '_>, by: Id) -> bool
     asking.scope.global().is_function(by) && asking.scope.vers.npre(by).contains(&asking.id)
 }
 
-// The functions that are applied in its view and that forbid the id.
+// The applied functions, in the view of the id in question, whose NPRE names the id.
 fn forbidding_functions(alloc: Global, asking: &Asking<'_, '_>) -> Result<Vec<Id>, AllocError>
     ensures { IfOk result (λ ids. ids.items ≡ filter (forbids (setting_in asking.now) asking.now.id)
         (filter (is_applied (view_in asking.now)) asking.now.functions.now)) }

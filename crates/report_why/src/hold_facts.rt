@@ -17,7 +17,7 @@ use std::alloc::{AllocError, Global};
 use sysmods_values::Hold;
 use terms::{HoldKind, NeedKind};
 
-// How the reason ID of an ERROR hold is resolved. If it is no SYSMOD id, nothing can resolve it.
+// How the reason of an ERROR hold is resolved. Each `Hold` promises that it is an id, so the result is never `None`.
 fn error_hold_resolution(
     alloc: Global,
     asking: &Asking<'_, '_>,

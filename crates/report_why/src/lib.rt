@@ -15,6 +15,7 @@ mod fact_words;
 mod facts;
 mod forbids;
 mod hold_facts;
+mod indent;
 mod joining;
 mod looks;
 mod needed;

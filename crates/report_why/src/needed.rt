@@ -26,7 +26,7 @@ fn is_only_member(first: Id, rest: &[Id]) -> bool
     rest.iter().all(|id| first == *id)
 }
 
-// Adds the id if the condition holds, and otherwise nothing. The caller states both cases by one clause.
+// Adds the id if `is_so`. It stands apart so that the clause of its caller needs no cases.
 fn push_id_if(is_so: bool, id: Id, found: &mut Vec<Id>) -> Result<(), AllocError>
     ensures { OnOk result (found.new.items ≡ found.old.items ++ (if is_so then id ∷ [] else [])) }
 {
@@ -132,7 +132,7 @@ pub(crate) fn needed_pairs(
     Ok(pairs)
 }
 
-// Adds the second of the pair, which needs the first, if the first is the id and the second is not.
+// Adds `by` of a pair `(id, by)` of `needed_pairs`, if the pair is about this id and `by` is another SYSMOD.
 fn push_needing(pair: &(Id, Id), id: Id, found: &mut Vec<Id>) -> Result<(), AllocError>
     ensures { OnOk result (found.new.items ≡ found.old.items ++ needing id pair.now) }
 {

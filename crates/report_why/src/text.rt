@@ -8,7 +8,7 @@ use crate::asked_lines::{put_hold, put_requisite};
 use crate::element_lines::put_element;
 use crate::fact_words::{kind_or_dash, standing_text};
 use fields::Id;
-use report::{Fact, LineWord, Standing, append_words, entry_words, id_text};
+use report::{Fact, LineWord, Standing, TYPE_WIDTH, append_words, entry_words, id_or_dash};
 use std::alloc::AllocError;
 
 // Appends the line of a `++VER`.
@@ -24,7 +24,7 @@ fn put_ver(
     let words = [
         LineWord::Number(number),
         LineWord::Text(b"FMID"),
-        LineWord::Text(id_text(fmid)),
+        LineWord::Text(id_or_dash(fmid)),
         LineWord::If(fits, b"FITS", b"-"),
         LineWord::If(counts, b"COUNTS", b"-"),
     ];
@@ -37,7 +37,7 @@ fn put_fact(fact: &Fact<'_>, text: &mut Vec<u8>) -> Result<(), AllocError>
 {
     match fact {
         Fact::Standing { id, kind, standing } => {
-            let kind = LineWord::Left(8, kind_or_dash(*kind));
+            let kind = LineWord::Left(TYPE_WIDTH, kind_or_dash(*kind));
             let standing = LineWord::Text(standing_text(*standing));
             append_words(id.as_bytes(), &[kind, standing], text)
         }

@@ -29,7 +29,8 @@ fn ver_fact(scope: &Scope<'_, '_>, id: Id, ver: &Ver, number: usize) -> Fact<'st
     }
 }
 
-// Adds the `++VER` if it is for the zone's SREL. Its number counts only those.
+// Adds the `++VER` if it is for the zone's SREL. `facts` has one fact for each such `++VER` before it, so its number is
+// one more.
 fn push_ver(
     scope: &Scope<'_, '_>,
     id: Id,

@@ -1,7 +1,7 @@
 //! What the answer promises.
 ghost use Rattle.smpe_verify.specs.Laws.{VerifiedIsClosed, ToldIsBroken};
 
-/// The status is 0 if and only if all zones are closed, as every job that begins so leaves them.
+/// The status is 0 if and only if all zones are closed. A job that begins with closed zones leaves them closed.
 pub fn verified_is_closed()
     ensures { VerifiedIsClosed }
 {}

@@ -51,9 +51,9 @@ fn append_byte(byte: u8, column: usize, file: &mut Vec<u8>) -> Result<usize, All
     Ok(column + 1)
 }
 
-// The text as the records of a command file, where a record ends after each blank and each comma. `None` if a record
-// needs more than 72 columns.
-fn cards_of_text(alloc: Global, text: &[u8]) -> Result<Option<Vec<u8>>, AllocError>
+// The text as the records of a command file. A record ends after each blank and each comma. `None` if a record needs
+// more than 72 columns.
+fn records_of_text(alloc: Global, text: &[u8]) -> Result<Option<Vec<u8>>, AllocError>
     ensures some { IfOk result (λ file. IfSome file (λ f. IsTrue (is_carded 0 text.now)
         × (f.items ≡ carded 0 text.now))) }
     ensures none { IfOk result (λ file. IfNone file (IsFalse (is_carded 0 text.now))) }
@@ -157,7 +157,7 @@ pub fn read_bypass(alloc: Global, list: &[u8]) -> Result<Option<Bypass>, AllocEr
     ensures { IfOk result (λ found. IsBypassOf list.now found) }
 {
     let text = accept_text(alloc, list)?;
-    match cards_of_text(alloc, text.as_slice())? {
+    match records_of_text(alloc, text.as_slice())? {
         Some(file) => bypass_of_file(alloc, file.as_slice()),
         None => Ok(None),
     }

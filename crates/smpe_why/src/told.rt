@@ -27,6 +27,12 @@ use zones::{Candidates, Scope, Zone, choose, deletions};
 // The status of a program that was asked about an unknown zone.
 const REFUSED_STATUS: u8 = 12;
 
+// The year of the installs. Any date does, because no line has it.
+const ANY_YEAR: u16 = 2000;
+
+// The day of the installs in that year.
+const ANY_DAY: u16 = 1;
+
 /// The lines of the answer, and the program's status.
 #[derive(Drop)]
 pub struct Told {
@@ -34,9 +40,9 @@ pub struct Told {
     pub status: u8,
 }
 
-/// Describes the facts about the ids of the question, in their order, and what an APPLY, in a distribution zone an
-/// ACCEPT, that selects each, or all together, would make of it, or that there is no such zone. Returns an error if
-/// memory runs out, as do all calls here.
+/// For each id of the question, in their order: its facts, and what an APPLY (in a distribution zone an ACCEPT) that
+/// selects it, alone or with the others, would make of it. Or that there is no such zone. Returns an error if memory
+/// runs out, as do all calls here.
 pub fn answer_question(
     alloc: Global,
     loaded_zones: &LoadedZones,
@@ -224,8 +230,7 @@ fn install_lines(
         lookups.now.zone.now (option_copied related.entry) selection.now bypass.now date new
         (map line_view lines.items)) }
 {
-    // (any date does, because no line has it)
-    let date = YyDdd::new(2000, 1);
+    let date = YyDdd::new(ANY_YEAR, ANY_DAY);
     let InstallChange { delta, lines } = apply(
         alloc,
         lookups.global,

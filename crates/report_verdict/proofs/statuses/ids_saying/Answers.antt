@@ -10,8 +10,8 @@ pub loop-line-preserved : goal.loop-line-preserved
 loop-line-preserved c =
     grown_more (λ line. id_where (says c.args.saying) (line_view line)) c.args.lines.now c.loop-line.line-index
     c.line-item.result []
-    c.loop-line.found.items c.push_id_if.new.found.items (omega arith) c.line-item.is c.loop-line.invariant
-    c.in_ok-push_id_if.ensures
+    c.loop-line.found.items c.push_id_saying.new.found.items (omega arith) c.line-item.is c.loop-line.invariant
+    c.in_ok-push_id_saying.ensures
 
 pub returns : goal.returns
 returns c =

@@ -16,7 +16,7 @@ returns-in_ok-put_comment-in-Some c =
     (c.put_resolution.new.text.items ≡ c.args.text.now.items ++ fact_text (HoldFact h (Some a)))) c.hold.view_is
     (IfOk-equal c.put_resolution.result c.put_resolution.new.text.items _ _ c.put_resolution.ensures
     (hold_answered (the_view c.hold.inside) a c.args.text.now.items c.hold_text.ensures c.as_bytes.ensures.same
-    c.class_text.ensures c.date_text.ensures c.resolution_word.ensures c.in_ok-append_words-in-Some.ensures
+    c.class_or_dash.ensures c.date_or_dash.ensures c.resolution_word.ensures c.in_ok-append_words-in-Some.ensures
     c.in_ok-put_comment-in-Some.ensures)))
 
 pub returns-in_ok-append_words-in-None : goal.returns-in_ok-append_words-in-None
@@ -25,4 +25,4 @@ returns-in_ok-append_words-in-None c =
     (c.put_comment-in-None.new.text.items ≡ c.args.text.now.items ++ fact_text (HoldFact h None))) c.hold.view_is
     (IfOk-equal c.put_comment-in-None.result c.put_comment-in-None.new.text.items _ _ c.put_comment-in-None.ensures
     (hold_unanswered (the_view c.hold.inside) c.args.text.now.items c.hold_text.ensures c.as_bytes.ensures.same
-    c.class_text.ensures c.date_text.ensures c.in_ok-append_words-in-None.ensures)))
+    c.class_or_dash.ensures c.date_or_dash.ensures c.in_ok-append_words-in-None.ensures)))

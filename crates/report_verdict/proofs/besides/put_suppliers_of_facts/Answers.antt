@@ -5,14 +5,14 @@ use Rattle.report_verdict.specs.Verdict.{supply_told}
 use Rattle.report.specs.FactViews.{fact_view}
 use Rattle.report.specs.Views.{line_view}
 use Rattle.report.proofs.Texts.{flat_more}
-use Rattle.report_verdict.proofs.besides.put_all_suppliers.Goals as goal
+use Rattle.report_verdict.proofs.besides.put_suppliers_of_facts.Goals as goal
 
 pub loop-fact-preserved : goal.loop-fact-preserved
 loop-fact-preserved c =
     flat_more (λ f. supply_told (map line_view c.args.lines.now) (fact_view f)) c.args.facts.now c.loop-fact.fact-index
     c.fact-item.result c.args.text.now.items
-    c.loop-fact.text.items c.put_fact_suppliers.new.text.items (omega arith) c.fact-item.is c.loop-fact.invariant
-    c.in_ok-put_fact_suppliers.ensures
+    c.loop-fact.text.items c.put_suppliers_of_fact.new.text.items (omega arith) c.fact-item.is c.loop-fact.invariant
+    c.in_ok-put_suppliers_of_fact.ensures
 
 pub returns : goal.returns
 returns c =

@@ -1,7 +1,7 @@
 use Rattle.std.proofs.Common.{arith, get_or}
 use Rattle.std.proofs.lemmas.List.{get_or_default}
 use Rattle.smpe_why.proofs.Cards.{too_long}
-use Rattle.smpe_why.proofs.bypass_text.cards_of_text.Goals as goal
+use Rattle.smpe_why.proofs.bypass_text.records_of_text.Goals as goal
 
 pub returns-then-column-ge-TEXT_COLUMNS-clause-none : goal.returns-then-column-ge-TEXT_COLUMNS-clause-none
 returns-then-column-ge-TEXT_COLUMNS-clause-none c =

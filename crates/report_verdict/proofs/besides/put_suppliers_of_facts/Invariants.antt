@@ -3,7 +3,7 @@ use Rattle.std.specs.List.{flat_map}
 use Rattle.report_verdict.specs.Verdict.{supply_told}
 use Rattle.report.specs.FactViews.{fact_view}
 use Rattle.report.specs.Views.{line_view}
-use Rattle.report_verdict.proofs.besides.put_all_suppliers.Given as goal
+use Rattle.report_verdict.proofs.besides.put_suppliers_of_facts.Given as goal
 
 abbrev pub invariant-loop-fact : goal.invariant-loop-fact
 invariant-loop-fact l =

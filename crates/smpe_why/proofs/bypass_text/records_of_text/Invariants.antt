@@ -1,6 +1,6 @@
 use Rattle.std.proofs.Common.{◌≡◌, ◌≤◌, ◌++◌, drop}
 use Rattle.smpe_why.specs.BypassText.{carded, is_carded}
-use Rattle.smpe_why.proofs.bypass_text.cards_of_text.Given as goal
+use Rattle.smpe_why.proofs.bypass_text.records_of_text.Given as goal
 
 abbrev pub invariant-loop-byte : goal.invariant-loop-byte
 invariant-loop-byte l =
