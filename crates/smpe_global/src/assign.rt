@@ -66,6 +66,7 @@ fn assign_id(
 ) -> Result<(), AllocError>
     ensures { OnOk result (IsTaken (AssignsId source global.old id) global.old global.new change.old change.new) }
 {
+    // (for the clause: the global zone has its form, so the edits lead to what it becomes)
     global.attest();
     let place = place_of(global, id);
     let received = global.assign(source, id)?;

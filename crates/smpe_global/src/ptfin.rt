@@ -109,7 +109,7 @@ fn receive_items(
 
 /// Receives the items of a PTFIN, in their order, and adds the source to each SYSMOD that is received. After an error
 /// the global zone may have some of them.
-pub fn receive(
+pub fn receive_ptfin(
     alloc: Global,
     global: &mut GlobalZone,
     found: Vec<Item>,
@@ -124,6 +124,7 @@ pub fn receive(
         → after_edits stated t.edits.items global.old ≡ global.new) }
     ensures form { IfSome source IsSource }
 {
+    // (for the clause `form`: a source is not empty, which its type promises)
     prove!(match &source {
         Some(source) => !source.as_bytes().is_empty(),
         None => true,

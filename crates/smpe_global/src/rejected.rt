@@ -39,6 +39,7 @@ fn remove_sysmod(
 ) -> Result<Status, AllocError>
     ensures { IfOk result (IsAnswered zones.now global.old id global.new edits.old.items edits.new.items) }
 {
+    // (for the clause: the global zone has its form, so the edits lead to what it becomes)
     global.attest();
     if !global.is_received(id) {
         return Ok(Status::Refused(IdRefusal::UnknownSysmod));
@@ -47,6 +48,7 @@ fn remove_sysmod(
         return Ok(Status::Refused(IdRefusal::AppliedSomewhere));
     }
     push_sysmod_removal(edits, global, id)?;
+    // (it is received, so this returns no error)
     let _ = global.reject(id);
     Ok(Status::Rejected)
 }
@@ -56,16 +58,14 @@ fn reject_id(
     global: &mut GlobalZone,
     zones: &IndexMap<ZoneName, Zone>,
     id: Id,
-    rejected: &mut GlobalChange,
+    change: &mut GlobalChange,
 ) -> Result<(), AllocError>
-    ensures { OnOk result (IsRejected zones.now global.old id global.new rejected.old.edits.items
-        rejected.new.edits.items rejected.old.lines.items rejected.new.lines.items) }
+    ensures { OnOk result (IsRejected zones.now global.old id global.new change.old.edits.items
+        change.new.edits.items change.old.lines.items change.new.lines.items) }
 {
     let place = place_of(global, id);
-    let status = remove_sysmod(global, zones, id, &mut rejected.edits)?;
-    rejected
-        .lines
-        .push(ReportLine::Status { id, place, status })?;
+    let status = remove_sysmod(global, zones, id, &mut change.edits)?;
+    change.lines.push(ReportLine::Status { id, place, status })?;
     Ok(())
 }
 
@@ -84,13 +84,13 @@ pub fn reject(
     ensures names { IsUnique bytes_eq zones.now }
 {
     prove!(zones.len() < usize::MAX);
-    let mut rejected = GlobalChange {
+    let mut change = GlobalChange {
         edits: Vec::new(alloc),
         lines: Vec::new(alloc),
     };
     let all = ids.as_slice();
     for id in all {
-        reject_id(global, zones, *id, &mut rejected)?;
+        reject_id(global, zones, *id, &mut change)?;
     }
-    Ok(rejected)
+    Ok(change)
 }

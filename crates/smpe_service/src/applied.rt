@@ -48,7 +48,9 @@ pub fn apply(
     ensures knows { IfOk result (λ a. KnowsStood zone.now a.delta) }
     ensures dated { IsDottedDate date }
 {
+    // (for the clause `dated`: the length of a date, which its type promises)
     prove!(date.as_bytes().len() == 6);
+    // (for what `install_judged` requires: the global zone and the zone have their forms)
     global.attest();
     zone.attest();
     let candidates = candidates(alloc, global, zone, selection)?;

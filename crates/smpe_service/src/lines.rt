@@ -33,7 +33,7 @@ fn status_line(global: &GlobalZone, id: Id, status: Status) -> ReportLine
     }
 }
 
-// The lines of these ids, in their order.
+// A line for each of these statuses, in the order of the list.
 fn status_lines(
     alloc: Global,
     global: &GlobalZone,
@@ -49,7 +49,7 @@ fn status_lines(
     Ok(lines)
 }
 
-// The lines of these ids, in the order of their ids.
+// A line for each of these statuses, by id.
 fn lines_by_id(
     alloc: Global,
     global: &GlobalZone,

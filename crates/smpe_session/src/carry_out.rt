@@ -45,6 +45,7 @@ impl Session {
         ensures header { (c : Command) (boundary : Option Text) → header_view header ≡ header_of c boundary
             → IfOk result (TellsOutcomeOf c) }
     {
+        // (for the clause `uses`: the edits of the delta have their form)
         delta.attest();
         if header.check {
             return Ok(Outcome::Ran { header, lines });

@@ -20,7 +20,7 @@ use crate::receive_files::{ReceiveItems, read_files};
 use crate::session::Session;
 use fields::{ReceiveWhat, Source};
 use report::{Header, Outcome};
-use smpe_global::{GlobalChange, receive, receive_holds};
+use smpe_global::{GlobalChange, receive_holds, receive_ptfin};
 use sqlite::Alter;
 use std::alloc::{AllocError, Global};
 use store::{Change, Store, StoreError};
@@ -43,7 +43,7 @@ fn receive_found_items(
     let GlobalChange {
         mut edits,
         mut lines,
-    } = receive(alloc, global, found.items, source)?;
+    } = receive_ptfin(alloc, global, found.items, source)?;
     let mut more = receive_holds(alloc, global, found.holds)?;
     edits.append(&mut more.edits)?;
     lines.append(&mut more.lines)?;

@@ -13,9 +13,9 @@ use std::alloc::Global;
 use store::{Change, Store};
 use terms::ZoneKind;
 
-/// Adds a zone without entries. `Refused` is the first that applies of `NameTaken`, `WrongRelated`, `OtherSrel` and
-/// `TooMany`. Returns `Memory` if memory runs out. `Store` is `Fault` if the database fails, or `NoState` if the rows
-/// of zones stand for none.
+/// Adds a zone without entries. Returns `Refused` with the first that applies of `NameTaken`, `WrongRelated`,
+/// `OtherSrel` and `TooMany`, `Memory` if memory runs out, and `Store` with `Fault` if the database fails, or with
+/// `NoState` if the rows of zones stand for none.
 pub fn define_zone<S: Alter>(
     store: &mut Store<S>,
     name: ZoneName,

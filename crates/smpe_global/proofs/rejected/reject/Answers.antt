@@ -12,15 +12,15 @@ loop-id-preserved c =
     let all = c.as_slice-all.result.now in
     let x = c.id-item.result in
     let new = c.reject_id.new in
-    subst (λ ids. AreRejected zones g ids new.global new.rejected.edits.items new.rejected.lines.items)
+    subst (λ ids. AreRejected zones g ids new.global new.change.edits.items new.change.lines.items)
     (ap (λ y. take at.id-index all ++ y ∷ []) c.id-item.is ∙ sym (take_more all at.id-index x c.loop-id-test.true))
-    (more_rejected zones g at.global new.global (take at.id-index all) x at.rejected.edits.items
-    new.rejected.edits.items at.rejected.lines.items new.rejected.lines.items at.invariant
+    (more_rejected zones g at.global new.global (take at.id-index all) x at.change.edits.items
+    new.change.edits.items at.change.lines.items new.change.lines.items at.invariant
     c.in_ok-reject_id.ensures)
 
 pub returns-clause-fits : goal.returns-clause-fits
 returns-clause-fits c stated =
-    each_fits stated c.loop-id.rejected.edits.items c.args.global.now c.loop-id.invariant.rejects
+    each_fits stated c.loop-id.change.edits.items c.args.global.now c.loop-id.invariant.rejects
 
 pub returns-clause-rejects : goal.returns-clause-rejects
 returns-clause-rejects c = c.loop-id.invariant.rejects

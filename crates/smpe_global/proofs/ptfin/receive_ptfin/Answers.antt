@@ -2,7 +2,7 @@ use Rattle.machine.specs.Receiving.{TakesItem}
 use Rattle.mcs.specs.Files.{items}
 use Rattle.machine.specs.Runs.{Runs}
 use Rattle.smpe_global.proofs.Items.{all_printed, all_fit, all_after, all_receive}
-use Rattle.smpe_global.proofs.ptfin.receive.Goals as goal
+use Rattle.smpe_global.proofs.ptfin.receive_ptfin.Goals as goal
 
 pub returns-clause-runs : goal.returns-clause-runs
 returns-clause-runs c =
