@@ -4,7 +4,7 @@ ghost use Rattle.smpe_command.specs.Serving.{ChecksIn, ServesCheck};
 use crate::copied::rehearse_in_copy;
 use crate::host::Host;
 use crate::job_files::{JobFiles, read_files};
-use crate::jobs::job_status;
+use crate::jobs::status_or_fault;
 use crate::service_set::{greatest_status, rehearse_in_empty_system};
 use report::Sink;
 use smpe::{CommandJob, Fault, JobError};
@@ -27,7 +27,7 @@ pub(crate) fn serve_check<'a, H: Host, O: Sink>(
     let cntl = set.commands.as_ref().map(|commands| commands.cntl.as_str());
     let ptfin = Some(set.ptfin.as_str());
     let files = read_files(alloc, host, cntl, ptfin, set.hold.as_deref())?;
-    job_status(check_in_system(alloc, host, system, &set.commands, &files, out))
+    status_or_fault(check_in_system(alloc, host, system, &set.commands, &files, out))
 }
 
 // Rehearses the set in an empty system of its own, or in the copy of a database, and returns the status.

@@ -10,6 +10,7 @@ ghost use Rattle.smpe_command.specs.ServiceSet.{receive_records};
 ghost use Rattle.sqlite.specs.Held.{Held};
 ghost use Rattle.sqlite.specs.declared.error.Error.{Error};
 
+use crate::any_date::{ANY_DAY, ANY_YEAR};
 use crate::host::{DatabaseBytes, Host};
 use crate::job_files::JobFiles;
 use crate::memory_files::connect_in_memory;
@@ -46,9 +47,9 @@ pub(crate) fn rehearse_in_copy<H: Host, O: Sink>(
             rehearse_commands_in_copy(alloc, host, copy, commands.date, receive, cntl, files, out)
         }
         None => {
-            let cntl = apply_commands(alloc, copy.zone)?;
+            let cntl = apply_check_commands(alloc, copy.zone)?;
             // Nothing that an APPLY with CHECK prints has the job's date.
-            let date = YyDdd::new(2000, 1);
+            let date = YyDdd::new(ANY_YEAR, ANY_DAY);
             rehearse_commands_in_copy(
                 alloc,
                 host,
@@ -64,7 +65,7 @@ pub(crate) fn rehearse_in_copy<H: Host, O: Sink>(
 }
 
 // The command file of an APPLY with CHECK that selects all that fits the zone. Returns an error if memory runs out.
-fn apply_commands(alloc: Global, zone: ZoneName) -> Result<Vec<u8>, AllocError>
+fn apply_check_commands(alloc: Global, zone: ZoneName) -> Result<Vec<u8>, AllocError>
     ensures { IfOk result (λ file. file.items ≡ apply_to zone) }
 {
     let mut set = Vec::new(alloc);

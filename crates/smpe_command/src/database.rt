@@ -32,12 +32,13 @@ pub(crate) fn run_job_in_database<H: Host, O: Sink>(
     let mut store = open_store(alloc, host, db)?;
     let answers = run_jobs(alloc, &mut store, slice::from_ref(job), out);
     host.close(&mut Some(store.close()));
+    // (one job has one answer)
     Ok(answers?[0])
 }
 
 /// Loads the global zone, the zone of this name, and the one at which an ACCEPT there also looks. It changes nothing,
 /// except that a database that is missing or blank gets its tables. Returns an error if the database cannot be opened
-/// or read. All of this is true of the two calls below as well.
+/// or read.
 pub(crate) fn load_zones_of_database<H: Host>(
     alloc: Global,
     host: &mut H,
@@ -52,7 +53,7 @@ pub(crate) fn load_zones_of_database<H: Host>(
     zones
 }
 
-/// Loads the names of all zones.
+/// Loads the names of all zones. What it changes, and its errors, are as with `load_zones_of_database`.
 pub(crate) fn load_zone_names<H: Host>(
     alloc: Global,
     host: &mut H,
@@ -66,7 +67,8 @@ pub(crate) fn load_zone_names<H: Host>(
     names
 }
 
-/// Loads one zone after the other until one is not closed.
+/// Loads one zone after the other until one is not closed. What it changes, and its errors, are as with
+/// `load_zones_of_database`.
 pub(crate) fn verify_database<H: Host>(
     alloc: Global,
     host: &mut H,

@@ -66,8 +66,8 @@ pub trait Host {
             self.new) }
         ensures err { IfErr result (λ error. refuses self.old (string_bytes db.now.name) error self.new) };
 
-    /// Closes the connection, if there is one, and takes it out of the option. (By value, the connection could not be
-    /// closed by an impl over the system's files: that has no proof.)
+    /// Closes the connection, if there is one, and takes it out of the option. (An impl over the system's files that
+    /// took the connection by value could not be proved.)
     fn close(&mut self, conn: &mut Option<Connection<Self::Disk>>)
         ensures closed { IfSome conn.old (λ conn. closes self.old conn self.new) }
         ensures taken { conn.new ≡ None };
@@ -76,7 +76,7 @@ pub trait Host {
     fn show(&mut self, error: &clap::Error)
         ensures { shows self.old error.now self.new };
 
-    /// Shows the text of the error on standard output.
+    /// Prints on standard output the text that `clap` has instead of an answer, as for `--help`.
     fn print(&mut self, error: &clap::Error)
         ensures { prints self.old error.now self.new };
 }

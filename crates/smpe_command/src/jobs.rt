@@ -1,4 +1,4 @@
-//! One function for each subcommand, which does what it asks for.
+//! The subcommands, except for `why` (in `questions`) and `check` (in `checks`).
 ghost use Rattle.std.specs.Prelude.{◌≡◌, [], ◌∷◌, Some, Result, option_map};
 ghost use Rattle.std.specs.String.{string_bytes};
 ghost use Rattle.machine.specs.Machine.{RunFiles};
@@ -9,6 +9,7 @@ ghost use Rattle.smpe_command.specs.Database.{JobOver};
 ghost use Rattle.smpe_command.specs.Serving.{Serves, ServesList, ServesMigrate, ServesRun, ServesVerify, ServesZone};
 ghost use Rattle.smpe_command.specs.Serving.{job_told, status_told};
 
+use crate::any_date::{ANY_DAY, ANY_YEAR};
 use crate::careful::check_commands_if_careful;
 use crate::checks::serve_check;
 use crate::database::{migrate_database, run_job_in_database, verify_database};
@@ -18,8 +19,8 @@ use crate::questions::serve_why;
 use fields::{Srel, YyDdd, ZoneName};
 use report::{Sink, write_all};
 use smpe::{
-    DatabaseFile, Fault, Invocation, Job, JobError, list_commands, status_of, write_migrated_line,
-    write_zone_line,
+    DatabaseFile, Fault, Invocation, Job, JobError, listing_commands, status_of,
+    write_migrated_line, write_zone_line,
 };
 use smpe_verify::describe_verification;
 use sqlite_disk::{Disk, Memory};
@@ -43,7 +44,7 @@ pub(crate) fn serve<'a, H: Host, O: Sink>(
             kind,
             srel,
             related,
-        } => job_status(serve_zone(alloc, host, db, *name, *kind, *srel, *related, out)),
+        } => status_or_fault(serve_zone(alloc, host, db, *name, *kind, *srel, *related, out)),
         Invocation::Run {
             db,
             date,
@@ -62,7 +63,7 @@ pub(crate) fn serve<'a, H: Host, O: Sink>(
             hold,
             out,
         ),
-        Invocation::List { db, zone } => job_status(serve_list(alloc, host, db, *zone, out)),
+        Invocation::List { db, zone } => status_or_fault(serve_list(alloc, host, db, *zone, out)),
         Invocation::Why {
             db,
             zone,
@@ -70,13 +71,13 @@ pub(crate) fn serve<'a, H: Host, O: Sink>(
             options,
         } => serve_why(alloc, host, db, *zone, ids.as_slice(), options, out),
         Invocation::Check { system, set } => serve_check(alloc, host, system, set, out),
-        Invocation::Migrate { db } => job_status(serve_migrate(alloc, host, db, out)),
-        Invocation::Verify { db } => job_status(serve_verify(alloc, host, db, out)),
+        Invocation::Migrate { db } => status_or_fault(serve_migrate(alloc, host, db, out)),
+        Invocation::Verify { db } => status_or_fault(serve_verify(alloc, host, db, out)),
     }
 }
 
 /// The status of a job, whose error becomes a fault of the program.
-pub(crate) fn job_status<'a>(status: Result<u8, JobError>) -> Result<u8, Fault<'a>>
+pub(crate) fn status_or_fault<'a>(status: Result<u8, JobError>) -> Result<u8, Fault<'a>>
     ensures { result ≡ job_told status }
 {
     Ok(status?)
@@ -127,7 +128,7 @@ fn serve_run<'a, H: Host, O: Sink>(
 {
     let files = read_files(alloc, host, Some(cntl), ptfin.as_deref(), hold.as_deref())?;
     check_commands_if_careful(alloc, host, is_careful, db, files.cntl.as_slice())?;
-    job_status(run_files(alloc, host, db, date, &files, out))
+    status_or_fault(run_files(alloc, host, db, date, &files, out))
 }
 
 // Lists a zone, by a job of the commands `SET` and `LIST`, and returns the status.
@@ -142,12 +143,12 @@ fn serve_list<H: Host, O: Sink>(
         out.old zone (job_told result) host.new out.new }
 {
     let files = JobFiles {
-        cntl: list_commands(alloc, zone)?,
+        cntl: listing_commands(alloc, zone)?,
         ptfin: Vec::new(alloc),
         hold: Vec::new(alloc),
     };
     // Nothing that a listing prints or changes has the job's date.
-    run_files(alloc, host, db, YyDdd::new(2000, 1), &files, out)
+    run_files(alloc, host, db, YyDdd::new(ANY_YEAR, ANY_DAY), &files, out)
 }
 
 // Runs a job over files that have been read, and returns its status.

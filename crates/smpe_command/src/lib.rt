@@ -6,6 +6,7 @@
 //! when a database that was opened is not made the store's.
 #![tactic(auto)]
 
+mod any_date;
 mod asked_words;
 mod careful;
 mod checks;

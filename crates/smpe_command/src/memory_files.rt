@@ -11,6 +11,9 @@ use sqlite_disk::{Disk, Memory};
 use std::alloc::Global;
 use store::StoreError;
 
+// The seed for which sqlite asks.
+const SEED: u64 = 1;
+
 /// Connects to a copy in memory of a database whose file and log have these bytes. What is written stays in memory. The
 /// error is what the store makes of the database's error.
 pub(crate) fn connect_in_memory(
@@ -36,7 +39,7 @@ fn open_files(
     ensures ok { IfOk result (IsCopy (memory_bytes db) (memory_bytes log)) }
     ensures err { IfErr result (λ why. IsTrue (is_open_error why)) }
 {
-    match Connection::open_files(alloc, Files { log, db }, Options::new(1)) {
+    match Connection::open_files(alloc, Files { log, db }, Options::new(SEED)) {
         Ok(conn) => Ok(conn),
         Err((error, _)) => Err(error),
     }

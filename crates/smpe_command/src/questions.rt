@@ -7,7 +7,7 @@ ghost use Rattle.smpe_command.specs.Told.{TellsFound};
 
 use crate::database::load_zones_of_database;
 use crate::host::Host;
-use crate::jobs::job_status;
+use crate::jobs::status_or_fault;
 use fields::{Bypass, Id, ZoneName};
 use report::{Sink, write_all};
 use smpe::{ArgFault, DatabaseFile, Fault, JobError};
@@ -38,7 +38,7 @@ pub(crate) fn serve_why<'a, H: Host, O: Sink>(
         groupextend: options.group,
         bypass: &bypass,
     };
-    job_status(ask_zone(alloc, host, db, zone, &question, out))
+    status_or_fault(ask_zone(alloc, host, db, zone, &question, out))
 }
 
 // The BYPASS of the words, one of nothing if they have none, or `None` if ACCEPT does not take its list. Returns

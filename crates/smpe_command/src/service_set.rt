@@ -4,6 +4,7 @@ ghost use Rattle.smpe_jobs.specs.Ending.{answer_of, job_of};
 ghost use Rattle.smpe_command.specs.ServiceSet.{JobsInMemory, JobsOverNew, TriesSet, greatest, receive_records};
 ghost use Rattle.smpe_command.specs.ServiceSet.{set_jobs};
 
+use crate::any_date::{ANY_DAY, ANY_YEAR};
 use crate::job_files::JobFiles;
 use fields::{Srel, YyDdd, ZoneName};
 use report::Sink;
@@ -38,7 +39,7 @@ pub(crate) fn rehearse_in_empty_system<O: Sink>(
             let apply = b"APPLY FUNCTIONS PTFS GROUPEXTEND CHECK.";
             let cntl = two_commands(alloc, b"SET BDY(TGT).", apply)?;
             // Nothing that an APPLY with CHECK prints has the job's date.
-            let date = YyDdd::new(2000, 1);
+            let date = YyDdd::new(ANY_YEAR, ANY_DAY);
             rehearse_commands_in_empty_system(
                 alloc,
                 srel,

@@ -3,7 +3,7 @@
 use fields::{Srel, YyDdd, ZoneName};
 use report::Out;
 use scripts::{card_file, compare, put_cards};
-use smpe::{Answer, Job, ZoneFault, list_commands, run_job, two_commands};
+use smpe::{Answer, Job, ZoneFault, listing_commands, run_job, two_commands};
 use smpe_play::{
     FIX, FUNCTION, FUNCTION_RECEIVED, ListWanted, RECEIVE, in_memory, job_over, open_store,
     play_jobs, zone_name,
@@ -179,7 +179,7 @@ fn a_job_goes_alone(rt: HostRuntime) -> Result<(), Fail> {
 #[test]
 fn a_listing_is_a_job_of_two_commands(rt: HostRuntime) -> Result<(), Fail> {
     let alloc = rt.alloc();
-    let listing = list_commands(alloc, zone_name(b"TGT1")?)?;
+    let listing = listing_commands(alloc, zone_name(b"TGT1")?)?;
     let wanted = card_file(alloc, "SET BDY(TGT1).\nLIST.")?;
     assert_eq!(rt; listing.as_slice(), wanted.as_slice());
     let receive = two_commands(alloc, b"SET BDY(GLOBAL).", b"RECEIVE SYSMODS.")?;

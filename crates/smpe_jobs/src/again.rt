@@ -10,9 +10,9 @@ use sqlite_disk::Crash;
 use std::alloc::Global;
 use store::{Store, StoreError};
 
-// Takes apart what is left of the connection without a call of its disks, brings these back as after a crash, and opens
-// a connection over their files. An error returns the files: with `Memory` if memory runs out, otherwise with the fault
-// of the open.
+// Takes the files out of what is left of the connection, without using its disks. These then come back as after a
+// crash, and a connection is opened over the files. An error returns the files: with `Memory` if memory runs out,
+// otherwise with the fault of the open.
 fn reconnect<D: Crash + Drop>(
     alloc: Global,
     conn: Connection<FileStore<D>>,

@@ -11,11 +11,11 @@ use std::alloc::{AllocError, Global};
 const RECORD_COLUMNS: usize = 80;
 
 // The columns of two records.
-const TWO_RECORDS: usize = 160;
+const TWO_RECORDS_COLUMNS: usize = 160;
 
 /// The command file that lists a zone: `SET BDY(zone).` and `LIST.`, a record each. Returns an error if memory runs
 /// out.
-pub fn list_commands(alloc: Global, zone: ZoneName) -> Result<Vec<u8>, AllocError>
+pub fn listing_commands(alloc: Global, zone: ZoneName) -> Result<Vec<u8>, AllocError>
     ensures records { IfOk result (λ file. file.items ≡ list_records zone) }
     ensures commands { IfOk result (λ file. IsCommandFile file.items (Set zone ∷ ListZone false ∷ [])) }
 {
@@ -36,6 +36,6 @@ pub fn two_commands(alloc: Global, first: &[u8], second: &[u8]) -> Result<Vec<u8
     file.extend_from_slice(first)?;
     file.resize(RECORD_COLUMNS, b' ')?;
     file.extend_from_slice(second)?;
-    file.resize(TWO_RECORDS, b' ')?;
+    file.resize(TWO_RECORDS_COLUMNS, b' ')?;
     Ok(file)
 }

@@ -22,6 +22,12 @@ pub const FAULT_STATUS: u8 = 16;
 // The status of a program whose zone was refused.
 const REFUSED_STATUS: u8 = 12;
 
+// The line of a migrated database: the number of its schema.
+const MIGRATED_LINE: &[u8] = b"SCHEMA 3\n";
+
+// What the program says if memory runs out.
+const OUT_OF_MEMORY: &[u8] = b"out of memory";
+
 // The code of the fault, as the line of a refused zone has it. `ZoneFault` prints the same codes; here they are bytes,
 // and a clause says which.
 fn zone_fault_code(fault: ZoneFault) -> &'static [u8]
@@ -90,13 +96,13 @@ pub fn write_zone_line<W: Sink>(
 }
 
 /// Writes the line of a database that has the tables of this program's schema, and returns the status 0. Returns an
-/// error if the line cannot be written.
+/// error if the line cannot be written. The line has the number of that schema.
 pub fn write_migrated_line<W: Sink>(w: &mut W) -> Result<u8, WriteFault>
     ensures sends { Sent W.Sink w.old w.new migrated_text }
     ensures fault { W.has_failed w.new ≡ is_err result }
     ensures status { IfOk result (λ status. status ≡ 0) }
 {
-    write_all(b"SCHEMA 3\n", w)?;
+    write_all(MIGRATED_LINE, w)?;
     Ok(0)
 }
 
@@ -140,7 +146,7 @@ fn store_error_text(error: StoreError) -> &'static [u8]
         StoreError::Fault => b"store Sf1",
         StoreError::OtherSchema => b"store Sf2",
         StoreError::NoState => b"store Sf3",
-        StoreError::Memory => b"out of memory",
+        StoreError::Memory => OUT_OF_MEMORY,
     }
 }
 
@@ -149,14 +155,14 @@ fn job_error_text(error: JobError) -> &'static [u8]
     ensures { result.now ≡ job_error_text error }
 {
     match error {
-        JobError::Memory => b"out of memory",
+        JobError::Memory => OUT_OF_MEMORY,
         JobError::Store(error) => store_error_text(error),
         JobError::Write => b"write",
     }
 }
 
 // Writes a line of `smpe: ` and the text. Returns an error if it cannot be written; so do the calls below.
-fn write_line<W: Sink>(text: &[u8], w: &mut W) -> Result<(), WriteFault>
+fn write_program_line<W: Sink>(text: &[u8], w: &mut W) -> Result<(), WriteFault>
     ensures sends { Sent W.Sink w.old w.new (program_line text.now) }
     ensures fault { W.has_failed w.new ≡ is_err result }
 {
@@ -165,7 +171,7 @@ fn write_line<W: Sink>(text: &[u8], w: &mut W) -> Result<(), WriteFault>
     write_all(b"\n", w)
 }
 
-// Writes the line of a file that cannot be read. Its text has two pieces, so `write_line` does not serve.
+// Writes the line of a file that cannot be read. Its text has two pieces, so `write_program_line` does not serve.
 fn write_unreadable_file<W: Sink>(name: &str, w: &mut W) -> Result<(), WriteFault>
     ensures sends { Sent W.Sink w.old w.new (program_line (codes "cannot read " ++ name.now)) }
     ensures fault { W.has_failed w.new ≡ is_err result }
@@ -193,12 +199,12 @@ fn write_fault<W: Sink>(fault: &Fault<'_>, w: &mut W) -> Result<(), WriteFault>
     ensures after { 0 < length (fault_text fault.now) → W.has_failed w.new ≡ is_err result }
 {
     match fault {
-        Fault::Job(error) => write_line(job_error_text(*error), w),
-        Fault::Arg(ArgFault::Memory) => write_line(b"out of memory", w),
-        Fault::Arg(ArgFault::BadOperand) => write_line(b"bad operand", w),
+        Fault::Job(error) => write_program_line(job_error_text(*error), w),
+        Fault::Arg(ArgFault::Memory) => write_program_line(OUT_OF_MEMORY, w),
+        Fault::Arg(ArgFault::BadOperand) => write_program_line(b"bad operand", w),
         Fault::Arg(ArgFault::Clap(_)) => Ok(()),
         Fault::CannotRead(name) => write_unreadable_file(name, w),
-        Fault::NoCommand => write_line(b"no command", w),
+        Fault::NoCommand => write_program_line(b"no command", w),
         Fault::NoZone(name) => write_undefined_zone(name, w),
     }
 }

@@ -47,5 +47,5 @@ returns g c =
           (names g (goal.at.returns g c).After-as_deref) c.in_ok-files.ensures.ok,
       c.check_in_system.result,
       c.check_in_system.ensures,
-      c.job_status.ensures,
+      c.status_or_fault.ensures,
     )

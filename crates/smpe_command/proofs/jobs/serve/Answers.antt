@@ -7,11 +7,11 @@ use Rattle.smpe_command.proofs.jobs.serve.Goals as goal
 pub returns-in-Zone : goal.returns-in-Zone
 returns-in-Zone g c =
     subst (λ asked. Serves g.H.Host g.H.Disk.Store memory_disk g.O.Sink c.args.host.now asked c.args.out.now
-    c.job_status.result
+    c.status_or_fault.result
     c.serve_zone.new.host c.serve_zone.new.out) (sym c.in-Zone.is) (
       c.serve_zone.result,
       c.serve_zone.ensures,
-      c.job_status.ensures,
+      c.status_or_fault.ensures,
     )
 
 pub returns-in-Run : goal.returns-in-Run
@@ -29,9 +29,9 @@ pub returns-in-List : goal.returns-in-List
 returns-in-List g c =
     let w = c.in-List in
     subst (λ asked. Serves g.H.Host g.H.Disk.Store memory_disk g.O.Sink c.args.host.now asked c.args.out.now
-    c.job_status-in-List.result c.serve_list.new.host c.serve_list.new.out) (sym w.is)
+    c.status_or_fault-in-List.result c.serve_list.new.host c.serve_list.new.out) (sym w.is)
     (subst (λ r. ServesList g.H.Host g.H.Disk.Store g.O.Sink c.args.host.now (string_bytes w.db.name) c.args.out.now
-    w.zone r c.serve_list.new.host c.serve_list.new.out) (sym c.job_status-in-List.ensures) c.serve_list.ensures)
+    w.zone r c.serve_list.new.host c.serve_list.new.out) (sym c.status_or_fault-in-List.ensures) c.serve_list.ensures)
 
 pub returns-in-Why : goal.returns-in-Why
 returns-in-Why g c =
@@ -50,11 +50,11 @@ returns-in-Check g c =
 pub returns-in-Migrate : goal.returns-in-Migrate
 returns-in-Migrate g c =
     subst (λ asked. Serves g.H.Host g.H.Disk.Store memory_disk g.O.Sink c.args.host.now asked c.args.out.now
-    c.job_status-in-Migrate.result c.serve_migrate.new.host c.serve_migrate.new.out) (sym c.in-Migrate.is)
-    (c.serve_migrate.result, c.serve_migrate.ensures, c.job_status-in-Migrate.ensures)
+    c.status_or_fault-in-Migrate.result c.serve_migrate.new.host c.serve_migrate.new.out) (sym c.in-Migrate.is)
+    (c.serve_migrate.result, c.serve_migrate.ensures, c.status_or_fault-in-Migrate.ensures)
 
 pub returns-in-Verify : goal.returns-in-Verify
 returns-in-Verify g c =
     subst (λ asked. Serves g.H.Host g.H.Disk.Store memory_disk g.O.Sink c.args.host.now asked c.args.out.now
-    c.job_status-in-Verify.result c.serve_verify.new.host c.serve_verify.new.out) (sym c.in-Verify.is)
-    (c.serve_verify.result, c.serve_verify.ensures, c.job_status-in-Verify.ensures)
+    c.status_or_fault-in-Verify.result c.serve_verify.new.host c.serve_verify.new.out) (sym c.in-Verify.is)
+    (c.serve_verify.result, c.serve_verify.ensures, c.status_or_fault-in-Verify.ensures)

@@ -9,11 +9,11 @@ use Rattle.smpe_command.proofs.jobs.serve_list.Goals as goal
 pub returns : goal.returns
 returns g c =
     let ran = c.run_files.ensures in
-    let job : RunFiles c.new-3.result c.in_ok-list_commands.field-0.items (record {
+    let job : RunFiles c.new-3.result c.in_ok-listing_commands.field-0.items (record {
       ptfin = c.new.result.items;
       holds = c.new-2.result.items;
     }) ≡ RunFiles c.new-3.result (list_records c.args.zone) (record { ptfin = []; holds = [] }) =
-    rw (c.in_ok-list_commands.ensures.records, c.new.ensures.items, c.new-2.ensures.items) refl in
+    rw (c.in_ok-listing_commands.ensures.records, c.new.ensures.items, c.new-2.ensures.items) refl in
     inr (
       c.new-3.result,
       ran.0,

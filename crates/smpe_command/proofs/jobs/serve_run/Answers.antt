@@ -85,6 +85,6 @@ returns g c =
             c.in_ok-check_commands_if_careful.was (looks g at),
         ran.0,
         ran.1,
-        c.job_status.ensures ∙ ran.2,
+        c.status_or_fault.ensures ∙ ran.2,
       ),
     )

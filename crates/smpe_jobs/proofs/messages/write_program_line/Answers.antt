@@ -1,5 +1,5 @@
 use Rattle.report.proofs.Sending.{sends_then}
-use Rattle.smpe_jobs.proofs.messages.write_line.Goals as goal
+use Rattle.smpe_jobs.proofs.messages.write_program_line.Goals as goal
 
 pub returns-clause-sends : goal.returns-clause-sends
 returns-clause-sends g c =

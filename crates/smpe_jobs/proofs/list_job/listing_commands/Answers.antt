@@ -5,7 +5,7 @@ use Rattle.terms.specs.Forms.{IsZoneName}
 use Rattle.terms.specs.Commands.{IsCommandFile}
 use Rattle.smpe_jobs.specs.ListJob.{two_records}
 use Rattle.smpe_jobs.proofs.ListFile.{lists_zone}
-use Rattle.smpe_jobs.proofs.list_job.list_commands.Goals as goal
+use Rattle.smpe_jobs.proofs.list_job.listing_commands.Goals as goal
 
 pub returns-clause-commands : goal.returns-clause-commands
 returns-clause-commands c =
