@@ -10,8 +10,8 @@ ghost use Rattle.smpe_invocation.specs.declared.asked.ServiceSet.{ServiceSet};
 use crate::asked::{CheckedSystem, CommandJob, ServiceSet, SystemCopy};
 use crate::fault::ArgFault;
 use crate::option_values::{
-    copy_optional_text, copy_required_text, lacks_option, read_database, read_job_date,
-    read_optional_ids, read_srel, read_zone_name,
+    copy_optional_text, copy_required_text, lacks, read_database, read_job_date, read_optional_ids,
+    read_srel, read_zone_name,
 };
 use clap::ArgMatches;
 use std::alloc::Global;
@@ -25,7 +25,7 @@ pub(crate) fn read_checked_system(
     ensures err { IfErr result (λ e. Excludes e ((system : CheckedSystem)
         × HasSystem (rows_of (found_of found.now)) system)) }
 {
-    if lacks_option(found, "db") {
+    if lacks(found, "db") {
         read_empty_system(found)
     } else {
         read_copied_system(alloc, found)
@@ -39,7 +39,7 @@ fn read_empty_system(found: &ArgMatches<'_>) -> Result<CheckedSystem, ArgFault>
     ensures err { IfErr result (λ e. Excludes e ((system : CheckedSystem)
         × HasSystem (rows_of (found_of found.now)) system)) }
 {
-    if lacks_option(found, "wait") && lacks_option(found, "zone") && lacks_option(found, "why") {
+    if lacks(found, "wait") && lacks(found, "zone") && lacks(found, "why") {
         let srel = read_srel(found)?;
         Ok(CheckedSystem::Empty(srel))
     } else {
@@ -55,7 +55,7 @@ fn read_copied_system(alloc: Global, found: &ArgMatches<'_>) -> Result<CheckedSy
     ensures err { IfErr result (λ e. Excludes e ((system : CheckedSystem)
         × HasSystem (rows_of (found_of found.now)) system)) }
 {
-    if !lacks_option(found, "srel") {
+    if !lacks(found, "srel") {
         return Err(ArgFault::BadOperand);
     }
     let zone = read_zone_name(found, "zone")?;
@@ -70,7 +70,7 @@ fn read_command_job(alloc: Global, found: &ArgMatches<'_>) -> Result<Option<Comm
     ensures err { IfErr result (λ e. Excludes e ((commands : Option CommandJob)
         × HasCommands (rows_of (found_of found.now)) commands)) }
 {
-    if lacks_option(found, "cntl") {
+    if lacks(found, "cntl") {
         return Ok(None);
     }
     let date = read_job_date(found)?;

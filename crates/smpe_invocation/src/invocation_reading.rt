@@ -1,5 +1,4 @@
-//! What the words ask for. Each `.._invocation` reads the options of one subcommand, and returns `BadOperand` at the
-//! first that is required and absent, or has a bad form.
+//! What the words of the command line ask for.
 ghost use Rattle.std.specs.Prelude.{map, option_map, codes, IfOk, IfErr};
 ghost use Rattle.clap.specs.Words.{found_of, rows_of};
 ghost use Rattle.smpe_invocation.specs.Answers.{Excludes, IsMet, IsRead, IsRefused};
@@ -59,6 +58,8 @@ fn subcommand_invocation(
     }
 }
 
+// Each of the following reads the options of one subcommand, and returns `BadOperand` at the first that is required and
+// absent, or has a bad form.
 fn zone_invocation(alloc: Global, found: &ArgMatches<'_>) -> Result<Invocation, ArgFault>
     ensures ok { IfOk result (HasValues (codes "zone", rows_of (found_of found.now))) }
     ensures err { IfErr result (λ e. Excludes e ((invocation : Invocation)

@@ -40,7 +40,7 @@ fn required_text<'a>(found: &ArgMatches<'a>, id: &str) -> Result<&'a str, ArgFau
 }
 
 /// Whether the words do not have the option.
-pub(crate) fn lacks_option(found: &ArgMatches<'_>, id: &str) -> bool
+pub(crate) fn lacks(found: &ArgMatches<'_>, id: &str) -> bool
     ensures { IsTrue result ↔ Lacks id.now (rows_of (found_of found.now)) }
 {
     option_text(found, id).is_none()
