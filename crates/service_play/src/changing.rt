@@ -1,7 +1,7 @@
 //! APPLY, ACCEPT and RESTORE: their reports, and the zones that they leave.
 
 use crate::printed::{put_delta, put_report};
-use crate::shop::Shop;
+use crate::shop::{DISTRIBUTION, Shop, TARGET};
 use cntl::{Command, Install};
 use fields::YyDdd;
 use report::ReportLine;
@@ -50,9 +50,9 @@ pub(crate) fn preview(
 ) -> Result<(), Fail> {
     let ZoneChange { word, delta, .. } = changed(alloc, shop, command)?;
     if is_accept(word) {
-        return put_delta(alloc, b"DLB1", &shop.distribution, &delta, printed);
+        return put_delta(alloc, DISTRIBUTION, &shop.distribution, &delta, printed);
     }
-    put_delta(alloc, b"TGT1", &shop.target, &delta, printed)
+    put_delta(alloc, TARGET, &shop.target, &delta, printed)
 }
 
 // What the command changes in the zones as they are.
@@ -84,7 +84,7 @@ fn changed(alloc: Global, shop: &Shop, command: &Command) -> Result<ZoneChange, 
     }
 }
 
-// What an APPLY into the target zone changes.
+// What an APPLY into the target zone changes on 2024-05-17.
 fn applied(alloc: Global, shop: &Shop, install: &Install) -> Result<InstallChange, AllocError> {
     let (selection, bypass) = (&install.selection, &install.bypass);
     let date = YyDdd::new(2024, 138);
@@ -99,7 +99,7 @@ fn applied(alloc: Global, shop: &Shop, install: &Install) -> Result<InstallChang
     )
 }
 
-// What an ACCEPT into the distribution zone changes.
+// What an ACCEPT into the distribution zone changes on 2024-05-18.
 fn accepted(alloc: Global, shop: &Shop, install: &Install) -> Result<InstallChange, AllocError> {
     let (selection, bypass) = (&install.selection, &install.bypass);
     let (target, distribution) = (&shop.target, &shop.distribution);

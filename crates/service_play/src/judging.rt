@@ -66,7 +66,7 @@ fn judge_restore(
     put_judged(alloc, &judged, printed)
 }
 
-// What was judged, which candidates are kept, and why the others are not.
+// Prints what was judged, which candidates are kept, and why the others are not.
 fn put_judged(alloc: Global, judged: &Judged<'_>, printed: &mut Vec<u8>) -> Result<(), AllocError>
     requires { HasParts judged.now }
 {
@@ -76,7 +76,7 @@ fn put_judged(alloc: Global, judged: &Judged<'_>, printed: &mut Vec<u8>) -> Resu
     let Decided { kept, failed } = decided(alloc, judged)?;
     put_ids(b"KEPT", kept.as_slice(), printed)?;
     put_failures(failed.as_slice(), printed)?;
-    put_sweep(alloc, judged, printed)
+    put_sweep_difference(alloc, judged, printed)
 }
 
 // Which candidates are kept, and why the others fail.
@@ -88,8 +88,12 @@ fn decided(alloc: Global, judged: &Judged<'_>) -> Result<Decided, AllocError>
     judged.decided(alloc, &kept, causers.as_slice())
 }
 
-// A line if the other solver keeps other numbers.
-fn put_sweep(alloc: Global, judged: &Judged<'_>, printed: &mut Vec<u8>) -> Result<(), AllocError> {
+// Appends a line if the other solver keeps other numbers.
+fn put_sweep_difference(
+    alloc: Global,
+    judged: &Judged<'_>,
+    printed: &mut Vec<u8>,
+) -> Result<(), AllocError> {
     let kept = Worklist.greatest(alloc, &judged.system)?;
     let swept = Sweep.greatest(alloc, &judged.system)?;
     if kept.flags() != swept.flags() {

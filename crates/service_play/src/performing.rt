@@ -5,7 +5,7 @@ use crate::judging::judge;
 use crate::printed::{put_errsysmods, put_zone};
 use crate::putting::{preview_install, preview_removal};
 use crate::receiving::{receive_holds, receive_sysmods};
-use crate::shop::Shop;
+use crate::shop::{DISTRIBUTION, Shop, TARGET};
 use cntl::{Command, read_cntl};
 use scripts::{Performs, ScriptStep, card_file};
 use std::alloc::Global;
@@ -107,14 +107,20 @@ fn read_command(alloc: Global, cards: &str) -> Result<Command, Fail> {
     Ok(commands.pop().ok_or("no command")?)
 }
 
-// What LIST prints of both zones.
+// Prints both zones as LIST does.
 fn put_zones(shop: &Shop, printed: &mut Vec<u8>) -> Result<(), Fail> {
-    put_zone(b"TGT1", &shop.target, printed)?;
-    put_zone(b"DLB1", &shop.distribution, printed)
+    put_zone(TARGET, &shop.target, printed)?;
+    put_zone(DISTRIBUTION, &shop.distribution, printed)
 }
 
-// What REPORT ERRSYSMODS prints of both zones.
+// Prints what REPORT ERRSYSMODS says of both zones.
 fn put_errsysmods_of_zones(alloc: Global, shop: &Shop, printed: &mut Vec<u8>) -> Result<(), Fail> {
-    put_errsysmods(alloc, b"TGT1", &shop.global, &shop.target, printed)?;
-    put_errsysmods(alloc, b"DLB1", &shop.global, &shop.distribution, printed)
+    put_errsysmods(alloc, TARGET, &shop.global, &shop.target, printed)?;
+    put_errsysmods(
+        alloc,
+        DISTRIBUTION,
+        &shop.global,
+        &shop.distribution,
+        printed,
+    )
 }

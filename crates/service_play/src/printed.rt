@@ -23,7 +23,7 @@ pub(crate) fn put_line(words: &[&[u8]], text: &mut Vec<u8>) -> Result<(), AllocE
     Ok(())
 }
 
-/// A line for each of these ids.
+/// Appends a line for each of these ids.
 pub(crate) fn put_ids(word: &[u8], ids: &[Id], text: &mut Vec<u8>) -> Result<(), AllocError> {
     for id in ids {
         put_line(&[word, id.as_bytes()], text)?;
@@ -31,7 +31,7 @@ pub(crate) fn put_ids(word: &[u8], ids: &[Id], text: &mut Vec<u8>) -> Result<(),
     Ok(())
 }
 
-/// A line for each candidate with a requisite of it that BYPASS covers.
+/// Appends a line for each candidate with a requisite of it that BYPASS covers.
 pub(crate) fn put_bypassed(pairs: &[(Id, Id)], text: &mut Vec<u8>) -> Result<(), AllocError> {
     for pair in pairs {
         let (of, id) = *pair;
@@ -40,7 +40,7 @@ pub(crate) fn put_bypassed(pairs: &[(Id, Id)], text: &mut Vec<u8>) -> Result<(),
     Ok(())
 }
 
-/// A line for each of these needs.
+/// Appends a line for each of these needs.
 pub(crate) fn put_needs(needs: &[RequisiteOf], text: &mut Vec<u8>) -> Result<(), AllocError> {
     for need in needs {
         let RequisiteOf { of, kind, id } = *need;
@@ -52,7 +52,7 @@ pub(crate) fn put_needs(needs: &[RequisiteOf], text: &mut Vec<u8>) -> Result<(),
     Ok(())
 }
 
-/// A line for each test that a candidate fails, in the order of the candidates' numbers.
+/// Appends a line for each test that a candidate fails, in the order of the candidates' numbers.
 pub(crate) fn put_failed_tests(judged: &Judged<'_>, text: &mut Vec<u8>) -> Result<(), AllocError> {
     for (id, tests) in judged.ids.iter().zip(judged.tests.iter()) {
         put_tests(*id, *tests, text)?;
@@ -60,7 +60,7 @@ pub(crate) fn put_failed_tests(judged: &Judged<'_>, text: &mut Vec<u8>) -> Resul
     Ok(())
 }
 
-// A line for each test that the candidate fails.
+// Appends a line for each test that the candidate fails.
 fn put_tests(id: Id, tests: TestSet, text: &mut Vec<u8>) -> Result<(), AllocError> {
     for test in tests.iter() {
         put_line(&[b"FAILS", id.as_bytes(), test_text(test)], text)?;
@@ -68,7 +68,7 @@ fn put_tests(id: Id, tests: TestSet, text: &mut Vec<u8>) -> Result<(), AllocErro
     Ok(())
 }
 
-// The tests that a candidate fails, what it needs in vain, and who causes it.
+// Appends the tests that a candidate fails, what it needs in vain, and who causes it.
 fn put_failure(failure: &Failure, text: &mut Vec<u8>) -> Result<(), AllocError> {
     for test in failure.tests.iter() {
         put_line(&[b"  TEST", test_text(test)], text)?;
@@ -80,7 +80,7 @@ fn put_failure(failure: &Failure, text: &mut Vec<u8>) -> Result<(), AllocError> 
     put_ids(b"  CAUSER", failure.causers.as_slice(), text)
 }
 
-/// A line for each of these candidates, followed by its failure.
+/// Appends a line for each of these candidates, followed by its failure.
 pub(crate) fn put_failures(failed: &[(Id, Failure)], text: &mut Vec<u8>) -> Result<(), AllocError> {
     for (id, failure) in failed {
         put_line(&[b"FAILED", id.as_bytes()], text)?;
@@ -100,7 +100,7 @@ fn why_text(why: NotChosen) -> &'static [u8] {
     }
 }
 
-/// A line for each candidate, and for each id that is left out.
+/// Appends a line for each candidate, and for each id that is left out.
 pub(crate) fn put_candidates(
     candidates: &Candidates,
     text: &mut Vec<u8>,
@@ -122,7 +122,7 @@ fn edit_text<T, K>(edit: &Edit<T, K>, had_value: bool) -> &'static [u8] {
     }
 }
 
-// A line for each edit of an entry.
+// Appends a line for each edit of an entry.
 fn put_entry_edits(delta: &ZoneDelta, text: &mut Vec<u8>) -> Result<(), AllocError> {
     for (edit, stood) in delta.entries().iter().zip(delta.numbers_before().iter()) {
         let id = match edit {
@@ -135,7 +135,7 @@ fn put_entry_edits(delta: &ZoneDelta, text: &mut Vec<u8>) -> Result<(), AllocErr
     Ok(())
 }
 
-// A line for each edit of an element.
+// Appends a line for each edit of an element.
 fn put_element_edits(delta: &ZoneDelta, text: &mut Vec<u8>) -> Result<(), AllocError> {
     for (edit, stood) in delta.elements().iter().zip(delta.elements_existed().iter()) {
         let (elem_type, name) = match edit {
@@ -184,7 +184,7 @@ fn put_outcome(outcome: &Outcome<'_>, text: &mut Vec<u8>) -> Result<(), Fail> {
     Ok(())
 }
 
-/// What LIST prints of a zone.
+/// Appends a zone as LIST prints it.
 pub(crate) fn put_zone(name: &[u8], zone: &Zone, text: &mut Vec<u8>) -> Result<(), Fail> {
     let header = Header {
         word: CommandWord::List,
@@ -199,7 +199,7 @@ pub(crate) fn put_zone(name: &[u8], zone: &Zone, text: &mut Vec<u8>) -> Result<(
     put_outcome(&outcome, text)
 }
 
-/// What REPORT ERRSYSMODS prints of a zone.
+/// Appends what REPORT ERRSYSMODS says of a zone.
 pub(crate) fn put_errsysmods(
     alloc: Global,
     name: &[u8],

@@ -4,7 +4,7 @@ ghost use Rattle.std.specs.List.{list_all};
 ghost use Rattle.terms.specs.Lookups.{changes_of, is_nil};
 
 use crate::printed::{put_delta, put_ids};
-use crate::shop::Shop;
+use crate::shop::{Shop, TARGET};
 use change::{Installed, Installing, install, restore};
 use fields::{Id, IdList, YyDdd};
 use std::alloc::{AllocError, Global};
@@ -24,10 +24,10 @@ pub(crate) fn preview_install(
     let vers = choose(alloc, &shop.global, &shop.target, &kept)?;
     let Installed { delta, effective } = installed(alloc, &vers, &shop.target, &kept)?;
     put_ids(b"EFFECTIVE", effective.as_slice(), printed)?;
-    put_delta(alloc, b"TGT1", &shop.target, &delta, printed)
+    put_delta(alloc, TARGET, &shop.target, &delta, printed)
 }
 
-// What an install of these ids changes in the zone.
+// What an install of these ids changes in the zone on 2024-05-19.
 fn installed(
     alloc: Global,
     vers: &VerChoice<'_>,
@@ -73,7 +73,7 @@ pub(crate) fn preview_removal(
 ) -> Result<(), Fail> {
     let kept = read_ids(alloc, cards)?;
     let delta = restore(alloc, &shop.global, &shop.target, &shop.distribution, &kept)?;
-    put_delta(alloc, b"TGT1", &shop.target, &delta, printed)
+    put_delta(alloc, TARGET, &shop.target, &delta, printed)
 }
 
 // The ids of these cards.

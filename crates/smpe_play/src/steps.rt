@@ -233,38 +233,18 @@ fn play_steps<P: Plays>(
     shows: &'static str,
     rows: RowsLeft<'_>,
 ) -> Result<(), Fail> {
-    let place = StepPlace {
-        shows,
-        disk: "in memory",
-    };
-    check_rows(
-        alloc,
-        play_in_one_store(alloc, in_memory(alloc)?, before, steps, place)?,
-        shows,
-        rows,
-    )?;
-    check_rows(
-        alloc,
-        play_each_in_memory(alloc, before, steps, shows)?,
-        shows,
-        rows,
-    )?;
-    let place = StepPlace {
-        shows,
-        disk: "on disks",
-    };
-    check_rows(
-        alloc,
-        play_in_one_store(alloc, new_files(alloc)?, before, steps, place)?,
-        shows,
-        rows,
-    )?;
-    check_rows(
-        alloc,
-        play_each_on_disks(alloc, before, steps, shows)?,
-        shows,
-        rows,
-    )
+    let disk = "in memory";
+    let place = StepPlace { shows, disk };
+    let conn = play_in_one_store(alloc, in_memory(alloc)?, before, steps, place)?;
+    check_rows(alloc, conn, shows, rows)?;
+    let conn = play_each_in_memory(alloc, before, steps, shows)?;
+    check_rows(alloc, conn, shows, rows)?;
+    let disk = "on disks";
+    let place = StepPlace { shows, disk };
+    let conn = play_in_one_store(alloc, new_files(alloc)?, before, steps, place)?;
+    check_rows(alloc, conn, shows, rows)?;
+    let conn = play_each_on_disks(alloc, before, steps, shows)?;
+    check_rows(alloc, conn, shows, rows)
 }
 
 // Plays each case over a database in which these steps were played before.
