@@ -3,10 +3,10 @@ use Rattle.std.proofs.lemmas.List.{replicate_more}
 use Rattle.report.proofs.Paging.{paged_then, paged_as}
 use Rattle.report.proofs.line_words.put_word.Goals as goal
 
-pub returns-in-Named : goal.returns-in-Named
-returns-in-Named g c =
-    rw c.in-Named.is
-    (paged_then _ _ _ _ _ _ _ _ c.put-in-Named.ensures.paged c.put-in-Named-2.ensures.paged)
+pub returns-in-WithColon : goal.returns-in-WithColon
+returns-in-WithColon g c =
+    rw c.in-WithColon.is
+    (paged_then _ _ _ _ _ _ _ _ c.put-in-WithColon.ensures.paged c.put-in-WithColon-2.ensures.paged)
 
 pub loop-place-preserved : goal.loop-place-preserved
 loop-place-preserved g c =
