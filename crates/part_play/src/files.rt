@@ -36,8 +36,8 @@ fn read_records(name: &str, file: &[u8]) -> Result<RowText, Fail> {
     }
 }
 
-/// A line for each number of bytes at which the file, cut there, is read otherwise than cut before it.
-pub(crate) fn read_cut(
+/// Reads the file cut after each number of bytes, and appends a line for each at which another answer begins.
+pub(crate) fn read_cuts(
     alloc: Global,
     name: &str,
     file: &[u8],
@@ -55,7 +55,7 @@ pub(crate) fn read_cut(
     Ok(())
 }
 
-// The number of bytes, with the number of items that are read, or the fault.
+// Appends the number of bytes, with the number of items that are read, or the fault.
 fn put_change(alloc: Global, len: usize, text: &str, printed: &mut Vec<u8>) -> Result<(), Fail> {
     let line = match text.split(';').count() {
         1 => format!(in alloc; "{len}: {text}\n")?,

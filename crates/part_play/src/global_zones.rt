@@ -98,7 +98,7 @@ fn reject_sysmod(global: &mut GlobalZone, id: Id) -> &'static [u8] {
     }
 }
 
-// How many SYSMODs and sources there are, which SYSMODs name an id, and which one is over which.
+// Answers how many SYSMODs or sources there are, which SYSMODs name an id, or which SYSMOD is over which.
 fn ask(
     alloc: Global,
     global: &GlobalZone,
@@ -117,13 +117,14 @@ fn ask(
         b"NAMERS" => global.append_namers(srel, read_id(ids)?, &mut found)?,
         b"SERVICE" => global.append_function_namers(read_id(ids)?, &mut found)?,
         b"OVER" => return put_over(alloc, global, srel, ids, spelled),
-        _ => return put_superseded(alloc, global, srel, ids, spelled),
+        b"SUPERSEDED" => return put_superseded(alloc, global, srel, ids, spelled),
+        _ => return Err(Fail::from("no action has this name")),
     }
     spelled.put_each(found.as_slice());
     Ok(())
 }
 
-// All ids that the SYSMOD supersedes.
+// Appends all ids that the SYSMOD supersedes.
 fn put_superseded(
     alloc: Global,
     global: &GlobalZone,
@@ -150,7 +151,7 @@ fn over_answers(
     Ok([vers.over(alloc, x, z)?, first, second])
 }
 
-// A letter for each answer to whether the first SYSMOD is over the second one.
+// Appends a letter for each answer to whether the first SYSMOD is over the second one.
 fn put_over(
     alloc: Global,
     global: &GlobalZone,

@@ -13,7 +13,7 @@ fn put_key(spelled: &mut RowText, id: Id, kind: HoldKind, reason: Reason, fmid: 
     spelled.put_words(&[reason.as_bytes(), fmid.as_bytes()]);
 }
 
-/// A hold as text.
+/// Appends the hold.
 pub(crate) fn put_hold(spelled: &mut RowText, hold: &Hold) {
     put_key(spelled, hold.id, hold.kind, hold.reason, hold.fmid);
     if let Some(class) = hold.class {
@@ -46,7 +46,7 @@ fn put_items(spelled: &mut RowText, items: &[HoldItem]) {
     }
 }
 
-/// The record and the code of a fault.
+/// Appends the record and the code of a fault.
 pub(crate) fn put_error(spelled: &mut RowText, error: McsError) {
     match error {
         McsError::Memory => spelled.put(b"memory"),

@@ -42,7 +42,7 @@ fn put_change(spelled: &mut RowText, change: &ElemChange) {
     spelled.put_number(records);
 }
 
-/// The SYSMOD with its `++VER`s, holds and element statements.
+/// Appends the SYSMOD with its `++VER`s, holds and element statements.
 pub(crate) fn put_sysmod(spelled: &mut RowText, sysmod: &Sysmod) {
     spelled.put(kind_text(sysmod.kind));
     spelled.put_words(&[sysmod.id.as_bytes()]);

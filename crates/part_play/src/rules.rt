@@ -24,7 +24,7 @@ fn add_rule(rules: &mut Rules, rule: Rule) -> Result<(), Fail> {
 
 /// How many numbers there are, and the least set that has those of the start (`T`) and what its rules give. One number
 /// that is not in the start is added after the others.
-pub(crate) fn grown(alloc: Global, text: &str) -> Result<RowText, Fail> {
+pub(crate) fn least_set(alloc: Global, text: &str) -> Result<RowText, Fail> {
     let (letters, words) = text.split_once(' ').ok_or("no rules")?;
     let mut rules = Rules::new(alloc, flags_of(alloc, letters)?.as_slice())?;
     rules.add_number(false)?;

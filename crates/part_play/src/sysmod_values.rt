@@ -56,8 +56,7 @@ fn move_element(fix: &mut Sysmod, other: &mut Sysmod) -> Result<(), Fail> {
     }
 }
 
-// Adds a part of the other SYSMOD to this one, or removes its holds for any other word, and spells what the call
-// returns.
+// Adds a part of the other SYSMOD or a source to this one, or removes its holds, and appends what the call returns.
 fn grow(
     alloc: Global,
     fix: &mut Sysmod,
@@ -73,13 +72,14 @@ fn grow(
             fix.insert_source(Source::read(b"RSU2404").ok_or("no source")?)?;
             spelled.put_number(fix.sources.len());
         }
-        _ => spelled.put_number(fix.take_holds(alloc).len()),
+        b"HOLDS" => spelled.put_number(fix.take_holds(alloc).len()),
+        _ => return Err(Fail::from("no part has this name")),
     }
     spelled.put(b" ");
     Ok(())
 }
 
-// Spells whether the SYSMOD names an id or has an element statement, or which ids it names.
+// Appends whether the SYSMOD names an id or has an element statement, or which ids it names.
 fn ask(
     alloc: Global,
     fix: &Sysmod,
@@ -109,7 +109,7 @@ fn ask(
     Ok(())
 }
 
-// The ids that it names for the SREL.
+// Appends the ids that the SYSMOD names for the SREL.
 fn put_named(alloc: Global, fix: &Sysmod, srel: &str, spelled: &mut RowText) -> Result<(), Fail> {
     let srel = Srel::read(srel.as_bytes()).ok_or("no SREL")?;
     let mut found = Vec::new(alloc);

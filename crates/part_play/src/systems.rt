@@ -1,7 +1,7 @@
 //! Systems of numbers: the greatest set that supports itself, and the causers of failures. A system is a letter for
 //! each candidate, which tells whether it is eligible (`T` or `F`), and its needs, as `0<1,2` if 0 needs 1 or 2.
 
-use crate::rules::grown;
+use crate::rules::least_set;
 use crate::spelled::RowText;
 use itoa::Buffer;
 use scripts::split_at_first;
@@ -12,11 +12,11 @@ use std::test::Fail;
 /// What this reader finds in the system.
 pub(crate) fn read_system(alloc: Global, name: &str, text: &str) -> Result<RowText, Fail> {
     match name.as_bytes() {
-        b"SOLVE" => solved(alloc, text),
-        b"CHAIN" => chained(alloc, text),
+        b"SOLVE" => solve_text(alloc, text),
+        b"CHAIN" => solve_chain(alloc, text),
         b"WHOLE" => need_count(alloc, text),
-        b"OTHER" => other_size(alloc, text),
-        b"RULES" => grown(alloc, text),
+        b"OTHER" => causers_for_other(alloc, text),
+        b"RULES" => least_set(alloc, text),
         _ => Err(Fail::from("no system has this name")),
     }
 }
@@ -30,7 +30,7 @@ pub(crate) fn flags_of(alloc: Global, letters: &str) -> Result<Vec<bool>, Fail> 
     Ok(flags)
 }
 
-/// A letter for each flag.
+/// Appends a letter for each flag.
 pub(crate) fn put_flags(spelled: &mut RowText, flags: &[bool]) {
     for flag in flags {
         spelled.put(if *flag { b"T" } else { b"F" });
@@ -78,7 +78,7 @@ fn system_of(alloc: Global, text: &str) -> Result<System, Fail> {
 }
 
 // Which candidates stay, how many strikes that takes, and the causers of each.
-fn solved(alloc: Global, text: &str) -> Result<RowText, Fail> {
+fn solve_text(alloc: Global, text: &str) -> Result<RowText, Fail> {
     let system = system_of(alloc, text)?;
     let mut spelled = RowText::new();
     let (kept, strikes) = solve_twice(alloc, &system, &mut spelled)?;
@@ -88,7 +88,7 @@ fn solved(alloc: Global, text: &str) -> Result<RowText, Fail> {
     Ok(spelled)
 }
 
-// Which candidates the work list keeps, and its strikes. Spells it if the sweep keeps others.
+// Which candidates the work list keeps, and its strikes. If the sweep keeps others, the text says so.
 fn solve_twice(
     alloc: Global,
     system: &System,
@@ -105,7 +105,7 @@ fn put_strikes(spelled: &mut RowText, strikes: u128) {
     spelled.put(Buffer::new().format(strikes).as_bytes());
 }
 
-// The causers of each candidate.
+// Appends the causers of each candidate, between a blank and a slash.
 fn put_causers(
     alloc: Global,
     system: &System,
@@ -125,7 +125,7 @@ fn put_causers(
 
 // The causers in the first system for what the second one keeps, after the size of that, its members and whether a
 // number past its end is one.
-fn other_size(alloc: Global, text: &str) -> Result<RowText, Fail> {
+fn causers_for_other(alloc: Global, text: &str) -> Result<RowText, Fail> {
     let (first, second) = text.split_once('/').ok_or("two systems")?;
     let kept = Sweep.greatest(alloc, &system_of(alloc, second.trim())?)?;
     let mut spelled = RowText::new();
@@ -159,7 +159,7 @@ fn append_needs(alloc: Global, words: &str, needs: &mut Vec<Need>) -> Result<(),
 
 // How many candidates stay in a chain of so many, and how many strikes that takes. All are eligible, but the last one
 // perhaps not. It may have further needs.
-fn chained(alloc: Global, text: &str) -> Result<RowText, Fail> {
+fn solve_chain(alloc: Global, text: &str) -> Result<RowText, Fail> {
     let (last, more) = split_at_first(text, " ");
     let (letter, more) = split_at_first(more, " ");
     let last: u32 = last.parse()?;

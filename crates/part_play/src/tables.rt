@@ -1,6 +1,6 @@
 //! The steps of a script: tables, and files that are cut at each byte.
 
-use crate::files::{read_cut, read_file};
+use crate::files::{read_cuts, read_file};
 use crate::global_zones::read_global;
 use crate::operands::operand_text;
 use crate::spelled::RowText;
@@ -31,7 +31,7 @@ impl Performs for Tables {
         let rows = joined(alloc, step.cards())?;
         if kind == "CUT" {
             let file = file_of(alloc, rows.as_str())?;
-            return read_cut(alloc, name, file.as_slice(), printed);
+            return read_cuts(alloc, name, file.as_slice(), printed);
         }
         let front = joined(alloc, step.part("AFTER"))?;
         let table = Table {

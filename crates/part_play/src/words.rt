@@ -6,7 +6,7 @@ use rec80::{Commands, Group, Groups, Piece, Record, Records, StmtError, Text, Wo
 /// How many members, words, statements, commands or pieces of one text are spelled.
 const MOST_ITEMS: usize = 9;
 
-// Each member with its own list in parentheses and a semicolon; a `?` for anything else.
+// Appends each member with its own list in parentheses and a semicolon; a `?` for anything else.
 fn put_members(spelled: &mut RowText, list: &Text<'_>) {
     let mut members = list.members();
     for _ in 0..MOST_ITEMS {
@@ -26,8 +26,8 @@ fn put_members(spelled: &mut RowText, list: &Text<'_>) {
     }
 }
 
-// Each word with its members in parentheses and a blank; a `?` for anything else.
-fn put_words(spelled: &mut RowText, mut words: Words<'_>) {
+// Appends each word with its members in parentheses and a blank; a `?` for anything else.
+fn put_operands(spelled: &mut RowText, mut words: Words<'_>) {
     for _ in 0..MOST_ITEMS {
         match words.next_word() {
             Ok(Some(word)) => {
@@ -62,13 +62,13 @@ pub(crate) fn statement_text(found: Records<'_>) -> RowText {
         records: found.all,
     };
     match statement(&group) {
-        Ok(words) => put_words(&mut spelled, words),
+        Ok(words) => put_operands(&mut spelled, words),
         Err(error) => put_fault(&mut spelled, error),
     }
     spelled
 }
 
-// The number of records of each statement.
+// Appends the number of records of each statement.
 fn put_groups(spelled: &mut RowText, mut groups: Groups<'_>) {
     for _ in 0..MOST_ITEMS {
         if let Some(group) = groups.next_group() {
@@ -87,14 +87,14 @@ pub(crate) fn group_sizes(found: Records<'_>) -> RowText {
     spelled
 }
 
-// The words of each command after the number of its record, up to the first fault.
+// Appends the words of each command after the number of its record, up to the first fault.
 fn put_commands(spelled: &mut RowText, mut commands: Commands<'_>) {
     for _ in 0..MOST_ITEMS {
         match commands.next_command() {
             Ok(Some(command)) => {
                 spelled.put_number(command.number);
                 spelled.put(b" ");
-                put_words(spelled, command.words);
+                put_operands(spelled, command.words);
             }
             Ok(None) => return,
             Err(error) => {
@@ -113,7 +113,7 @@ pub(crate) fn words_of_commands(found: Records<'_>) -> RowText {
     spelled
 }
 
-// A letter for each piece, and the characters that belong to no word.
+// Appends a letter for each piece, and the characters that belong to no word.
 fn put_pieces(spelled: &mut RowText, mut words: Words<'_>) {
     for _ in 0..MOST_ITEMS {
         match words.next_piece() {
@@ -134,8 +134,8 @@ pub(crate) fn pieces_of(found: Records<'_>) -> RowText {
     spelled
 }
 
-// The first two lines of the list of the statement's first word, and the first byte of the second one. `None` after as
-// many of them as there are.
+// Appends the first two lines of the list of the statement's first word, and the first byte of the second one, as far as
+// they exist. Returns `None` if one is missing.
 fn put_lines(spelled: &mut RowText, records: &[Record]) -> Option<()> {
     let mut words = statement(&Group { number: 1, records }).ok()?;
     let text = words.next_word().ok()??.list?;
