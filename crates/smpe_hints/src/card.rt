@@ -113,7 +113,8 @@ impl CardWords {
         Ok(())
     }
 
-    // Keeps the word that has ended, if any: outside parentheses as an operand, within them as a value of the last one.
+    // Keeps the word that has ended, if any: outside parentheses as an operand, in its list as a value of it. A word of
+    // an inner list, as a reason in BYPASS(HOLDUSER(..)), is not kept.
     fn end_word(&mut self) -> Result<(), AllocError> {
         if self.word.is_empty() {
             return Ok(());
@@ -126,7 +127,7 @@ impl CardWords {
                 operand: word,
                 value: None,
             })?;
-        } else {
+        } else if self.depth == 1 {
             let operand = String::from_str(self.alloc, self.operand.as_str())?;
             self.words.push(CardWord {
                 operand,
@@ -350,12 +351,12 @@ fn repeated_operand_hint(alloc: Global, words: &[CardWord]) -> Result<Option<Str
     Ok(None)
 }
 
-// Whether the operand of commands or statements takes only ids.
-fn takes_ids(operand: &str) -> bool {
-    match operand {
+// Whether the list of this word, which is an operand or begins a statement, has only ids.
+fn takes_ids(word: &str) -> bool {
+    match word {
         "SELECT" | "EXCLUDE" | "GROUP" | "FORFMID" => true,
         "FMID" | "PRE" | "REQ" | "NPRE" | "SUP" | "DELETE" | "TO" => true,
-        "++FUNCTION" | "++PTF" | "++APAR" | "++USERMOD" | "++HOLD" => true,
+        "++FUNCTION" | "++PTF" | "++APAR" | "++USERMOD" | "++HOLD" | "++RELEASE" => true,
         _ => false,
     }
 }
