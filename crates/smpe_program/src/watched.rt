@@ -57,6 +57,7 @@ pub(crate) struct Watched<'a, S> {
 }
 
 impl<'a, S> Watched<'a, S> {
+    /// The sink under a watch. Without `progress`, no times are printed.
     pub(crate) fn new(
         sink: S,
         watch: ReportWatch,
