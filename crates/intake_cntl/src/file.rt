@@ -15,9 +15,6 @@ use intake_read::{Card, CardPlace};
 use std::alloc::{AllocError, Global};
 use terms::CommandCode;
 
-/// Where the columns 73 to 80 of a card begin, which should have numbers or blanks.
-const NUMBERS: usize = 72;
-
 /// What became of a command file.
 #[derive(Drop)]
 pub struct CommandFile {
@@ -104,11 +101,10 @@ fn remark_on_cards(
 ) -> Result<(), AllocError> {
     for card in cards {
         if card.tail() == Tail::Other {
-            let text = card.text[NUMBERS..].trim_ascii();
             remark_on_card(
                 remarks,
                 card.place,
-                text,
+                card.number_columns().trim_ascii(),
                 Deed::Dropped,
                 RemarkReason::TextInNumbers,
             )?;

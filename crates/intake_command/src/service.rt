@@ -149,7 +149,7 @@ fn read_file_statements(
         Ok(file) => file,
         Err(error) => return Err(IntakeFault::of_statement(alloc, inputs, &error)),
     };
-    inputs.add_oddities(alloc, &notes)?;
+    inputs.add_card_notes(alloc, &notes)?;
     Ok(file)
 }
 

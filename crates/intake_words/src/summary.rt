@@ -99,26 +99,9 @@ pub(crate) fn cause_of<'a>(
     cause
 }
 
-/// The statement of a remark, with its id and its operand.
-pub(crate) fn subject_text(alloc: Global, remark: &Remark<'_>) -> Result<Vec<u8>, AllocError> {
-    let mut text = Vec::from_slice(alloc, remark.statement)?;
-    if !remark.id.is_empty() {
-        text.extend_from_slice(b"(")?;
-        text.extend_from_slice(remark.id)?;
-        text.extend_from_slice(b")")?;
-    }
-    if !remark.operand.is_empty() {
-        if !text.is_empty() {
-            text.push(b' ')?;
-        }
-        text.extend_from_slice(remark.operand)?;
-    }
-    Ok(text)
-}
-
 /// What the cause says, in words.
 pub(crate) fn cause_text(alloc: Global, cause: &Remark<'_>) -> Result<Vec<u8>, AllocError> {
-    let mut text = subject_text(alloc, cause)?;
+    let mut text = cause.subject_text(alloc)?;
     if !text.is_empty() {
         text.extend_from_slice(b": ")?;
     }
@@ -168,7 +151,7 @@ fn append_left_out_line(
 ) -> Result<(), AllocError> {
     lines.extend_from_slice(b"LEFTOUT ")?;
     if cause.statement != remark.statement || cause.id != remark.id {
-        lines.extend_from_slice(&subject_text(alloc, remark)?)?;
+        lines.extend_from_slice(&remark.subject_text(alloc)?)?;
         lines.extend_from_slice(b": ")?;
     }
     lines.extend_from_slice(cause_text(alloc, cause)?.trim_ascii_end())?;
