@@ -138,7 +138,7 @@ fn carry_files(
 
 // The items of PTFIN, with the assignments after them, and those of the hold file in their order, with all remarks. The
 // names of stand-ins are checked here, because any of the files may have an element of such a name.
-fn make_narrowed(
+fn finish_narrowed(
     alloc: Global,
     mut remarks: Remarks,
     files: &[WideFile],
@@ -163,18 +163,16 @@ fn make_narrowed(
 pub fn narrow(
     alloc: Global,
     files: &[WideFile],
-    held: OutsideHolds,
-    options: Options,
+    mut held: OutsideHolds,
+    mut options: Options,
 ) -> Result<Narrowed, NarrowError>
     ensures { (holds : List WideHold) → AreCarried holds held → IfOk result (λ narrowed. FilesBecome options.decide
         files.now holds narrowed.items.items narrowed.hold_items.items) }
 {
-    let mut options = options;
     options.sort();
     let users = Users::of_files(alloc, &options, files)?;
     let copies = OtherCopies::of_files(alloc, files)?;
     let mut remarks = Remarks::new(alloc);
-    let mut held = held;
     if held.refuse_all(alloc, &mut remarks, files)? {
         return Err(NarrowError::Refused(remarks.list));
     }
@@ -202,6 +200,6 @@ pub fn narrow(
         outside,
     )?;
     outside.append(&mut held.placed)?;
-    let narrowed = make_narrowed(alloc, remarks, files, items, outside)?;
+    let narrowed = finish_narrowed(alloc, remarks, files, items, outside)?;
     Ok(narrowed)
 }

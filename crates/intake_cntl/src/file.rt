@@ -46,7 +46,7 @@ pub fn command_file(
     let records = carry_commands(alloc, &mut remarks, wide.commands.as_slice(), known)?;
     let carried = records.carried;
     let others = records.others;
-    let bytes = read_back(
+    let bytes = checked_records(
         alloc,
         &remarks,
         records.bytes,
@@ -101,10 +101,11 @@ fn remark_on_cards(
 ) -> Result<(), AllocError> {
     for card in cards {
         if card.tail() == Tail::Other {
+            let number = card.number_columns();
             remark_on_card(
                 remarks,
                 card.place,
-                card.number_columns().trim_ascii(),
+                number.trim_ascii(),
                 Deed::Dropped,
                 RemarkReason::TextInNumbers,
             )?;
@@ -239,7 +240,7 @@ fn unread_reason(command: &CarriedCommand, code: CommandCode) -> RemarkReason {
 
 // The records. Returns `None` if a remark refuses something, or if they are not read back as commands that say just
 // what the shop's commands ask for.
-fn read_back(
+fn checked_records(
     alloc: Global,
     remarks: &CommandRemarks,
     bytes: Vec<u8>,

@@ -200,21 +200,25 @@ pub fn service_summary(
     }
 }
 
-/// The summary of a run over a command file: how many commands are carried, if a command file is written.
+/// The summary of a run that writes a command file: how many commands are carried, and how many are not.
 pub fn command_summary(
     alloc: Global,
     carried: usize,
     others: usize,
-    is_written: bool,
     remarks: &RemarkList,
 ) -> Result<Vec<u8>, AllocError> {
-    let mut lines = Vec::new(alloc);
-    if is_written {
-        let line = format!(in alloc; "COMMAND {carried:>7} carried {others:>7} not\n")?;
-        lines.extend_from_slice(line.as_bytes())?;
-    } else {
-        lines.extend_from_slice(b"COMMAND none is written: see what is refused in cntl.remarks\n")?;
-    }
+    let line = format!(in alloc; "COMMAND {carried:>7} carried {others:>7} not\n")?;
+    let mut lines = line.into_bytes();
+    append_remark_counts(alloc, remarks, &mut lines)?;
+    Ok(lines)
+}
+
+/// The summary of a run that writes no command file, because words of the shop's are refused.
+pub fn refused_command_summary(alloc: Global, remarks: &RemarkList) -> Result<Vec<u8>, AllocError> {
+    let mut lines = Vec::from_slice(
+        alloc,
+        b"COMMAND none is written: see what is refused in cntl.remarks\n",
+    )?;
     append_remark_counts(alloc, remarks, &mut lines)?;
     Ok(lines)
 }
