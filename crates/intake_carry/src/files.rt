@@ -163,16 +163,18 @@ fn finish_narrowed(
 pub fn narrow(
     alloc: Global,
     files: &[WideFile],
-    mut held: OutsideHolds,
-    mut options: Options,
+    held: OutsideHolds,
+    options: Options,
 ) -> Result<Narrowed, NarrowError>
     ensures { (holds : List WideHold) → AreCarried holds held → IfOk result (λ narrowed. FilesBecome options.decide
         files.now holds narrowed.items.items narrowed.hold_items.items) }
 {
+    let mut options = options;
     options.sort();
     let users = Users::of_files(alloc, &options, files)?;
     let copies = OtherCopies::of_files(alloc, files)?;
     let mut remarks = Remarks::new(alloc);
+    let mut held = held;
     if held.refuse_all(alloc, &mut remarks, files)? {
         return Err(NarrowError::Refused(remarks.list));
     }
