@@ -5,9 +5,6 @@
 use intake_read::{Card, CardPlace, WideOperand};
 use std::alloc::{AllocError, Global};
 
-/// The last column of a card that is read.
-const COLUMNS: usize = 72;
-
 /// How a command ends.
 #[derive(Clone, Copy, Debug, PartialEq, Eq)]
 pub enum CommandEnd {
@@ -94,8 +91,8 @@ pub fn wide_commands(alloc: Global, cards: &[Card]) -> Result<WideCommands, Allo
     let mut scanner = CommandScanner::new(alloc);
     let mut cut = Vec::new(alloc);
     for card in cards {
-        scanner.keep_comment_text(&card.text[..COLUMNS])?;
-        for byte in &card.text[..COLUMNS] {
+        scanner.keep_comment_text(card.columns())?;
+        for byte in card.columns() {
             scanner.read_byte(*byte, card.place)?;
         }
         scanner.read_byte(b' ', card.place)?;

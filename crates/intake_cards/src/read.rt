@@ -16,7 +16,7 @@ pub enum CardNoteReason {
     /// UTF-8's mark is before the first card, and is skipped.
     ByteOrderMark,
     /// Blanks after column 80 are left away.
-    BlanksBehind80,
+    BlanksAfter80,
     /// There is more than blanks after column 80. It is not read.
     LongLine,
     /// It has tabs, each as one column.
@@ -174,7 +174,7 @@ impl<'a> CardReader<'a> {
         let card = line.card_at(self.place());
         match line.past {
             PastColumns::Nothing => {}
-            PastColumns::Blanks => note_card(notes, CardNoteReason::BlanksBehind80, card.place)?,
+            PastColumns::Blanks => note_card(notes, CardNoteReason::BlanksAfter80, card.place)?,
             PastColumns::More => note_card(notes, CardNoteReason::LongLine, card.place)?,
         }
         note_characters(notes, &card)?;

@@ -129,7 +129,7 @@ pub enum RemarkReason {
     /// A comment is open.
     OpenComment,
     /// The period is followed by more than blanks and comments.
-    TextBehind,
+    TextAfterPeriod,
     /// No text follows the statement.
     NoText,
     /// A card of a text has no number, or one that is not higher than the one before.
@@ -215,7 +215,7 @@ impl RemarkReason {
             RemarkReason::StrayParenthesis => "a parenthesis without its partner",
             RemarkReason::StrayCharacter => "a character that stands in no word",
             RemarkReason::OpenComment => "a comment is not closed: put */ at its end",
-            RemarkReason::TextBehind => "more stands behind its period",
+            RemarkReason::TextAfterPeriod => "more stands behind its period",
             RemarkReason::KnownExcluded => "EXCLUDE names the APARs or USERMODs of --known",
             RemarkReason::KnownSources => "the list names the source ids of --known that begin so",
             RemarkReason::BlankEnd => "blank cards end a text that has numbers",

@@ -64,22 +64,30 @@ impl Remark<'_> {
             && self.operand == other.operand
     }
 
+    /// The statement with its id and its operand, as far as these are there; empty if it is about none.
+    pub fn subject_text(&self, alloc: Global) -> Result<Vec<u8>, AllocError> {
+        let mut text = Vec::from_slice(alloc, self.statement)?;
+        if !self.id.is_empty() {
+            text.push(b'(')?;
+            text.extend_from_slice(self.id)?;
+            text.push(b')')?;
+        }
+        if !self.operand.is_empty() {
+            if !text.is_empty() {
+                text.push(b' ')?;
+            }
+            text.extend_from_slice(self.operand)?;
+        }
+        Ok(text)
+    }
+
     /// The line that tells it, without an end of line. `file` is the name of its file, `unit` is "record" or "line".
     pub fn line(&self, alloc: Global, file: &str, unit: &str) -> Result<Vec<u8>, AllocError> {
         let card = self.place.card;
         let mut line = format!(in alloc; "{file} {unit} {card}: ")?.into_bytes();
-        let front = line.len();
-        line.extend_from_slice(self.statement)?;
-        if !self.id.is_empty() {
-            line.extend_from_slice(b"(")?;
-            line.extend_from_slice(self.id)?;
-            line.extend_from_slice(b")")?;
-        }
-        if !self.operand.is_empty() {
-            line.extend_from_slice(b" ")?;
-            line.extend_from_slice(self.operand)?;
-        }
-        if line.len() > front {
+        let subject = self.subject_text(alloc)?;
+        if !subject.is_empty() {
+            line.extend_from_slice(&subject)?;
             line.extend_from_slice(b": ")?;
         }
         line.extend_from_slice(self.deed.words().as_bytes())?;

@@ -150,6 +150,18 @@ impl Remarks {
         self.tell(alloc, subject, operand, Deed::Dropped, reason, text)
     }
 
+    /// Tells that a SYSMOD is left out because of this operand, or of the whole statement if `operand` is empty.
+    pub fn tell_left_out(
+        &mut self,
+        alloc: Global,
+        subject: &Subject<'_>,
+        operand: &[u8],
+        reason: RemarkReason,
+        text: &[u8],
+    ) -> Result<(), AllocError> {
+        self.tell(alloc, subject, operand, Deed::LeftOut, reason, text)
+    }
+
     /// Adds the others after these, with their stand-ins.
     pub fn append(&mut self, mut others: Remarks) -> Result<(), AllocError> {
         self.stand_ins = self.stand_ins.saturating_add(others.stand_ins);
@@ -174,17 +186,5 @@ impl Remarks {
             self.list.push(&remark)?;
         }
         Ok(())
-    }
-
-    /// Tells that a SYSMOD is left out because of this operand, or of the whole statement if `operand` is empty.
-    pub fn tell_left_out(
-        &mut self,
-        alloc: Global,
-        subject: &Subject<'_>,
-        operand: &[u8],
-        reason: RemarkReason,
-        text: &[u8],
-    ) -> Result<(), AllocError> {
-        self.tell(alloc, subject, operand, Deed::LeftOut, reason, text)
     }
 }

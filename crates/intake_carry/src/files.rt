@@ -138,7 +138,7 @@ fn carry_files(
 
 // The items of PTFIN, with the assignments after them, and those of the hold file in their order, with all remarks. The
 // names of stand-ins are checked here, because any of the files may have an element of such a name.
-fn make_narrowed(
+fn finish_narrowed(
     alloc: Global,
     mut remarks: Remarks,
     files: &[WideFile],
@@ -202,6 +202,6 @@ pub fn narrow(
         outside,
     )?;
     outside.append(&mut held.placed)?;
-    let narrowed = make_narrowed(alloc, remarks, files, items, outside)?;
+    let narrowed = finish_narrowed(alloc, remarks, files, items, outside)?;
     Ok(narrowed)
 }

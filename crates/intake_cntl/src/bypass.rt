@@ -2,7 +2,7 @@
 
 use crate::carried::{CarriedMember, CarriedValue};
 use crate::command_remarks::CommandRemarks;
-use crate::lists::list_members;
+use crate::lists::carry_list;
 use crate::operand_context::OperandContext;
 use crate::spelling::{OperandForm, spelling_of};
 use intake_cards::RemarkReason;
@@ -58,7 +58,7 @@ fn carry_bypass_member(
         context.refuse(remarks, b"", RemarkReason::Missing)?;
     }
     let listed = match &member.value {
-        Some(_) => Some(list_members(alloc, remarks, context, spelling.form)?),
+        Some(_) => Some(carry_list(alloc, remarks, context, spelling.form)?),
         None => None,
     };
     Ok(Some(CarriedMember {

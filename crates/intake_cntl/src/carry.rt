@@ -4,7 +4,7 @@ use crate::bypass::carry_bypass;
 use crate::carried::{CarriedCommand, CarriedOperand, CarriedValue, has_word};
 use crate::command_remarks::{CommandRemarks, RemarkWords};
 use crate::group_extend::exclude_kinds;
-use crate::lists::list_members;
+use crate::lists::carry_list;
 use crate::operand_context::{OperandContext, operand_contexts};
 use crate::spelling::{OperandForm, vocabulary_of};
 use intake_asked::{CommandEnd, KnownSysmod, WideCommand, changes_no_decision};
@@ -169,7 +169,7 @@ fn carry_value(
             Ok(None)
         }
         OperandForm::Bypass | OperandForm::ReceiveBypass => carry_bypass(alloc, remarks, context),
-        form => Ok(Some(CarriedValue::List(list_members(alloc, remarks, context, form)?))),
+        form => Ok(Some(CarriedValue::List(carry_list(alloc, remarks, context, form)?))),
     }
 }
 

@@ -15,9 +15,6 @@ use intake_read::{Card, CardPlace};
 use std::alloc::{AllocError, Global};
 use terms::CommandCode;
 
-/// Where the columns 73 to 80 of a card begin, which should have numbers or blanks.
-const NUMBERS: usize = 72;
-
 /// What became of a command file.
 #[derive(Drop)]
 pub struct CommandFile {
@@ -49,7 +46,7 @@ pub fn command_file(
     let records = carry_commands(alloc, &mut remarks, wide.commands.as_slice(), known)?;
     let carried = records.carried;
     let others = records.others;
-    let bytes = read_back(
+    let bytes = checked_records(
         alloc,
         &remarks,
         records.bytes,
@@ -104,11 +101,11 @@ fn remark_on_cards(
 ) -> Result<(), AllocError> {
     for card in cards {
         if card.tail() == Tail::Other {
-            let text = card.text[NUMBERS..].trim_ascii();
+            let number = card.number_columns();
             remark_on_card(
                 remarks,
                 card.place,
-                text,
+                number.trim_ascii(),
                 Deed::Dropped,
                 RemarkReason::TextInNumbers,
             )?;
@@ -243,7 +240,7 @@ fn unread_reason(command: &CarriedCommand, code: CommandCode) -> RemarkReason {
 
 // The records. Returns `None` if a remark refuses something, or if they are not read back as commands that say just
 // what the shop's commands ask for.
-fn read_back(
+fn checked_records(
     alloc: Global,
     remarks: &CommandRemarks,
     bytes: Vec<u8>,

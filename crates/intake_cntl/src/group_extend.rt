@@ -2,10 +2,11 @@
 
 use crate::carried::{CarriedOperand, CarriedValue, has_word};
 use crate::command_remarks::CommandRemarks;
-use crate::lists::{MOST_MEMBERS, push_if_absent, split_members};
+use crate::lists::{MOST_MEMBERS, push_if_absent};
 use crate::operand_context::OperandContext;
 use intake_asked::KnownSysmod;
 use intake_cards::{Deed, RemarkReason};
+use intake_read::list_members;
 use std::alloc::{AllocError, Global};
 use terms::Kind;
 
@@ -41,7 +42,7 @@ pub(crate) fn exclude_kinds(
     carried: &mut Vec<CarriedOperand>,
 ) -> Result<(), AllocError> {
     let mut ids: Vec<Vec<u8>> = Vec::new(alloc);
-    for member in &split_members(alloc, context.operand.text())? {
+    for member in &list_members(alloc, context.operand.text())? {
         let member = *member;
         let Some(exclusion) = EXCLUSIONS
             .iter()

@@ -5,32 +5,22 @@ use crate::operand_context::OperandContext;
 use crate::spelling::OperandForm;
 use intake_asked::KnownSysmod;
 use intake_cards::{Deed, RemarkReason};
+use intake_read::list_members;
 use std::alloc::{AllocError, Global};
 
-/// How many members a list may have.
+/// The most members that a list may have.
 pub(crate) const MOST_MEMBERS: usize = 1000;
-
-/// The words of a list, which blanks and commas separate.
-pub(crate) fn split_members(alloc: Global, list: &[u8]) -> Result<Vec<&[u8]>, AllocError> {
-    let mut members = Vec::new(alloc);
-    for member in list.split(|byte| *byte == b' ' || *byte == b',') {
-        if !member.is_empty() {
-            members.push(member)?;
-        }
-    }
-    Ok(members)
-}
 
 /// The members of the operand's list, each once. Remarks refuse members that have not the form, and a list that has no
 /// members, or more than it may have.
-pub(crate) fn list_members(
+pub(crate) fn carry_list(
     alloc: Global,
     remarks: &mut CommandRemarks,
     context: &OperandContext<'_>,
     form: OperandForm,
 ) -> Result<Vec<Vec<u8>>, AllocError> {
     let list = context.operand.text();
-    let stated = split_members(alloc, list)?;
+    let stated = list_members(alloc, list)?;
     if stated.is_empty() {
         context.refuse(remarks, b"", RemarkReason::Missing)?;
     }

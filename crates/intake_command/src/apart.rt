@@ -24,13 +24,13 @@ pub(crate) fn check_apart<H: IntakeHost>(
         host.old host.new) }
     ensures err { OnErr result (HasDone H.IntakeHost (All IsQuiet) host.old host.new) }
 {
-    let inputs = inputs(alloc, asked)?;
+    let inputs = input_names(alloc, asked)?;
     check_inputs(alloc, host, asked.out.as_str(), outputs(), &inputs)?;
     Ok(())
 }
 
 // The names of the files that are read, but for those of `--relfile`.
-fn inputs(alloc: Global, asked: &IntakeOptions) -> Result<Vec<&str>, AllocError>
+fn input_names(alloc: Global, asked: &IntakeOptions) -> Result<Vec<&str>, AllocError>
     ensures { IfOk result (λ names. map (λ name. name.now) names.items ≡ inputs asked.now) }
 {
     let mut names = text_views(alloc, &asked.files)?;

@@ -16,16 +16,19 @@ use crate::host_calls::{print_summary, read_input};
 use crate::keep::{keep_commands, keep_remarks};
 use crate::surroundings::IntakeHost;
 use intake_asked::{KnownList, KnownSysmod, read_known, wide_commands};
-use intake_cntl::command_file;
-use intake_words::{InputFiles, IntakeFault, IntakeOptions, append_remark_lines, command_summary};
-use std::alloc::Global;
+use intake_cntl::{CommandFile, command_file};
+use intake_words::{
+    InputFiles, IntakeFault, IntakeOptions, append_remark_lines, command_summary,
+    refused_command_summary,
+};
+use std::alloc::{AllocError, Global};
 
 /// The status of a run whose command file has words that are not carried.
 const REFUSED_STATUS: u8 = 12;
 
 /// What a run makes of a command file: its records, if all of it is carried, the remarks, and the summary.
 #[derive(Drop)]
-struct MadeCommands {
+struct CommandsOutput {
     bytes: Option<Vec<u8>>,
     remarks: Vec<u8>,
     summary: Vec<u8>,
@@ -45,10 +48,10 @@ pub(crate) fn serve_commands<H: IntakeHost>(
 {
     let bytes = read_input(alloc, host, name)?;
     let known = known_sysmods(alloc, host, &asked.known)?;
-    let made = make_commands(alloc, asked, name, bytes, &known)?;
+    let made = commands_output(alloc, asked, name, bytes, &known)?;
     let summary = made.summary.clone()?;
     let folder = asked.out.as_str();
-    let status = keep_made_commands(host, folder, made.bytes, made.remarks)?;
+    let status = keep_commands_output(host, folder, made.bytes, made.remarks)?;
     print_summary(host, &summary)?;
     Ok(status)
 }
@@ -86,13 +89,13 @@ fn read_known_list(
 
 // The records, remarks and summary of the commands of these bytes. Returns `NoStatement` if there is no command,
 // `NoCards` if the bytes cannot be read as cards, `Memory` if memory runs out.
-fn make_commands(
+fn commands_output(
     alloc: Global,
     asked: &IntakeOptions,
     name: &str,
     bytes: Vec<u8>,
     known: &Option<Vec<KnownSysmod>>,
-) -> Result<MadeCommands, IntakeFault>
+) -> Result<CommandsOutput, IntakeFault>
     ensures { IfOk result (λ made. (commands : List WideCommand) × IfSome made.bytes (λ bytes.
         (said : List terms.Command) × IsCommandFile bytes.items said × AreSaid known.now commands said)) }
 {
@@ -105,18 +108,25 @@ fn make_commands(
     }
     let mut remarks = inputs.take_reading_lines(alloc);
     append_remark_lines(alloc, &inputs, &file.remarks, &mut remarks)?;
-    let is_written = file.bytes.is_some();
-    let summary = command_summary(alloc, file.carried, file.others, is_written, &file.remarks)?;
-    Ok(MadeCommands {
+    let summary = summary_of(alloc, &file)?;
+    Ok(CommandsOutput {
         bytes: file.bytes,
         remarks,
         summary,
     })
 }
 
+// The summary of the run, which tells whether a command file is written.
+fn summary_of(alloc: Global, file: &CommandFile) -> Result<Vec<u8>, AllocError> {
+    match &file.bytes {
+        Some(_) => command_summary(alloc, file.carried, file.others, &file.remarks),
+        None => refused_command_summary(alloc, &file.remarks),
+    }
+}
+
 // Puts the command file and its remarks into the folder, or only the remarks. Returns the status, or `CannotWrite` if
 // the folder does not take them.
-fn keep_made_commands<H: IntakeHost>(
+fn keep_commands_output<H: IntakeHost>(
     host: &mut H,
     folder: &str,
     bytes: Option<Vec<u8>>,

@@ -33,7 +33,7 @@ const DRAFT_SIZE: usize = 65_536;
 
 /// What is to be put into the folder, and the summary of the run.
 #[derive(Drop)]
-struct MadeFiles {
+struct ServiceOutput {
     items: Vec<Item>,
     hold_items: Vec<HoldItem>,
     stand_ins: Option<Vec<u8>>,
@@ -56,7 +56,7 @@ pub(crate) fn serve_files<H: IntakeHost>(
     let mut held = OutsideHolds::new(alloc);
     let files = read_files(alloc, host, &mut inputs, asked, &mut held)?;
     let members = relfile_members(alloc, host, &mut inputs, asked, &files)?;
-    let made = make_files(alloc, &inputs, asked, &files, held, members)?;
+    let made = service_output(alloc, &inputs, asked, &files, held, members)?;
     let summary = made.summary.clone()?;
     let status = exit_status(&made.remarks);
     keep_files(alloc, host, asked, &mut inputs, made)?;
@@ -149,7 +149,7 @@ fn read_file_statements(
         Ok(file) => file,
         Err(error) => return Err(IntakeFault::of_statement(alloc, inputs, &error)),
     };
-    inputs.add_oddities(alloc, &notes)?;
+    inputs.add_card_notes(alloc, &notes)?;
     Ok(file)
 }
 
@@ -163,14 +163,14 @@ fn has_statement(files: &[WideFile]) -> bool {
 
 // What the files state, as RECEIVE takes it. Returns `Statements` if a hold or a release cannot be carried, `Memory` if
 // memory runs out.
-fn make_files(
+fn service_output(
     alloc: Global,
     inputs: &InputFiles,
     asked: &IntakeOptions,
     files: &[WideFile],
     held: OutsideHolds,
     members: Vec<RelfileMember>,
-) -> Result<MadeFiles, IntakeFault>
+) -> Result<ServiceOutput, IntakeFault>
     ensures { (holds : List WideHold) → AreCarried holds held → IfOk result (λ made. FilesBecome asked.now.decide
         files.now holds made.items.items made.hold_items.items) }
 {
@@ -193,13 +193,13 @@ fn add_summary(
     alloc: Global,
     asked: &IntakeOptions,
     narrowed: Narrowed,
-) -> Result<MadeFiles, AllocError>
+) -> Result<ServiceOutput, AllocError>
     ensures items { IfOk result (λ made. made.items.items ≡ narrowed.items.items) }
     ensures holds { IfOk result (λ made. made.hold_items.items ≡ narrowed.hold_items.items) }
 {
     let summary = service_summary(alloc, asked, &narrowed)?;
     let stand_ins = stand_ins_if_asked(alloc, asked, &narrowed)?;
-    Ok(MadeFiles {
+    Ok(ServiceOutput {
         items: narrowed.items,
         hold_items: narrowed.hold_items,
         stand_ins,
@@ -228,7 +228,7 @@ fn keep_files<H: IntakeHost>(
     host: &mut H,
     asked: &IntakeOptions,
     inputs: &mut InputFiles,
-    made: MadeFiles,
+    made: ServiceOutput,
 ) -> Result<(), IntakeFault>
     ensures ok { OnOk result (HasDone H.IntakeHost (KeepsService (folder_of asked.now)
         (ptfin.items made.items.items) (hold.items made.hold_items.items)) host.old host.new) }

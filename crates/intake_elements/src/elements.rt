@@ -294,7 +294,7 @@ fn replacement_lines(
 }
 
 // The replacement that the statement brings. Returns `None`, with a remark, if it cannot be carried.
-fn make_replacement(
+fn stated_replacement(
     alloc: Global,
     options: &Options,
     remarks: &mut Remarks,
@@ -343,7 +343,7 @@ pub(crate) fn update_change(elem_type: ElemType, name: Name, update: Update) -> 
 }
 
 // The update that the statement brings. Returns `None`, with a remark, if it cannot be carried.
-fn make_update(
+fn stated_update(
     alloc: Global,
     remarks: &mut Remarks,
     subject: &Subject<'_>,
@@ -393,7 +393,7 @@ fn tell_dropped_libraries(
 }
 
 // The replacement or the update that the statement brings. Returns `None`, with a remark, if it cannot be carried.
-fn make_change(
+fn stated_change(
     alloc: Global,
     options: &Options,
     remarks: &mut Remarks,
@@ -407,13 +407,13 @@ fn make_change(
 {
     let word = element.word.as_slice();
     if is_update(kind, word) {
-        return make_update(alloc, remarks, subject, element, elem_type, name);
+        return stated_update(alloc, remarks, subject, element, elem_type, name);
     }
     if is_update_word(word) {
         remarks.tell_left_out(alloc, subject, b"", RemarkReason::UpdateInFunction, b"")?;
         return Ok(None);
     }
-    make_replacement(alloc, options, remarks, subject, element, elem_type, name)
+    stated_replacement(alloc, options, remarks, subject, element, elem_type, name)
 }
 
 /// The change of a statement of the profile, with the whole text that it has. Returns `None`, with a remark, if it
@@ -434,7 +434,7 @@ pub(crate) fn whole_change(
     if !drop_or_leave_out_operands(alloc, options, remarks, subject, element)? {
         return Ok(None);
     }
-    let change = make_change(
+    let change = stated_change(
         alloc, options, remarks, subject, kind, element, elem_type, name,
     )?;
     Ok(change)

@@ -1,23 +1,18 @@
 //! COMMENT of a hold. Some shops draw a box around its text: rows of asterisks above and below, and an asterisk at
 //! either end of each line, as in `**** * SEE APAR * * UA00001 * ****`. The asterisks are left away here.
 
-use intake_cards::{RemarkReason, Remarks, Subject, lay_out_comment};
+use intake_cards::{RemarkReason, Remarks, Subject, is_printable_byte, lay_out_comment};
 use std::alloc::{AllocError, Global};
 
 /// The most characters that a COMMENT may have.
 const MOST_CHARACTERS: usize = 200;
-
-// Whether a record may have the character.
-fn is_printable(byte: u8) -> bool {
-    (0x20..=0x7e).contains(&byte)
-}
 
 // The character that stands for one of a COMMENT: brackets for parentheses, and `?` for what no record may have.
 fn replacement(byte: u8) -> u8 {
     match byte {
         b'(' => b'[',
         b')' => b']',
-        _ if is_printable(byte) => byte,
+        _ if is_printable_byte(byte) => byte,
         _ => b'?',
     }
 }
@@ -89,7 +84,7 @@ fn comment_difference(stated: &[u8], layout: &[u8]) -> Option<RemarkReason> {
     if stated.iter().any(|b| matches!(*b, b'(' | b')')) {
         return Some(RemarkReason::Brackets);
     }
-    if !stated.iter().all(|b| is_printable(*b)) {
+    if !stated.iter().all(|b| is_printable_byte(*b)) {
         return Some(RemarkReason::Unprintable);
     }
     if layout != stated {

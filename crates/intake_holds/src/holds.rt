@@ -201,7 +201,7 @@ fn read_date(
 }
 
 // The hold with this key, and with the CLASS, DATE and COMMENT that are stated. Remarks say which of these differ.
-fn make_hold(
+fn hold_with_key(
     alloc: Global,
     remarks: &mut Remarks,
     subject: &Subject<'_>,
@@ -314,7 +314,7 @@ pub fn carry_hold(
         stated.faulty.as_slice(),
     )?;
     let internal = is_internal(own, stated);
-    Ok(Some(make_hold(alloc, remarks, &subject, stated, key, internal)?))
+    Ok(Some(hold_with_key(alloc, remarks, &subject, stated, key, internal)?))
 }
 
 /// Carries the release: returns it, or `None` for FIXCAT. Remarks say what differs. Returns `BadHold` if it has no key,

@@ -1,10 +1,8 @@
 //! Statements one after the other, gathered as SYSMODs and what stands beside them.
 use crate::errors::WideError;
 use crate::items::{
-    Note, NoteReason, OtherReason, SwallowedStatement, WideFile, WideHold, WideSysmod,
-};
-use crate::make::{
-    make_assign, make_element, make_hold, make_if, make_other, make_release, make_sysmod, make_ver,
+    Note, NoteReason, OtherReason, SwallowedStatement, WideAssign, WideElement, WideFile, WideHold,
+    WideIf, WideOther, WideRelease, WideSysmod, WideVer,
 };
 use crate::meaning::{ItemWord, WideWord};
 use crate::operands::upper_case_members;
@@ -99,7 +97,7 @@ impl FileSoFar {
         }
         match WideWord::read(statement.word.as_slice()) {
             WideWord::Header(kind) => {
-                let sysmod = make_sysmod(self.alloc, kind, statement)?;
+                let sysmod = WideSysmod::from_header(self.alloc, kind, statement)?;
                 self.begin_sysmod(sysmod)
             }
             WideWord::Item(word) => self.add_item(word, statement),
@@ -110,7 +108,9 @@ impl FileSoFar {
     fn add_item(&mut self, word: ItemWord, statement: WideStatement) -> Result<(), WideError> {
         if let Some(reason) = statement.fault {
             if word.stands_alone() {
-                self.file.others.push(make_other(reason, statement))?;
+                self.file
+                    .others
+                    .push(WideOther::from_statement(reason, statement))?;
                 return Ok(());
             }
             return self.add_other(reason, statement);
@@ -135,7 +135,9 @@ impl FileSoFar {
     ) -> Result<(), WideError> {
         match &mut self.begun {
             Some(sysmod) => {
-                sysmod.others.push(make_other(reason, statement))?;
+                sysmod
+                    .others
+                    .push(WideOther::from_statement(reason, statement))?;
                 Ok(())
             }
             None => Err(WideError::Statement {
@@ -155,12 +157,15 @@ impl FileSoFar {
             ItemWord::Release => self
                 .file
                 .releases
-                .push(make_release(self.alloc, statement)?)?,
-            ItemWord::Assign => self.file.assigns.push(make_assign(self.alloc, statement)?)?,
-            ItemWord::NoService => self
+                .push(WideRelease::from_statement(self.alloc, statement)?)?,
+            ItemWord::Assign => self
                 .file
-                .others
-                .push(make_other(OtherReason::NoService, statement))?,
+                .assigns
+                .push(WideAssign::from_statement(self.alloc, statement)?)?,
+            ItemWord::NoService => self.file.others.push(WideOther::from_statement(
+                OtherReason::NoService,
+                statement,
+            ))?,
             ItemWord::Ver => self.add_ver(statement)?,
             ItemWord::If => self.add_if(statement)?,
             ItemWord::Element => self.add_element(statement)?,
@@ -172,7 +177,7 @@ impl FileSoFar {
 
     // Adds a hold to the SYSMOD that is begun, or keeps it to be handed out.
     fn add_hold(&mut self, statement: WideStatement) -> Result<(), WideError> {
-        let hold = make_hold(self.alloc, statement)?;
+        let hold = WideHold::from_statement(self.alloc, statement)?;
         match &mut self.begun {
             Some(sysmod) => sysmod.holds.push(hold)?,
             None => self.hold = Some(hold),
@@ -188,7 +193,9 @@ impl FileSoFar {
         let Some(sysmod) = &mut self.begun else {
             return self.add_other(OtherReason::Misplaced, statement);
         };
-        sysmod.vers.push(make_ver(self.alloc, srels, statement)?)?;
+        sysmod
+            .vers
+            .push(WideVer::from_statement(self.alloc, srels, statement)?)?;
         Ok(())
     }
 
@@ -196,7 +203,8 @@ impl FileSoFar {
     fn add_if(&mut self, statement: WideStatement) -> Result<(), WideError> {
         if let Some(sysmod) = &mut self.begun {
             if let Some(last) = sysmod.vers.last_mut() {
-                last.ifs.push(make_if(self.alloc, statement)?)?;
+                last.ifs
+                    .push(WideIf::from_statement(self.alloc, statement)?)?;
                 return Ok(());
             }
         }
@@ -208,7 +216,9 @@ impl FileSoFar {
         let Some(sysmod) = &mut self.begun else {
             return self.add_other(OtherReason::Misplaced, statement);
         };
-        sysmod.elements.push(make_element(self.alloc, statement)?)?;
+        sysmod
+            .elements
+            .push(WideElement::from_statement(self.alloc, statement)?)?;
         Ok(())
     }
 }

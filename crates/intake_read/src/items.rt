@@ -205,7 +205,7 @@ pub enum OtherReason {
     StrayCharacter,
     /// More than blanks and comments follows its period, in its card or on a card of its own.
     #[error("more than comments follows its period")]
-    TextBehind,
+    TextAfterPeriod,
     /// It lacks its list, as `++VER` without SRELs, or `++MAC` without a name.
     #[error("what belongs in parentheses behind its word is missing")]
     NoName,

@@ -5,9 +5,9 @@
 #![tactic(auto)]
 
 mod errors;
+mod from_statement;
 mod gather;
 mod items;
-mod make;
 mod meaning;
 mod operands;
 mod read;

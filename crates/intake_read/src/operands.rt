@@ -7,28 +7,28 @@ use crate::items::{FaultyOperand, OperandFault, WideOperand};
 use std::alloc::{AllocError, Global};
 
 // The parts of a list between its blanks and commas, empty ones too.
-fn parts(alloc: Global, list: &[u8]) -> Result<Vec<&[u8]>, AllocError>
+fn split_list(alloc: Global, list: &[u8]) -> Result<Vec<&[u8]>, AllocError>
     ensures { IfOk result (λ found. map (λ part. part.now) found.items
         ≡ slice_split (λ b. b == 32 || b == 44) list.now) }
 {
     list.split(|b| *b == b' ' || *b == b',').collect(alloc)
 }
 
-// Whether the part is not empty.
-fn is_filled(part: &[u8]) -> bool
+// Whether the part is not empty. A function, because its contract tells its caller's proof which parts stay.
+fn is_nonempty(part: &[u8]) -> bool
     ensures { result ≡ nat_lt 0 (length part.now) }
 {
     !part.is_empty()
 }
 
-// The parts that are not empty.
-fn nonempty_parts<'a>(alloc: Global, parts: &[&'a [u8]]) -> Result<Vec<&'a [u8]>, AllocError>
+// The parts without the empty ones.
+fn without_empty_parts<'a>(alloc: Global, parts: &[&'a [u8]]) -> Result<Vec<&'a [u8]>, AllocError>
     ensures { IfOk result (λ found. map (λ part. part.now) found.items
         ≡ filter (λ part. nat_lt 0 (length part)) (map (λ part. part.now) parts.now)) }
 {
     let mut found = Vec::new(alloc);
     for part in parts {
-        if !is_filled(*part) {
+        if !is_nonempty(*part) {
             continue;
         }
         found.push(*part)?;
@@ -40,7 +40,7 @@ fn nonempty_parts<'a>(alloc: Global, parts: &[&'a [u8]]) -> Result<Vec<&'a [u8]>
 pub fn list_members(alloc: Global, list: &[u8]) -> Result<Vec<&[u8]>, AllocError>
     ensures { IfOk result (λ found. map (λ member. member.now) found.items ≡ members list.now) }
 {
-    nonempty_parts(alloc, &parts(alloc, list)?)
+    without_empty_parts(alloc, &split_list(alloc, list)?)
 }
 
 /// The members of a list in upper case. Returns `None` if there are none, or if one has a list of its own.

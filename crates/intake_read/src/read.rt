@@ -15,7 +15,7 @@ enum CardPart {
     /// The statement's own text.
     Own,
     /// The statement's period has been read, and it has no text.
-    Behind,
+    After,
     /// The text after the statement.
     Inline,
 }
@@ -127,7 +127,7 @@ impl WideReader {
                 if let Some(statement) = &mut self.whole {
                     statement.inline.push(*card)?;
                     if card.is_cut {
-                        statement.blame(OtherReason::LongLine);
+                        statement.note_fault(OtherReason::LongLine);
                     }
                 }
                 Ok(())
@@ -138,10 +138,10 @@ impl WideReader {
                 self.end_card(card);
                 self.end_own_text()
             }
-            CardPart::Before | CardPart::Behind => {
+            CardPart::Before | CardPart::After => {
                 self.scanner.scan_card(card)?;
                 self.end_card(card);
-                self.blame_text_after(card)
+                self.note_text_after(card)
             }
         }
     }
@@ -195,22 +195,22 @@ impl WideReader {
         self.part = if may_have_inline(self.scanner.pieces()) {
             CardPart::Inline
         } else {
-            CardPart::Behind
+            CardPart::After
         };
         self.whole = Some(self.take_statement()?);
         Ok(())
     }
 
-    // Blames the statement before for what the card has besides comments and blanks. Returns `NoStatement` if there is
+    // Notes a fault of the statement before, if the card has more than comments and blanks. Returns `NoStatement` if there is
     // no statement before.
-    fn blame_text_after(&mut self, card: &Card) -> Result<(), WideError> {
+    fn note_text_after(&mut self, card: &Card) -> Result<(), WideError> {
         let is_open = matches!(self.scanner.open(), Open::Parenthesis(_));
         let pieces = self.scanner.take_pieces();
         if pieces.is_empty() && !is_open {
             return Ok(());
         }
         match &mut self.whole {
-            Some(statement) => statement.blame(OtherReason::TextBehind),
+            Some(statement) => statement.note_fault(OtherReason::TextAfterPeriod),
             None => {
                 return Err(WideError::NoStatement {
                     place: card.place,

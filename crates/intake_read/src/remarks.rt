@@ -78,7 +78,7 @@ impl From<OtherReason> for RemarkReason {
             OtherReason::OpenParenthesis => RemarkReason::OpenParenthesis,
             OtherReason::StrayParenthesis => RemarkReason::StrayParenthesis,
             OtherReason::StrayCharacter => RemarkReason::StrayCharacter,
-            OtherReason::TextBehind => RemarkReason::TextBehind,
+            OtherReason::TextAfterPeriod => RemarkReason::TextAfterPeriod,
             OtherReason::LongLine => RemarkReason::LongLine,
             OtherReason::NoName => RemarkReason::Missing,
             OtherReason::Misplaced => RemarkReason::OutOfPlace,

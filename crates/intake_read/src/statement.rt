@@ -76,19 +76,19 @@ impl WideStatement {
             is_ended,
         } = begun;
         match (is_ended, is_open) {
-            (true, true) => statement.blame(OtherReason::TextBehind),
-            (false, true) => statement.blame(OtherReason::OpenParenthesis),
-            (false, false) => statement.blame(OtherReason::NoPeriod),
+            (true, true) => statement.note_fault(OtherReason::TextAfterPeriod),
+            (false, true) => statement.note_fault(OtherReason::OpenParenthesis),
+            (false, false) => statement.note_fault(OtherReason::NoPeriod),
             (true, false) => {}
         }
         if statement.name.is_empty() && WideWord::read(statement.word.as_slice()).needs_name() {
-            statement.blame(OtherReason::NoName);
+            statement.note_fault(OtherReason::NoName);
         }
         Ok(statement)
     }
 
     /// Notes what is wrong with it. Only the first fault counts.
-    pub(crate) fn blame(&mut self, fault: OtherReason) {
+    pub(crate) fn note_fault(&mut self, fault: OtherReason) {
         if self.fault.is_none() {
             self.fault = Some(fault);
         }
@@ -100,15 +100,15 @@ impl BegunStatement {
     fn add_piece(&mut self, piece: CardPiece) -> Result<(), AllocError> {
         let CardPiece { place, token } = piece;
         if self.is_ended {
-            self.statement.blame(OtherReason::TextBehind);
+            self.statement.note_fault(OtherReason::TextAfterPeriod);
             return Ok(());
         }
         match token {
             Token::Word(word) => self.add_word(place, word)?,
             Token::List(list) => self.add_list(list),
             Token::Period => self.is_ended = true,
-            Token::Closing => self.statement.blame(OtherReason::StrayParenthesis),
-            Token::Stray(_) => self.statement.blame(OtherReason::StrayCharacter),
+            Token::Closing => self.statement.note_fault(OtherReason::StrayParenthesis),
+            Token::Stray(_) => self.statement.note_fault(OtherReason::StrayCharacter),
         }
         Ok(())
     }
@@ -143,7 +143,7 @@ impl BegunStatement {
             self.set_name(list);
             return;
         }
-        self.statement.blame(OtherReason::StrayParenthesis);
+        self.statement.note_fault(OtherReason::StrayParenthesis);
     }
 
     // Makes the list after the statement's word its name, in upper case.

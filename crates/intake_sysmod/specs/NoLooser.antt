@@ -7,7 +7,7 @@ use Rattle.terms.specs.Beside.{Beside}
 use Rattle.intake_read.specs.declared.items.WideIf.{WideIf}
 use Rattle.intake_read.specs.declared.items.WideVer.{WideVer}
 use Rattle.intake_read.specs.declared.items.WideSysmod.{WideSysmod}
-use Rattle.intake_sysmod.specs.declared.ver_operands.Lists.{Lists}
+use Rattle.intake_sysmod.specs.declared.ver_operands.VerLists.{VerLists}
 use Rattle.intake_sysmod.specs.declared.ver_operands.VerOperands.{VerOperands}
 use Rattle.intake_read.specs.Stated.{text_in, AreSame}
 use Rattle.intake_read.specs.declared.items.WideElement.{WideElement}
@@ -32,7 +32,7 @@ pub record IsVer (stated : WideVer) (release : Text) (carried : Ver) : Type 0 wh
   pub ifs_are : Beside (λ _. IsIf) stated.ifs.items carried.ifs
 
 -- the lists of a ++VER as they are read
-pub record AreLists (stated : WideVer) (lists : Lists) : Type 0 where
+pub record AreLists (stated : WideVer) (lists : VerLists) : Type 0 where
   pub pre_is : AreSame stated.pre.items lists.pre
   pub req_is : AreSame stated.req.items lists.req
   pub sup_is : AreSame stated.sup.items lists.sup

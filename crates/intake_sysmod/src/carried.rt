@@ -5,7 +5,7 @@ ghost use Rattle.intake_sysmod.specs.NoLooser.{IsNoLooser};
 use crate::changes::add_elements;
 use crate::ids::read_id_or_remark;
 use crate::others::tell_other_statements;
-use crate::passing::{MOST_ELEMENTS, remark_passed_over};
+use crate::passing::{MOST_ELEMENTS, tell_passed_over};
 use crate::users::Users;
 use crate::vers::read_vers;
 use fields::spelling::kind_text;
@@ -26,7 +26,7 @@ fn subject_of(stated: &WideSysmod) -> Subject<'_> {
 
 // Remarks on the operands of the header, and on the statements that are carried nowhere. Returns whether the SYSMOD can
 // be carried without them.
-fn remark_on_header_and_others(
+fn tell_header_and_others(
     alloc: Global,
     options: &Options,
     remarks: &mut Remarks,
@@ -75,7 +75,7 @@ fn try_to_carry(
         IsNoLooser options.now.decide users.now stated.now sysmod × (sysmod.holds ≡ []))) }
 {
     let subject = subject_of(stated);
-    let good = remark_on_header_and_others(alloc, options, remarks, stated)?;
+    let good = tell_header_and_others(alloc, options, remarks, stated)?;
     let vers = read_vers(alloc, remarks, &subject, stated)?;
     let Some(id) = read_id_or_remark(alloc, remarks, &subject, b"", stated.id.as_slice())? else {
         return Ok(None);
@@ -88,7 +88,7 @@ fn try_to_carry(
     if !all || !good {
         return Ok(None);
     }
-    remark_passed_over(alloc, options, users, remarks, &subject, stated)?;
+    tell_passed_over(alloc, options, users, remarks, &subject, stated)?;
     if sysmod.changes.len() > MOST_ELEMENTS {
         remarks.tell_left_out(alloc, &subject, b"", RemarkReason::TooMany, b"")?;
         return Ok(None);
@@ -97,7 +97,7 @@ fn try_to_carry(
 }
 
 // Remarks that a SYSMOD is left out, and counts it if it has elements, NPRE or DELETE: these would forbid others.
-fn remark_left_out(
+fn tell_sysmod_left_out(
     alloc: Global,
     remarks: &mut Remarks,
     stated: &WideSysmod,
@@ -130,7 +130,7 @@ pub fn carry_sysmod(
     let mut sysmod_remarks = Remarks::new(alloc);
     let Some(sysmod) = try_to_carry(alloc, options, users, &mut sysmod_remarks, stated)? else {
         remarks.append_causes(alloc, sysmod_remarks)?;
-        remark_left_out(alloc, remarks, stated)?;
+        tell_sysmod_left_out(alloc, remarks, stated)?;
         return Ok(None);
     };
     if sysmod_remarks.stand_ins > 0 {

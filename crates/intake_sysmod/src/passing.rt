@@ -45,7 +45,7 @@ pub(crate) fn is_passed_over(
 }
 
 /// Remarks how many elements of the SYSMOD are passed over, if any are.
-pub(crate) fn remark_passed_over(
+pub(crate) fn tell_passed_over(
     alloc: Global,
     options: &Options,
     users: &Users<'_>,

@@ -14,7 +14,7 @@ use terms::Kind;
 
 /// The lists of a `++VER`.
 #[derive(Drop)]
-pub(crate) struct Lists {
+pub(crate) struct VerLists {
     pub pre: IdList,
     pub req: IdList,
     pub sup: IdList,
@@ -26,7 +26,7 @@ pub(crate) struct Lists {
 #[derive(Drop)]
 pub(crate) struct VerOperands {
     pub fmid: Option<Id>,
-    pub lists: Lists,
+    pub lists: VerLists,
     pub ifs: Vec<IfReq>,
 }
 
@@ -36,7 +36,7 @@ fn read_lists(
     remarks: &mut Remarks,
     subject: &Subject<'_>,
     stated: &WideVer,
-) -> Result<Option<Lists>, AllocError>
+) -> Result<Option<VerLists>, AllocError>
     ensures { IfOk result (λ found. IfSome found (AreLists stated.now)) }
 {
     let Some(pre) = read_ids_or_remark(alloc, remarks, subject, b"PRE", stated.pre.as_slice())?
@@ -65,7 +65,7 @@ fn read_lists(
     else {
         return Ok(None);
     };
-    Ok(Some(Lists {
+    Ok(Some(VerLists {
         pre,
         req,
         sup,
@@ -108,8 +108,8 @@ pub(crate) fn read_operands(
         id: own,
     };
     if !stated.faulty.is_empty() {
-        let odd = stated.faulty.as_slice();
-        tell_faulty_operands(alloc, remarks, &subject, odd, Deed::LeftOut)?;
+        let faulty = stated.faulty.as_slice();
+        tell_faulty_operands(alloc, remarks, &subject, faulty, Deed::LeftOut)?;
         return Ok(None);
     }
     if !stated.version.is_empty() {
@@ -138,7 +138,7 @@ fn check_operands(
     subject: &Subject<'_>,
     kind: Kind,
     fmid: &Option<Id>,
-    lists: &Lists,
+    lists: &VerLists,
 ) -> Result<bool, AllocError> {
     let own = subject.id;
     if let Some(operand) = operand_with_own_id(own, fmid, lists) {
@@ -164,7 +164,11 @@ fn check_operands(
 }
 
 // The name of the first operand that names the SYSMOD itself, or `None` if there is none.
-fn operand_with_own_id(own_id: &[u8], fmid: &Option<Id>, lists: &Lists) -> Option<&'static [u8]> {
+fn operand_with_own_id(
+    own_id: &[u8],
+    fmid: &Option<Id>,
+    lists: &VerLists,
+) -> Option<&'static [u8]> {
     if let Some(fmid) = fmid {
         if fmid.as_bytes() == own_id {
             return Some(b"FMID");

@@ -5,22 +5,35 @@ use std::alloc::{AllocError, Global};
 use std::process::Abort;
 use std::test::Fail;
 
+/// A blank in EBCDIC.
+const EBCDIC_BLANK: u8 = 0x40;
+
 /// `++PTF(UA00001).` in EBCDIC.
 const PTF: &[u8] = b"\x4E\x4E\xD7\xE3\xC6\x4D\xE4\xC1\xF0\xF0\xF0\xF0\xF1\x5D\x4B";
 
 /// `SET BDY(A$#@).` in EBCDIC.
 const SET: &[u8] = b"\xE2\xC5\xE3\x40\xC2\xC4\xE8\x4D\xC1\x5B\x7B\x7C\x5D\x4B";
 
-// A card with this text at its beginning.
-fn card_text(text: &[u8]) -> [u8; 80] {
-    let mut card = [b' '; 80];
-    for (column, byte) in card.iter_mut().zip(text) {
+// 80 columns with this text at the beginning, and this blank after it.
+fn padded(text: &[u8], blank: u8) -> [u8; 80] {
+    let mut columns = [blank; 80];
+    for (column, byte) in columns.iter_mut().zip(text) {
         *column = *byte;
     }
-    card
+    columns
 }
 
-// The texts of cards, one behind the other.
+// A card with this text at its beginning.
+fn card_text(text: &[u8]) -> [u8; 80] {
+    padded(text, b' ')
+}
+
+// A record of EBCDIC with this text at its beginning.
+fn ebcdic_record(text: &[u8]) -> [u8; 80] {
+    padded(text, EBCDIC_BLANK)
+}
+
+// The texts of cards, one after the other.
 fn texts(alloc: Global, cards: &Cards) -> Result<Vec<u8>, AllocError> {
     let mut all = Vec::new(alloc);
     for card in cards.cards.as_slice() {
@@ -38,20 +51,11 @@ fn records(alloc: Global, lines: &[&[u8]]) -> Result<Vec<u8>, AllocError> {
     Ok(all)
 }
 
-// The cards have these texts.
+// Fails unless the cards have these texts.
 fn check_texts(rt: &impl Abort, alloc: Global, cards: &Cards, lines: &[&[u8]]) -> Result<(), Fail> {
     let wanted = records(alloc, lines)?;
     assert_eq!(rt; texts(alloc, cards)?.as_slice(), wanted.as_slice());
     Ok(())
-}
-
-// A record of EBCDIC with this text at its beginning.
-fn ebcdic_record(text: &[u8]) -> [u8; 80] {
-    let mut record = [0x40; 80];
-    for (column, byte) in record.iter_mut().zip(text) {
-        *column = *byte;
-    }
-    record
 }
 
 #[test]
@@ -122,7 +126,7 @@ fn a_code_that_is_asked_for_is_taken(rt: HostRuntime) -> Result<(), Fail> {
     check_texts(&rt, rt.alloc(), &data_set, &[b"\xDD\xA8\xAC[]^"])
 }
 
-// A line of so many of this byte.
+// So many of this byte, and the tail after them.
 fn line_of(alloc: Global, byte: u8, len: usize, tail: &[u8]) -> Result<Vec<u8>, AllocError> {
     let mut line = Vec::new(alloc);
     for _ in 0..len {
@@ -158,7 +162,7 @@ fn a_line_longer_than_a_card_is_told(rt: HostRuntime) -> Result<(), Fail> {
     let note = cards.notes.first().ok_or("no note")?;
     assert_eq!(rt;
         (note.reason, note.first.card, note.cards),
-        (CardNoteReason::BlanksBehind80, 1, 1)
+        (CardNoteReason::BlanksAfter80, 1, 1)
     );
     let short = line_of(rt.alloc(), b'A', 163, b"")?;
     let refused = read_cards(rt.alloc(), 0, short.as_slice(), Some(Layout::Records), None).err();
@@ -167,7 +171,7 @@ fn a_line_longer_than_a_card_is_told(rt: HostRuntime) -> Result<(), Fail> {
 }
 
 #[test]
-fn odd_characters_are_noted(rt: HostRuntime) -> Result<(), Fail> {
+fn unprintable_characters_are_noted(rt: HostRuntime) -> Result<(), Fail> {
     let bytes = b"\xEF\xBB\xBF++PTF(UA00001).\n\tX\n\x00\t\n\xC3\x9C\n";
     let cards = read_cards(rt.alloc(), 0, bytes, None, None)?;
     let mut found = Vec::new(rt.alloc());

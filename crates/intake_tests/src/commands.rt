@@ -119,7 +119,7 @@ line 1: APPLY GROUPEXTEND: carried otherwise: EXCLUDE names the APARs or USERMOD
 const LIST: &[u8] =
     b"id,kind,sources\nUA00001,PTF,\"RSU2401 HIPER\"\nAA00001,APAR,\nAA00002,APAR,RSU2402\n\nUM00001,USERMOD,\n";
 
-// What comes of a command file: the records without the blanks at their ends, and none where there is no file; then
+// What comes of a command file: the records without the blanks at their ends, or none if there is no file, and then
 // the remarks.
 fn outcome(alloc: Global, text: &[u8], known: &Option<Vec<KnownSysmod>>) -> Result<String, Fail> {
     let found = read_cards(alloc, 0, text, Some(Layout::Text), None)?;
@@ -142,7 +142,7 @@ fn outcome(alloc: Global, text: &[u8], known: &Option<Vec<KnownSysmod>>) -> Resu
     Ok(String::from_utf8_lossy(alloc, &lines)?)
 }
 
-// A failure, unless these lines come of these cards. There is a bar between two lines, and between two cards.
+// Fails unless these lines come of these cards. There is a bar between two lines, and between two cards.
 fn check_case(
     alloc: Global,
     known: &Option<Vec<KnownSysmod>>,
@@ -156,7 +156,7 @@ fn check_case(
     compare(cards, got.as_str().trim_end(), wanted)
 }
 
-// Each case is a command file, by its cards, and behind an arrow the lines that come of it.
+// Each case is a command file, by its cards, and after an arrow the lines that come of it.
 fn check(alloc: Global, known: &Option<Vec<KnownSysmod>>, cases: &str) -> Result<(), Fail> {
     for line in cases.lines() {
         let (cards, lines) = line.split_once(" => ").ok_or("no arrow in a case")?;
@@ -166,7 +166,7 @@ fn check(alloc: Global, known: &Option<Vec<KnownSysmod>>, cases: &str) -> Result
 }
 
 #[test]
-fn carries_drops_or_names(rt: HostRuntime) -> Result<(), Fail> {
+fn commands_are_carried_dropped_or_named(rt: HostRuntime) -> Result<(), Fail> {
     check_case(rt.alloc(), &None, "/* nothing */", "")?;
     for cases in [AS_THEY_STAND, COMMENTED, SPELLED_OUT, DROPPED, NAMED] {
         check(rt.alloc(), &None, cases)?;
@@ -198,7 +198,7 @@ fn a_line_of_the_list_that_is_not_in_form_is_named(rt: HostRuntime) -> Result<()
 #[test]
 fn a_long_line_is_refused_unless_it_is_a_comment(rt: HostRuntime) -> Result<(), Fail> {
     let long = "                                                                               X";
-    for (before, behind, wanted) in [
+    for (before, after, wanted) in [
         (
             "LIST.",
             "",
@@ -207,7 +207,7 @@ fn a_long_line_is_refused_unless_it_is_a_comment(rt: HostRuntime) -> Result<(), 
         ("/*", " */", "LIST."),
     ] {
         let alloc = rt.alloc();
-        let text = format!(in alloc; "{before}{long}{behind}\nLIST.\n")?;
+        let text = format!(in alloc; "{before}{long}{after}\nLIST.\n")?;
         let got = outcome(alloc, text.as_bytes(), &None)?;
         let lines = file_of(alloc, wanted)?;
         compare(

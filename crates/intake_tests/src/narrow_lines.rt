@@ -9,8 +9,12 @@ use mcs::{read_hold, read_ptfin};
 use std::alloc::{AllocError, Global};
 use std::test::Fail;
 
-// The statements of a file.
-fn wide(alloc: Global, text: &[u8], held: &mut OutsideHolds) -> Result<Vec<WideFile>, Fail> {
+// The statements of a file of these cards, as a list of only that file.
+fn read_one_file(
+    alloc: Global,
+    text: &[u8],
+    held: &mut OutsideHolds,
+) -> Result<Vec<WideFile>, Fail> {
     let mut cards = CardReader::open(0, text, None, None)?;
     let mut notes = Vec::new(alloc);
     let file = read_statements(alloc, &mut cards, &mut notes, held)?;
@@ -20,7 +24,7 @@ fn wide(alloc: Global, text: &[u8], held: &mut OutsideHolds) -> Result<Vec<WideF
 }
 
 // Options without members, and without stand-ins.
-fn options(alloc: Global) -> Options {
+fn plain_options(alloc: Global) -> Options {
     Options {
         decide: false,
         syslibs: Vec::new(alloc),
@@ -29,7 +33,7 @@ fn options(alloc: Global) -> Options {
 }
 
 // Appends the cards as lines without the blanks at their ends.
-fn put_cards(lines: &mut Vec<u8>, cards: &[u8]) -> Result<(), AllocError> {
+fn append_cards(lines: &mut Vec<u8>, cards: &[u8]) -> Result<(), AllocError> {
     for card in cards.chunks(80) {
         let solid = card
             .iter()
@@ -42,7 +46,11 @@ fn put_cards(lines: &mut Vec<u8>, cards: &[u8]) -> Result<(), AllocError> {
 }
 
 // Appends the lines of the remarks.
-fn put_remarks(alloc: Global, lines: &mut Vec<u8>, remarks: &RemarkList) -> Result<(), AllocError> {
+fn append_remarks(
+    alloc: Global,
+    lines: &mut Vec<u8>,
+    remarks: &RemarkList,
+) -> Result<(), AllocError> {
     for place in 0..remarks.len() {
         let Some(remark) = remarks.get(place) else {
             continue;
@@ -57,8 +65,8 @@ fn put_remarks(alloc: Global, lines: &mut Vec<u8>, remarks: &RemarkList) -> Resu
 }
 
 // What was carried, as lines of PTFIN, `==`, lines of the hold file, and a line for each remark, which begins with `!`
-// where it matters. It is read back first.
-fn lines(alloc: Global, narrowed: &Narrowed) -> Result<Vec<u8>, Fail> {
+// if it matters. It is read back first.
+fn carried_lines(alloc: Global, narrowed: &Narrowed) -> Result<Vec<u8>, Fail> {
     let items = narrowed.items.as_slice();
     let hold_items = narrowed.hold_items.as_slice();
     let cards = ptfin(alloc, items)?;
@@ -72,23 +80,23 @@ fn lines(alloc: Global, narrowed: &Narrowed) -> Result<Vec<u8>, Fail> {
     if !are_same_hold_items(hold_items, holds_again.as_slice()) {
         lines.extend_from_slice(b"the hold file differs\n")?;
     }
-    put_cards(&mut lines, cards.as_slice())?;
+    append_cards(&mut lines, cards.as_slice())?;
     lines.extend_from_slice(b"==\n")?;
-    put_cards(&mut lines, holds.as_slice())?;
-    put_remarks(alloc, &mut lines, &narrowed.remarks)?;
+    append_cards(&mut lines, holds.as_slice())?;
+    append_remarks(alloc, &mut lines, &narrowed.remarks)?;
     Ok(lines)
 }
 
 // What comes of a file.
 fn outcome(alloc: Global, text: &[u8]) -> Result<String, Fail> {
     let mut held = OutsideHolds::new(alloc);
-    let files = wide(alloc, text, &mut held)?;
-    let lines = match narrow(alloc, files.as_slice(), held, options(alloc)) {
-        Ok(narrowed) => lines(alloc, &narrowed)?,
+    let files = read_one_file(alloc, text, &mut held)?;
+    let lines = match narrow(alloc, files.as_slice(), held, plain_options(alloc)) {
+        Ok(narrowed) => carried_lines(alloc, &narrowed)?,
         Err(NarrowError::Refused(remarks)) => {
             let mut lines = Vec::new(alloc);
             lines.extend_from_slice(b"refused\n")?;
-            put_remarks(alloc, &mut lines, &remarks)?;
+            append_remarks(alloc, &mut lines, &remarks)?;
             lines
         }
         Err(NarrowError::Memory) => return Err("out of memory".into()),
@@ -96,7 +104,7 @@ fn outcome(alloc: Global, text: &[u8]) -> Result<String, Fail> {
     Ok(String::from_utf8(lines)?)
 }
 
-// The first line of two texts that differs, of each. Behind the end of one stands no line.
+// The first lines in which the texts differ. After the end of a text there is `None`.
 fn first_difference<'a>(got: &'a str, wanted: &'a str) -> (Option<&'a str>, Option<&'a str>) {
     let mut wanted_lines = wanted.split('\n');
     for line in got.split('\n') {
@@ -108,7 +116,7 @@ fn first_difference<'a>(got: &'a str, wanted: &'a str) -> (Option<&'a str>, Opti
     (None, wanted_lines.next())
 }
 
-/// A failure with this name and the first lines that differ, where the text that was got is not what was wanted.
+/// Fails with this name and the first lines that differ, if the text that was got is not the wanted one.
 pub(crate) fn compare(name: &str, got: &str, wanted: &str) -> Result<(), Fail> {
     if got == wanted {
         return Ok(());
@@ -117,7 +125,7 @@ pub(crate) fn compare(name: &str, got: &str, wanted: &str) -> Result<(), Fail> {
     Err(Fail::new(format_args!("{name}: got {got:?}, wanted {wanted:?}")))
 }
 
-/// A failure, unless these lines come of the file.
+/// Fails unless these lines come of the file.
 pub(crate) fn check(alloc: Global, text: &[u8], wanted: &str) -> Result<(), Fail> {
     let got = outcome(alloc, text)?;
     compare("what comes of the file", got.as_str(), wanted)

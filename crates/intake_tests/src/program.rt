@@ -52,7 +52,7 @@ const FILES: &[(&str, &[u8])] = &[
     ),
 ];
 
-/// The words behind the program's name, with blanks between; the status, what is left in the folder, and what is told.
+/// The words after the program's name, with blanks between; the status, what is left in the folder, and what is told.
 const CASES: &str = "\
 --out d ptf => 0 ptfin hold remarks
 --out d ptf hold => 0 ptfin hold remarks
@@ -85,7 +85,7 @@ ptf => 16 shown
 --out d --cntl cntl ptf => 16 shown
 ";
 
-/// Surroundings in memory.
+/// A host in memory: what is left in the folder, what is printed, and what is told on standard error.
 #[derive(Drop)]
 struct Memory {
     alloc: Global,
@@ -95,6 +95,7 @@ struct Memory {
 }
 
 impl Memory {
+    // A host that nothing was written to.
     fn new(alloc: Global) -> Memory {
         Memory {
             alloc,
@@ -165,6 +166,7 @@ impl IntakeHost for Memory {
     }
 }
 
+// The words of a command line: the program's name, and those of the line.
 fn words(alloc: Global, line: &str) -> Result<Vec<Vec<u8>>, Fail> {
     let mut words = Vec::new(alloc);
     words.push(Vec::from_slice(alloc, b"smpe-intake")?)?;

@@ -1,6 +1,6 @@
 //! Statements, and what is read of each.
 
-use crate::wide_spelled::{items, read_whole, spelled_file, with_notes};
+use crate::wide_spelled::{Part, items, read_whole, spelled_file};
 use std::alloc::{AllocError, Global};
 use std::test::Fail;
 
@@ -127,12 +127,12 @@ pub(crate) fn file_of(alloc: Global, lines: &str) -> Result<Vec<u8>, AllocError>
     Ok(bytes)
 }
 
-// Each case is a file, by lines with a bar between two, and behind an arrow its items.
-fn check(alloc: Global, cases: &str, has_notes: bool) -> Result<(), Fail> {
+// Each case is a file, by lines with a bar between two, and after an arrow what this part of it is spelled as.
+fn check(alloc: Global, cases: &str, part: Part) -> Result<(), Fail> {
     for line in cases.lines() {
         let (lines, wanted) = line.split_once(" => ").ok_or("no arrow in a case")?;
         let bytes = file_of(alloc, lines)?;
-        let found = spelled_file(alloc, bytes.as_slice(), None, None, has_notes)?;
+        let found = spelled_file(alloc, bytes.as_slice(), part)?;
         let got = found.as_text();
         if got != wanted {
             return Err(Fail::new(format_args!("{lines}: got {got}, wanted {wanted}")));
@@ -144,7 +144,7 @@ fn check(alloc: Global, cases: &str, has_notes: bool) -> Result<(), Fail> {
 #[test]
 fn statements_are_read_with_their_operands(rt: HostRuntime) -> Result<(), Fail> {
     for cases in [HEADERS, VERS, IFS, HOLDS, ASSIGNS, ELEMENTS, OTHERS] {
-        check(rt.alloc(), cases, false)?;
+        check(rt.alloc(), cases, Part::Items)?;
     }
     Ok(())
 }
@@ -159,17 +159,17 @@ fn a_file_of_comments_has_no_items(rt: HostRuntime) -> Result<(), Fail> {
 
 #[test]
 fn a_faulty_statement_is_told_in_its_sysmod(rt: HostRuntime) -> Result<(), Fail> {
-    check(rt.alloc(), FAULTY, false)
+    check(rt.alloc(), FAULTY, Part::Items)
 }
 
 #[test]
 fn a_faulty_statement_outside_sysmods_refuses_the_file(rt: HostRuntime) -> Result<(), Fail> {
-    check(rt.alloc(), REFUSED, false)
+    check(rt.alloc(), REFUSED, Part::Items)
 }
 
 #[test]
 fn a_faulty_statement_beside_sysmods_is_kept_beside_them(rt: HostRuntime) -> Result<(), Fail> {
-    check(rt.alloc(), AT_FAULT_BESIDE, false)
+    check(rt.alloc(), AT_FAULT_BESIDE, Part::Items)
 }
 
 /// Files, and their items with what is noted.
@@ -182,10 +182,10 @@ const NOTED: &str = "\
 
 #[test]
 fn lower_case_and_commented_statements_are_noted(rt: HostRuntime) -> Result<(), Fail> {
-    check(rt.alloc(), NOTED, true)
+    check(rt.alloc(), NOTED, Part::ItemsAndNotes)
 }
 
-/// Cards with a text, a number, a number alone, a number with blanks, and a text behind column 72.
+/// Cards with a text, a number, a number alone, a number with blanks, and a text after column 72.
 const NUMBERED: [&[u8]; 5] = [
     b"++PTF(A) DESC(IS IN COLUMNS 1 TO 72)                                    UA000001",
     b".                                                                       00000002",
@@ -195,19 +195,19 @@ const NUMBERED: [&[u8]; 5] = [
 ];
 
 #[test]
-fn texts_behind_column_72_are_noted(rt: HostRuntime) -> Result<(), Fail> {
+fn texts_after_column_72_are_noted(rt: HostRuntime) -> Result<(), Fail> {
     let mut records = Vec::new(rt.alloc());
     for card in NUMBERED {
         records.extend_from_slice(card)?;
     }
-    let found = with_notes(rt.alloc(), records.as_slice())?;
+    let found = spelled_file(rt.alloc(), records.as_slice(), Part::ItemsAndNotes)?;
     let wanted = b"; PTF A -DESC(IS IN COLUMNS 1 TO 72); MOD M +1; behind 72 1 x 1";
     assert_eq!(rt; found.text.as_slice(), wanted.as_slice());
     Ok(())
 }
 
-// So many parentheses in one another.
-fn deep(alloc: Global, depth: usize) -> Result<Vec<u8>, AllocError> {
+// A hold whose COMMENT has so many parentheses in one another, and a second hold.
+fn nested_parentheses(alloc: Global, depth: usize) -> Result<Vec<u8>, AllocError> {
     let mut text = Vec::new(alloc);
     text.extend_from_slice(b"++HOLD(A) USER COMMENT\n")?;
     for _ in 0..depth {
@@ -222,8 +222,8 @@ fn deep(alloc: Global, depth: usize) -> Result<Vec<u8>, AllocError> {
 
 #[test]
 fn parentheses_may_be_deep(rt: HostRuntime) -> Result<(), Fail> {
-    let text = deep(rt.alloc(), 5_000)?;
-    let read = read_whole(rt.alloc(), text.as_slice(), None, None)?;
+    let text = nested_parentheses(rt.alloc(), 5_000)?;
+    let read = read_whole(rt.alloc(), text.as_slice())?;
     assert_eq!(rt; read.holds.len(), 2);
     let comment = match read.holds.first() {
         Some(hold) => hold.comment.as_ref().map_or(0, |text| text.len()),

@@ -1,6 +1,6 @@
 //! The items of a wide file as text.
 
-use intake_cards::{CardReader, Code, Layout};
+use intake_cards::CardReader;
 use intake_read::{
     FaultyOperand, NoteReason, OperandFault, OtherReason, WideAssign, WideElement, WideError,
     WideFile, WideHold, WideHoldKind, WideIf, WideOperand, WideOther, WideReader, WideRelease,
@@ -10,30 +10,32 @@ use std::alloc::{AllocError, AllocFailed, Global};
 use terms::Kind;
 use thiserror::Error;
 
-/// A text that is written bit by bit.
+/// The items of a file as one text, to which they are appended one after the other.
 #[derive(Drop)]
 pub(crate) struct Spelled {
     pub text: Vec<u8>,
 }
 
 impl Spelled {
+    /// An empty text.
     pub(crate) fn new(alloc: Global) -> Spelled {
         Spelled {
             text: Vec::new(alloc),
         }
     }
 
-    /// It as text.
+    /// The text as a `str`.
     pub(crate) fn as_text(&self) -> &str {
         std::str::from_utf8(self.text.as_slice()).unwrap_or("no text")
     }
 
-    pub(crate) fn put(&mut self, text: &[u8]) -> Result<(), AllocError> {
+    /// Appends the text.
+    pub(crate) fn append(&mut self, text: &[u8]) -> Result<(), AllocError> {
         self.text.extend_from_slice(text)
     }
 
-    /// A number below 1,000.
-    pub(crate) fn number(&mut self, number: usize) -> Result<(), AllocError> {
+    /// Appends a number below 1,000.
+    pub(crate) fn append_number(&mut self, number: usize) -> Result<(), AllocError> {
         if number >= 100 {
             self.text.push(b'0' + (number / 100 % 10) as u8)?;
         }
@@ -44,90 +46,98 @@ impl Spelled {
         Ok(())
     }
 
-    fn words(&mut self, name: &[u8], words: &[Vec<u8>]) -> Result<(), AllocError> {
+    // Appends a list with its name, unless it is empty.
+    fn append_list(&mut self, name: &[u8], words: &[Vec<u8>]) -> Result<(), AllocError> {
         if words.is_empty() {
             return Ok(());
         }
-        self.put(b" ")?;
-        self.put(name)?;
+        self.append(b" ")?;
+        self.append(name)?;
         for word in words {
-            self.put(b" ")?;
-            self.put(word.as_slice())?;
+            self.append(b" ")?;
+            self.append(word.as_slice())?;
         }
         Ok(())
     }
 
-    fn value(&mut self, name: &[u8], value: &Option<Vec<u8>>) -> Result<(), AllocError> {
+    // Appends a value with its name, if there is one.
+    fn append_value(&mut self, name: &[u8], value: &Option<Vec<u8>>) -> Result<(), AllocError> {
         let Some(text) = value else {
             return Ok(());
         };
-        self.put(b" ")?;
-        self.put(name)?;
-        self.put(b"(")?;
-        self.put(text.as_slice())?;
-        self.put(b")")
+        self.append(b" ")?;
+        self.append(name)?;
+        self.append(b"(")?;
+        self.append(text.as_slice())?;
+        self.append(b")")
     }
 
-    fn operand(&mut self, mark: &[u8], operand: &WideOperand) -> Result<(), AllocError> {
-        self.put(b" ")?;
-        self.put(mark)?;
-        self.put(operand.name.as_slice())?;
+    // Appends an operand as it stands, after a mark.
+    fn append_operand(&mut self, mark: &[u8], operand: &WideOperand) -> Result<(), AllocError> {
+        self.append(b" ")?;
+        self.append(mark)?;
+        self.append(operand.name.as_slice())?;
         if let Some(value) = &operand.value {
-            self.put(b"(")?;
-            self.put(value.as_slice())?;
-            self.put(b")")?;
+            self.append(b"(")?;
+            self.append(value.as_slice())?;
+            self.append(b")")?;
         }
         Ok(())
     }
 
-    fn operands(&mut self, mark: &[u8], operands: &[WideOperand]) -> Result<(), AllocError> {
+    // Appends each of the operands as it stands, after the mark.
+    fn append_operands(&mut self, mark: &[u8], operands: &[WideOperand]) -> Result<(), AllocError> {
         for operand in operands {
-            self.operand(mark, operand)?;
+            self.append_operand(mark, operand)?;
         }
         Ok(())
     }
 
-    fn odd(&mut self, odd: &[FaultyOperand]) -> Result<(), AllocError> {
-        for one in odd {
-            let mark = match one.reason {
+    // Appends each of the faulty operands, after a mark for its fault.
+    fn append_faulty(&mut self, faulty: &[FaultyOperand]) -> Result<(), AllocError> {
+        for entry in faulty {
+            let mark = match entry.reason {
                 OperandFault::Unknown => b"unknown:".as_slice(),
                 OperandFault::Repeated => b"again:".as_slice(),
                 OperandFault::BadValue => b"bad:".as_slice(),
             };
-            self.operand(mark, &one.operand)?;
+            self.append_operand(mark, &entry.operand)?;
         }
         Ok(())
     }
 
-    fn condition(&mut self, condition: &WideIf) -> Result<(), AllocError> {
-        self.put(b"; IF")?;
-        self.value(b"FMID", &condition.fmid)?;
+    // Appends an `++IF`.
+    fn append_if(&mut self, condition: &WideIf) -> Result<(), AllocError> {
+        self.append(b"; IF")?;
+        self.append_value(b"FMID", &condition.fmid)?;
         if condition.then {
-            self.put(b" THEN")?;
+            self.append(b" THEN")?;
         }
-        self.words(b"REQ", condition.req.as_slice())?;
-        self.odd(condition.faulty.as_slice())
+        self.append_list(b"REQ", condition.req.as_slice())?;
+        self.append_faulty(condition.faulty.as_slice())
     }
 
-    fn ver(&mut self, ver: &WideVer) -> Result<(), AllocError> {
-        self.put(b"; VER")?;
-        self.words(b"SREL", ver.srels.as_slice())?;
-        self.value(b"FMID", &ver.fmid)?;
-        self.words(b"PRE", ver.pre.as_slice())?;
-        self.words(b"REQ", ver.req.as_slice())?;
-        self.words(b"SUP", ver.sup.as_slice())?;
-        self.words(b"NPRE", ver.npre.as_slice())?;
-        self.words(b"DELETE", ver.delete.as_slice())?;
-        self.words(b"VERSION", ver.version.as_slice())?;
-        self.odd(ver.faulty.as_slice())?;
+    // Appends a `++VER` and its `++IF`s.
+    fn append_ver(&mut self, ver: &WideVer) -> Result<(), AllocError> {
+        self.append(b"; VER")?;
+        self.append_list(b"SREL", ver.srels.as_slice())?;
+        self.append_value(b"FMID", &ver.fmid)?;
+        self.append_list(b"PRE", ver.pre.as_slice())?;
+        self.append_list(b"REQ", ver.req.as_slice())?;
+        self.append_list(b"SUP", ver.sup.as_slice())?;
+        self.append_list(b"NPRE", ver.npre.as_slice())?;
+        self.append_list(b"DELETE", ver.delete.as_slice())?;
+        self.append_list(b"VERSION", ver.version.as_slice())?;
+        self.append_faulty(ver.faulty.as_slice())?;
         for condition in ver.ifs.as_slice() {
-            self.condition(condition)?;
+            self.append_if(condition)?;
         }
         Ok(())
     }
 
-    fn hold_kind(&mut self, kind: Option<WideHoldKind>) -> Result<(), AllocError> {
-        self.put(match kind {
+    // Appends the kind of a hold or a release, if it has one.
+    fn append_hold_kind(&mut self, kind: Option<WideHoldKind>) -> Result<(), AllocError> {
+        self.append(match kind {
             Some(WideHoldKind::Error) => b" ERROR",
             Some(WideHoldKind::System) => b" SYSTEM",
             Some(WideHoldKind::User) => b" USER",
@@ -136,124 +146,132 @@ impl Spelled {
         })
     }
 
-    fn hold(&mut self, hold: &WideHold) -> Result<(), AllocError> {
-        self.put(b"; HOLD ")?;
-        self.put(hold.id.as_slice())?;
-        self.hold_kind(hold.kind)?;
-        self.value(b"REASON", &hold.reason)?;
-        self.value(b"FMID", &hold.fmid)?;
-        self.value(b"CLASS", &hold.class)?;
-        self.value(b"DATE", &hold.date)?;
-        self.value(b"COMMENT", &hold.comment)?;
-        self.operands(b"-", hold.dropped.as_slice())?;
-        self.odd(hold.faulty.as_slice())
+    // Appends a `++HOLD`.
+    fn append_hold(&mut self, hold: &WideHold) -> Result<(), AllocError> {
+        self.append(b"; HOLD ")?;
+        self.append(hold.id.as_slice())?;
+        self.append_hold_kind(hold.kind)?;
+        self.append_value(b"REASON", &hold.reason)?;
+        self.append_value(b"FMID", &hold.fmid)?;
+        self.append_value(b"CLASS", &hold.class)?;
+        self.append_value(b"DATE", &hold.date)?;
+        self.append_value(b"COMMENT", &hold.comment)?;
+        self.append_operands(b"-", hold.dropped.as_slice())?;
+        self.append_faulty(hold.faulty.as_slice())
     }
 
-    fn release(&mut self, release: &WideRelease) -> Result<(), AllocError> {
-        self.put(b"; RELEASE ")?;
-        self.put(release.id.as_slice())?;
-        self.hold_kind(release.kind)?;
-        self.value(b"REASON", &release.reason)?;
-        self.value(b"FMID", &release.fmid)?;
-        self.operands(b"-", release.dropped.as_slice())?;
-        self.odd(release.faulty.as_slice())
+    // Appends a `++RELEASE`.
+    fn append_release(&mut self, release: &WideRelease) -> Result<(), AllocError> {
+        self.append(b"; RELEASE ")?;
+        self.append(release.id.as_slice())?;
+        self.append_hold_kind(release.kind)?;
+        self.append_value(b"REASON", &release.reason)?;
+        self.append_value(b"FMID", &release.fmid)?;
+        self.append_operands(b"-", release.dropped.as_slice())?;
+        self.append_faulty(release.faulty.as_slice())
     }
 
-    fn assign(&mut self, assign: &WideAssign) -> Result<(), AllocError> {
-        self.put(b"; ASSIGN")?;
-        self.value(b"SOURCEID", &assign.source)?;
-        self.words(b"TO", assign.to.as_slice())?;
-        self.odd(assign.faulty.as_slice())
+    // Appends an `++ASSIGN`.
+    fn append_assign(&mut self, assign: &WideAssign) -> Result<(), AllocError> {
+        self.append(b"; ASSIGN")?;
+        self.append_value(b"SOURCEID", &assign.source)?;
+        self.append_list(b"TO", assign.to.as_slice())?;
+        self.append_faulty(assign.faulty.as_slice())
     }
 
-    fn element(&mut self, element: &WideElement) -> Result<(), AllocError> {
-        self.put(b"; ")?;
-        self.put(element.word.as_slice())?;
-        self.put(b" ")?;
-        self.put(element.name.as_slice())?;
-        self.value(b"DISTLIB", &element.distlib)?;
-        self.value(b"SYSLIB", &element.syslib)?;
-        self.value(b"RELFILE", &element.relfile)?;
-        self.operands(b"in ", element.libraries.as_slice())?;
-        self.operands(b"", element.operands.as_slice())?;
-        self.odd(element.faulty.as_slice())?;
-        self.put(b" +")?;
-        self.number(element.inline.len())
+    // Appends a statement for an element, and how many cards of text it has.
+    fn append_element(&mut self, element: &WideElement) -> Result<(), AllocError> {
+        self.append(b"; ")?;
+        self.append(element.word.as_slice())?;
+        self.append(b" ")?;
+        self.append(element.name.as_slice())?;
+        self.append_value(b"DISTLIB", &element.distlib)?;
+        self.append_value(b"SYSLIB", &element.syslib)?;
+        self.append_value(b"RELFILE", &element.relfile)?;
+        self.append_operands(b"in ", element.libraries.as_slice())?;
+        self.append_operands(b"", element.operands.as_slice())?;
+        self.append_faulty(element.faulty.as_slice())?;
+        self.append(b" +")?;
+        self.append_number(element.inline.len())
     }
 
-    fn other(&mut self, other: &WideOther) -> Result<(), AllocError> {
-        self.put(b"; ")?;
-        self.put(reason_text(other.reason))?;
-        self.put(b": ")?;
-        self.put(other.word.as_slice())?;
-        self.put(b" ")?;
-        self.put(other.name.as_slice())?;
-        self.operands(b"", other.operands.as_slice())?;
-        self.put(b" +")?;
-        self.number(other.inline.len())
+    // Appends a statement that makes no item, after the reason, and how many cards of text it has.
+    fn append_other(&mut self, other: &WideOther) -> Result<(), AllocError> {
+        self.append(b"; ")?;
+        self.append(reason_text(other.reason))?;
+        self.append(b": ")?;
+        self.append(other.word.as_slice())?;
+        self.append(b" ")?;
+        self.append(other.name.as_slice())?;
+        self.append_operands(b"", other.operands.as_slice())?;
+        self.append(b" +")?;
+        self.append_number(other.inline.len())
     }
 
-    fn sysmod(&mut self, sysmod: &WideSysmod) -> Result<(), AllocError> {
-        self.put(match sysmod.kind {
+    // Appends a SYSMOD and its statements.
+    fn append_sysmod(&mut self, sysmod: &WideSysmod) -> Result<(), AllocError> {
+        self.append(match sysmod.kind {
             Kind::Function => b"; FUNCTION ",
             Kind::Ptf => b"; PTF ",
             Kind::Apar => b"; APAR ",
             Kind::Usermod => b"; USERMOD ",
         })?;
-        self.put(sysmod.id.as_slice())?;
-        self.operands(b"-", sysmod.dropped.as_slice())?;
-        self.odd(sysmod.faulty.as_slice())?;
+        self.append(sysmod.id.as_slice())?;
+        self.append_operands(b"-", sysmod.dropped.as_slice())?;
+        self.append_faulty(sysmod.faulty.as_slice())?;
         for ver in sysmod.vers.as_slice() {
-            self.ver(ver)?;
+            self.append_ver(ver)?;
         }
         for hold in sysmod.holds.as_slice() {
-            self.hold(hold)?;
+            self.append_hold(hold)?;
         }
         for element in sysmod.elements.as_slice() {
-            self.element(element)?;
+            self.append_element(element)?;
         }
         for other in sysmod.others.as_slice() {
-            self.other(other)?;
+            self.append_other(other)?;
         }
         Ok(())
     }
 
-    fn file(&mut self, file: &WideFile, holds: &[WideHold]) -> Result<(), AllocError> {
+    // Appends the items of a file: SYSMODs, holds outside them, releases, assignments and other statements.
+    fn append_file(&mut self, file: &WideFile, holds: &[WideHold]) -> Result<(), AllocError> {
         for sysmod in file.sysmods.as_slice() {
-            self.sysmod(sysmod)?;
+            self.append_sysmod(sysmod)?;
         }
         for hold in holds {
-            self.hold(hold)?;
+            self.append_hold(hold)?;
         }
         for release in file.releases.as_slice() {
-            self.release(release)?;
+            self.append_release(release)?;
         }
         for assign in file.assigns.as_slice() {
-            self.assign(assign)?;
+            self.append_assign(assign)?;
         }
         for other in file.others.as_slice() {
-            self.other(other)?;
+            self.append_other(other)?;
         }
         Ok(())
     }
 
-    fn notes(&mut self, file: &WideFile) -> Result<(), AllocError> {
-        for one in file.swallowed.as_slice() {
-            self.put(b"; in the comment of ")?;
-            self.number(one.comment.card)?;
-            self.put(b": ")?;
-            self.put(one.word.as_slice())?;
-            self.put(b" ")?;
-            self.put(one.name.as_slice())?;
+    // Appends the statements inside comments, and the notes.
+    fn append_notes(&mut self, file: &WideFile) -> Result<(), AllocError> {
+        for statement in file.swallowed.as_slice() {
+            self.append(b"; in the comment of ")?;
+            self.append_number(statement.comment.card)?;
+            self.append(b": ")?;
+            self.append(statement.word.as_slice())?;
+            self.append(b" ")?;
+            self.append(statement.name.as_slice())?;
         }
         for note in file.notes.as_slice() {
-            self.put(match note.reason {
+            self.append(match note.reason {
                 NoteReason::LowerCase => b"; lower ",
                 NoteReason::TextInNumbers => b"; behind 72 ",
             })?;
-            self.number(note.place.card)?;
-            self.put(b" x ")?;
-            self.number(note.count)?;
+            self.append_number(note.place.card)?;
+            self.append(b" x ")?;
+            self.append_number(note.count)?;
         }
         Ok(())
     }
@@ -269,40 +287,37 @@ pub(crate) fn reason_text(reason: OtherReason) -> &'static [u8] {
         OtherReason::OpenParenthesis => b"open",
         OtherReason::StrayParenthesis => b"parenthesis",
         OtherReason::StrayCharacter => b"character",
-        OtherReason::TextBehind => b"behind",
+        OtherReason::TextAfterPeriod => b"behind",
         OtherReason::NoName => b"no name",
         OtherReason::LongLine => b"long line",
         OtherReason::Misplaced => b"misplaced",
     }
 }
 
+/// What is spelled of a file.
+#[derive(Clone, Copy, PartialEq, Eq)]
+pub(crate) enum Part {
+    Items,
+    ItemsAndNotes,
+}
+
 /// The items of the file, without their places. An error is told by its card and its reason.
 pub(crate) fn items(alloc: Global, bytes: &[u8]) -> Result<Spelled, AllocError> {
-    spelled_file(alloc, bytes, None, None, false)
+    spelled_file(alloc, bytes, Part::Items)
 }
 
-/// The same with the notes.
-pub(crate) fn with_notes(alloc: Global, bytes: &[u8]) -> Result<Spelled, AllocError> {
-    spelled_file(alloc, bytes, None, None, true)
-}
-
-pub(crate) fn spelled_file(
-    alloc: Global,
-    bytes: &[u8],
-    form: Option<Layout>,
-    code: Option<Code>,
-    has_notes: bool,
-) -> Result<Spelled, AllocError> {
+/// This part of the file, without the places of items. An error is told by its card and its reason.
+pub(crate) fn spelled_file(alloc: Global, bytes: &[u8], part: Part) -> Result<Spelled, AllocError> {
     let mut found = Spelled::new(alloc);
-    match read_whole(alloc, bytes, form, code) {
+    match read_whole(alloc, bytes) {
         Ok(read) => {
-            found.file(&read.file, read.holds.as_slice())?;
-            if has_notes {
-                found.notes(&read.file)?;
+            found.append_file(&read.file, read.holds.as_slice())?;
+            if part == Part::ItemsAndNotes {
+                found.append_notes(&read.file)?;
             }
         }
-        Err(Unread::NoCards) => found.put(b"; no cards")?,
-        Err(Unread::Statement(error)) => put_error(&mut found, error)?,
+        Err(Unread::NoCards) => found.append(b"; no cards")?,
+        Err(Unread::Statement(error)) => append_error(&mut found, error)?,
     }
     Ok(found)
 }
@@ -341,14 +356,9 @@ impl From<WideError> for Unread {
     }
 }
 
-/// The statements of a file.
-pub(crate) fn read_whole(
-    alloc: Global,
-    bytes: &[u8],
-    form: Option<Layout>,
-    code: Option<Code>,
-) -> Result<ReadFile, Unread> {
-    let Ok(mut cards) = CardReader::open(0, bytes, form, code) else {
+/// The statements of a file of these bytes, whose layout and code are guessed.
+pub(crate) fn read_whole(alloc: Global, bytes: &[u8]) -> Result<ReadFile, Unread> {
+    let Ok(mut cards) = CardReader::open(0, bytes, None, None) else {
         return Err(Unread::NoCards);
     };
     let mut notes = Vec::new(alloc);
@@ -369,23 +379,24 @@ pub(crate) fn read_whole(
     Ok(ReadFile { file, holds })
 }
 
-fn put_error(found: &mut Spelled, error: WideError) -> Result<(), AllocError> {
-    found.put(b"; refused: ")?;
+// Appends why the file is refused, and the card.
+fn append_error(found: &mut Spelled, error: WideError) -> Result<(), AllocError> {
+    found.append(b"; refused: ")?;
     let place = match &error {
         WideError::Memory => return Err(AllocError),
         WideError::NoStatement { place, .. } => {
-            found.put(b"no statement")?;
+            found.append(b"no statement")?;
             *place
         }
         WideError::OpenComment { place } => {
-            found.put(b"open comment")?;
+            found.append(b"open comment")?;
             *place
         }
         WideError::Statement { place, reason, .. } => {
-            found.put(reason_text(*reason))?;
+            found.append(reason_text(*reason))?;
             *place
         }
     };
-    found.put(b" ")?;
-    found.number(place.card)
+    found.append(b" ")?;
+    found.append_number(place.card)
 }

@@ -1,4 +1,4 @@
-//! A service file whose statements are split over cards in every way, with a comment at every place, and cut behind
+//! A service file whose statements are split over cards in every way, with a comment at every place, and cut after
 //! each byte.
 
 use crate::wide_spelled::{Spelled, items};
@@ -27,15 +27,16 @@ const ITEMS: &[u8] = b"; PTF UA00001 -REWORK(2024138) -DESC(FIRST FIX)\
     ; RELEASE UA00009 ERROR REASON(AA00001) FMID(HAA1100)\
     ; ASSIGN SOURCEID(RSU2405) TO UA00001 UA00002";
 
+// Whether words have the character.
 fn is_part_of_word(byte: u8) -> bool {
     byte.is_ascii_alphanumeric() || byte == b'+'
 }
 
-// Whether the text may be split there: not inside a word.
+// Whether the text may be split there, because it is not inside a word.
 fn is_gap(text: &[u8], at: usize) -> bool {
     let (front, back) = text.split_at(at.min(text.len()));
     match (front.last(), back.first()) {
-        (Some(before), Some(behind)) => !(is_part_of_word(*before) && is_part_of_word(*behind)),
+        (Some(before), Some(after)) => !(is_part_of_word(*before) && is_part_of_word(*after)),
         _ => true,
     }
 }
@@ -61,17 +62,18 @@ fn is_beginning(text: &[u8], at: usize) -> bool {
     back.starts_with(b"++")
 }
 
-// The first place where the service file reads otherwise with this inserted, and what it reads then. What is no whole
-// line is not inserted before a statement, and a comment not in the text of DESC.
-fn first_other(
-    alloc: Global,
-    more: &[u8],
-    is_comment: bool,
-) -> Result<Option<(usize, Spelled)>, AllocError> {
+// Whether the place is in the text of DESC in `SERVICE`, where `/*` begins no comment.
+fn is_in_description(at: usize) -> bool {
+    matches!(at, 36..=45)
+}
+
+// The first place at which the service file reads otherwise if this is inserted, and how it reads then. A text that is
+// no whole line is not inserted before a statement, and a comment not in the text of DESC.
+fn first_difference(alloc: Global, more: &[u8]) -> Result<Option<(usize, Spelled)>, AllocError> {
     for at in 0..SERVICE.len() + 1 {
-        let in_text = is_comment && 36 <= at && at < 46;
+        let is_comment = more.contains(&b'*');
         let moves = is_beginning(SERVICE, at) && more.last() != Some(&b'\n');
-        if is_gap(SERVICE, at) && !in_text && !moves {
+        if is_gap(SERVICE, at) && !moves && !(is_comment && is_in_description(at)) {
             let bytes = with_inserted(alloc, SERVICE, at, more)?;
             let found = items(alloc, bytes.as_slice())?;
             if found.text.as_slice() != ITEMS {
@@ -94,7 +96,7 @@ fn told(found: &Option<(usize, Spelled)>) -> (usize, &str) {
 fn split_everywhere(rt: HostRuntime) -> Result<(), Fail> {
     let lines: [&[u8]; 3] = [b"\n", b"  \n\n", b" \n   "];
     for more in lines {
-        let found = first_other(rt.alloc(), more, false)?;
+        let found = first_difference(rt.alloc(), more)?;
         assert_eq!(rt; told(&found), (0, "all alike"));
     }
     Ok(())
@@ -108,7 +110,7 @@ fn comment_everywhere(rt: HostRuntime) -> Result<(), Fail> {
         b"\n /* ONE. (\n++PTF(NO00001).\n ** / */\n",
     ];
     for more in comments {
-        let found = first_other(rt.alloc(), more, true)?;
+        let found = first_difference(rt.alloc(), more)?;
         assert_eq!(rt; told(&found), (0, "all alike"));
     }
     Ok(())
@@ -120,11 +122,7 @@ fn cut_is_not_whole(rt: HostRuntime) -> Result<(), Fail> {
         let (front, _) = SERVICE.split_at(len);
         let found = items(rt.alloc(), front)?;
         let is_whole = found.text.as_slice() == ITEMS;
-        assert_eq!(rt;
-            is_whole,
-            len == SERVICE.len() - 1,
-            "cut behind {len} bytes"
-        );
+        assert_eq!(rt; is_whole, len == SERVICE.len() - 1, "cut after {len} bytes");
     }
     Ok(())
 }

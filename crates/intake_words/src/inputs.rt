@@ -49,18 +49,18 @@ impl InputFiles {
         self.reading_lines.extend_from_slice(line.as_bytes())
     }
 
-    /// Adds a line for each oddity of the cards of the last file.
-    pub fn add_oddities(&mut self, alloc: Global, notes: &[CardNote]) -> Result<(), AllocError> {
+    /// Adds a line for each note on the cards of the last file.
+    pub fn add_card_notes(&mut self, alloc: Global, notes: &[CardNote]) -> Result<(), AllocError> {
         let Some(file) = self.all.last() else {
             return Ok(());
         };
         let name = file.name.as_str();
-        let unit = unit(file.layout);
+        let unit = unit_of(file.layout);
         for note in notes {
             let first = note.first.card;
             let count = note.cards;
-            let oddity = oddity_words(note.reason);
-            let line = format!(in alloc; "{name} {unit} {first}: {oddity}: in {count} cards\n")?;
+            let words = note_words(note.reason);
+            let line = format!(in alloc; "{name} {unit} {first}: {words}: in {count} cards\n")?;
             self.reading_lines.extend_from_slice(line.as_bytes())?;
         }
         Ok(())
@@ -82,8 +82,8 @@ impl InputFiles {
     // What a card of the file of this number is called: "line" or "record".
     pub(crate) fn unit(&self, file: usize) -> &'static str {
         match self.all.get(file) {
-            Some(input) => unit(input.layout),
-            None => unit(Layout::Records),
+            Some(input) => unit_of(input.layout),
+            None => unit_of(Layout::Records),
         }
     }
 
@@ -101,12 +101,12 @@ impl InputFiles {
             Err(error) => return Err(IntakeFault::of_cards(alloc, name, error)),
         };
         self.add(alloc, name, read.layout, read.code)?;
-        self.add_oddities(alloc, &read.notes)?;
+        self.add_card_notes(alloc, &read.notes)?;
         Ok(read.cards)
     }
 
-    /// A reader of the cards of the file of this name, which becomes the next one. Its oddities are known only once its
-    /// cards are read. Returns `NoCards` if the bytes cannot be read as cards, `Memory` if memory runs out.
+    /// A reader of the cards of the file of this name, which becomes the next one. The notes on its cards are known only
+    /// once these are read. Returns `NoCards` if the bytes cannot be read as cards, `Memory` if memory runs out.
     pub fn open_cards<'a>(
         &mut self,
         alloc: Global,
@@ -137,7 +137,7 @@ impl InputFiles {
 }
 
 // What a card of a file with this layout is called.
-fn unit(layout: Layout) -> &'static str {
+fn unit_of(layout: Layout) -> &'static str {
     match layout {
         Layout::Text => "line",
         Layout::Records => "record",
@@ -161,11 +161,11 @@ fn code_words(code: Code) -> &'static str {
     }
 }
 
-// The oddity in words.
-fn oddity_words(oddity: CardNoteReason) -> &'static str {
-    match oddity {
+// The reason of a note in words.
+fn note_words(reason: CardNoteReason) -> &'static str {
+    match reason {
         CardNoteReason::ByteOrderMark => "a byte order mark is passed over",
-        CardNoteReason::BlanksBehind80 => "blanks after column 80 are passed over",
+        CardNoteReason::BlanksAfter80 => "blanks after column 80 are passed over",
         CardNoteReason::LongLine => "more than 80 columns",
         CardNoteReason::Padding =>
             "NULs or the end of file of older systems at its end are passed over",

@@ -19,4 +19,4 @@ pub use options::{CardOptions, IntakeOptions, WordsFault, read_options, text_vie
 pub use relfile::{RelfileElement, relfile_elements};
 pub use remarks::{append_remark_line, append_remark_lines, refusal_fault};
 pub use stand_ins::stand_ins_file;
-pub use summary::{command_summary, service_summary};
+pub use summary::{command_summary, refused_command_summary, service_summary};

@@ -99,26 +99,9 @@ pub(crate) fn cause_of<'a>(
     cause
 }
 
-/// The statement of a remark, with its id and its operand.
-pub(crate) fn subject_text(alloc: Global, remark: &Remark<'_>) -> Result<Vec<u8>, AllocError> {
-    let mut text = Vec::from_slice(alloc, remark.statement)?;
-    if !remark.id.is_empty() {
-        text.extend_from_slice(b"(")?;
-        text.extend_from_slice(remark.id)?;
-        text.extend_from_slice(b")")?;
-    }
-    if !remark.operand.is_empty() {
-        if !text.is_empty() {
-            text.push(b' ')?;
-        }
-        text.extend_from_slice(remark.operand)?;
-    }
-    Ok(text)
-}
-
 /// What the cause says, in words.
 pub(crate) fn cause_text(alloc: Global, cause: &Remark<'_>) -> Result<Vec<u8>, AllocError> {
-    let mut text = subject_text(alloc, cause)?;
+    let mut text = cause.subject_text(alloc)?;
     if !text.is_empty() {
         text.extend_from_slice(b": ")?;
     }
@@ -168,7 +151,7 @@ fn append_left_out_line(
 ) -> Result<(), AllocError> {
     lines.extend_from_slice(b"LEFTOUT ")?;
     if cause.statement != remark.statement || cause.id != remark.id {
-        lines.extend_from_slice(&subject_text(alloc, remark)?)?;
+        lines.extend_from_slice(&remark.subject_text(alloc)?)?;
         lines.extend_from_slice(b": ")?;
     }
     lines.extend_from_slice(cause_text(alloc, cause)?.trim_ascii_end())?;
@@ -217,21 +200,25 @@ pub fn service_summary(
     }
 }
 
-/// The summary of a run over a command file: how many commands are carried, if a command file is written.
+/// The summary of a run that writes a command file: how many commands are carried, and how many are not.
 pub fn command_summary(
     alloc: Global,
     carried: usize,
     others: usize,
-    is_written: bool,
     remarks: &RemarkList,
 ) -> Result<Vec<u8>, AllocError> {
-    let mut lines = Vec::new(alloc);
-    if is_written {
-        let line = format!(in alloc; "COMMAND {carried:>7} carried {others:>7} not\n")?;
-        lines.extend_from_slice(line.as_bytes())?;
-    } else {
-        lines.extend_from_slice(b"COMMAND none is written: see what is refused in cntl.remarks\n")?;
-    }
+    let line = format!(in alloc; "COMMAND {carried:>7} carried {others:>7} not\n")?;
+    let mut lines = line.into_bytes();
+    append_remark_counts(alloc, remarks, &mut lines)?;
+    Ok(lines)
+}
+
+/// The summary of a run that writes no command file, because words of the shop's are refused.
+pub fn refused_command_summary(alloc: Global, remarks: &RemarkList) -> Result<Vec<u8>, AllocError> {
+    let mut lines = Vec::from_slice(
+        alloc,
+        b"COMMAND none is written: see what is refused in cntl.remarks\n",
+    )?;
     append_remark_counts(alloc, remarks, &mut lines)?;
     Ok(lines)
 }

@@ -3,7 +3,7 @@
 use crate::summary::{
     cause_of, cause_text, count_with_reason, is_of_left_out_sysmod, remark_counts,
 };
-use intake_cards::{RemarkList, RemarkReason};
+use intake_cards::{RemarkList, RemarkReason, is_printable_byte};
 use intake_carry::{Narrowed, Tally};
 use std::alloc::{AllocError, Global};
 
@@ -11,12 +11,12 @@ use std::alloc::{AllocError, Global};
 fn append_text(json: &mut Vec<u8>, text: &[u8]) -> Result<(), AllocError> {
     json.push(b'"')?;
     for byte in text {
-        match byte {
+        match *byte {
             b'"' | b'\\' => {
                 json.push(b'\\')?;
                 json.push(*byte)?;
             }
-            0x20..=0x7e => json.push(*byte)?,
+            other if is_printable_byte(other) => json.push(other)?,
             _ => json.push(b'?')?,
         }
     }

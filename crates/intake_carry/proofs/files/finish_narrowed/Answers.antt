@@ -1,6 +1,6 @@
 use Rattle.std.proofs.Common.{◌∙◌, subst, sym}
 use Rattle.intake_holds.specs.Holds.{AreInOrder}
-use Rattle.intake_carry.proofs.files.make_narrowed.Goals as goal
+use Rattle.intake_carry.proofs.files.finish_narrowed.Goals as goal
 
 pub returns-clause-items : goal.returns-clause-items
 returns-clause-items c = (c.in_ok-assigns.assigns.items, c.new.ensures.items ∙ c.in_ok-append_assigns.ensures)

@@ -1,5 +1,5 @@
 use Rattle.std.proofs.Common.{inl, refl}
-use Rattle.intake_command.proofs.commands.keep_made_commands.Goals as goal
+use Rattle.intake_command.proofs.commands.keep_commands_output.Goals as goal
 
 pub returns-in_ok-keep_commands-in-Some-clause-ok : goal.returns-in_ok-keep_commands-in-Some-clause-ok
 returns-in_ok-keep_commands-in-Some-clause-ok g c = λ known commands given.

@@ -1,6 +1,6 @@
 use Rattle.std.proofs.Common.{subst₂, sym}
 use Rattle.intake_carry.specs.Carried.{FilesBecome}
-use Rattle.intake_command.proofs.service.make_files.Goals as goal
+use Rattle.intake_command.proofs.service.service_output.Goals as goal
 
 pub returns : goal.returns
 returns c = λ holds carried.
