@@ -104,7 +104,7 @@ fn run_with_limit<S: Alter + Drop>(
 }
 
 // Runs the job once more with a writer that takes everything, over a store in which both its commits were made.
-fn again<S: Alter + Drop>(alloc: Global, mut store: Store<S>) -> Result<(), Fail> {
+fn run_again<S: Alter + Drop>(alloc: Global, mut store: Store<S>) -> Result<(), Fail> {
     let mut writer = LimitedWriter {
         taken: Vec::new(alloc),
         left: 10_000,
