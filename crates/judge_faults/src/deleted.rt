@@ -22,19 +22,19 @@ fn is_deleted(vers: &VerChoice<'_>, dels: &IdList, id: Id) -> bool
     vers.chain(id).any(|above| dels.contains(above))
 }
 
-// The faults of a candidate, with `deleted` if a DELETE takes out its chain and it passes the earlier tests.
+// The faults of a candidate, with `chain_deleted` if it passes the other tests and a DELETE takes out its chain.
 fn with_deleted(vers: &VerChoice<'_>, dels: &IdList, own: OwnFaults, id: Id) -> OwnFaults
     ensures { result ≡ with_deleted (is_deleted vers.now.global.now (choice vers.now) dels.now id) own }
 {
     OwnFaults {
-        deleted: own.passes_alone() && is_deleted(vers, dels, id),
+        chain_deleted: own.passes_alone() && is_deleted(vers, dels, id),
         ..own
     }
 }
 
-// The faults of all candidates. `deleted` is set for those that pass the earlier tests and that these deletions take
-// out.
-fn mark_deleted_by(
+// The faults of all candidates. `chain_deleted` is set for those that pass the other tests and that these deletions
+// take out.
+fn faults_under_deletions(
     alloc: Global,
     vers: &VerChoice<'_>,
     dels: &IdList,
@@ -53,9 +53,9 @@ fn mark_deleted_by(
     Ok(all)
 }
 
-/// The faults of all candidates, given those of the tests of their own. `deleted` is set for those that pass these
-/// tests and that the DELETE of one that passes them takes out.
-pub(crate) fn mark_deleted(
+/// The faults of all candidates, given those of the tests of their own. `chain_deleted` is set for those that pass
+/// these tests and that the DELETE of one that passes them takes out.
+pub(crate) fn faults_with_deletes(
     alloc: Global,
     vers: &VerChoice<'_>,
     ids: &[Id],
@@ -74,5 +74,5 @@ pub(crate) fn mark_deleted(
         passing.push(ids[i])?;
     }
     let dels = IdList::from_vec(deletions(alloc, vers, passing.as_slice())?);
-    mark_deleted_by(alloc, vers, &dels, ids, faults)
+    faults_under_deletions(alloc, vers, &dels, ids, faults)
 }

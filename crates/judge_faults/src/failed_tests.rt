@@ -15,16 +15,16 @@ fn failed_test_set(own: OwnFaults, clashes: bool) -> TestSet
     ensures { tests_of result ≡ filter (fails_test own clashes) all_tests }
 {
     TestSet {
-        held_by_system: own.system_held,
-        held_by_user: own.user_held,
-        forbidden_by_npre: own.forbidden,
-        owned_by_another: own.foreign,
-        regression: own.lower,
-        nothing_to_update: own.bare,
-        not_in_target: own.unapplied,
-        chain_deleted: own.deleted,
+        held_by_system: own.held_by_system,
+        held_by_user: own.held_by_user,
+        forbidden_by_npre: own.forbidden_by_npre,
+        owned_by_another: own.owned_by_another,
+        regression: own.regression,
+        nothing_to_update: own.nothing_to_update,
+        not_in_target: own.not_in_target,
+        chain_deleted: own.chain_deleted,
         in_clash: clashes,
-        several_fit: own.ambiguous,
+        several_fit: own.several_fit,
         ..TestSet::none()
     }
 }

@@ -3,7 +3,7 @@ use Rattle.std.proofs.lemmas.Option.{slice_get_read}
 use Rattle.sysmods.specs.Choices.{choice}
 use Rattle.judge_faults.specs.Deletes.{IsMarkedDeleted}
 use Rattle.terms.proofs.BesideLists.{beside_at, beside_through}
-use Rattle.judge_faults.proofs.deleted.mark_deleted_by.Goals as goal
+use Rattle.judge_faults.proofs.deleted.faults_under_deletions.Goals as goal
 
 pub loop-i-preserved : goal.loop-i-preserved
 loop-i-preserved c =

@@ -2,7 +2,7 @@ use Rattle.std.proofs.Common.{take}
 use Rattle.sysmods.specs.Choices.{choice}
 use Rattle.terms.specs.Beside.{Beside}
 use Rattle.judge_faults.specs.Deletes.{IsMarkedDeleted}
-use Rattle.judge_faults.proofs.deleted.mark_deleted_by.Given as goal
+use Rattle.judge_faults.proofs.deleted.faults_under_deletions.Given as goal
 
 abbrev pub invariant-loop-i : goal.invariant-loop-i
 invariant-loop-i l =

@@ -7,7 +7,7 @@ use Rattle.std.proofs.lemmas.Bool.{leb-true, le-leb}
 use Rattle.terms.specs.Types.{Ver, Sysmod}
 use Rattle.terms.specs.Lookups.{is_in, sysmod_of}
 use Rattle.terms.specs.Choice.{fits}
-use Rattle.judge_faults.proofs.own.is_ambiguous.Goals as goal
+use Rattle.judge_faults.proofs.own.several_vers_fit.Goals as goal
 
 vers_among : (p : Ver → Bool) (o : Option Sysmod) → filter p (option_map_or (λ s. s.vers) o [])
     ≡ option_map_or (λ s. filter p s.vers) o []

@@ -4,7 +4,7 @@ use Rattle.std.proofs.lemmas.Result.{IfOk-weaker}
 use Rattle.sysmods.specs.Choices.{choice}
 use Rattle.judge_faults.specs.Deletes.{ArePassing}
 use Rattle.judge_faults.proofs.Deleting.{are_deletions, passing_more, passing_skip, passing_start}
-use Rattle.judge_faults.proofs.deleted.mark_deleted.Goals as goal
+use Rattle.judge_faults.proofs.deleted.faults_with_deletes.Goals as goal
 
 pub loop-i-init : goal.loop-i-init
 loop-i-init c = passing_start c.args.ids.now c.args.faults.now c.new-passing.result.items c.new-passing.ensures.items
@@ -36,4 +36,4 @@ returns c =
     c.in_ok-deletions.field-0.items dels
     (subst (λ n. ArePassing ids faults n c.loop-i.passing.items) done c.loop-i.invariant)
     (rw c.as_slice.ensures.value at c.in_ok-deletions.ensures) c.from_vec-dels.ensures.members in
-    IfOk-weaker c.mark_deleted_by.result _ _ (λ all told. (dels, named, told)) c.mark_deleted_by.ensures
+    IfOk-weaker c.faults_under_deletions.result _ _ (λ all told. (dels, named, told)) c.faults_under_deletions.ensures
