@@ -39,7 +39,7 @@ pub(crate) struct OwnFaults {
     pub(crate) regression: bool,
     /// It updates an element that does not exist.
     pub(crate) nothing_to_update: bool,
-    /// ACCEPT names it, and the related target zone has not applied it.
+    /// It is to be accepted, and the related target zone has not applied it.
     pub(crate) not_in_target: bool,
     /// Several of its `++VER`s fit.
     pub(crate) several_fit: bool,
