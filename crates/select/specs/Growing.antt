@@ -88,8 +88,8 @@ namers_in scope f = function_namers scope.global.sysmods f
 -- the requisites that applied SYSMODs state for a function by ++IF
 abbrev pub stated : Selecting → Id → List Id
 stated scope x =
-    if is_function scope.global x then reqs_where (bytes_eq x) (flat_map (ifs_of (installed_ver scope)) (namers_in scope x))
-    else []
+    if is_function scope.global x
+    then reqs_where (bytes_eq x) (flat_map (ifs_of (installed_ver scope)) (namers_in scope x)) else []
 
 -- the reasons of its ERROR holds, under GROUPEXTEND
 abbrev pub reasons : Selecting → Id → List Id
