@@ -6,8 +6,9 @@ ghost use Rattle.sysmods.specs.Choices.{choice};
 ghost use Rattle.judge_faults.specs.Deletes.{AreDeletions, with_deleted, IsMarkedDeleted};
 ghost use Rattle.terms.specs.Beside.{Beside};
 
-use crate::own::{OwnFaults, own_faults_at};
+use crate::own::OwnFaults;
 use fields::{Id, IdList};
+use judge_system::item_at;
 use std::alloc::{AllocError, Global};
 use sysmods::VerChoice;
 use zones::deletions;
@@ -48,7 +49,7 @@ fn faults_under_deletions(
 {
     let mut all = Vec::new(alloc);
     for i in 0..ids.len() {
-        all.push(with_deleted(vers, dels, own_faults_at(faults, i), ids[i]))?;
+        all.push(with_deleted(vers, dels, item_at(faults, i), ids[i]))?;
     }
     Ok(all)
 }
@@ -68,7 +69,7 @@ pub(crate) fn faults_with_deletes(
 {
     let mut passing = Vec::new(alloc);
     for i in 0..ids.len() {
-        if !own_faults_at(faults, i).passes_alone() {
+        if !item_at(faults, i).passes_alone() {
             continue;
         }
         passing.push(ids[i])?;

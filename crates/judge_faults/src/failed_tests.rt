@@ -5,9 +5,9 @@ ghost use Rattle.terms.specs.Failures.{all_tests};
 ghost use Rattle.judge_system.specs.TestSets.{tests_of};
 ghost use Rattle.judge_faults.specs.Rows.{fails_test, row_of};
 
-use crate::own::{OwnFaults, own_faults_at};
+use crate::own::OwnFaults;
 use indexmap::IndexSet;
-use judge_system::TestSet;
+use judge_system::{TestSet, item_at};
 use std::alloc::{AllocError, Global};
 
 // The tests that a candidate fails, given what it fails by itself and whether it clashes with another one.
@@ -41,7 +41,7 @@ pub(crate) fn all_failed_tests(
     let mut sets = Vec::new(alloc);
     for i in 0..faults.len() {
         let clashes = clashing.contains(&i);
-        let tests = failed_test_set(own_faults_at(faults, i), clashes);
+        let tests = failed_test_set(item_at(faults, i), clashes);
         sets.push(tests)?;
     }
     Ok(sets)

@@ -1,6 +1,6 @@
 //! The tests that look at one candidate by itself.
-ghost use Rattle.std.specs.Prelude.{◌≡◌, ◌==◌, ◌<◌, ◌&&◌, ◌↔◌, Some, Any, not, IsTrue, IsFalse, IfOk};
-ghost use Rattle.std.specs.Prelude.{filter, length, slice_get, option_copied, false};
+ghost use Rattle.std.specs.Prelude.{◌≡◌, ◌==◌, ◌&&◌, ◌↔◌, Any, not, IsTrue, IsFalse, IfOk};
+ghost use Rattle.std.specs.Prelude.{filter, length, option_copied, false};
 ghost use Rattle.std.specs.Str.{bytes_eq};
 ghost use Rattle.std.specs.List.{list_any};
 ghost use Rattle.std.specs.Option.{option_map_or};
@@ -195,12 +195,4 @@ pub(crate) fn all_own_faults(
         faults.push(own_faults(alloc, scope, related, &forbidders, overs, *id)?)?;
     }
     Ok(faults)
-}
-
-/// What the candidate at the place fails by itself, with a contract that names it as an item of the list.
-pub(crate) fn own_faults_at(faults: &[OwnFaults], place: usize) -> OwnFaults
-    requires { place < length faults.now }
-    ensures { slice_get faults.now place ≡ Some result }
-{
-    faults[place]
 }

@@ -12,7 +12,7 @@ loop-i-preserved c =
     beside_at (λ n x own. IsMarkedDeleted c.args.vers.now.global.now (choice c.args.vers.now) c.args.dels.now
     c.args.faults.now n x own) ids c.loop-i.all.items c.push.new.self.items c.loop-i.i id c.with_deleted.result
     (slice_get_read ids (length ids) c.loop-i.i id refl (omega arith) c.index-ids-i.is) c.in_ok-push.ensures.items
-    (record { own = c.own_faults_at.result; own_at = c.own_faults_at.ensures; is = c.with_deleted.ensures })
+    (record { own = c.item_at.result; own_at = c.item_at.ensures; is = c.with_deleted.ensures })
     c.loop-i.invariant
 
 pub returns : goal.returns

@@ -11,8 +11,8 @@ loop-i-init c = passing_start c.args.ids.now c.args.faults.now c.new-passing.res
 
 pub loop-i-preserved-then-not-passes_alone : goal.loop-i-preserved-then-not-passes_alone
 loop-i-preserved-then-not-passes_alone c =
-    passing_skip c.args.ids.now c.args.faults.now c.loop-i.i c.own_faults_at.result
-    c.loop-i.passing.items c.own_faults_at.ensures
+    passing_skip c.args.ids.now c.args.faults.now c.loop-i.i c.item_at.result
+    c.loop-i.passing.items c.item_at.ensures
     (sym c.passes_alone.ensures ∙ c.if-not-passes_alone.true) c.loop-i.invariant
 
 pub loop-i-preserved : goal.loop-i-preserved
@@ -22,8 +22,8 @@ loop-i-preserved c =
     let i = c.loop-i.i in
     let id = c.index-ids-i.result in
     subst (ArePassing ids faults (i + 1)) (sym c.in_ok-push.ensures.items)
-    (passing_more ids faults i id c.own_faults_at.result c.loop-i.passing.items
-    (slice_get_read ids (length ids) i id refl (omega arith) c.index-ids-i.is) c.own_faults_at.ensures
+    (passing_more ids faults i id c.item_at.result c.loop-i.passing.items
+    (slice_get_read ids (length ids) i id refl (omega arith) c.index-ids-i.is) c.item_at.ensures
     (sym c.passes_alone.ensures ∙ c.if-not-passes_alone.false) c.loop-i.invariant)
 
 pub returns : goal.returns

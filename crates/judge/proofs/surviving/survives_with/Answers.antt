@@ -2,7 +2,7 @@ use Rattle.std.proofs.Common.{rules, tests}
 use Rattle.std.proofs.lemmas.Iterator.Consumers.{YieldsList-from_first}
 use Rattle.std.proofs.lemmas.Iterator.Search.{all_from_yields_List}
 use Rattle.judge.specs.Surviving.{is_clash}
-use Rattle.judge.proofs.surviving.has_only_clashes.Goals as goal
+use Rattle.judge.proofs.surviving.survives_with.Goals as goal
 
 pub returns : goal.returns
 returns c =
