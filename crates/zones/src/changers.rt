@@ -1,6 +1,6 @@
 //! Which SYSMODs change each element.
 ghost use Rattle.std.specs.Prelude.{IfOk};
-ghost use Rattle.change.specs.Grouping.{AreByElement};
+ghost use Rattle.zones.specs.Grouping.{AreByElement};
 
 use fields::{Attest, Id, Name};
 use sorted::lists::{Lists, add};
@@ -10,7 +10,7 @@ use sysmods::GlobalZone;
 use terms::ElemType;
 
 /// The elements that these SYSMODs change, each with those of them that change it, in their order.
-pub(crate) fn changers_by_element(
+pub fn changers_by_element(
     alloc: Global,
     global: &GlobalZone,
     ids: &[Id],
@@ -20,10 +20,8 @@ pub(crate) fn changers_by_element(
     global.attest();
     let mut changers = BTreeMap::new(alloc);
     for id in ids {
-        let Some(sysmod) = global.get(*id) else {
-            continue;
-        };
-        for change in sysmod.changes.as_slice() {
+        let changes = global.changes_of(*id);
+        for change in changes {
             add(alloc, &mut changers, (change.elem_type, change.name), *id)?;
         }
     }

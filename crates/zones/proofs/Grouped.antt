@@ -20,7 +20,7 @@ use Rattle.sorted.specs.Lists.{Lists, Adds, AddsToAll, once_each}
 use Rattle.sorted.specs.ElementKeys.{Key, key_cmp}
 use Rattle.sorted.proofs.ElementKeys.{key_ties}
 use Rattle.sorted.proofs.Listing.{adds_to_next}
-use Rattle.change.specs.Grouping.{AddsBy, AreByElement}
+use Rattle.zones.specs.Grouping.{AddsBy, AreByElement}
 
 -- a SYSMOD as one more, if it changes the element
 abbrev one_if : Bool → Id → List Id

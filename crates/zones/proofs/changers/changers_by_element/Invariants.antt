@@ -1,6 +1,6 @@
 use Rattle.std.proofs.Common.{take}
-use Rattle.change.specs.Grouping.{AddsBy, AreByElement}
-use Rattle.change.proofs.grouping.changers_by_element.Given as goal
+use Rattle.zones.specs.Grouping.{AddsBy, AreByElement}
+use Rattle.zones.proofs.changers.changers_by_element.Given as goal
 
 -- the SYSMODs so far are added
 abbrev pub invariant-loop-id : goal.invariant-loop-id
@@ -8,4 +8,4 @@ invariant-loop-id l = AreByElement l.global (take l.id-index l.ids) l.changers
 
 -- the SYSMOD is added by the statements so far
 abbrev pub invariant-loop-change : goal.invariant-loop-change
-invariant-loop-change l = AddsBy l.id (take l.change-index l.change-items) l.initial.changers l.changers
+invariant-loop-change l = AddsBy l.id (take l.change-index l.changes) l.initial.changers l.changers
