@@ -4,7 +4,7 @@ use Rattle.std.specs.List.{flat_map}
 use Rattle.terms.specs.Types.{Id}
 use Rattle.judge_needs.specs.Conditions.{requisites_of, stated_by}
 use Rattle.zones.specs.Scopes.{choice_of}
-use Rattle.judge_needs.proofs.stated.all_stated.Given as goal
+use Rattle.judge_needs.proofs.stated.all_stated_requisites.Given as goal
 
 abbrev pub invariant-loop-entry : goal.invariant-loop-entry
 invariant-loop-entry l =

@@ -10,7 +10,7 @@ use Rattle.judge_needs.specs.Closures.{IsClosure, SupersedesOne}
 use Rattle.judge_needs.specs.declared.superseded.Closure.{Closure}
 use Rattle.judge_needs.proofs.Closing.{below_one, needed_below}
 use Rattle.judge_needs.proofs.Growing.{on_ok_from}
-use Rattle.judge_needs.proofs.superseded.append_needed_below.Goals as goal
+use Rattle.judge_needs.proofs.superseded.append_needed_superseded.Goals as goal
 
 pub returns-in-Some : goal.returns-in-Some
 returns-in-Some c =

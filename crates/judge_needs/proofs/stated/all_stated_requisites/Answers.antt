@@ -6,7 +6,7 @@ use Rattle.terms.specs.Types.{Entry}
 use Rattle.terms.specs.Conditions.{reqs_where}
 use Rattle.zones.specs.Scopes.{choice_of}
 use Rattle.judge_needs.specs.Conditions.{a_requisite, requisites_of, stated_by}
-use Rattle.judge_needs.proofs.stated.all_stated.Goals as goal
+use Rattle.judge_needs.proofs.stated.all_stated_requisites.Goals as goal
 
 pub loop-entry-preserved : goal.loop-entry-preserved
 loop-entry-preserved c f =
