@@ -60,12 +60,11 @@ fn changed_keys_in_order(
 fn loses_kept(kept: &IdList, entry: &Entry) -> bool
     ensures { result ≡ loses (is_in kept.now) entry.now }
 {
-    (kept.contains(entry.id) && entry.applied.is_some())
-        || is_any_kept(kept, entry.supby.as_slice())
+    (kept.contains(entry.id) && entry.applied.is_some()) || any_kept(kept, entry.supby.as_slice())
 }
 
 // Whether one of the ids is kept.
-fn is_any_kept(kept: &IdList, ids: &[Id]) -> bool
+fn any_kept(kept: &IdList, ids: &[Id]) -> bool
     ensures { result ≡ list_any (is_in kept.now) ids.now }
 {
     ids.iter().any(|id| kept.contains(*id))

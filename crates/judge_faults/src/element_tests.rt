@@ -35,8 +35,8 @@ pub(crate) fn any_owned_by_another(
         .any(|change| is_owned_by_another(view, owner, change))
 }
 
-// Whether the candidate is not over all of these SYSMODs.
-fn is_not_over_all(
+// Whether there is one of these SYSMODs that the candidate is not over.
+fn is_not_over_one_of(
     alloc: Global,
     overs: &mut Overs<'_, '_>,
     id: Id,
@@ -66,7 +66,7 @@ fn regresses_element(
     if !overs.over(alloc, id, element.rmid)? {
         return Ok(true);
     }
-    is_not_over_all(alloc, overs, id, element.umids.as_slice())
+    is_not_over_one_of(alloc, overs, id, element.umids.as_slice())
 }
 
 // Whether the candidate would regress the element of the statement. An element that the view lacks cannot be regressed.

@@ -17,7 +17,7 @@ use std::collections::BTreeSet;
 /// The greatest number of candidates whose count fits into 32 bits.
 const MOST_CANDIDATES: usize = u32::MAX as usize;
 
-/// The ids, numbered in their order. It returns an error if there are more than numbers of 32 bits.
+/// The ids, numbered in their order. It returns an error if a `u32` cannot count them.
 pub(crate) fn number_ids(alloc: Global, ids: &IdList) -> Result<IndexSet<Id>, AllocError>
     ensures ids { IfOk result (λ numbered. numbered.keys ≡ ids.now) }
     ensures rising { IfOk result (λ numbered. IsRising numbered.keys) }
