@@ -14,7 +14,7 @@ use sysmods::{GlobalZone, Overs};
 use zones::{Candidates, Zone, choose};
 
 /// Judges the candidates of a RESTORE of this target zone from its distribution zone. The command takes off the
-/// candidates that a `Solver` keeps of the system. It does not matter of which list they are the candidates.
+/// candidates that a `Solver` keeps of the system. They may be the candidates of any list.
 pub fn restore_system<'a>(
     alloc: Global,
     global: &'a GlobalZone,
