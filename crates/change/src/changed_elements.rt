@@ -50,7 +50,7 @@ pub(crate) fn elements_after(
     for (element, changers) in &by_element {
         let base = left.element(element.0, element.1);
         let ordered = sort_by_over(alloc, overs, changers)?;
-        let changed = element_after(alloc, vers, base, element.0, element.1, &ordered)?;
+        let changed = element_after(alloc, vers, base, *element, &ordered)?;
         elements.push(changed)?;
     }
     Ok(elements)

@@ -76,8 +76,7 @@ pub(crate) fn served_pairs(
 {
     let mut pairs = own_pairs(alloc, ids.as_slice())?;
     add_superseded(ids, superseded, &mut pairs)?;
-    let set: BTreeSet<(Id, u32)> = pairs.into_iter().collect(alloc)?;
-    Ok(set)
+    pairs.into_iter().collect(alloc)
 }
 
 // The places of the id and of its superseders, as far as they are candidates. They serve a need that a superseder may
