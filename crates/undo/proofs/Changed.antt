@@ -19,7 +19,7 @@ pub changers_are : (g : Global) (ids : List Id) (all : Changers) → AreByElemen
 changers_are g ids all are k y = (
   λ listed.
       let changing = filter_in (λ x. has_change g x k.0 k.1) ids y (subst (λ l. Contains l y) (are.list k) listed) in
-      (y, changing.0, changes_to g y k.0 k.1 changing.1, refl),
+      (y, changing.0, (changes_to g y k.0 k.1 changing.1, refl)),
   λ one.
       let same = one.2.1 in
       subst (λ l. Contains l y) (sym (are.list k)) (in_filter (λ x. has_change g x k.0 k.1) ids y
