@@ -1,5 +1,5 @@
 //! An entry after some SYSMODs are gone.
-ghost use Rattle.std.specs.Prelude.{◌≡◌, not, IfOk, filter};
+ghost use Rattle.std.specs.Prelude.{◌≡◌, ◌++◌, [], ◌∷◌, not, IfOk, OnOk, filter};
 ghost use Rattle.terms.specs.Types.{Id as AnId};
 ghost use Rattle.terms.specs.Lookups.{is_in};
 ghost use Rattle.terms.specs.Deleted.{entry_less};
@@ -31,14 +31,25 @@ impl TakesOut for IdList {
     }
 }
 
+// Adds the id if it is not taken out.
+fn push_if_stays<T: TakesOut>(taking: &T, id: Id, left: &mut Vec<Id>) -> Result<(), AllocError>
+    ensures { OnOk result (left.new.items ≡ left.old.items ++ filter (λ y. not (T.is_gone taking.now y)) (id ∷ [])) }
+{
+    if !taking.takes_out(id) {
+        left.push(id)?;
+    }
+    Ok(())
+}
+
 // The ids that are not taken out.
 fn remaining_ids<T: TakesOut>(alloc: Global, taking: &T, ids: &[Id]) -> Result<Vec<Id>, AllocError>
     ensures { IfOk result (λ left. left.items ≡ filter (λ y. not (T.is_gone taking.now y)) ids.now) }
 {
-    ids.iter()
-        .filter(|id| !taking.takes_out(**id))
-        .copied()
-        .collect(alloc)
+    let mut left = Vec::new(alloc);
+    for id in ids {
+        push_if_stays(taking, *id, &mut left)?;
+    }
+    Ok(left)
 }
 
 // The ids that are not taken out, as a list that rises.
