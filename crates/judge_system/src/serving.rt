@@ -76,7 +76,8 @@ pub(crate) fn served_pairs(
 {
     let mut pairs = own_pairs(alloc, ids.as_slice())?;
     add_superseded(ids, superseded, &mut pairs)?;
-    pairs.into_iter().collect(alloc)
+    let set: BTreeSet<(Id, u32)> = pairs.into_iter().collect(alloc)?;
+    Ok(set)
 }
 
 // The places of the id and of its superseders, as far as they are candidates. They serve a need that a superseder may
