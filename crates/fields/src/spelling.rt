@@ -113,12 +113,10 @@ pub fn read_zone_kind(text: &[u8]) -> Option<ZoneKind>
     ensures found { IfSome result (λ found. zone_kind_text found ≡ text.now) }
     ensures none { IfNone result ((other : ZoneKind) → zone_kind_text other ≢ text.now) }
 {
-    if text == b"target".as_slice() {
-        Some(ZoneKind::Target)
-    } else if text == b"distribution".as_slice() {
-        Some(ZoneKind::Distribution)
-    } else {
-        None
+    match text {
+        b"target" => Some(ZoneKind::Target),
+        b"distribution" => Some(ZoneKind::Distribution),
+        _ => None,
     }
 }
 
