@@ -22,8 +22,7 @@ impl RecError {
         ensures { result ≡ rec_fault_record (rec_fault self.now) }
     {
         match *self {
-            RecError::ShortRecord { record } => record,
-            RecError::BadByte { record, .. } => record,
+            RecError::ShortRecord { record } | RecError::BadByte { record, .. } => record,
         }
     }
 }

@@ -65,17 +65,14 @@ pub(crate) fn are_operands(words: &[Word<'_>], names: &[&[u8]]) -> bool
     are_known(words, names) && !any_twice(words, names)
 }
 
-// Takes the next member, if there is one. It returns none too if something else follows.
+// Takes the next member. Returns `None` if none is left, and also if what is left is not a list of members.
 fn take_member<'a>(left: &mut Members<'a>) -> Option<Word<'a>>
     ensures member { IfSome result (λ m. (ms : List grammar.Word) → LeavesMembers left.old ms
         → (more : List grammar.Word) × (ms ≡ word_of m ∷ more) × LeavesMembers left.new more) }
     ensures none { IfNone result ((ms : List grammar.Word) → LeavesMembers left.old ms → ms ≡ []) }
     ensures shorter { IfSome result (λ m. length (members_text left.new) < length (members_text left.old)) }
 {
-    let Ok(found) = left.next_member() else {
-        return None;
-    };
-    found
+    left.next_member().ok()?
 }
 
 /// The member of that name in a list, if there is one. If the text is not a list of members, the answer may be
