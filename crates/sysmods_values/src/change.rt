@@ -65,14 +65,11 @@ impl ElemChange {
         self.elem_type == elem_type && self.name == name
     }
 
-    /// Whether it replaces its element; any other one updates it.
+    /// Whether it replaces its element. If not, it updates the element.
     pub fn is_replacement(&self) -> bool
         ensures { result ≡ is_replacement self.now.action }
     {
-        match &self.action {
-            Action::Replaces { .. } => true,
-            Action::Updates { .. } => false,
-        }
+        matches!(self.action, Action::Replaces { .. })
     }
 
     /// The word that begins the statement, as `++MAC` or `++MACUPD`.
