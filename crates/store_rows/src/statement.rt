@@ -18,10 +18,10 @@ use sqlite_value::row::Row as Cells;
 use sqlite_value::value::ValueRef;
 use std::alloc::{AllocError, Global};
 
-/// How many rows one statement adds at most.
+/// How many rows an INSERT of many rows adds.
 const MANY: usize = 16;
 
-// Runs a statement that shows no rows.
+// Runs a statement that returns no rows.
 fn run_statement<S: Alter>(
     tx: &mut Transaction<'_, S>,
     sql: &str,
@@ -37,7 +37,7 @@ fn run_statement<S: Alter>(
     Ok(())
 }
 
-// The columns of the rows, row after row.
+// The values of all columns of the rows, row after row.
 fn columns_of_rows<'a>(alloc: Global, rows: &'a [Cells]) -> Result<Vec<ValueRef<'a>>, AllocError>
     ensures { IfOk result (λ values. bound values.items ≡ columns_of (map as_bound rows.now)) }
 {
