@@ -1,5 +1,7 @@
 //! Lists whose members have known names.
 ghost use Rattle.std.specs.Prelude.{◌≡◌, true, false, List, map};
+ghost use Rattle.std.specs.List.{list_any};
+ghost use Rattle.std.specs.Str.{bytes_eq};
 ghost use Rattle.terms.specs.Lookups.{is_in};
 ghost use Rattle.terms.specs.Words as grammar;
 ghost use Rattle.terms.specs.Words.{HasMembers};
@@ -8,12 +10,18 @@ ghost use Rattle.rec80.specs.Left.{AreNamed};
 
 use crate::text::Text;
 
+// The answer of `is_among`, in terms of the slices. The prover finds a chain of iterators only in this form.
+fn is_one_of(names: &[&[u8]], text: &[u8]) -> bool
+    ensures { result ≡ list_any (λ name. bytes_eq text.now name.now) names.now }
+{
+    names.iter().any(|name| text == *name)
+}
+
 /// Whether the text is one of the names.
-#[tactic(auto, using(terms::proofs::Searches::list_any_map))]
 pub fn is_among(names: &[&[u8]], text: &[u8]) -> bool
     ensures { result ≡ is_in (map (λ name. name.now) names.now) text.now }
 {
-    names.iter().any(|name| text == *name)
+    is_one_of(names, text)
 }
 
 /// Whether the list consists of members of these names.
