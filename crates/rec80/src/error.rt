@@ -22,7 +22,8 @@ impl RecError {
         ensures { result ≡ rec_fault_record (rec_fault self.now) }
     {
         match *self {
-            RecError::ShortRecord { record } | RecError::BadByte { record, .. } => record,
+            RecError::ShortRecord { record } => record,
+            RecError::BadByte { record, .. } => record,
         }
     }
 }

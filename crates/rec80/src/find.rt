@@ -72,7 +72,10 @@ fn take_member<'a>(left: &mut Members<'a>) -> Option<Word<'a>>
     ensures none { IfNone result ((ms : List grammar.Word) → LeavesMembers left.old ms → ms ≡ []) }
     ensures shorter { IfSome result (λ m. length (members_text left.new) < length (members_text left.old)) }
 {
-    left.next_member().ok()?
+    let Ok(found) = left.next_member() else {
+        return None;
+    };
+    found
 }
 
 /// The member of that name in a list, if there is one. If the text is not a list of members, the answer may be

@@ -32,10 +32,11 @@ impl<'a> Operands<'a> {
         ensures other { OnOk result (IfErr found.entry (λ _. (self.new.words.items ≡ self.old.words.items)
             × (self.new.only_words ≡ false))) }
     {
-        match found {
-            Ok(word) => self.words.push(word)?,
-            Err(NoWord) => self.only_words = false,
-        }
+        let Ok(word) = found else {
+            self.only_words = false;
+            return Ok(());
+        };
+        self.words.push(word)?;
         Ok(())
     }
 

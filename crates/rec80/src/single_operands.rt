@@ -17,8 +17,12 @@ pub fn flag(found: &Option<Word<'_>>) -> Result<bool, BadOperand>
 {
     match found {
         None => Ok(false),
-        Some(word) if word.list.is_some() => Err(BadOperand),
-        Some(_) => Ok(true),
+        Some(word) => {
+            if word.list.is_some() {
+                return Err(BadOperand);
+            }
+            Ok(true)
+        }
     }
 }
 

@@ -105,10 +105,15 @@ impl<T: Keyed + Drop> Table<T> {
         ensures rising { Rises T.Key.cmp T.key_of self.new }
     {
         match place(self.items.as_slice(), item.key()) {
-            Ok(place) => self.items[place] = item,
-            Err(place) => self.items.insert(place, item)?,
+            Ok(place) => {
+                self.items[place] = item;
+                Ok(())
+            }
+            Err(place) => {
+                self.items.insert(place, item)?;
+                Ok(())
+            }
         }
-        Ok(())
     }
 
     /// Appends the item if its key comes after all others, and returns whether it does.
@@ -155,14 +160,10 @@ impl<T: Keyed + TryClone> Table<T> {
     ) -> Result<Prepared<T>, AllocError>
         ensures { IfOk result (λ made. (made.edits ≡ edits.now) × (length self.now + length edits.now ≤ made.room)) }
     {
-        let most_items = self
-            .items
-            .len()
-            .checked_add(edits.items.len())
-            .ok_or(AllocError)?;
+        let most_items = self.items.len().checked_add(edits.items.len());
         Ok(Prepared {
             edits: edits.try_clone(alloc)?,
-            room: Vec::with_capacity(alloc, most_items)?,
+            room: Vec::with_capacity(alloc, most_items.ok_or(AllocError)?)?,
         })
     }
 

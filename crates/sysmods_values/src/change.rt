@@ -69,7 +69,10 @@ impl ElemChange {
     pub fn is_replacement(&self) -> bool
         ensures { result ≡ is_replacement self.now.action }
     {
-        matches!(self.action, Action::Replaces { .. })
+        match &self.action {
+            Action::Replaces { .. } => true,
+            Action::Updates { .. } => false,
+        }
     }
 
     /// The word that begins the statement, as `++MAC` or `++MACUPD`.
