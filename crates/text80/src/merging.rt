@@ -10,8 +10,8 @@ use crate::numbered::Numbered;
 use crate::update::Update;
 use std::alloc::{AllocError, Global};
 
-/// The text after the update. At each number that the update gives it has the update's record, at the other numbers that
-/// the update deletes it has none, and elsewhere it has the old record.
+/// The text after the update. At each number that the update gives it has the update's record, at the other numbers
+/// that the update deletes it has none, and elsewhere it has the old record.
 pub fn merge(alloc: Global, old: &Numbered, update: &Update) -> Result<Numbered, AllocError>
     ensures { IfOk result (IsMerge old.now update.now) }
 {
