@@ -42,9 +42,7 @@ impl<'a> Iterator for Iter<'a> {
     ghost remaining = { λ s. at_most (length s) };
 
     fn next(&mut self) -> Option<&'a Hold> {
-        match self.entries.next() {
-            Some((_, hold)) => Some(hold),
-            None => None,
-        }
+        let (_, hold) = self.entries.next()?;
+        Some(hold)
     }
 }

@@ -4,12 +4,12 @@ ghost use Rattle.sysmods.specs.Held.{zone_of};
 ghost use Rattle.sysmods.specs.Namers.{namers_with};
 
 use crate::received::Received;
-use crate::search::Names;
+use crate::search::IdGraph;
 use fields::{Id, Srel};
 use std::alloc::AllocError;
 use sysmods_values::Sysmod;
 
-/// The received SYSMODs, and one more instead of one of its id.
+/// What the received SYSMODs and one more name in their `++VER`s for the SREL.
 #[derive(Clone, Copy)]
 pub(crate) struct Naming<'a> {
     pub(crate) received: &'a Received,
@@ -17,24 +17,22 @@ pub(crate) struct Naming<'a> {
     pub(crate) srel: Srel,
 }
 
-impl Names for Naming<'_> {
+impl IdGraph for Naming<'_> {
     ghost named = { λ n x. names_for (with_sysmod (zone_of n.received.now) n.sysmod.now) n.srel x };
 
     fn append_named(&self, id: Id, found: &mut Vec<Id>) -> Result<(), AllocError> {
         let sysmod = self.sysmod;
         if id == sysmod.id {
-            sysmod.append_named(self.srel, found)?;
-            return Ok(());
+            return sysmod.append_named(self.srel, found);
         }
-        if let Some(other) = self.received.get(id) {
-            other.append_named(self.srel, found)?;
-            return Ok(());
+        match self.received.get(id) {
+            Some(other) => other.append_named(self.srel, found),
+            None => Ok(()),
         }
-        Ok(())
     }
 }
 
-/// The SYSMODs that name an id, among the received ones and one more.
+/// The same graph turned round: which of the received SYSMODs and the one more name an id.
 #[derive(Clone, Copy)]
 pub(crate) struct Namers<'a> {
     pub(crate) received: &'a Received,
@@ -42,7 +40,7 @@ pub(crate) struct Namers<'a> {
     pub(crate) srel: Srel,
 }
 
-impl Names for Namers<'_> {
+impl IdGraph for Namers<'_> {
     ghost named = { λ n z. namers_with n.received.now n.sysmod.now n.srel z };
 
     fn append_named(&self, id: Id, found: &mut Vec<Id>) -> Result<(), AllocError> {

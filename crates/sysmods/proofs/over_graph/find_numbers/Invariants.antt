@@ -1,7 +1,7 @@
 use Rattle.std.proofs.Common.{◌≡◌, Some, map, take}
 use Rattle.std.specs.Prelude.{slice_get}
 use Rattle.indexmap.specs.IndexMap.{keys}
-use Rattle.sysmods.proofs.over_graph.numbers_of.Given as goal
+use Rattle.sysmods.proofs.over_graph.find_numbers.Given as goal
 
 abbrev pub invariant-loop-id : goal.invariant-loop-id
 invariant-loop-id l =

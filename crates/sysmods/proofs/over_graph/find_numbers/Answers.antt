@@ -2,7 +2,7 @@ use Rattle.std.proofs.Common.{◌≡◌, ◌+◌, Some, map, take, sym, subst}
 use Rattle.std.specs.Prelude.{slice_get}
 use Rattle.indexmap.specs.IndexMap.{keys}
 use Rattle.sysmods.proofs.OverGraphs.{numbers_next}
-use Rattle.sysmods.proofs.over_graph.numbers_of.Goals as goal
+use Rattle.sysmods.proofs.over_graph.find_numbers.Goals as goal
 
 pub loop-id-preserved : goal.loop-id-preserved
 loop-id-preserved c =

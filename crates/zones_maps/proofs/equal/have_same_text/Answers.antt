@@ -1,7 +1,7 @@
 use Rattle.std.proofs.Common.{◌∙◌, sym, ap}
 use Rattle.std.proofs.lemmas.Slice.Eq.{slice_eq-Decides, bytes_eq-Decides}
 use Rattle.terms.specs.Types.{Element}
-use Rattle.zones_maps.proofs.equal.has_same_text.Goals as goal
+use Rattle.zones_maps.proofs.equal.have_same_text.Goals as goal
 
 pub returns : goal.returns
 returns c =

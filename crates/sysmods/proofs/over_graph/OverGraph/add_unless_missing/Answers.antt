@@ -5,7 +5,7 @@ use Rattle.indexmap.proofs.CallerLemmas.{insert_entry-new}
 use Rattle.terms.specs.Over.{names}
 use Rattle.sysmods.specs.Choices.{choice}
 use Rattle.sysmods.proofs.OverGraphs.{graph_more, none_of}
-use Rattle.sysmods.proofs.over_graph.OverGraph.add.Goals as goal
+use Rattle.sysmods.proofs.over_graph.OverGraph.add_unless_missing.Goals as goal
 
 pub returns-in-Known : goal.returns-in-Known
 returns-in-Known c =

@@ -1,7 +1,7 @@
 use Rattle.std.proofs.Common.{◌∙◌, sym, ap, is_some, option_copied}
 use Rattle.sysmods.proofs.Undoing.{IsExchanged, exchanged}
-use Rattle.sysmods.proofs.holds.Holds.exchange.Goals as goal
-use Rattle.sysmods.proofs.holds.Holds.exchange.Goals.{In_ok-old}
+use Rattle.sysmods.proofs.holds.Holds.put_with_undo.Goals as goal
+use Rattle.sysmods.proofs.holds.Holds.put_with_undo.Goals.{In_ok-old}
 
 made : (c : In_ok-old)
     → IsExchanged c.self.inside.map.entries c.insert.new.self.entries c.of_hold-key.result c.args.hold

@@ -3,7 +3,7 @@ use Rattle.std.specs.Prelude.{All}
 use Rattle.terms.specs.Commands.{runs_from}
 use Rattle.terms.specs.Operands.{is_often}
 use Rattle.rec80.specs.Cursors.{text_of}
-use Rattle.cntl.proofs.runs.any_run_twice.Given as goal
+use Rattle.cntl.proofs.runs.any_occurs_twice.Given as goal
 
 abbrev pub invariant-loop-name : goal.invariant-loop-name
 invariant-loop-name l = All (λ name. 0 < length name.now) l.names

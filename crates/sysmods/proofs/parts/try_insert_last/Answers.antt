@@ -5,7 +5,7 @@ use Rattle.std.specs.Cmp.Lexicographic.{slice_cmp}
 use Rattle.terms.specs.Rising.{with_item}
 use Rattle.sysmods.specs.Held.{zone_of}
 use Rattle.sysmods.proofs.Fronts.{none_refused, global_last, new_last, item_last, some_fault}
-use Rattle.sysmods.proofs.parts.push_last.Goals as goal
+use Rattle.sysmods.proofs.parts.try_insert_last.Goals as goal
 
 pub returns-clause-fits : goal.returns-clause-fits
 returns-clause-fits c =
