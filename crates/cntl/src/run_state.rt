@@ -31,7 +31,8 @@ fn step_in_name<'n>(left: &'n [u8], byte: u8) -> RunState<'n>
     }
 }
 
-// The state after a character that belongs to no word. An inner list begins with it, or the next run may begin after it.
+// The state after a character that belongs to no word. An inner list begins with it, or the next run may begin after
+// it.
 fn start_run<'n>(byte: u8, name: &'n [u8]) -> RunState<'n>
     ensures at { IsAt name.now result [] }
     ensures inner { is_inner result ≡ (byte == 40) }

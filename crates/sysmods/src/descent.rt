@@ -27,8 +27,8 @@ fn mark_successors(successors: &[Vec<usize>], number: usize, marks: &mut Vec<boo
     }
 }
 
-/// Whether the number `high` leads to the lower number `low`. `successors` has for each number the lower ones to which it
-/// leads in one step. The search goes through the numbers between the two, from the highest down.
+/// Whether the number `high` leads to the lower number `low`. `successors` has for each number the lower ones to which
+/// it leads in one step. The search goes through the numbers between the two, from the highest down.
 pub(crate) fn leads_down(
     alloc: Global,
     successors: &[Vec<usize>],

@@ -58,8 +58,8 @@ impl IndexEntry {
     }
 }
 
-/// For each id, the ids of the SYSMODs that name it. An entry may also contain others, so a user of the index tests each
-/// of them.
+/// For each id, the ids of the SYSMODs that name it. An entry may also contain others, so a user of the index tests
+/// each of them.
 #[derive(Drop)]
 pub(crate) struct Index {
     pub(crate) sets: BTreeMap<Id, IndexEntry>,
@@ -132,7 +132,8 @@ impl Index {
         self.insert_fmid(ver.fmid, namer)
     }
 
-    /// Adds the SYSMOD to the entry of each id that it names. If memory runs out, it may have been added to some of them.
+    /// Adds the SYSMOD to the entry of each id that it names. If memory runs out, it may have been added to some of
+    /// them.
     pub(crate) fn insert_sysmod(&mut self, sysmod: &Sysmod) -> Result<(), AllocError>
         ensures has { OnOk result (IsIndexed self.new.sets sysmod.now) }
         ensures grows { Grows self.old.sets self.new.sets }

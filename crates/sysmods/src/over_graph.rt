@@ -11,8 +11,9 @@ use fields::Id;
 use indexmap::IndexMap;
 use std::alloc::{AllocError, Global};
 
-/// Ids in an order such that each comes after all that it names. An id's number is its place in this order, and its value
-/// has the numbers of the ids that it names. So a search compares no ids, and goes from each number to lower ones.
+/// Ids in an order such that each comes after all that it names. An id's number is its place in this order, and its
+/// value has the numbers of the ids that it names. So a search compares no ids, and goes from each number to lower
+/// ones.
 #[derive(Drop)]
 pub(crate) struct OverGraph {
     nodes: IndexMap<Id, Vec<usize>>,

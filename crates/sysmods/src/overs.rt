@@ -23,8 +23,8 @@ pub struct Overs<'a, 'b> {
     graph: OverGraph,
 }
 
-/// The pairs of ids that an `Overs` has found, the first over the second, without the choice of `++VER`s that makes them
-/// so. A contract sees their list.
+/// The pairs of ids that an `Overs` has found, the first over the second, without the choice of `++VER`s that makes
+/// them so. A contract sees their list.
 #[derive(Drop)]
 pub struct KnownOvers {
     pairs: IndexSet<(Id, Id)>,

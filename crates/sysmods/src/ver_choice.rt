@@ -32,8 +32,8 @@ impl Keyed for Pick {
     }
 }
 
-/// Which `++VER` of each id counts for a zone, among those for the zone's SREL: the one by which the SYSMOD was installed,
-/// otherwise the first one that fits the zone, and otherwise the first one.
+/// Which `++VER` of each id counts for a zone, among those for the zone's SREL: the one by which the SYSMOD was
+/// installed, otherwise the first one that fits the zone, and otherwise the first one.
 #[derive(Drop)]
 pub struct VerChoice<'a> {
     global: &'a GlobalZone,

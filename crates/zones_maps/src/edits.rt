@@ -69,8 +69,8 @@ impl ZoneEdits {
         self.elements.as_slice()
     }
 
-    /// The edits of entries as a table, which `Table::edited` and `Table::prepare` take. The call also gives a proof the
-    /// form of all edits.
+    /// The edits of entries as a table, which `Table::edited` and `Table::prepare` take. The call also gives a proof
+    /// the form of all edits.
     pub(crate) fn entry_edits(&self) -> &Table<Edit<Entry, Id>>
         ensures same { result.now ≡ self.now.entries }
         ensures form { AreEdits self.now }

@@ -1,7 +1,7 @@
 use Rattle.std.proofs.Common.{◌∙◌, sym}
 use Rattle.mcs.specs.KnownWords.{own_list}
 use Rattle.mcs.proofs.Ordering.{second_change}
-use Rattle.mcs.proofs.order.is_second.Goals as goal
+use Rattle.mcs.proofs.order.is_duplicate.Goals as goal
 
 pub returns-in-Some-one : goal.returns-in-Some-one
 returns-in-Some-one c = λ rest h.
