@@ -86,7 +86,7 @@ fn has_named_fmid(ver: &Ver, named: Option<Id>) -> bool
 }
 
 // Whether a SYSMOD of the kind that has the `++VER` may have no other one of the SREL and FMID.
-fn rules_out(kind: Kind, ver: &Ver, srel: Srel, named: Option<Id>) -> bool
+fn excludes_another(kind: Kind, ver: &Ver, srel: Srel, named: Option<Id>) -> bool
     ensures { IsTrue result ↔ ((ver.now.srel ≡ srel) × ((kind ≡ Function) ⊎ IsSomeAnd ver.now.fmid
         (λ f. named ≡ Some f))) }
 {
@@ -94,11 +94,12 @@ fn rules_out(kind: Kind, ver: &Ver, srel: Srel, named: Option<Id>) -> bool
 }
 
 // Whether a SYSMOD of the kind that has the `++VER`s may have no other one of the SREL and FMID.
-fn any_rules_out(kind: Kind, vers: &[Ver], srel: Srel, named: Option<Id>) -> bool
+fn any_excludes_another(kind: Kind, vers: &[Ver], srel: Srel, named: Option<Id>) -> bool
     ensures { IsTrue result ↔ Any (λ v. (v.srel ≡ srel) × ((kind ≡ Function) ⊎ IsSomeAnd v.fmid
         (λ f. named ≡ Some f))) vers.now }
 {
-    vers.iter().any(|ver| rules_out(kind, ver, srel, named))
+    vers.iter()
+        .any(|ver| excludes_another(kind, ver, srel, named))
 }
 
 // Whether the statement is a second `++VER` of one SREL in a function, or of one SREL and FMID in another SYSMOD.
@@ -108,7 +109,12 @@ fn is_duplicate_ver(sysmod: &Sysmod, known: &KnownStatement<'_>) -> bool
         → IsTrue result ↔ IsSecond sysmod.now known.now.word (own_list known.now) rest }
 {
     match one::<Srel>(&known.first) {
-        Some(srel) => any_rules_out(sysmod.kind, &sysmod.vers, srel, named_fmid(&known.operands)),
+        Some(srel) => any_excludes_another(
+            sysmod.kind,
+            &sysmod.vers,
+            srel,
+            named_fmid(&known.operands),
+        ),
         None => false,
     }
 }
