@@ -26,7 +26,8 @@ fn take_command_word(left: &mut Words<'_>) -> Option<CommandWord>
     ensures none { IfNone result ((pieces : List AnyPiece) → LeavesPieces left.old pieces
         → (w : CommandWord) (rest : List AnyPiece) → BeginsWith pieces w rest → ⊥) }
 {
-    let Piece::Word(text) = left.next_piece()? else {
+    let piece = left.next_piece()?;
+    let Piece::Word(text) = piece else {
         return None;
     };
     read_word(text)

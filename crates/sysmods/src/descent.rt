@@ -22,9 +22,10 @@ fn mark_successors(successors: &[Vec<usize>], number: usize, marks: &mut Vec<boo
     ensures { (high : ℕ) → IsSearchDown (list_at successors.now) high (number + 1) marks.old.items
         → IsSearchDown (list_at successors.now) high number marks.new.items }
 {
-    if marks[number] {
-        mark_numbers(successors[number].as_slice(), marks);
+    if !marks[number] {
+        return;
     }
+    mark_numbers(successors[number].as_slice(), marks);
 }
 
 /// Whether the number `high` leads to the lower number `low`. `successors` has for each number the lower ones to which

@@ -81,7 +81,8 @@ impl Index {
         ensures grows { Grows self.old.sets self.new.sets }
     {
         if let Some(namers) = self.sets.get_mut(&named) {
-            return namers.insert(self.alloc, namer);
+            namers.insert(self.alloc, namer)?;
+            return Ok(());
         }
         self.sets.insert(named, IndexEntry::One(namer))?;
         Ok(())
@@ -129,7 +130,8 @@ impl Index {
         self.insert_all(ver.sup.as_slice(), namer)?;
         self.insert_all(ver.del.as_slice(), namer)?;
         self.insert_functions(ver.ifs.as_slice(), namer)?;
-        self.insert_fmid(ver.fmid, namer)
+        self.insert_fmid(ver.fmid, namer)?;
+        Ok(())
     }
 
     /// Adds the SYSMOD to the entry of each id that it names. If memory runs out, it may have been added to some of

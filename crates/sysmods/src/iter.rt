@@ -42,7 +42,9 @@ impl<'a> Iterator for Iter<'a> {
     ghost remaining = { λ s. at_most (length s) };
 
     fn next(&mut self) -> Option<&'a Hold> {
-        let (_, hold) = self.entries.next()?;
-        Some(hold)
+        match self.entries.next() {
+            Some((_, hold)) => Some(hold),
+            None => None,
+        }
     }
 }

@@ -1,4 +1,4 @@
-//! What the received SYSMODs name in the `++VER`s of one SREL, and one more among them.
+//! What SYSMODs name in their `++VER`s for one SREL, once one more is received.
 ghost use Rattle.terms.specs.Global.{names_for, with_sysmod};
 ghost use Rattle.sysmods.specs.Held.{zone_of};
 ghost use Rattle.sysmods.specs.Namers.{namers_with};
@@ -9,7 +9,7 @@ use fields::{Id, Srel};
 use std::alloc::AllocError;
 use sysmods_values::Sysmod;
 
-/// What the received SYSMODs and one more name in their `++VER`s for the SREL.
+/// What each SYSMOD names in its `++VER`s for the SREL: the received ones, and `sysmod` as if it were received too.
 #[derive(Clone, Copy)]
 pub(crate) struct Naming<'a> {
     pub(crate) received: &'a Received,
@@ -23,16 +23,18 @@ impl IdGraph for Naming<'_> {
     fn append_named(&self, id: Id, found: &mut Vec<Id>) -> Result<(), AllocError> {
         let sysmod = self.sysmod;
         if id == sysmod.id {
-            return sysmod.append_named(self.srel, found);
+            sysmod.append_named(self.srel, found)?;
+            return Ok(());
         }
-        match self.received.get(id) {
-            Some(other) => other.append_named(self.srel, found),
-            None => Ok(()),
+        if let Some(other) = self.received.get(id) {
+            other.append_named(self.srel, found)?;
+            return Ok(());
         }
+        Ok(())
     }
 }
 
-/// The same graph turned round: which of the received SYSMODs and the one more name an id.
+/// The same graph in the other direction: for each id the SYSMODs that name it.
 #[derive(Clone, Copy)]
 pub(crate) struct Namers<'a> {
     pub(crate) received: &'a Received,

@@ -53,7 +53,7 @@ impl<'a, 'b> Model for Overs<'a, 'b> {
 }
 
 impl<'a, 'b> Overs<'a, 'b> {
-    /// The pairs by this choice, none of which has been found yet.
+    /// An `Overs` of this choice that has found no pairs yet.
     pub fn new(alloc: Global, vers: &'a VerChoice<'b>) -> Self
         ensures { result ≡ vers.now }
     {
@@ -150,7 +150,10 @@ fn is_over(
     ensures over { IfOk result (λ over. IsTrue over ↔ IsOver (choice vers.now) x z) }
     ensures graph { IsGraph (choice vers.now) (keys graph.new.nodes) (values graph.new.nodes) }
 {
-    if vers.names(x, z) || names_any_known_over(vers, known, x, z) {
+    if vers.names(x, z) {
+        return Ok(true);
+    }
+    if names_any_known_over(vers, known, x, z) {
         return Ok(true);
     }
     graph.add_with_named(alloc, vers, x)?;

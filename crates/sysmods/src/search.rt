@@ -56,7 +56,8 @@ fn visit<N: IdGraph>(
     ensures { OnOk result (GoesOn (N.named graph.now) place seen.old.keys seen.new.keys) }
 {
     let id = seen.as_slice()[place];
-    see_named(graph, id, found, seen)
+    see_named(graph, id, found, seen)?;
+    Ok(())
 }
 
 // The ids that x reaches, in the order in which the search meets them: the set serves both as marks and as a queue.

@@ -2,7 +2,6 @@ use Rattle.std.proofs.Common.{◌≡◌, ◌∙◌, sym, ap, rules, subst, true�
 use Rattle.std.specs.Ordering.{nat_cmp}
 use Rattle.std.specs.Cmp.Lexicographic.{slice_cmp}
 use Rattle.std.specs.BTreeMap.{get}
-use Rattle.std.proofs.lemmas.Result.{on_ok_weaker}
 use Rattle.terms.proofs.Booleans.{or_false}
 use Rattle.terms.proofs.TextOrder.{same_itself}
 use Rattle.sysmods.specs.declared.index.IndexEntry.TheVariants.{One}
@@ -10,16 +9,18 @@ use Rattle.sysmods.specs.Index.{Grows}
 use Rattle.sysmods.proofs.Indexed.{grows_update, has_at, has_none}
 use Rattle.sysmods.proofs.index.Index.insert.Goals as goal
 
-pub returns-in-Some-clause-has : goal.returns-in-Some-clause-has
-returns-in-Some-clause-has c =
-    on_ok_weaker c.insert.result (λ h. has_at (c.get_mut.follows.lender c.insert.new.self) c.args.named c.insert.new.self
-    ((c.get_mut.follows.holds c.insert.new.self).3 (search rules)).1 c.args.namer ∙ h) c.insert.ensures.has
+pub returns-in_err-insert-clause-grows : goal.returns-in_err-insert-clause-grows
+returns-in_err-insert-clause-grows c =
+    grows_update c.args.self.now.sets (c.get_mut.follows.lender c.insert.new.self) c.args.named c.insert.new.self
+    ((c.get_mut.follows.holds c.insert.new.self).3 (search rules))
+    (λ y h. c.in_err-insert.ensures.grows y
+    (sym (has_at c.args.self.now.sets c.args.named c.in-Some.namers.now (sym c.in-Some.ensures.value) y) ∙ h))
 
 pub returns-in-Some-clause-grows : goal.returns-in-Some-clause-grows
 returns-in-Some-clause-grows c =
     grows_update c.args.self.now.sets (c.get_mut.follows.lender c.insert.new.self) c.args.named c.insert.new.self
     ((c.get_mut.follows.holds c.insert.new.self).3 (search rules))
-    (λ y h. c.insert.ensures.grows y
+    (λ y h. c.in_ok-insert.ensures.grows y
     (sym (has_at c.args.self.now.sets c.args.named c.in-Some.namers.now (sym c.in-Some.ensures.value) y) ∙ h))
 
 pub returns-clause-has : goal.returns-clause-has

@@ -1,4 +1,3 @@
-use Rattle.std.proofs.lemmas.Result.{on_ok_weaker}
 use Rattle.std.proofs.Common.{◌≡◌, ◌∙◌, ◌++◌, List, ap, sym, rules, None, append-nil}
 use Rattle.std.specs.Str.{bytes_eq}
 use Rattle.terms.specs.Types.{Id}
@@ -8,22 +7,20 @@ use Rattle.sysmods.proofs.naming.NamingIdGraph.append_named.Goals as goal
 
 pub returns-then-eq : goal.returns-then-eq
 returns-then-eq c =
-    on_ok_weaker c.append_named.result (λ appended.
-    appended ∙ ap (λ ys. c.args.found.now.items ++ ys) (named_own c.args.self.now.received.now c.args.self.now.sysmod.now
+    c.in_ok-append_named.ensures
+    ∙ ap (λ ys. c.args.found.now.items ++ ys) (named_own c.args.self.now.received.now c.args.self.now.sysmod.now
     c.args.self.now.srel c.args.id
-    (ap (λ s. bytes_eq c.args.id s.id) (sym c.sysmod.view_is) ∙ sym c.eq.ensures ∙ c.if-eq.true)))
-    c.append_named.ensures
+    (ap (λ s. bytes_eq c.args.id s.id) (sym c.sysmod.view_is) ∙ sym c.eq.ensures ∙ c.if-eq.true))
 
 pub returns-in-Some : goal.returns-in-Some
 returns-in-Some c =
-    on_ok_weaker c.append_named-2.result (λ appended.
-    appended ∙ ap (λ ys. c.args.found.now.items ++ ys) (named_other c.args.self.now.received.now c.args.self.now.sysmod.now
+    c.in_ok-append_named-2.ensures
+    ∙ ap (λ ys. c.args.found.now.items ++ ys) (named_other c.args.self.now.received.now c.args.self.now.sysmod.now
     c.args.self.now.srel c.args.id
-    (ap (λ s. bytes_eq c.args.id s.id) (sym c.sysmod.view_is) ∙ sym c.eq.ensures ∙ c.if-eq.false) _ c.in-Some.ensures))
-    c.append_named-2.ensures
+    (ap (λ s. bytes_eq c.args.id s.id) (sym c.sysmod.view_is) ∙ sym c.eq.ensures ∙ c.if-eq.false) _ c.in-Some.ensures)
 
-pub returns-in-None : goal.returns-in-None
-returns-in-None c =
+pub returns : goal.returns
+returns c =
     let none : None ≡ found c.args.self.now.received.now c.args.id = search rules in
     sym (append-nil c.args.found.now.items)
     ∙ ap (λ (ys : List Id). c.args.found.now.items ++ ys) (named_other c.args.self.now.received.now
