@@ -29,8 +29,8 @@ module _ (c : Choice) (pairs : List (Id × Id)) (are : AreOver c pairs) where
       let more = known_over a.1 z a.4 in
       (a.1 ∷ more.0, (named a.1 (a.0, a.2, a.3), more.1))
 
-  pub follows_over : (x z : Id) → (is_any_known_over pairs (pre_of c x) z || is_any_known_over pairs (sup_of c x) z) ≡ true
-      → IsOver c x z
+  pub follows_over : (x z : Id) →
+      (is_any_known_over pairs (pre_of c x) z || is_any_known_over pairs (sup_of c x) z) ≡ true → IsOver c x z
   follows_over x z on =
       elim (or_cases (is_any_known_over pairs (pre_of c x) z) (is_any_known_over pairs (sup_of c x) z) on) [
         | inl pre ↦ follows x z (pre_of c x) (λ y h.

@@ -36,8 +36,8 @@ returns-in_err-lines-clause-fault c = λ rest h.
     let value = change_value (sysmod_in (Some (begun_of c.args.begun.now))) c.args.known.now.word
     (own_list c.args.known.now) rest inline inline c.args.elem_type n.0 c.in-Some.names.name c.in-Some.names.distlib
     c.in-Some.names.syslib c.requires n.1 n.2 refl in
-    rw (p.1, p.2) (text_fault (Some (begun_of c.args.begun.now)) c.args.known.now.word (own_list c.args.known.now) rest inline
-    c.args.elem_type c.in-Some.names.name c.in-Some.names.distlib c.in-Some.names.syslib c.in_err-lines.field-0.0
+    rw (p.1, p.2) (text_fault (Some (begun_of c.args.begun.now)) c.args.known.now.word (own_list c.args.known.now) rest
+    inline c.args.elem_type c.in-Some.names.name c.in-Some.names.distlib c.in-Some.names.syslib c.in_err-lines.field-0.0
     c.in_err-lines.ensures.bad value (c.is_within_limits.ensures.0 c.if-not-is_within_limits.false))
 
 pub returns-clause-said : goal.returns-clause-said

@@ -37,8 +37,8 @@ returns-in_err-update-clause-fault c = λ rest h.
     let value = update_value (sysmod_in (Some (begun_of c.args.begun.now))) c.args.known.now.word
     (own_list c.args.known.now) rest inline inline c.args.elem_type c.in-Some.name c.requires end
     c.in-Some.ensures.one refl in
-    rw (p.1, p.2) (update_fault (Some (begun_of c.args.begun.now)) c.args.known.now.word (own_list c.args.known.now) rest inline
-    c.args.elem_type c.in-Some.name c.in_err-update.field-0.0 c.requires c.in_err-update.ensures.bad value
+    rw (p.1, p.2) (update_fault (Some (begun_of c.args.begun.now)) c.args.known.now.word (own_list c.args.known.now)
+    rest inline c.args.elem_type c.in-Some.name c.in_err-update.field-0.0 c.requires c.in_err-update.ensures.bad value
     (c.is_within_limits.ensures.0 c.if-not-is_within_limits.false))
 
 pub returns-clause-said : goal.returns-clause-said

@@ -28,8 +28,8 @@ returns-then-not-is_within_limits-clause-fault c = λ rest h.
       SaysIf c.in_ok-condition.condition,
       if_value (Some b) b c.args.known.now.word (own_list c.args.known.now) rest inline c.in_ok-condition.condition refl
           c.requires (words_of c.in-Some.words.now, c.in-Some.ensures.some rest h, c.in_ok-condition.ensures.ok),
-      λ within. true≢false (sym (c.is_within_limits.ensures.1 (if_within (Some b) b c.in_ok-condition.condition inline refl within))
-          ∙ c.if-not-is_within_limits.true),
+      λ within. true≢false (sym (c.is_within_limits.ensures.1
+          (if_within (Some b) b c.in_ok-condition.condition inline refl within)) ∙ c.if-not-is_within_limits.true),
     )
 
 pub returns-clause-said : goal.returns-clause-said

@@ -31,8 +31,8 @@ returns-then-not-is_within_limits-clause-fault c = λ rest h.
       ver_value (Some b) b c.args.known.now.word (own_list c.args.known.now) rest inline
           (words_of c.in-Some.words.now) c.in_ok-ver.ver refl c.requires (c.in-Some.ensures.words rest h)
           c.in_ok-ver.ensures.ok,
-      λ within. true≢false (sym (c.is_within_limits.ensures.1 (ver_within (Some b) b c.in_ok-ver.ver inline refl within))
-          ∙ c.if-not-is_within_limits.true),
+      λ within. true≢false (sym (c.is_within_limits.ensures.1
+          (ver_within (Some b) b c.in_ok-ver.ver inline refl within)) ∙ c.if-not-is_within_limits.true),
     )
 
 pub returns-clause-said : goal.returns-clause-said

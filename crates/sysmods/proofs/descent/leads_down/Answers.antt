@@ -47,6 +47,6 @@ returns c =
     let s = c.loop-next.invariant.search in
     let told = mark_read marks c.args.low c.index-2.result.now (omega (arith, s.room, c.requires.low))
     c.index-2.ensures in
-    let end = search_end (list_at c.args.successors.now) c.requires.falling c.args.high c.args.low c.loop-next.next marks
-    (omega (arith, c.loop-next-test.false)) s in
+    let end = search_end (list_at c.args.successors.now) c.requires.falling c.args.high c.args.low c.loop-next.next
+    marks (omega (arith, c.loop-next-test.false)) s in
     (λ on. end.0 (told ∙ on), λ down. sym told ∙ end.1 down)
