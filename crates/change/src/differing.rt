@@ -58,13 +58,13 @@ pub(crate) fn add_differing_edits(
     ensures { OnOk result (HasEditedElements zone.now edits.items zone_edits.old zone_edits.new) }
 {
     for edit in edits {
-        edit_element(zone, edit, zone_edits)?;
+        add_differing_edit(zone, edit, zone_edits)?;
     }
     Ok(())
 }
 
 // Puts the element, unless the zone already has the same one, or removes it, if the zone has it.
-fn edit_element(
+fn add_differing_edit(
     zone: &Zone,
     edit: ElementEdit,
     zone_edits: &mut ZoneEdits,
