@@ -48,7 +48,7 @@ fn recognize_store<S: Alter>(alloc: Global, conn: &mut Connection<S>) -> Result<
     ensures crash { SurvivesAs S.Store conn.old conn.new }
     ensures mode { conn.old.in_transaction ≡ false → conn.new.in_transaction ≡ false }
 {
-    refuse_other_numbers(conn, &[3])?;
+    refuse_other_numbers(conn, &[Schema::Third.number()])?;
     check_store_tables(alloc, conn)
 }
 

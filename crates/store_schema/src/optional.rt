@@ -137,10 +137,8 @@ impl Columns<'_> {
         let Some(text) = self.optional_text()? else {
             return Ok(None);
         };
-        match T::read(text) {
-            Some(value) => Ok(Some(value)),
-            None => Err(ReadError::BadRow),
-        }
+        let value = T::read(text).ok_or(ReadError::BadRow)?;
+        Ok(Some(value))
     }
 }
 

@@ -3,6 +3,9 @@
 ghost use Rattle.std.specs.Prelude.{◌≡◌};
 ghost use Rattle.store_schema.specs.Earlier.{number_under};
 
+/// The numbers of all schemas.
+pub(crate) const ALL_NUMBERS: [i64; 3] = [1, 2, 3];
+
 /// The schema of a database's tables, by its number. `Third` is the store's own; the others are read to be migrated.
 #[derive(Clone, Copy, PartialEq, Debug, Drop)]
 pub enum Schema {

@@ -1,5 +1,5 @@
 use Rattle.std.proofs.Common.{◌≡◌, take}
-use Rattle.store_schema.proofs.same.table.same_indexes.Given as goal
+use Rattle.store_schema.proofs.same.part.all_same.Given as goal
 
 abbrev pub invariant-loop-at : goal.invariant-loop-at
 invariant-loop-at l = take l.at l.a ≡ take l.at l.b
