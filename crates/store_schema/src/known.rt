@@ -12,7 +12,7 @@ ghost use Rattle.store_schema.specs.Stands.{StandsFor, IsStateOf, IsSetUp};
 
 use crate::error::StoreError;
 use crate::numbers::{check_number, refuse_other_numbers};
-use crate::schema::{STORE_NUMBER, Schema};
+use crate::schema::Schema;
 use crate::tables::{are_tables_of, create_store, is_blank};
 use sqlite::{Alter, Connection};
 use std::alloc::Global;
@@ -36,7 +36,7 @@ fn check_store_tables<S: Alter>(alloc: Global, conn: &mut Connection<S>) -> Resu
 }
 
 // Checks the number in any table `meta`, whatever the other tables are, so that another schema is `OtherSchema` and not
-// `NoState`. Then checks that the tables and their number are the store's, and returns `NoState` if they are not.
+// `NoState`. Then checks that the tables and their number are the store's, which is 3; `NoState` if they are not.
 fn recognize_store<S: Alter>(alloc: Global, conn: &mut Connection<S>) -> Result<(), StoreError>
     ensures ours { HasCleanDisk (state S.Store conn.new) → OnOk result (HasOwnTables (state S.Store conn.old).now) }
     ensures other { HasCleanDisk (state S.Store conn.new) → IsErrOf result StoreError.OtherSchema
@@ -48,7 +48,7 @@ fn recognize_store<S: Alter>(alloc: Global, conn: &mut Connection<S>) -> Result<
     ensures crash { SurvivesAs S.Store conn.old conn.new }
     ensures mode { conn.old.in_transaction ≡ false → conn.new.in_transaction ≡ false }
 {
-    refuse_other_numbers(conn, &[STORE_NUMBER])?;
+    refuse_other_numbers(conn, &[3])?;
     check_store_tables(alloc, conn)
 }
 

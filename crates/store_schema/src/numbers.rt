@@ -78,21 +78,32 @@ fn number_in_row_with_rowid(row: &Row) -> Option<i64>
 fn gives_other_number(row: &Row, numbers: &[i64]) -> bool
     ensures { IsTrue result ↔ GivesOther numbers.now row.now }
 {
-    number_in_row(row).is_some_and(|number| !numbers.contains(&number))
+    match number_in_row(row) {
+        Some(number) => !numbers.contains(&number),
+        None => false,
+    }
 }
 
 // Whether the row gives the number of the schema.
 fn gives_number(row: &Row, schema: Schema) -> bool
     ensures { IsTrue result ↔ GivesOwn (number_under schema) row.now }
 {
-    number_in_row_with_rowid(row) == Some(schema.number())
+    match number_in_row_with_rowid(row) {
+        Some(number) => number == schema.number(),
+        None => false,
+    }
 }
 
 // Whether any row gives a number that is none of these.
 fn has_other_number(rows: &[Row], numbers: &[i64]) -> bool
     ensures { IsTrue result ↔ Any (GivesOther numbers.now) rows.now }
 {
-    rows.iter().any(|row| gives_other_number(row, numbers))
+    for row in rows {
+        if gives_other_number(row, numbers) {
+            return true;
+        }
+    }
+    false
 }
 
 /// Returns `OtherSchema` if `meta` gives the schema a number that is none of these.

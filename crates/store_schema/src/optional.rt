@@ -137,8 +137,10 @@ impl Columns<'_> {
         let Some(text) = self.optional_text()? else {
             return Ok(None);
         };
-        let value = T::read(text).ok_or(ReadError::BadRow)?;
-        Ok(Some(value))
+        match T::read(text) {
+            Some(value) => Ok(Some(value)),
+            None => Err(ReadError::BadRow),
+        }
     }
 }
 

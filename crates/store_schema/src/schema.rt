@@ -3,12 +3,6 @@
 ghost use Rattle.std.specs.Prelude.{◌≡◌};
 ghost use Rattle.store_schema.specs.Earlier.{number_under};
 
-/// The number of the store's own schema, the third.
-pub(crate) const STORE_NUMBER: i64 = 3;
-
-/// The numbers of all schemas.
-pub(crate) const ALL_NUMBERS: [i64; 3] = [1, 2, 3];
-
 /// The schema of a database's tables, by its number. `Third` is the store's own; the others are read to be migrated.
 #[derive(Clone, Copy, PartialEq, Debug, Drop)]
 pub enum Schema {

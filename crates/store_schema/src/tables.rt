@@ -19,8 +19,6 @@ use sqlite::{Alter, Connection, Error, Transaction};
 use sqlite_schema::schema::Schema as SqliteSchema;
 use std::alloc::Global;
 
-const INSERT_NUMBER: &str = "INSERT INTO meta (k, v) VALUES ('schema', 3)";
-
 // Creates the tables of the store, and writes the number of their schema.
 fn create_all_tables<S: Alter>(tx: &mut Transaction<'_, S>) -> Result<(), Error>
     ensures continues { Continues S.Store tx.old tx.new }
@@ -28,7 +26,7 @@ fn create_all_tables<S: Alter>(tx: &mut Transaction<'_, S>) -> Result<(), Error>
 {
     create_first_tables(tx)?;
     add_tables(tx, Schema::First)?;
-    run_statement(tx, INSERT_NUMBER)
+    run_statement(tx, "INSERT INTO meta (k, v) VALUES ('schema', 3)")
 }
 
 // Creates the tables of a schema, without its number.
