@@ -6,7 +6,7 @@ use sqlite::{Connection, MemStore};
 use std::alloc::Global;
 use std::test::Fail;
 use store::{Change, Store};
-use store_play::{CHOSEN, compare, known_rows_with, load_zone, open_store, query_lines, zone_name};
+use store_play::{CHOSEN, compare, load_zone, open_known_rows, open_store, query_lines, zone_name};
 use terms::ElemType;
 use zones_maps::{
     Applied, Element, Entry, Zone, ZoneDelta, ZoneEdits, are_same_elements, are_same_entries,
@@ -97,7 +97,7 @@ fn committed(alloc: Global, store: &mut Store<MemStore>) -> Result<Zone, Fail> {
 }
 
 fn store(alloc: Global) -> Result<Store<MemStore>, Fail> {
-    open_store(alloc, known_rows_with(alloc, CHOSEN)?)
+    open_store(alloc, open_known_rows(alloc, CHOSEN)?)
 }
 
 // The connection once the edits are committed.
