@@ -5,7 +5,7 @@ use Rattle.sqlite.specs.State.{HasCleanDisk, Survives}
 use Rattle.store_rows.proofs.InsideLemmas.{on_ok}
 use Rattle.store_migration.specs.TakenOver.{Takes, IsTaken}
 use Rattle.store_migration.proofs.Committed.{crash_leaves}
-use Rattle.store_migration.proofs.taking.convert_and_commit.Goals as goal
+use Rattle.store_migration.proofs.conversion.convert_and_commit.Goals as goal
 
 pub returns-clause-made : goal.returns-clause-made
 returns-clause-made g c clean =

@@ -1,4 +1,4 @@
-//! The whole migration, in one transaction.
+//! The conversion of the tables of an earlier schema, in one transaction.
 
 ghost use Rattle.std.specs.Prelude.{◌≡◌, false, IsTrue, OnOk, OnErr};
 ghost use Rattle.sqlite.specs.Held.{state};

@@ -5,7 +5,7 @@ use Rattle.store_rows.proofs.InsideLemmas.{on_ok}
 use Rattle.store_migration.specs.Moved.{with_moved}
 use Rattle.store_schema.proofs.UnderEach.{rows_under, stands_rows, stands_inventory}
 use Rattle.store_migration.proofs.Taken.{made_under, stands_own, all_taken}
-use Rattle.store_migration.proofs.taking.convert_tables.Goals as goal
+use Rattle.store_migration.proofs.conversion.convert_tables.Goals as goal
 
 pub returns-clause-ok : goal.returns-clause-ok
 returns-clause-ok g c clean =
