@@ -1,6 +1,6 @@
 //! Running lists of jobs over new databases in which no zone is defined.
 
-use crate::disks::{in_memory, new_files, open_store, reopen_files};
+use crate::disks::{open_in_memory, open_new_files, open_store, reopen_files};
 use crate::running::run_printing;
 use scripts::compare;
 use smpe::{Answer, Job};
@@ -61,7 +61,7 @@ fn run_in_one_call<S: Alter + Drop>(
 // Runs each job in a call of its own, over a store in memory that is opened for it.
 fn run_each_in_memory(alloc: Global, jobs: &[Job<'_>], wanted: ListWanted<'_>) -> Result<(), Fail> {
     let (mut report, mut answers) = (Vec::new(alloc), Vec::new(alloc));
-    let mut conn = in_memory(alloc)?;
+    let mut conn = open_in_memory(alloc)?;
     for job in jobs {
         conn = run_in_store(alloc, conn, slice::from_ref(job), &mut report, &mut answers)?;
     }
@@ -72,7 +72,7 @@ fn run_each_in_memory(alloc: Global, jobs: &[Job<'_>], wanted: ListWanted<'_>) -
 // Runs each job in a call of its own, over files that are closed and opened before it.
 fn run_each_on_disks(alloc: Global, jobs: &[Job<'_>], wanted: ListWanted<'_>) -> Result<(), Fail> {
     let (mut report, mut answers) = (Vec::new(alloc), Vec::new(alloc));
-    let mut conn = new_files(alloc)?;
+    let mut conn = open_new_files(alloc)?;
     for job in jobs {
         conn = run_in_store(
             alloc,
@@ -89,8 +89,8 @@ fn run_each_on_disks(alloc: Global, jobs: &[Job<'_>], wanted: ListWanted<'_>) ->
 /// Runs the jobs in memory and on disks in memory: in one call, and each in a call over a store that is opened for it.
 /// A failure says in which of these ways.
 pub fn play_jobs(alloc: Global, jobs: &[Job<'_>], wanted: ListWanted<'_>) -> Result<(), Fail> {
-    run_in_one_call(alloc, in_memory(alloc)?, "in memory", jobs, wanted)?;
+    run_in_one_call(alloc, open_in_memory(alloc)?, "in memory", jobs, wanted)?;
     run_each_in_memory(alloc, jobs, wanted)?;
-    run_in_one_call(alloc, new_files(alloc)?, "on disks", jobs, wanted)?;
+    run_in_one_call(alloc, open_new_files(alloc)?, "on disks", jobs, wanted)?;
     run_each_on_disks(alloc, jobs, wanted)
 }

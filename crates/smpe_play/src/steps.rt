@@ -1,7 +1,7 @@
 //! Playing cases, step by step.
 
 use crate::cards::{BEGINNING, Case, JobStep};
-use crate::disks::{in_memory, new_files, open_store, reopen_files};
+use crate::disks::{open_in_memory, open_new_files, open_store, reopen_files};
 use crate::rows::query_lines;
 use crate::running::{define_both, job_over, run_printing};
 use scripts::{Difference, card_file, compare, first_difference, put_cards};
@@ -172,7 +172,7 @@ fn play_each_in_memory<P: Plays>(
 ) -> Result<Connection<MemStore>, Fail> {
     let disk = "in memory, opened for each";
     let place = StepPlace { shows, disk };
-    let mut conn = begin_store(alloc, in_memory(alloc)?, before, place)?.close();
+    let mut conn = begin_store(alloc, open_in_memory(alloc)?, before, place)?.close();
     for step in steps {
         conn = play_in_opened_store(alloc, conn, step, place)?;
     }
@@ -188,7 +188,7 @@ fn play_each_on_disks<P: Plays>(
 ) -> Result<Connection<FileStore<Memory>>, Fail> {
     let disk = "on disks that are closed and opened before it";
     let place = StepPlace { shows, disk };
-    let mut conn = begin_store(alloc, new_files(alloc)?, before, place)?.close();
+    let mut conn = begin_store(alloc, open_new_files(alloc)?, before, place)?.close();
     for step in steps {
         conn = play_in_opened_store(alloc, reopen_files(alloc, conn)?, step, place)?;
     }
@@ -235,13 +235,13 @@ fn play_steps<P: Plays>(
 ) -> Result<(), Fail> {
     let disk = "in memory";
     let place = StepPlace { shows, disk };
-    let conn = play_in_one_store(alloc, in_memory(alloc)?, before, steps, place)?;
+    let conn = play_in_one_store(alloc, open_in_memory(alloc)?, before, steps, place)?;
     check_rows(alloc, conn, shows, rows)?;
     let conn = play_each_in_memory(alloc, before, steps, shows)?;
     check_rows(alloc, conn, shows, rows)?;
     let disk = "on disks";
     let place = StepPlace { shows, disk };
-    let conn = play_in_one_store(alloc, new_files(alloc)?, before, steps, place)?;
+    let conn = play_in_one_store(alloc, open_new_files(alloc)?, before, steps, place)?;
     check_rows(alloc, conn, shows, rows)?;
     let conn = play_each_on_disks(alloc, before, steps, shows)?;
     check_rows(alloc, conn, shows, rows)

@@ -34,5 +34,5 @@ pub use terms::ZoneKind;
 pub use zone_less::ZoneLess;
 pub use zones_maps::{
     Applied, Element, Entry, PreparedZone, Zone, ZoneDelta, ZoneEdits, are_same_elements,
-    is_same_as_existing, is_same_entry,
+    are_same_entries, is_same_as_existing,
 };
