@@ -86,6 +86,6 @@ pub(crate) fn reached_ids(alloc: Global, ids: &IdList, steps: &[Step]) -> Result
     let table = Rising::from_vec(all_nodes(alloc, ids, steps)?);
     let rules = rules_of_steps(alloc, &table, ids, steps)?;
     let set = least(alloc, &rules)?;
-    let ids = flagged_ids(alloc, table.as_slice(), set.as_slice())?;
-    Ok(IdList::from_vec(ids))
+    let reached = flagged_ids(alloc, table.as_slice(), set.as_slice())?;
+    Ok(IdList::from_vec(reached))
 }
