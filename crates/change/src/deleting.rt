@@ -29,8 +29,8 @@ impl<'a, 'b> Deleting<'a, 'b> {
         }
     }
 
-    // For a function that DELETE takes out, the first kept SYSMOD whose DELETE names one of its chain. For any other id,
-    // the first kept SYSMOD that names the id in DELETE.
+    // For a function that DELETE takes out, the first kept SYSMOD whose DELETE names an id of the function's chain. For
+    // any other id, the first kept SYSMOD whose DELETE names the id.
     fn first_deleter(&self, id: Id) -> Option<Id>
         requires { AreDeletions self.now }
         ensures { result ≡ first_deleter self.now id }

@@ -4,7 +4,8 @@ ghost use Rattle.std.specs.List.{list_any};
 ghost use Rattle.terms.specs.Over.{IsOver};
 ghost use Rattle.sysmods.specs.Choices.{choice};
 ghost use Rattle.zones.specs.Gone.{left_of};
-ghost use Rattle.judge_faults.specs.Own.{is_owned_by_another, IsLower, IsLowerAt, is_brought_along, has_nothing_to_update};
+ghost use Rattle.judge_faults.specs.Own.{has_nothing_to_update, is_brought_along, is_owned_by_another};
+ghost use Rattle.judge_faults.specs.Own.{IsLower, IsLowerAt};
 
 use fields::{Id, IdList};
 use std::alloc::{AllocError, Global};

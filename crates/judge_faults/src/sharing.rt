@@ -62,8 +62,8 @@ fn mark_against(
     Ok(())
 }
 
-/// The claims on one element so far. The claims of the chain may share the element with each other, because each of them
-/// is over those before it. The others do not fit into the chain, and are compared one by one.
+/// The claims on one element so far. Those of the chain may share the element with each other, because each of them is
+/// over those before it. The others do not fit into the chain, and are compared one by one.
 #[derive(Drop)]
 struct Claimants {
     chain: Vec<Claim>,

@@ -117,10 +117,10 @@ impl<'a> Asked<'a> {
         self.scope.unsupplied(alloc, ids.as_slice())
     }
 
-    // What the search asks for because of an open id that it has come to. An id of the start that brings others in asked
-    // before the search began, so it adds nothing. Any other id of the start was a candidate from the beginning, so what
-    // its namers ask for because of it is known, and only its own requests are new. An id that becomes a candidate now
-    // adds both.
+    // What the search asks for because of an open id that it has come to. An id of the start that brings others in has
+    // asked for them before the search, and adds nothing. Any other id of the start has been a candidate from the
+    // beginning. Its namers have counted it, so it adds only what it asks for by itself. An id that becomes a candidate
+    // only now also adds what its namers ask for because of it.
     fn brought_by(&self, alloc: Global, id: Id) -> Result<Vec<Id>, AllocError>
         ensures { IfOk result (λ found. found.items ≡ brought_by self.now.scope.now self.now.seen.now.keys id) }
     {

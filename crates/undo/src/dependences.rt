@@ -30,8 +30,8 @@ pub fn suppliers(alloc: Global, zone: &Zone, id: Id) -> Result<Vec<Id>, AllocErr
     zone.applied_among(alloc, ids.as_slice())
 }
 
-/// The groups of applied SYSMODs on which the SYSMOD depends: its function, and for each requisite those that supply it.
-/// The SYSMOD has to go as soon as all members of one group go. An empty group takes nothing with it.
+/// The groups of applied SYSMODs on which the SYSMOD depends: those that supply a requisite of it, for each requisite,
+/// and its function. The SYSMOD has to go as soon as all members of one group go, unless the group is empty.
 pub(crate) fn dependences_of(
     alloc: Global,
     scope: &RestoreScope<'_, '_>,

@@ -31,4 +31,5 @@ returns c =
     c.loop-dependent.pairs.items
     (c.loop-dependent.invariant
     ∙ ap (flat_map (dependents (restoring_of c.args.scope.now) (is_in c.args.candidates.now)))
-    (take_all c.loop-dependent.dependent-index c.args.scope.now.applied.now (omega arith) ∙ c.args.scope.now.has_applied))
+    (take_all c.loop-dependent.dependent-index c.args.scope.now.applied.now (omega arith)
+    ∙ c.args.scope.now.has_applied))
