@@ -32,7 +32,7 @@ fn is_related_to(head: &ZoneHead, name: ZoneName) -> bool
 }
 
 // Whether some zone names the zone of this name as its related zone.
-fn is_any_related_to(heads: &[ZoneHead], name: ZoneName) -> bool
+fn is_related_zone_of_any(heads: &[ZoneHead], name: ZoneName) -> bool
     ensures { result ≡ list_any (is_related_to name) heads.now }
 {
     heads.iter().any(|head| is_related_to(head, name))
@@ -52,7 +52,7 @@ fn is_distribution_head(head: Option<&ZoneHead>) -> bool
 fn is_free_distribution(heads: &[ZoneHead], name: ZoneName) -> bool
     ensures { result ≡ is_free_distribution heads.now name }
 {
-    is_distribution_head(head_named(heads, name)) && !is_any_related_to(heads, name)
+    is_distribution_head(head_named(heads, name)) && !is_related_zone_of_any(heads, name)
 }
 
 // Whether a zone of this kind may be defined with this related zone.

@@ -9,7 +9,7 @@ loop-id-preserved c =
     let at = c.loop-id in
     let zones = c.args.zones.now in
     let g = c.args.global.now in
-    let all = c.as_slice-all.result.now in
+    let all = c.as_slice-id-items.result.now in
     let x = c.id-item.result in
     let new = c.reject_id.new in
     subst (λ ids. AreRejected zones g ids new.global new.change.edits.items new.change.lines.items)
