@@ -21,7 +21,7 @@ fn is_superseded(zone: &Zone, id: Id) -> bool
     }
 }
 
-// The state of the id in the zone. If it has none there, whether it is received.
+// The state of the id in the zone. For an id with no state there, it says whether the id is received.
 fn standing(global: &GlobalZone, zone: &Zone, id: Id) -> Standing
     ensures { standing_view result ≡ standing global.now zone.now id }
 {
@@ -44,8 +44,7 @@ fn standing(global: &GlobalZone, zone: &Zone, id: Id) -> Standing
 fn kind_of(global: &GlobalZone, id: Id) -> Option<Kind>
     ensures { result ≡ option_map (λ s. s.kind) (sysmod_of global.now id) }
 {
-    let sysmod = global.get(id)?;
-    Some(sysmod.kind)
+    Some(global.get(id)?.kind)
 }
 
 /// The state of the id, and its entry if there is one.
