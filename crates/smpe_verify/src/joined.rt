@@ -5,8 +5,8 @@ ghost use Rattle.machine.specs.Report.{words_line};
 
 use std::alloc::AllocError;
 
-/// Appends the bytes to the text. Unlike that of `extend_from_slice`, its contract is silent about calls that fail,
-/// which is all that the calls below need. Returns an error if memory runs out, as they do.
+/// Appends the bytes to the text. Its contract is that of `extend_from_slice`, but says nothing of calls that fail, as
+/// those of its callers do not. Returns an error if memory runs out, as do the calls below.
 pub(crate) fn append(piece: &[u8], text: &mut Vec<u8>) -> Result<(), AllocError>
     ensures { OnOk result (text.new.items ≡ text.old.items ++ piece.now) }
 {
