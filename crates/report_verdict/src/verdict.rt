@@ -27,8 +27,8 @@ use terms::NeedKind;
 // What the line of a need says if the facts do not tell why it is open.
 const UNSUPPLIED: &[u8] = b"nothing supplies it";
 
-// Whether the need is of this kind and for this id. It compares the words of the kinds, as its clause does: no two kinds
-// have the same word.
+// Whether the need is of this kind and for this id. It compares the words of the kinds, as its clause does: no two
+// kinds have the same word.
 fn matches_need(need: &OpenNeed, kind: NeedKind, id: &[u8]) -> bool
     ensures { result ≡ (bytes_eq (need_text need.now.kind) (need_text kind) && bytes_eq need.now.id id.now) }
 {

@@ -102,8 +102,8 @@ fn only_suppliers(
     Ok(found)
 }
 
-/// A pair `(id, by)` for each SYSMOD `id` that is the only supplier of something that the applied SYSMOD `by` needs. The
-/// `++VER`s are those that count without candidates.
+/// A pair `(id, by)` for each SYSMOD `id` that is the only supplier of something that the applied SYSMOD `by` needs.
+/// The `++VER`s are those that count without candidates.
 pub(crate) fn needed_pairs(
     alloc: Global,
     vers: &VerChoice<'_>,

@@ -36,7 +36,8 @@ module _ {O : Type 0} (sink : SinkGhosts O) (out out' : O) where
   -- so what is told of the ids of a question, given what was found. Or memory ran out for it, and nothing went out.
   abbrev pub TellsFound : Inquiry → Result LoadedZones StoreError → Result ℕ JobError → Type 0
   TellsFound q (Ok found) r = ((r ≡ Err Memory) × (out' ≡ out))
-      ⊎ ((told : WhyAnswer) × IsTold found.global found.zone found.related q told × TellsText told.text.items told.status r)
+      ⊎ ((told : WhyAnswer) × IsTold found.global found.zone found.related q told
+      × TellsText told.text.items told.status r)
   TellsFound q (Err why) r = (r ≡ Err (job_error why)) × (out' ≡ out)
 
   -- so what is told of the zones, given whether they are closed

@@ -152,8 +152,8 @@ fn receive_hold_items(
     change: &mut GlobalChange,
 ) -> Result<(), AllocError>
     requires { All IsExternal (items hold_items.items) }
-    ensures { OnOk result (IsTaken (Runs TakesHoldItem global.old (items hold_items.items)) global.old global.new change.old
-        change.new) }
+    ensures { OnOk result (IsTaken (Runs TakesHoldItem global.old (items hold_items.items)) global.old global.new
+        change.old change.new) }
 {
     for item in hold_items {
         receive_hold_item(global, item, change)?;

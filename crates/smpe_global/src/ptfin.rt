@@ -98,8 +98,8 @@ fn receive_items(
     source: &Option<Source>,
     change: &mut GlobalChange,
 ) -> Result<(), AllocError>
-    ensures { OnOk result (IsTaken (Runs (TakesItem source.now) global.old (items ptfin_items.items)) global.old global.new
-        change.old change.new) }
+    ensures { OnOk result (IsTaken (Runs (TakesItem source.now) global.old (items ptfin_items.items)) global.old
+        global.new change.old change.new) }
 {
     for item in ptfin_items {
         receive_item(alloc, global, item, source, change)?;

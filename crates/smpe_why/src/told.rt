@@ -40,9 +40,9 @@ pub struct WhyAnswer {
     pub status: u8,
 }
 
-/// The answer for the zone that was loaded, or the refusal if there is no such zone. It has for each id of the question,
-/// in their order, its facts and what would become of it by an APPLY (in a distribution zone an ACCEPT) that selects it,
-/// alone or with the others. Returns an error if memory runs out, as do all calls here.
+/// The answer for the zone that was loaded, or the refusal if there is no such zone. It has for each id of the
+/// question, in their order, its facts and what would become of it by an APPLY (in a distribution zone an ACCEPT) that
+/// selects it, alone or with the others. Returns an error if memory runs out, as do all calls here.
 pub fn answer_question(
     alloc: Global,
     loaded_zones: &LoadedZones,

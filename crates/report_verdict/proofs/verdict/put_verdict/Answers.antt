@@ -9,7 +9,8 @@ use Rattle.report_verdict.proofs.verdict.put_verdict.Goals as goal
 
 pub loop-line-preserved : goal.loop-line-preserved
 loop-line-preserved c =
-    flat_more (λ line. verdict_told c.args.id (basis_of c.args.grounds.now) (line_view line)) c.args.grounds.now.lines.now
+    flat_more (λ line. verdict_told c.args.id (basis_of c.args.grounds.now) (line_view line))
+    c.args.grounds.now.lines.now
     c.loop-line.line-index c.line-item.result c.args.text.now.items
     c.loop-line.text.items c.put_line_verdict.new.text.items (omega arith) c.line-item.is c.loop-line.invariant
     c.in_ok-put_line_verdict.ensures

@@ -20,11 +20,11 @@ returns-clause-receives c =
 pub returns-clause-fits : goal.returns-clause-fits
 returns-clause-fits c =
     let now = c.receive_items.new in
-    all_fit (Runs (TakesItem c.args.source) c.args.global.now (items c.args.ptfin_items.items)) c.args.global.now now.global
-    c.new-change.result now.change c.in_ok-receive_items.ensures c.new-change.ensures.edits
+    all_fit (Runs (TakesItem c.args.source) c.args.global.now (items c.args.ptfin_items.items)) c.args.global.now
+    now.global c.new-change.result now.change c.in_ok-receive_items.ensures c.new-change.ensures.edits
 
 pub returns-clause-edits : goal.returns-clause-edits
 returns-clause-edits c =
     let now = c.receive_items.new in
-    all_after (Runs (TakesItem c.args.source) c.args.global.now (items c.args.ptfin_items.items)) c.args.global.now now.global
-    c.new-change.result now.change c.in_ok-receive_items.ensures c.new-change.ensures.edits
+    all_after (Runs (TakesItem c.args.source) c.args.global.now (items c.args.ptfin_items.items)) c.args.global.now
+    now.global c.new-change.result now.change c.in_ok-receive_items.ensures c.new-change.ensures.edits
