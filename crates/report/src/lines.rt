@@ -73,8 +73,8 @@ fn place_text(place: &Place) -> &[u8]
     }
 }
 
-// The word that says what became of an id.
-fn status_word(status: &Status) -> &[u8]
+/// The word that says what became of an id.
+pub fn status_word(status: &Status) -> &'static [u8]
     ensures { result.now ≡ status_word (status_view status.now) }
 {
     match status {

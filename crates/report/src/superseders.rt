@@ -86,7 +86,7 @@ pub fn serving_ids(
     if kind.takes_superseder() {
         return id_and_superseders(alloc, vers, srel, id);
     }
-    vec![in alloc; id]
+    Ok(vec![in alloc; id]?)
 }
 
 /// The received SYSMODs with a `++VER` for the SREL that are the reason or supersede it.

@@ -12,14 +12,14 @@ use report::{ReportLine, Status};
 use std::alloc::{AllocError, Global};
 use terms::Test;
 
-/// Whether a DELETE of an id of the chain decides the test.
+/// Whether this is the test that fails if a DELETE names an id of the chain.
 pub(crate) fn is_delete_test(test: Test) -> bool
     ensures { result ≡ by_delete test }
 {
     matches!(test, Test::ChainDeleted)
 }
 
-/// Whether clashes with other candidates decide the test.
+/// Whether this is the test that fails if the SYSMOD clashes with other candidates.
 pub(crate) fn is_clash_test(test: Test) -> bool
     ensures { result ≡ by_clash test }
 {

@@ -20,7 +20,7 @@ use crate::reasons::put_failed_test;
 use fields::Id;
 use fields::spelling::need_text;
 use judge_system::{Failure, OpenNeed, TestSet};
-use report::{Fact, LineWord, ReportLine, Resolution, Status, append_words};
+use report::{Fact, LineWord, ReportLine, Resolution, Status, append_words, status_word};
 use std::alloc::AllocError;
 use terms::NeedKind;
 
@@ -43,19 +43,10 @@ fn matching_resolution<'f>(need: &OpenNeed, fact: &'f Fact<'_>) -> Option<&'f Re
         Fact::Requisite {
             requisite,
             resolution,
-        } => {
-            if matches_need(need, requisite.kind, requisite.id.as_bytes()) {
-                Some(resolution)
-            } else {
-                None
-            }
-        }
-        Fact::Hold { hold, resolution } => {
-            if matches_need(need, NeedKind::HoldError, hold.reason.as_bytes()) {
-                resolution.as_ref()
-            } else {
-                None
-            }
+        } if matches_need(need, requisite.kind, requisite.id.as_bytes()) => Some(resolution),
+        Fact::Hold { hold, resolution }
+            if matches_need(need, NeedKind::HoldError, hold.reason.as_bytes()) => {
+            resolution.as_ref()
         }
         _ => None,
     }
@@ -214,24 +205,11 @@ pub(crate) fn verdict_word(status: &Status) -> &'static [u8]
     ensures { result.now ≡ verdict_word (status_view status.now) }
 {
     match status {
-        Status::Received => b"RECEIVED",
-        Status::Already => b"ALREADY",
-        Status::Refused(_) => b"REFUSED",
-        Status::Assigned(_) => b"ASSIGNED",
-        Status::Unknown => b"UNKNOWN",
-        Status::Held(_) => b"HELD",
-        Status::Replaced(_) => b"REPLACED",
-        Status::Released(_) => b"RELEASED",
-        Status::Rejected => b"REJECTED",
         Status::Applied => b"WOULD BE APPLIED",
         Status::Accepted => b"WOULD BE ACCEPTED",
         Status::Superseded => b"WOULD BE SUPERSEDED",
         Status::Failed(_) => b"WOULD FAIL",
-        Status::Deleted => b"DELETED",
-        Status::Missing => b"MISSING",
-        Status::NoVer => b"NOVER",
-        Status::Restored => b"RESTORED",
-        Status::NotApplied => b"NOTAPPLIED",
+        _ => status_word(status),
     }
 }
 

@@ -53,10 +53,8 @@ fn suppliers(
 fn waives(zone: &Zone, by: Id, id: Id) -> bool
     ensures { result ≡ is_in (waived_of zone.now by) id }
 {
-    match zone.entry(by) {
-        Some(entry) => entry.waived.contains(id),
-        None => false,
-    }
+    zone.entry(by)
+        .is_some_and(|entry| entry.waived.contains(id))
 }
 
 // Whether requisites of this kind can be waived.
@@ -73,13 +71,10 @@ fn is_waived(zone: &Zone, id: Id, requisite: Requisite) -> bool
     if !zone.is_applied(id) || !is_waivable(requisite.kind) {
         return false;
     }
-    if waives(zone, requisite.by, requisite.id) {
-        return true;
-    }
-    match requisite.function {
-        Some(function) => waives(zone, function, requisite.id),
-        None => false,
-    }
+    waives(zone, requisite.by, requisite.id)
+        || requisite
+            .function
+            .is_some_and(|function| waives(zone, function, requisite.id))
 }
 
 // Whether the id is received with a `++VER` for the zone, and the zone neither supplies it nor has deleted it.

@@ -127,8 +127,9 @@ pub(crate) fn needed_pairs(
 fn push_needing(pair: &(Id, Id), id: Id, found: &mut Vec<Id>) -> Result<(), AllocError>
     ensures { OnOk result (found.new.items ≡ found.old.items ++ needing id pair.now) }
 {
-    if pair.0 == id && pair.1 != id {
-        found.push(pair.1)?;
+    let (supplier, by) = *pair;
+    if supplier == id && by != id {
+        found.push(by)?;
     }
     Ok(())
 }

@@ -15,10 +15,7 @@ use zones::Zone;
 fn is_superseded(zone: &Zone, id: Id) -> bool
     ensures { result ≡ not (is_nil (supby_of zone.now id)) }
 {
-    match zone.entry(id) {
-        Some(entry) => !entry.supby.is_empty(),
-        None => false,
-    }
+    zone.entry(id).is_some_and(|entry| !entry.supby.is_empty())
 }
 
 // The state of the id in the zone. For an id with no state there, it says whether the id is received.

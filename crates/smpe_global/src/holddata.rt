@@ -28,10 +28,9 @@ fn marked_copy(global: &GlobalZone, hold: &Hold) -> Result<Hold, AllocError>
     ensures { IfOk result (λ copy. copy ≡ marked (hold_of global.now hold.now.id hold.now.kind hold.now.reason)
         hold.now) }
 {
-    let was_internal = match global.hold_of(hold.id, hold.kind, hold.reason) {
-        Some(old) => old.internal,
-        None => false,
-    };
+    let was_internal = global
+        .hold_of(hold.id, hold.kind, hold.reason)
+        .is_some_and(|old| old.internal);
     Ok(Hold {
         id: hold.id,
         kind: hold.kind,

@@ -85,10 +85,7 @@ pub fn reject(
 {
     // (for the clause `names`: a map has each name once, which its type promises)
     prove!(zones.len() < usize::MAX);
-    let mut change = GlobalChange {
-        edits: Vec::new(alloc),
-        lines: Vec::new(alloc),
-    };
+    let mut change = GlobalChange::new(alloc);
     for id in ids.as_slice() {
         reject_id(global, zones, *id, &mut change)?;
     }

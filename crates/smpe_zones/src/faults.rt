@@ -25,10 +25,7 @@ fn head_named(heads: &[ZoneHead], name: ZoneName) -> Option<&ZoneHead>
 fn is_related_to(head: &ZoneHead, name: ZoneName) -> bool
     ensures { result ≡ is_related_to name head.now }
 {
-    match head.related {
-        Some(related) => name == related,
-        None => false,
-    }
+    head.related == Some(name)
 }
 
 // Whether some zone names the zone of this name as its related zone.
