@@ -4,7 +4,7 @@ ghost use Rattle.smpe_verify.specs.Telling.{IsTold, counts_text, breach_text, en
 ghost use Rattle.smpe_verify.specs.Telling.{level_text};
 
 use crate::breach::{Breach, ElementFault, EntryFault, Level};
-use crate::joined::{append, append_joined, append_line};
+use crate::joined::{append_joined, append_line};
 use crate::verification::{Counts, Verification};
 use fields::ZoneName;
 use fields::spelling::type_text;
@@ -76,7 +76,7 @@ fn append_breach(zone: ZoneName, breach: Breach, text: &mut Vec<u8>) -> Result<(
     match breach {
         Breach::OfEntry(id, fault) => {
             append_joined(&[b"ZONE", zone.as_bytes(), id.as_bytes()], text)?;
-            append(b": ", text)?;
+            text.extend_from_slice(b": ")?;
             append_entry_fault(fault, text)
         }
         Breach::OfElement(elem_type, name, fault) => {
@@ -89,7 +89,7 @@ fn append_breach(zone: ZoneName, breach: Breach, text: &mut Vec<u8>) -> Result<(
                 ],
                 text,
             )?;
-            append(b": ", text)?;
+            text.extend_from_slice(b": ")?;
             append_element_fault(fault, text)
         }
     }
