@@ -39,10 +39,7 @@ fn is_related_zone_of_any(heads: &[ZoneHead], name: ZoneName) -> bool
 fn is_distribution_head(head: Option<&ZoneHead>) -> bool
     ensures { result ≡ is_distribution_head (option_copied head.entry) }
 {
-    match head {
-        Some(head) => head.kind == ZoneKind::Distribution,
-        None => false,
-    }
+    head.is_some_and(|head| head.kind == ZoneKind::Distribution)
 }
 
 // Whether a new target zone may be related to the zone of this name: a distribution zone to which no zone is related.
@@ -67,10 +64,7 @@ fn has_right_related(heads: &[ZoneHead], kind: ZoneKind, related: &Option<ZoneNa
 fn has_srel(head: Option<&ZoneHead>, srel: Srel) -> bool
     ensures { result ≡ has_srel srel (option_copied head.entry) }
 {
-    match head {
-        Some(head) => head.srel == srel,
-        None => false,
-    }
+    head.is_some_and(|head| head.srel == srel)
 }
 
 // Whether the related zone, if one is named, has this SREL.
