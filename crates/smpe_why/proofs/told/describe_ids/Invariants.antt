@@ -3,7 +3,7 @@ use Rattle.report.specs.Views.{line_view}
 use Rattle.report.specs.Facts.{among}
 use Rattle.smpe_why.specs.Telling.{IsToldOf}
 use Rattle.smpe_why.proofs.Parts.{AreTold}
-use Rattle.smpe_why.proofs.told.describe_each_id.Given as goal
+use Rattle.smpe_why.proofs.told.describe_ids.Given as goal
 
 abbrev pub invariant-loop-id : goal.invariant-loop-id
 invariant-loop-id l =

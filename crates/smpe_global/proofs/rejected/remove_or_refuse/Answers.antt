@@ -6,7 +6,7 @@ use Rattle.terms.specs.Lookups.{is_received, is_applied}
 use Rattle.terms.specs.Global.{AppliedSomewhere, UnknownSysmod}
 use Rattle.report.specs.declared.outcome.Status.TheVariants.{Refused}
 use Rattle.smpe_global.proofs.Ids.{taken_out, left_in, on_ok}
-use Rattle.smpe_global.proofs.rejected.remove_sysmod.Goals as goal
+use Rattle.smpe_global.proofs.rejected.remove_or_refuse.Goals as goal
 
 pub returns-then-not-is_received : goal.returns-then-not-is_received
 returns-then-not-is_received c =
