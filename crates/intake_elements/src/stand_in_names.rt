@@ -33,7 +33,7 @@ fn continue_hash(start: u64, text: &[u8]) -> u64
     hash
 }
 
-// The character that stands for a digit of the number to the base 39: the one whose place counts this power of 39.
+// The character for a digit of the number to the base 39: the digit that counts this power of 39.
 fn character(number: u64, power: u64) -> u8
     requires { 0 < power }
     ensures { result ≡ character number power }
@@ -41,7 +41,8 @@ fn character(number: u64, power: u64) -> u8
     CHARACTERS[(number / power % 39) as usize]
 }
 
-/// The word of the statement that brings the element which a statement of this word changes.
+/// The word of the statement that brings the element that a statement of this word changes: `++ZAP` changes a module,
+/// and `++JARUPD` a JAR.
 pub(crate) fn owner_word(word: &[u8]) -> &[u8]
     ensures { result.now ≡ owner_word word.now }
 {
@@ -54,7 +55,7 @@ pub(crate) fn owner_word(word: &[u8]) -> &[u8]
     }
 }
 
-// The hash of a word and a name, with a parenthesis between, which neither has.
+// The hash of a word and a name, with a parenthesis between, so that no two pairs are hashed as the same text.
 #[tactic(auto, using(crate::proofs::Targets::hash_parts))]
 fn hash_of(word: &[u8], name: &[u8]) -> u64
     ensures { result ≡ hash_of (word.now ++ codes "(" ++ name.now) }
@@ -62,7 +63,7 @@ fn hash_of(word: &[u8], name: &[u8]) -> u64
     continue_hash(continue_hash(continue_hash(0, word), b"("), name)
 }
 
-// The name of eight characters that the hash is, as a number to the base 39.
+// The hash as a name: its eight digits to the base 39, from the seventh power of 39 down.
 fn name_of(hash: u64) -> [u8; 8]
     ensures { result ≡ name_of hash }
 {
@@ -78,7 +79,7 @@ fn name_of(hash: u64) -> [u8; 8]
     ]
 }
 
-// The bytes of the name of the stand-in of an element of this name in a statement of this word.
+// The name of the stand-in of an element of this name in a statement of this word, as bytes.
 fn stand_in_text(word: &[u8], name: &[u8]) -> [u8; 8]
     ensures { result ≡ stand_in_name word.now name.now }
 {

@@ -1,15 +1,15 @@
-//! Items of statements. A statement with a fault makes a `WideOther`, and a header with one a SYSMOD with that fault.
+//! Makes items of statements. A faulty statement makes a `WideOther`, and a faulty header a SYSMOD that has it as one.
 use crate::items::{
     FaultyOperand, OperandFault, OtherReason, WideAssign, WideElement, WideHold, WideHoldKind,
     WideIf, WideOperand, WideOther, WideRelease, WideSysmod, WideVer,
 };
-use crate::meaning::is_word_of;
+use crate::meaning::is_listed;
 use crate::operands::{fill_flag, fill_list, fill_text, fill_value, keep_faulty};
 use crate::statement::WideStatement;
 use std::alloc::{AllocError, Global};
 use terms::Kind;
 
-/// Operands of headers that change no decision.
+/// Operands of headers that change no decision, with blanks between.
 const DROPPED: &[u8] = b"REWORK DESC DESCRIPTION FILES RFDSNPFX RFDSNTYPE RFDSNTYP FESN";
 
 impl WideSysmod {
@@ -39,7 +39,7 @@ impl WideSysmod {
         }
         sysmod.id = statement.name;
         for operand in statement.operands {
-            if is_word_of(DROPPED, operand.name.as_slice()) {
+            if is_listed(operand.name.as_slice(), DROPPED) {
                 sysmod.dropped.push(operand)?;
             } else {
                 keep_faulty(&mut sysmod.faulty, operand, OperandFault::Unknown)?;
@@ -50,7 +50,7 @@ impl WideSysmod {
 }
 
 impl WideVer {
-    /// The `++VER`. The SRELs are those of its list.
+    /// The `++VER` that the statement says, with the SRELs of its list.
     pub(crate) fn from_statement(
         alloc: Global,
         srels: Vec<Vec<u8>>,
@@ -75,7 +75,6 @@ impl WideVer {
         Ok(ver)
     }
 
-    // Adds an operand.
     fn add_operand(&mut self, alloc: Global, operand: WideOperand) -> Result<(), AllocError> {
         let faulty = &mut self.faulty;
         match operand.name.as_slice() {
@@ -92,7 +91,7 @@ impl WideVer {
 }
 
 impl WideIf {
-    /// The `++IF`.
+    /// The `++IF` that the statement says.
     pub(crate) fn from_statement(
         alloc: Global,
         statement: WideStatement,
@@ -117,8 +116,8 @@ impl WideIf {
     }
 }
 
-// Puts the kind that the operand names into the slot of its statement. The operand is faulty if the slot is filled, or
-// if it has parentheses.
+// Puts the kind that the operand's name means into the slot of its statement. The operand is faulty if the slot is
+// filled, or if it has parentheses.
 fn fill_kind(
     slot: &mut Option<WideHoldKind>,
     kind: WideHoldKind,
@@ -136,7 +135,7 @@ fn fill_kind(
 }
 
 impl WideHold {
-    /// The `++HOLD`.
+    /// The `++HOLD` that the statement says.
     pub(crate) fn from_statement(
         alloc: Global,
         statement: WideStatement,
@@ -159,7 +158,6 @@ impl WideHold {
         Ok(hold)
     }
 
-    // Adds an operand.
     fn add_operand(&mut self, alloc: Global, operand: WideOperand) -> Result<(), AllocError> {
         let faulty = &mut self.faulty;
         if let Some(kind) = WideHoldKind::read(operand.name.as_slice()) {
@@ -181,7 +179,7 @@ impl WideHold {
 }
 
 impl WideRelease {
-    /// The `++RELEASE`.
+    /// The `++RELEASE` that the statement says.
     pub(crate) fn from_statement(
         alloc: Global,
         statement: WideStatement,
@@ -201,7 +199,6 @@ impl WideRelease {
         Ok(release)
     }
 
-    // Adds an operand.
     fn add_operand(&mut self, alloc: Global, operand: WideOperand) -> Result<(), AllocError> {
         let faulty = &mut self.faulty;
         if let Some(kind) = WideHoldKind::read(operand.name.as_slice()) {
@@ -220,7 +217,7 @@ impl WideRelease {
 }
 
 impl WideAssign {
-    /// The `++ASSIGN`.
+    /// The `++ASSIGN` that the statement says.
     pub(crate) fn from_statement(
         alloc: Global,
         statement: WideStatement,
@@ -244,7 +241,7 @@ impl WideAssign {
 }
 
 impl WideElement {
-    /// The statement for an element.
+    /// The element statement, with its operands sorted by their names.
     pub(crate) fn from_statement(
         alloc: Global,
         statement: WideStatement,
@@ -269,7 +266,6 @@ impl WideElement {
         Ok(element)
     }
 
-    // Adds an operand.
     fn add_operand(&mut self, alloc: Global, operand: WideOperand) -> Result<(), AllocError> {
         let faulty = &mut self.faulty;
         match operand.name.as_slice() {
@@ -291,7 +287,7 @@ impl WideElement {
 }
 
 impl WideOther {
-    /// The statement as it stands: for this reason it makes no SYSMOD, `++VER`, hold or element.
+    /// The statement unchanged: for this reason it makes no SYSMOD, `++VER`, hold or element.
     pub(crate) fn from_statement(reason: OtherReason, statement: WideStatement) -> WideOther {
         WideOther {
             place: statement.place,

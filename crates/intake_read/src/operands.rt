@@ -43,31 +43,25 @@ pub fn list_members(alloc: Global, list: &[u8]) -> Result<Vec<&[u8]>, AllocError
     without_empty_parts(alloc, &split_list(alloc, list)?)
 }
 
-/// The members of a list in upper case. Returns `None` if there are none, or if one has a list of its own.
+/// The members of a list in upper case. Returns `None` if there are none, or if the list has inner parentheses.
 pub(crate) fn upper_case_members(
     alloc: Global,
     list: &[u8],
 ) -> Result<Option<Vec<Vec<u8>>>, AllocError> {
+    if list.iter().any(|byte| matches!(*byte, b'(' | b')')) {
+        return Ok(None);
+    }
     let mut members = Vec::new(alloc);
     for member in list_members(alloc, list)? {
-        members.push(upper_case(alloc, member)?)?;
+        members.push(member.to_ascii_uppercase(alloc)?)?;
     }
-    if members.is_empty() || list.iter().any(|byte| matches!(*byte, b'(' | b')')) {
+    if members.is_empty() {
         return Ok(None);
     }
     Ok(Some(members))
 }
 
-// The text in upper case.
-fn upper_case(alloc: Global, text: &[u8]) -> Result<Vec<u8>, AllocError> {
-    let mut upper = Vec::with_capacity(alloc, text.len())?;
-    for byte in text {
-        upper.push(byte.to_ascii_uppercase())?;
-    }
-    Ok(upper)
-}
-
-// The only member of a list in upper case. Returns `None` if the list has not just one member.
+// The only member of a list, in upper case. Returns `None` unless the list has exactly one member.
 fn only_member(alloc: Global, list: &[u8]) -> Result<Option<Vec<u8>>, AllocError> {
     let Some(mut members) = upper_case_members(alloc, list)? else {
         return Ok(None);
@@ -78,7 +72,7 @@ fn only_member(alloc: Global, list: &[u8]) -> Result<Option<Vec<u8>>, AllocError
     Ok(members.pop())
 }
 
-/// Keeps an operand that cannot be read as what its name says.
+/// Adds an operand that cannot be read as its name demands to the faulty ones.
 pub(crate) fn keep_faulty(
     faulty: &mut Vec<FaultyOperand>,
     operand: WideOperand,
@@ -88,8 +82,8 @@ pub(crate) fn keep_faulty(
     Ok(())
 }
 
-/// Puts the operand's list into the slot of its statement. The operand is faulty if the slot is filled, or if it has no
-/// list.
+/// Puts the members of the operand's list into the slot of its statement. The operand is faulty if the slot is filled,
+/// or if it has no list.
 pub(crate) fn fill_list(
     alloc: Global,
     slot: &mut Vec<Vec<u8>>,
@@ -112,8 +106,8 @@ pub(crate) fn fill_list(
     }
 }
 
-/// Puts the operand's one value into the slot of its statement. The operand is faulty if the slot is filled, or if it
-/// has not just one value.
+/// Puts the operand's only value into the slot of its statement. The operand is faulty if the slot is filled, or unless
+/// it has exactly one value.
 pub(crate) fn fill_value(
     alloc: Global,
     slot: &mut Option<Vec<u8>>,
@@ -136,7 +130,7 @@ pub(crate) fn fill_value(
     }
 }
 
-/// Puts what the operand's parentheses hold into the slot of its statement, unchanged. The operand is faulty if the
+/// Puts the text in the operand's parentheses into the slot of its statement, unchanged. The operand is faulty if the
 /// slot is filled, or if it has no parentheses.
 pub(crate) fn fill_text(
     slot: &mut Option<Vec<u8>>,
@@ -149,12 +143,7 @@ pub(crate) fn fill_text(
     if operand.value.is_none() {
         return keep_faulty(faulty, operand, OperandFault::BadValue);
     }
-    let WideOperand {
-        place: _,
-        name: _,
-        value,
-    } = operand;
-    *slot = value;
+    *slot = operand.value;
     Ok(())
 }
 
