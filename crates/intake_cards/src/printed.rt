@@ -37,7 +37,8 @@ impl PrintedCards {
     pub fn end_card(&mut self) -> Result<(), AllocError> {
         let filled = self.filled_columns();
         if filled != 0 {
-            self.bytes.extend_from_slice(&BLANKS[filled..])?;
+            let blanks = &BLANKS[..];
+            self.bytes.extend_from_slice(&blanks[filled..])?;
         }
         Ok(())
     }

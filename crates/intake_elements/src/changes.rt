@@ -2,27 +2,19 @@
 ghost use Rattle.std.specs.Prelude.{IfOk, IfSome, IsTrue, All};
 ghost use Rattle.intake_elements.specs.Elements.{IsProfileType, IsLacked, IsMadeOf, HasNoLevel};
 
-use crate::element_words::profile_type;
+use crate::element_words::{Target, profile_type};
 use crate::elements::{tell_dropped_operand, whole_change};
 use crate::levels::first_level_operand;
 use crate::modules::{has_faulty_modules, is_module_operand, tell_dropped_modules};
 use crate::options::Options;
 use crate::stand_ins::{one_record_change, stand_in_change, tell_stand_in};
+use crate::subjects::element_subject;
 use fields::Name;
 use intake_cards::{Deed, RemarkReason, Remarks, Subject};
 use intake_read::{WideElement, tell_dropped_operands, tell_faulty_operands};
 use std::alloc::{AllocError, Global};
 use sysmods_values::ElemChange;
 use terms::{ElemType, Kind};
-
-/// The element's statement, as remarks name it.
-pub fn subject_of(element: &WideElement) -> Subject<'_> {
-    Subject {
-        place: element.place,
-        word: element.word.as_slice(),
-        id: element.name.as_slice(),
-    }
-}
 
 // Remarks, for each faulty DISTMOD and ASSEM, that the SYSMOD is left out, because it is not known which modules are
 // assembled.
@@ -101,7 +93,7 @@ fn change_by_stand_in(
     requires level_free { IsTrue options.now.decide → All HasNoLevel element.now.operands.items }
     ensures { IfOk result (λ found. IfSome found (IsMadeOf options.now.decide kind element.now)) }
 {
-    let subject = subject_of(element);
+    let subject = element_subject(element);
     if !options.decide {
         remarks.tell_left_out(alloc, &subject, b"", RemarkReason::OutsideProfile, b"")?;
         return Ok(None);
@@ -125,22 +117,14 @@ fn whole_or_short_change(
     requires level_free { IsTrue options.now.decide → All HasNoLevel element.now.operands.items }
     ensures { IfOk result (λ found. IfSome found (IsMadeOf options.now.decide kind element.now)) }
 {
-    let subject = subject_of(element);
+    let subject = element_subject(element);
     let Some(name) = Name::read(element.name.as_slice()) else {
         remarks.tell_left_out(alloc, &subject, b"", RemarkReason::BadName, b"")?;
         return Ok(None);
     };
     let mut element_remarks = Remarks::new(alloc);
-    let whole = whole_change(
-        alloc,
-        options,
-        &mut element_remarks,
-        &subject,
-        kind,
-        element,
-        elem_type,
-        name,
-    )?;
+    let target = Target { elem_type, name };
+    let whole = whole_change(alloc, options, &mut element_remarks, kind, element, target)?;
     if whole.is_some() || !options.decide {
         remarks.append(element_remarks)?;
         return Ok(whole);
@@ -166,7 +150,7 @@ pub fn change_of(
 ) -> Result<Option<ElemChange>, AllocError>
     ensures { IfOk result (λ found. IfSome found (IsMadeOf options.now.decide kind element.now)) }
 {
-    let subject = subject_of(element);
+    let subject = element_subject(element);
     if !meets_stand_in_rules(alloc, options, remarks, &subject, element)? {
         return Ok(None);
     }

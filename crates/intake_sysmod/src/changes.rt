@@ -9,7 +9,7 @@ ghost use Rattle.intake_sysmod.specs.NoLooser.{IsElementDone};
 use crate::passing::is_passed_over;
 use crate::users::Users;
 use intake_cards::{RemarkReason, Remarks, Subject};
-use intake_elements::{Options, are_both, change_of, module_change, modules_of, subject_of};
+use intake_elements::{Options, are_both, change_of, element_subject, module_change, modules_of};
 use intake_read::{WideElement, WideSysmod};
 use std::alloc::{AllocError, Global};
 use sysmods_values::{ElemChange, Sysmod};
@@ -59,7 +59,7 @@ fn add_module(
     ensures there { IfOk result (λ added. IsTrue added
         → IsChanged options.now.decide sysmod.new.changes Mac (module_name assembled.now) false) }
 {
-    let subject = subject_of(element);
+    let subject = element_subject(element);
     let Some(change) = module_change(alloc, remarks, &subject, element, assembled)? else {
         return Ok(false);
     };
@@ -110,7 +110,7 @@ fn add_with_modules(
         return Ok(false);
     };
     let modules = modules_of(alloc, element)?;
-    let subject = subject_of(element);
+    let subject = element_subject(element);
     let added = add_change(alloc, options, remarks, &subject, sysmod, change)?;
     let added_modules = add_modules(alloc, options, remarks, element, sysmod, modules.as_slice())?;
     Ok(are_both(added, added_modules))
@@ -134,7 +134,7 @@ fn add_without_modules(
     let Some(change) = change_of(alloc, options, remarks, stated.kind, element)? else {
         return Ok(false);
     };
-    let subject = subject_of(element);
+    let subject = element_subject(element);
     add_change(alloc, options, remarks, &subject, sysmod, change)
 }
 
