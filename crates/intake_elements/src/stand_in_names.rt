@@ -17,8 +17,11 @@ use terms::ElemType;
 /// The characters of names, of which the first 29 may stand in front.
 const CHARACTERS: &[u8; 39] = b"ABCDEFGHIJKLMNOPQRSTUVWXYZ$#@0123456789";
 
-/// How many names of eight characters there are, and so how many hashes: 29 times 39 to the seventh.
+/// How many names of eight characters there are, and so how many hashes: 29 times the seventh power of 39.
 const NAMES: u64 = 3979699193691;
+
+/// The factor of the hash, a prime number.
+const FACTOR: u64 = 1000003;
 
 // Continues a hash over these bytes.
 fn continue_hash(start: u64, text: &[u8]) -> u64
@@ -28,7 +31,7 @@ fn continue_hash(start: u64, text: &[u8]) -> u64
 {
     let mut hash = start;
     for byte in text {
-        hash = (hash * 1000003 + *byte as u64) % NAMES;
+        hash = (hash * FACTOR + *byte as u64) % NAMES;
     }
     hash
 }

@@ -32,8 +32,8 @@ pub struct OutsideHolds {
     pub placed: Vec<PlacedItem>,
     /// Whether one of them cannot be carried.
     pub is_refused: bool,
-    /// How many holds were read, including those that are not carried.
-    count: usize,
+    /// Whether a hold was read, even if it is not carried.
+    has_read_any: bool,
     /// The remarks on those that are carried or left out.
     pub remarks: FileRemarks,
     /// The remarks on those that cannot be carried.
@@ -97,7 +97,7 @@ impl OutsideHolds {
         OutsideHolds {
             placed: Vec::new(alloc),
             is_refused: false,
-            count: 0,
+            has_read_any: false,
             remarks: FileRemarks::new(alloc),
             refusals: FileRemarks::new(alloc),
         }
@@ -105,7 +105,7 @@ impl OutsideHolds {
 
     /// Whether no hold was read.
     pub fn is_empty(&self) -> bool {
-        self.count == 0
+        !self.has_read_any
     }
 
     // Adds the next hold of the file that is being read, as it is carried. If it cannot be carried, it is refused, with
@@ -114,7 +114,7 @@ impl OutsideHolds {
         ensures { OnOk result ((stated : List WideHold) → AreCarried stated self.old
             → AreCarried (stated ++ hold.now ∷ []) self.new) }
     {
-        self.count = self.count.saturating_add(1);
+        self.has_read_any = true;
         if refuse_if_bad_hold(alloc, &mut self.refusals.current, hold)? {
             self.is_refused = true;
             return Ok(());

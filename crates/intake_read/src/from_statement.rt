@@ -4,7 +4,7 @@ use crate::items::{
     WideIf, WideOperand, WideOther, WideRelease, WideSysmod, WideVer,
 };
 use crate::meaning::is_listed;
-use crate::operands::{fill_flag, fill_list, fill_text, fill_value, keep_faulty};
+use crate::operands::{bare_word_fault, fill_flag, fill_list, fill_text, fill_value, keep_faulty};
 use crate::statement::WideStatement;
 use std::alloc::{AllocError, Global};
 use terms::Kind;
@@ -124,14 +124,13 @@ fn fill_kind(
     operand: WideOperand,
     faulty: &mut Vec<FaultyOperand>,
 ) -> Result<(), AllocError> {
-    if slot.is_some() {
-        return keep_faulty(faulty, operand, OperandFault::Repeated);
+    match bare_word_fault(slot.is_some(), &operand) {
+        Some(fault) => keep_faulty(faulty, operand, fault),
+        None => {
+            *slot = Some(kind);
+            Ok(())
+        }
     }
-    if operand.value.is_some() {
-        return keep_faulty(faulty, operand, OperandFault::BadValue);
-    }
-    *slot = Some(kind);
-    Ok(())
 }
 
 impl WideHold {

@@ -1,46 +1,17 @@
 //! The values of operands.
-ghost use Rattle.std.specs.Prelude.{◌≡◌, ◌==◌, ◌||◌, IfOk, map, filter, nat_lt, length};
-ghost use Rattle.std.specs.List.{slice_split};
+ghost use Rattle.std.specs.Prelude.{◌≡◌, IfOk, map};
 ghost use Rattle.intake_read.specs.Stated.{members};
 
 use crate::items::{FaultyOperand, OperandFault, WideOperand};
 use std::alloc::{AllocError, Global};
 
-// The parts of a list between its blanks and commas, empty ones too.
-fn split_list(alloc: Global, list: &[u8]) -> Result<Vec<&[u8]>, AllocError>
-    ensures { IfOk result (λ found. map (λ part. part.now) found.items
-        ≡ slice_split (λ b. b == 32 || b == 44) list.now) }
-{
-    list.split(|b| *b == b' ' || *b == b',').collect(alloc)
-}
-
-// Whether the part is not empty. A function, because its contract tells its caller's proof which parts stay.
-fn is_nonempty(part: &[u8]) -> bool
-    ensures { result ≡ nat_lt 0 (length part.now) }
-{
-    !part.is_empty()
-}
-
-// The parts without the empty ones.
-fn without_empty_parts<'a>(alloc: Global, parts: &[&'a [u8]]) -> Result<Vec<&'a [u8]>, AllocError>
-    ensures { IfOk result (λ found. map (λ part. part.now) found.items
-        ≡ filter (λ part. nat_lt 0 (length part)) (map (λ part. part.now) parts.now)) }
-{
-    let mut found = Vec::new(alloc);
-    for part in parts {
-        if !is_nonempty(*part) {
-            continue;
-        }
-        found.push(*part)?;
-    }
-    Ok(found)
-}
-
 /// The members of a list, which blanks and commas separate.
 pub fn list_members(alloc: Global, list: &[u8]) -> Result<Vec<&[u8]>, AllocError>
     ensures { IfOk result (λ found. map (λ member. member.now) found.items ≡ members list.now) }
 {
-    without_empty_parts(alloc, &split_list(alloc, list)?)
+    list.split(|byte| *byte == b' ' || *byte == b',')
+        .filter(|part| !part.is_empty())
+        .collect(alloc)
 }
 
 /// The members of a list in upper case. Returns `None` if there are none, or if the list has inner parentheses.
@@ -153,12 +124,23 @@ pub(crate) fn fill_flag(
     operand: WideOperand,
     faulty: &mut Vec<FaultyOperand>,
 ) -> Result<(), AllocError> {
-    if *slot {
-        return keep_faulty(faulty, operand, OperandFault::Repeated);
+    match bare_word_fault(*slot, &operand) {
+        Some(fault) => keep_faulty(faulty, operand, fault),
+        None => {
+            *slot = true;
+            Ok(())
+        }
     }
-    if operand.value.is_some() {
-        return keep_faulty(faulty, operand, OperandFault::BadValue);
+}
+
+/// What is wrong with an operand that may not have parentheses, or `None` if it is good. `is_filled` says whether an
+/// earlier operand filled its slot.
+pub(crate) fn bare_word_fault(is_filled: bool, operand: &WideOperand) -> Option<OperandFault> {
+    if is_filled {
+        Some(OperandFault::Repeated)
+    } else if operand.value.is_some() {
+        Some(OperandFault::BadValue)
+    } else {
+        None
     }
-    *slot = true;
-    Ok(())
 }
