@@ -8,7 +8,7 @@ use crate::element_words::{is_update, stand_in_type};
 use crate::elements::update_change;
 use crate::options::Libraries;
 use crate::stand_in_names::{owner_word, stand_in_name};
-use crate::texts::replacement_text;
+use crate::texts::{TEXT_COLUMNS, replacement_text};
 use crate::updates::change_record;
 use fields::Name;
 use fields::spelling::type_text;
@@ -29,10 +29,10 @@ fn stand_in_card(place: CardPlace, word: &[u8], name: &[u8]) -> Card {
     let mut text = [b' '; 80];
     let parts = b"* ++".iter().chain(word.iter()).chain(b"(".iter());
     let parts = parts.chain(name.iter()).chain(b")".iter());
-    for (to, from) in text.iter_mut().take(72).zip(parts) {
+    for (to, from) in text.iter_mut().take(TEXT_COLUMNS).zip(parts) {
         *to = printable_or_mark(*from);
     }
-    let (_, number) = text.split_at_mut(72);
+    let (_, number) = text.split_at_mut(TEXT_COLUMNS);
     number.copy_from_slice(b"00000100");
     Card {
         place,

@@ -10,7 +10,10 @@ use text80::{Line, Numbered};
 /// The most records that a text may have.
 pub(crate) const MOST_RECORDS: usize = 99999;
 
-/// The difference between the numbers of two records, if a text is numbered here.
+/// How many columns of a record come before its number.
+pub(crate) const TEXT_COLUMNS: usize = 72;
+
+/// The first number of a text that is numbered here, and the difference between two numbers.
 const STEP: u32 = 100;
 
 // The cards as records.
@@ -62,8 +65,8 @@ fn with_number(line: &Line, number: u32) -> Line {
     let mut bytes = [b' '; 80];
     bytes.copy_from_slice(line.bytes());
     let mut rest = number;
-    for place in 0..8 {
-        bytes[79 - place] = b'0' + (rest % 10) as u8;
+    for column in bytes[TEXT_COLUMNS..].iter_mut().rev() {
+        *column = b'0' + (rest % 10) as u8;
         rest /= 10;
     }
     Line::new(bytes)

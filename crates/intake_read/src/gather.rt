@@ -39,8 +39,13 @@ impl FileSoFar {
 
     /// Ends the SYSMOD that is begun, and returns all statements except the holds that `take_hold` handed out.
     pub fn into_file(self) -> Result<WideFile, WideError> {
-        let mut file = self.file;
-        if let Some(sysmod) = self.begun {
+        let FileSoFar {
+            alloc: _,
+            mut file,
+            begun,
+            hold: _,
+        } = self;
+        if let Some(sysmod) = begun {
             file.sysmods.push(sysmod)?;
         }
         Ok(file)

@@ -29,12 +29,6 @@ struct BegunStatement {
     is_ended: bool,
 }
 
-fn make_upper_case(text: &mut Vec<u8>) {
-    for byte in text.iter_mut() {
-        byte.make_ascii_uppercase();
-    }
-}
-
 fn has_lower_case_letter(text: &[u8]) -> bool {
     text.iter().any(|byte| byte.is_ascii_lowercase())
 }
@@ -144,7 +138,7 @@ impl BegunStatement {
         if has_lower_case_letter(name.as_slice()) {
             self.statement.has_lower = true;
         }
-        make_upper_case(&mut name);
+        name.as_mut_slice().make_ascii_uppercase();
         self.has_name = true;
         self.statement.name = name;
     }
