@@ -13,7 +13,7 @@ use terms::Kind;
 const DROPPED: &[u8] = b"REWORK DESC DESCRIPTION FILES RFDSNPFX RFDSNTYPE RFDSNTYP FESN";
 
 impl WideSysmod {
-    /// The SYSMOD that the header begins.
+    /// Reads a header as the beginning of a SYSMOD.
     pub(crate) fn from_header(
         alloc: Global,
         kind: Kind,
@@ -50,7 +50,7 @@ impl WideSysmod {
 }
 
 impl WideVer {
-    /// The `++VER` that the statement says, with the SRELs of its list.
+    /// Reads the statement as a `++VER` with these SRELs, which its list names.
     pub(crate) fn from_statement(
         alloc: Global,
         srels: Vec<Vec<u8>>,
@@ -91,7 +91,7 @@ impl WideVer {
 }
 
 impl WideIf {
-    /// The `++IF` that the statement says.
+    /// Reads the statement as an `++IF`.
     pub(crate) fn from_statement(
         alloc: Global,
         statement: WideStatement,
@@ -134,7 +134,7 @@ fn fill_kind(
 }
 
 impl WideHold {
-    /// The `++HOLD` that the statement says.
+    /// Reads the statement as a `++HOLD`.
     pub(crate) fn from_statement(
         alloc: Global,
         statement: WideStatement,
@@ -178,7 +178,7 @@ impl WideHold {
 }
 
 impl WideRelease {
-    /// The `++RELEASE` that the statement says.
+    /// Reads the statement as a `++RELEASE`.
     pub(crate) fn from_statement(
         alloc: Global,
         statement: WideStatement,
@@ -216,7 +216,7 @@ impl WideRelease {
 }
 
 impl WideAssign {
-    /// The `++ASSIGN` that the statement says.
+    /// Reads the statement as an `++ASSIGN`.
     pub(crate) fn from_statement(
         alloc: Global,
         statement: WideStatement,
@@ -240,7 +240,7 @@ impl WideAssign {
 }
 
 impl WideElement {
-    /// The element statement, with its operands sorted by their names.
+    /// Reads an element statement.
     pub(crate) fn from_statement(
         alloc: Global,
         statement: WideStatement,
@@ -286,7 +286,7 @@ impl WideElement {
 }
 
 impl WideOther {
-    /// The statement unchanged: for this reason it makes no SYSMOD, `++VER`, hold or element.
+    /// Keeps a statement that makes no SYSMOD, `++VER`, hold or element, for this reason.
     pub(crate) fn from_statement(reason: OtherReason, statement: WideStatement) -> WideOther {
         WideOther {
             place: statement.place,
