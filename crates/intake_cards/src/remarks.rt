@@ -172,8 +172,8 @@ impl Remarks {
         self.list.append(others.list)
     }
 
-    /// Adds the remarks on a SYSMOD that is left out after these. Of remarks that are alike only the first is added, and
-    /// its text is then the number of the others.
+    /// Adds the remarks on a SYSMOD that is left out after these. Of remarks that are alike only the first is added,
+    /// and its text is then the number of the others.
     pub fn append_causes(&mut self, alloc: Global, others: Remarks) -> Result<(), AllocError> {
         let causes = causes_of(alloc, &others.list)?;
         for cause in causes.iter() {

@@ -26,8 +26,8 @@ const DROPPED: &[&[u8]] = &[
     b"SSI", b"ALIAS", b"MALIAS", b"DISTSRC", b"PREFIX", b"VERSION",
 ];
 
-// Whether the operand of this name may be dropped. `DROPPED` has no operand that decides whether the SYSMOD goes on: the
-// first test shows that to the proof.
+// Whether the operand of this name may be dropped. `DROPPED` has no operand that decides whether the SYSMOD goes on:
+// the first test shows that to the proof.
 fn may_drop_operand(name: &[u8]) -> bool
     ensures { IsTrue result → is_level_operand name.now ≡ false }
 {
