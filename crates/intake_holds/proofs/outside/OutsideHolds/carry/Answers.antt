@@ -1,6 +1,6 @@
 use Rattle.std.proofs.Common.{[], ◌∷◌, sym, append-nil}
 use Rattle.intake_holds.proofs.Becoming.{held_more}
-use Rattle.intake_holds.proofs.outside.OutsideHolds.add.Goals as goal
+use Rattle.intake_holds.proofs.outside.OutsideHolds.carry.Goals as goal
 
 pub returns-in_ok-push-in-Ok-Some : goal.returns-in_ok-push-in-Ok-Some
 returns-in_ok-push-in-Ok-Some c = λ stated carried.

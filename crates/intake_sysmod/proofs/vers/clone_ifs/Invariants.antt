@@ -1,5 +1,5 @@
 use Rattle.std.proofs.Common.{◌≡◌, take}
-use Rattle.intake_sysmod.proofs.vers.clone_conditions.Given as goal
+use Rattle.intake_sysmod.proofs.vers.clone_ifs.Given as goal
 
 -- the conditions so far are copied
 abbrev pub invariant-loop-condition : goal.invariant-loop-condition

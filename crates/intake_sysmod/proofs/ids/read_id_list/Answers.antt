@@ -1,5 +1,5 @@
 use Rattle.intake_sysmod.proofs.SameIds.{same_ids}
-use Rattle.intake_sysmod.proofs.ids.read_list.Goals as goal
+use Rattle.intake_sysmod.proofs.ids.read_id_list.Goals as goal
 
 pub returns-in-Some : goal.returns-in-Some
 returns-in-Some c =
