@@ -44,7 +44,7 @@ pub(crate) fn restore<S: Alter>(
         Err(refusal) => return Ok(Outcome::Refused { header, refusal }),
     };
     let Some(distribution) = session.zone_at(distribution_name) else {
-        // (this does not happen: each target zone has a distribution zone)
+        // (this does not happen, because each target zone has a distribution zone)
         let refusal = Refusal::WrongKind;
         return Ok(Outcome::Refused { header, refusal });
     };

@@ -1,4 +1,4 @@
-//! The command file of a listing, and others of two commands.
+//! The command file of a listing, and command files of any two commands.
 ghost use Rattle.std.specs.Prelude.{◌≡◌, ◌≤◌, ◌∷◌, [], length, false, IfOk};
 ghost use Rattle.terms.specs.Types.{Set, ListZone};
 ghost use Rattle.terms.specs.Commands.{IsCommandFile};
@@ -7,10 +7,10 @@ ghost use Rattle.smpe_jobs.specs.ListJob.{list_records, two_records};
 use fields::ZoneName;
 use std::alloc::{AllocError, Global};
 
-// The columns of a record.
+// The number of columns of a record.
 const RECORD_COLUMNS: usize = 80;
 
-// The columns of two records.
+// The number of columns of two records.
 const TWO_RECORDS_COLUMNS: usize = 160;
 
 /// The command file that lists a zone: `SET BDY(zone).` and `LIST.`, a record each. Returns an error if memory runs

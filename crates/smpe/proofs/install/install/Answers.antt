@@ -14,17 +14,17 @@ pub returns-in_err-related-clause-uses : goal.returns-in_err-related-clause-uses
 returns-in_err-related-clause-uses g c = handed_on c.from_residual.ensures.1 c.in_err-related.ensures
     (λ s inventory un is files.
     act_unmoved g.S.Store c.args.store.now c.load_related_zone.new.store s
-    (Perform c.args.date files (install_command c.args.kind c.args.install.now)) c.in_err-related.field-0.0 (un is))
+    (Perform c.args.date files (install_command c.args.kind c.args.operands.now)) c.in_err-related.field-0.0 (un is))
 
 pub returns-in_err-delta-clause-uses : goal.returns-in_err-delta-clause-uses
 returns-in_err-delta-clause-uses g c = ran_short c.from_residual-in_err-delta.ensures.1 c.in_ok-related.ensures
     (λ s inventory sought is files. stopped g.S.Store c.load_related_zone.new.store s
-    (Perform c.args.date files (install_command c.args.kind c.args.install.now)) (sought is).1)
+    (Perform c.args.date files (install_command c.args.kind c.args.operands.now)) (sought is).1)
 
 pub returns-in_err-lines-clause-uses : goal.returns-in_err-lines-clause-uses
 returns-in_err-lines-clause-uses g c = ran_short c.from_residual-in_err-lines.ensures.1 c.in_ok-related.ensures
     (λ s inventory sought is files. stopped g.S.Store c.load_related_zone.new.store s
-    (Perform c.args.date files (install_command c.args.kind c.args.install.now)) (sought is).1)
+    (Perform c.args.date files (install_command c.args.kind c.args.operands.now)) (sought is).1)
 
 pub carry_out-requires-clause-boundary : goal.carry_out-requires-clause-boundary
 carry_out-requires-clause-boundary g c = c.install_header-header.ensures.boundary ∙ c.in-Ok.ensures.named
@@ -39,7 +39,7 @@ returns-clause-uses g c = weaker (after c.in_ok-related.ensures c.carry_out.ensu
     (λ s inventory both is files.
     let at = c.load_related_zone.new.self in
     let kind = c.args.kind in
-    let i = c.args.install.now in
+    let i = c.args.operands.now in
     let command = install_command kind i in
     let place = c.in-Ok.place in
     let p = c.in_ok-delta.field-0 in
@@ -62,7 +62,7 @@ returns-clause-uses g c = weaker (after c.in_ok-related.ensures c.carry_out.ensu
 pub returns-in-Err-clause-uses : goal.returns-in-Err-clause-uses
 returns-in-Err-clause-uses g c = answered c.in_ok-related.ensures (λ own none. absurd none)
     (λ s inventory found is files.
-    let i = c.args.install.now in
+    let i = c.args.operands.now in
     let command = install_command c.args.kind i in
     let sought = found is in (
       s,
@@ -80,12 +80,12 @@ returns-in-Err-clause-uses g c = answered c.in_ok-related.ensures (λ own none. 
 pub returns-in-Err-clause-header : goal.returns-in-Err-clause-header
 returns-in-Err-clause-header g c = (
   c.load_related_zone.new.self.boundary,
-  c.install_header-header.ensures.view c.args.install.now
+  c.install_header-header.ensures.view c.args.operands.now
       (sym (ap (λ w. w.check) c.install.view_is)),
 )
 
 pub returns-clause-header : goal.returns-clause-header
 returns-clause-header g c =
-    c.carry_out.ensures.header (install_command c.args.kind c.args.install.now) c.load_related_zone.new.self.boundary
-    (c.install_header-header.ensures.view c.args.install.now
+    c.carry_out.ensures.header (install_command c.args.kind c.args.operands.now) c.load_related_zone.new.self.boundary
+    (c.install_header-header.ensures.view c.args.operands.now
     (sym (ap (λ w. w.check) c.install.view_is)))
