@@ -3,14 +3,13 @@ ghost use Rattle.std.specs.Prelude.{◌≡◌, map, false, IfOk, IfErr};
 ghost use Rattle.std.specs.String.{string_bytes};
 ghost use Rattle.store_schema.specs.Known.{told};
 ghost use Rattle.smpe_jobs.specs.Ending.{job_of};
-ghost use Rattle.smpe_command.specs.Copied.{AsksIfAny, AsksStore, TriedOver, TriesBytes, TriesCopied, TriesCopy};
-ghost use Rattle.smpe_command.specs.Copied.{TriesOver, apply_to, copy_jobs};
+ghost use Rattle.smpe_command.specs.Copied.{AsksIfAny, AsksStore, TriedOver, TriesBytes, TriesCopy, TriesCopyWith};
+ghost use Rattle.smpe_command.specs.Copied.{TriesOver, apply_to};
 ghost use Rattle.smpe_command.specs.Database.{IsStoreOver};
-ghost use Rattle.smpe_command.specs.ServiceSet.{receive_records};
 ghost use Rattle.sqlite.specs.Held.{Held};
 ghost use Rattle.sqlite.specs.declared.error.Error.{Error};
 
-use crate::any_date::{ANY_DAY, ANY_YEAR};
+use crate::any_date::any_date;
 use crate::host::{DatabaseBytes, Host};
 use crate::job_files::JobFiles;
 use crate::memory_files::connect_in_memory;
@@ -27,39 +26,24 @@ use std::alloc::{AllocError, Global};
 use store::{Store, StoreError};
 
 /// Rehearses the set in the copy with its commands, or with those that apply all of it to the zone, and then asks about
-/// the ids. Returns the greatest status of the jobs and the answers.
+/// the ids. Returns the greatest status of the jobs and the answer.
 pub(crate) fn rehearse_in_copy<H: Host, O: Sink>(
     alloc: Global,
     host: &mut H,
     copy: &SystemCopy,
     commands: &Option<CommandJob>,
-    files: &JobFiles,
+    mut files: JobFiles,
     out: &mut O,
 ) -> Result<u8, JobError>
-    ensures { TriesCopy H.Host ⟦<Memory as Disk>⟧ O.Sink host.old copy.now out.old commands.now files.now.cntl.items
-        (record { ptfin = files.now.ptfin.items; holds = files.now.hold.items }) result host.new out.new }
+    ensures { TriesCopy H.Host ⟦<Memory as Disk>⟧ O.Sink host.old copy.now out.old commands.now files.cntl.items
+        (record { ptfin = files.ptfin.items; holds = files.hold.items }) result host.new out.new }
 {
-    let receive = two_commands(alloc, b"SET BDY(GLOBAL).", b"RECEIVE.")?;
-    let receive = receive.as_slice();
     match commands {
-        Some(commands) => {
-            let cntl = files.cntl.as_slice();
-            rehearse_commands_in_copy(alloc, host, copy, commands.date, receive, cntl, files, out)
-        }
+        Some(commands) => rehearse_files_in_copy(alloc, host, copy, commands.date, &files, out),
         None => {
             let cntl = apply_check_commands(alloc, copy.zone)?;
-            // Nothing that an APPLY with CHECK prints has the job's date.
-            let date = YyDdd::new(ANY_YEAR, ANY_DAY);
-            rehearse_commands_in_copy(
-                alloc,
-                host,
-                copy,
-                date,
-                receive,
-                cntl.as_slice(),
-                files,
-                out,
-            )
+            files.cntl = cntl;
+            rehearse_files_in_copy(alloc, host, copy, any_date(), &files, out)
         }
     }
 }
@@ -79,22 +63,22 @@ fn apply_check_commands(alloc: Global, zone: ZoneName) -> Result<Vec<u8>, AllocE
     )
 }
 
-// Makes the two jobs, RECEIVE and the commands, runs them in the copy of the database, and asks about the ids. Returns
+// Receives the set and runs the commands of the files in the copy of the database, and then asks about the ids. Returns
 // the greatest status of the jobs and the answer. So do the calls below that run the jobs.
-fn rehearse_commands_in_copy<'a, H: Host, O: Sink>(
+fn rehearse_files_in_copy<H: Host, O: Sink>(
     alloc: Global,
     host: &mut H,
     copy: &SystemCopy,
     date: YyDdd,
-    receive: &'a [u8],
-    cntl: &'a [u8],
-    files: &'a JobFiles,
+    files: &JobFiles,
     out: &mut O,
 ) -> Result<u8, JobError>
-    requires { receive.now ≡ receive_records }
-    ensures { TriesCopied H.Host ⟦<Memory as Disk>⟧ O.Sink host.old copy.now out.old (copy_jobs date cntl.now
-        (record { ptfin = files.now.ptfin.items; holds = files.now.hold.items })) result host.new out.new }
+    ensures { TriesCopyWith H.Host ⟦<Memory as Disk>⟧ O.Sink host.old copy.now out.old date files.now.cntl.items
+        (record { ptfin = files.now.ptfin.items; holds = files.now.hold.items }) result host.new out.new }
 {
+    let receive = two_commands(alloc, b"SET BDY(GLOBAL).", b"RECEIVE.")?;
+    let receive = receive.as_slice();
+    let cntl = files.cntl.as_slice();
     let ptfin = files.ptfin.as_slice();
     let hold = files.hold.as_slice();
     let jobs = [
@@ -115,7 +99,7 @@ fn rehearse_commands_in_copy<'a, H: Host, O: Sink>(
     rehearse_over_bytes(alloc, &bytes, &jobs, copy.zone, copy.ids.as_slice(), out)
 }
 
-// Reads the bytes of the database's file and of its log. The error is what the store makes of the database's error.
+// Reads the bytes of the database's file and of its log. An error of the library becomes one of the store.
 fn read_database_bytes<H: Host>(
     host: &mut H,
     db: &DatabaseFile,

@@ -1,10 +1,9 @@
 //! What a service set would do in an empty system, which is kept in memory and gone after the jobs.
 ghost use Rattle.std.specs.Prelude.{◌≡◌, map, false};
 ghost use Rattle.smpe_jobs.specs.Ending.{answer_of, job_of};
-ghost use Rattle.smpe_command.specs.ServiceSet.{JobsInMemory, JobsOverNew, TriesSet, greatest, receive_records};
-ghost use Rattle.smpe_command.specs.ServiceSet.{set_jobs};
+ghost use Rattle.smpe_command.specs.ServiceSet.{JobsOverNew, TriesSet, TriesWith, greatest};
 
-use crate::any_date::{ANY_DAY, ANY_YEAR};
+use crate::any_date::any_date;
 use crate::job_files::JobFiles;
 use fields::{Srel, YyDdd, ZoneName};
 use report::Sink;
@@ -20,54 +19,40 @@ pub(crate) fn rehearse_in_empty_system<O: Sink>(
     alloc: Global,
     srel: Srel,
     commands: &Option<CommandJob>,
-    files: &JobFiles,
+    mut files: JobFiles,
     out: &mut O,
 ) -> Result<Vec<Answer>, JobError>
-    ensures { TriesSet O.Sink out.old srel commands.now files.now.cntl.items (record {
-      ptfin = files.now.ptfin.items;
-      holds = files.now.hold.items;
+    ensures { TriesSet O.Sink out.old srel commands.now files.cntl.items (record {
+      ptfin = files.ptfin.items;
+      holds = files.hold.items;
     }) (λ v. map answer_of v.items) result out.new }
 {
-    let receive = two_commands(alloc, b"SET BDY(GLOBAL).", b"RECEIVE.")?;
-    let receive = receive.as_slice();
     match commands {
-        Some(commands) => {
-            let cntl = files.cntl.as_slice();
-            rehearse_commands_in_empty_system(alloc, srel, commands.date, receive, cntl, files, out)
-        }
+        Some(commands) => rehearse_files_in_empty_system(alloc, srel, commands.date, &files, out),
         None => {
             let apply = b"APPLY FUNCTIONS PTFS GROUPEXTEND CHECK.";
             let cntl = two_commands(alloc, b"SET BDY(TGT).", apply)?;
-            // Nothing that an APPLY with CHECK prints has the job's date.
-            let date = YyDdd::new(ANY_YEAR, ANY_DAY);
-            rehearse_commands_in_empty_system(
-                alloc,
-                srel,
-                date,
-                receive,
-                cntl.as_slice(),
-                files,
-                out,
-            )
+            files.cntl = cntl;
+            rehearse_files_in_empty_system(alloc, srel, any_date(), &files, out)
         }
     }
 }
 
-// Defines the zones, receives the set and runs the commands in an empty system.
-fn rehearse_commands_in_empty_system<'a, O: Sink>(
+// Defines the zones, receives the set and runs the commands of the files in an empty system.
+fn rehearse_files_in_empty_system<O: Sink>(
     alloc: Global,
     srel: Srel,
     date: YyDdd,
-    receive: &'a [u8],
-    cntl: &'a [u8],
-    files: &'a JobFiles,
+    files: &JobFiles,
     out: &mut O,
 ) -> Result<Vec<Answer>, JobError>
-    requires { receive.now ≡ receive_records }
-    ensures { JobsInMemory O.Sink (set_jobs srel date cntl.now
-        (record { ptfin = files.now.ptfin.items; holds = files.now.hold.items })) out.old (λ v. map answer_of v.items)
-        result out.new }
+    ensures { TriesWith O.Sink out.old srel date files.now.cntl.items
+        (record { ptfin = files.now.ptfin.items; holds = files.now.hold.items }) (λ v. map answer_of v.items) result
+        out.new }
 {
+    let receive = two_commands(alloc, b"SET BDY(GLOBAL).", b"RECEIVE.")?;
+    let receive = receive.as_slice();
+    let cntl = files.cntl.as_slice();
     let ptfin = files.ptfin.as_slice();
     let hold = files.hold.as_slice();
     let distribution = ZoneName::read(b"DLIB").unwrap();
@@ -99,11 +84,11 @@ fn rehearse_commands_in_empty_system<'a, O: Sink>(
         },
     ];
     let conn = Connection::open_in_memory(alloc)?;
-    run_jobs_over_new(alloc, conn, &jobs, out)
+    run_jobs_in_new_database(alloc, conn, &jobs, out)
 }
 
 // Opens a store over the connection to a new database, runs the jobs over it, and drops the connection.
-fn run_jobs_over_new<S: Alter + Drop, O: Sink>(
+fn run_jobs_in_new_database<S: Alter + Drop, O: Sink>(
     alloc: Global,
     conn: Connection<S>,
     jobs: &[Job<'_>],
@@ -126,7 +111,7 @@ fn run_jobs_over_new<S: Alter + Drop, O: Sink>(
     }
 }
 
-/// The greatest status of these answers; 0 if there are none.
+/// The greatest status of these answers, or 0 if there are none.
 pub(crate) fn greatest_status(answers: &[Answer]) -> u8
     ensures { result ≡ greatest (map answer_of answers.now) }
 {
