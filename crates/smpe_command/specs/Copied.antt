@@ -114,11 +114,6 @@ module _ {H D M O : Type 0} (host : HostGhosts H D) (memory : disk.Ghosts M) (si
       ⊎ ((db log : List ℕ) × host.holds h (string_bytes copy.db.name) db log after
       × TriesBytes memory sink copy.zone copy.ids.items db log jobs out r out')
 
-  -- so the jobs of a service set with these commands, or memory ran out for the command that receives it
-  abbrev pub TriesCopyWith : Text → List ℕ → Files → Result ℕ JobError → H → O → Type 0
-  TriesCopyWith date cntl files r after out' = ((r ≡ Err Memory) × (after ≡ h) × (out' ≡ out))
-      ⊎ TriesCopied (copy_jobs date cntl files) r after out'
-
   -- A service set is tried with the commands that were given, on their date, or with those that apply all of it to the
   -- zone, on any date. Or memory ran out for the commands, and the database was not looked at.
   abbrev pub TriesCopy : Option CommandJob → List ℕ → Files → Result ℕ JobError → H → O → Type 0

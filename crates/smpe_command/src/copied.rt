@@ -3,9 +3,10 @@ ghost use Rattle.std.specs.Prelude.{◌≡◌, map, false, IfOk, IfErr};
 ghost use Rattle.std.specs.String.{string_bytes};
 ghost use Rattle.store_schema.specs.Known.{told};
 ghost use Rattle.smpe_jobs.specs.Ending.{job_of};
-ghost use Rattle.smpe_command.specs.Copied.{AsksIfAny, AsksStore, TriedOver, TriesBytes, TriesCopy, TriesCopyWith};
-ghost use Rattle.smpe_command.specs.Copied.{TriesOver, apply_to};
+ghost use Rattle.smpe_command.specs.Copied.{AsksIfAny, TriedOver, TriesBytes, TriesCopied, TriesCopy};
+ghost use Rattle.smpe_command.specs.Copied.{TriesOver, apply_to, copy_jobs};
 ghost use Rattle.smpe_command.specs.Database.{IsStoreOver};
+ghost use Rattle.smpe_command.specs.ServiceSet.{receive_records};
 ghost use Rattle.sqlite.specs.Held.{Held};
 ghost use Rattle.sqlite.specs.declared.error.Error.{Error};
 
@@ -14,8 +15,8 @@ use crate::host::{DatabaseBytes, Host};
 use crate::job_files::JobFiles;
 use crate::memory_files::connect_in_memory;
 use crate::questions::answer_and_write;
-use crate::service_set::greatest_status;
-use fields::{Bypass, Id, YyDdd, ZoneName};
+use crate::service_set::{Rehearsal, greatest_status};
+use fields::{Bypass, Id, ZoneName};
 use report::Sink;
 use smpe::{CommandJob, DatabaseFile, Job, JobError, run_jobs, two_commands};
 use smpe_invocation::SystemCopy;
@@ -38,12 +39,25 @@ pub(crate) fn rehearse_in_copy<H: Host, O: Sink>(
     ensures { TriesCopy H.Host ⟦<Memory as Disk>⟧ O.Sink host.old copy.now out.old commands.now files.cntl.items
         (record { ptfin = files.ptfin.items; holds = files.hold.items }) result host.new out.new }
 {
+    let receive = two_commands(alloc, b"SET BDY(GLOBAL).", b"RECEIVE.")?;
     match commands {
-        Some(commands) => rehearse_files_in_copy(alloc, host, copy, commands.date, &files, out),
+        Some(commands) => {
+            let rehearsal = Rehearsal {
+                date: commands.date,
+                receive,
+                files,
+            };
+            run_in_copy(alloc, host, copy, &rehearsal, out)
+        }
         None => {
             let cntl = apply_check_commands(alloc, copy.zone)?;
             files.cntl = cntl;
-            rehearse_files_in_copy(alloc, host, copy, any_date(), &files, out)
+            let rehearsal = Rehearsal {
+                date: any_date(),
+                receive,
+                files,
+            };
+            run_in_copy(alloc, host, copy, &rehearsal, out)
         }
     }
 }
@@ -63,24 +77,26 @@ fn apply_check_commands(alloc: Global, zone: ZoneName) -> Result<Vec<u8>, AllocE
     )
 }
 
-// Receives the set and runs the commands of the files in the copy of the database, and then asks about the ids. Returns
-// the greatest status of the jobs and the answer. So do the calls below that run the jobs.
-fn rehearse_files_in_copy<H: Host, O: Sink>(
+// Runs the jobs of the rehearsal in the copy of the database, and then asks about the ids. Returns the greatest status of
+// the jobs and the answer. So do the calls below that run the jobs.
+fn run_in_copy<H: Host, O: Sink>(
     alloc: Global,
     host: &mut H,
     copy: &SystemCopy,
-    date: YyDdd,
-    files: &JobFiles,
+    rehearsal: &Rehearsal,
     out: &mut O,
 ) -> Result<u8, JobError>
-    ensures { TriesCopyWith H.Host ⟦<Memory as Disk>⟧ O.Sink host.old copy.now out.old date files.now.cntl.items
-        (record { ptfin = files.now.ptfin.items; holds = files.now.hold.items }) result host.new out.new }
+    requires { rehearsal.now.receive.items ≡ receive_records }
+    ensures { TriesCopied H.Host ⟦<Memory as Disk>⟧ O.Sink host.old copy.now out.old
+        (copy_jobs rehearsal.now.date rehearsal.now.files.cntl.items
+        (record { ptfin = rehearsal.now.files.ptfin.items; holds = rehearsal.now.files.hold.items })) result host.new
+        out.new }
 {
-    let receive = two_commands(alloc, b"SET BDY(GLOBAL).", b"RECEIVE.")?;
-    let receive = receive.as_slice();
-    let cntl = files.cntl.as_slice();
-    let ptfin = files.ptfin.as_slice();
-    let hold = files.hold.as_slice();
+    let date = rehearsal.date;
+    let receive = rehearsal.receive.as_slice();
+    let cntl = rehearsal.files.cntl.as_slice();
+    let ptfin = rehearsal.files.ptfin.as_slice();
+    let hold = rehearsal.files.hold.as_slice();
     let jobs = [
         Job::Run {
             date,
@@ -167,12 +183,13 @@ fn run_and_ask<S: Alter, O: Sink>(
 {
     let answers = run_jobs(alloc, store, jobs, out)?;
     let status = greatest_status(answers.as_slice());
-    let answer_status = ask_if_any(alloc, store, zone, ids, out)?;
+    let answer_status = ask_about_ids(alloc, store, zone, ids, out)?;
     Ok(status.max(answer_status))
 }
 
-// Asks about the ids, if there are any, and returns the status of the answer. Without an id that is 0.
-fn ask_if_any<S: Alter, O: Sink>(
+// Asks about each id by itself, without BYPASS, writes one answer for all, and returns its status. Without an id, asks
+// nothing and returns 0.
+fn ask_about_ids<S: Alter, O: Sink>(
     alloc: Global,
     store: &mut Store<S>,
     zone: ZoneName,
@@ -182,22 +199,8 @@ fn ask_if_any<S: Alter, O: Sink>(
     ensures { AsksIfAny S.Store O.Sink zone ids.now store.old out.old result out.new }
 {
     if ids.is_empty() {
-        Ok(0)
-    } else {
-        ask_about_each(alloc, store, zone, ids, out)
+        return Ok(0);
     }
-}
-
-// Asks about each id by itself, without BYPASS, writes one answer for all, and returns its status.
-fn ask_about_each<S: Alter, O: Sink>(
-    alloc: Global,
-    store: &mut Store<S>,
-    zone: ZoneName,
-    ids: &[Id],
-    out: &mut O,
-) -> Result<u8, JobError>
-    ensures { AsksStore S.Store O.Sink zone ids.now store.old out.old result out.new }
-{
     let zones = load_zones(store, zone)?;
     let bypass = Bypass::none(alloc);
     let question = Question {

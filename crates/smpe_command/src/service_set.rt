@@ -1,7 +1,8 @@
 //! What a service set would do in an empty system, which is kept in memory and gone after the jobs.
 ghost use Rattle.std.specs.Prelude.{◌≡◌, map, false};
 ghost use Rattle.smpe_jobs.specs.Ending.{answer_of, job_of};
-ghost use Rattle.smpe_command.specs.ServiceSet.{JobsOverNew, TriesSet, TriesWith, greatest};
+ghost use Rattle.smpe_command.specs.ServiceSet.{JobsInMemory, JobsOverNew, TriesSet, greatest, receive_records};
+ghost use Rattle.smpe_command.specs.ServiceSet.{set_jobs};
 
 use crate::any_date::any_date;
 use crate::job_files::JobFiles;
@@ -12,6 +13,15 @@ use sqlite::{Alter, Connection};
 use std::alloc::Global;
 use store::Store;
 use terms::ZoneKind;
+
+/// The jobs that rehearse a service set: one receives it, and one runs the commands of its files.
+#[derive(Drop)]
+pub(crate) struct Rehearsal {
+    pub(crate) date: YyDdd,
+    /// The command file of the job that receives.
+    pub(crate) receive: Vec<u8>,
+    pub(crate) files: JobFiles,
+}
 
 /// Rehearses the set in an empty system with its commands, or with those that apply all of it, and returns how each of
 /// the jobs ended.
@@ -27,34 +37,47 @@ pub(crate) fn rehearse_in_empty_system<O: Sink>(
       holds = files.hold.items;
     }) (λ v. map answer_of v.items) result out.new }
 {
+    let receive = two_commands(alloc, b"SET BDY(GLOBAL).", b"RECEIVE.")?;
     match commands {
-        Some(commands) => rehearse_files_in_empty_system(alloc, srel, commands.date, &files, out),
+        Some(commands) => {
+            let rehearsal = Rehearsal {
+                date: commands.date,
+                receive,
+                files,
+            };
+            run_in_empty_system(alloc, srel, &rehearsal, out)
+        }
         None => {
             let apply = b"APPLY FUNCTIONS PTFS GROUPEXTEND CHECK.";
             let cntl = two_commands(alloc, b"SET BDY(TGT).", apply)?;
             files.cntl = cntl;
-            rehearse_files_in_empty_system(alloc, srel, any_date(), &files, out)
+            let rehearsal = Rehearsal {
+                date: any_date(),
+                receive,
+                files,
+            };
+            run_in_empty_system(alloc, srel, &rehearsal, out)
         }
     }
 }
 
-// Defines the zones, receives the set and runs the commands of the files in an empty system.
-fn rehearse_files_in_empty_system<O: Sink>(
+// Defines the zones and runs the jobs of the rehearsal in an empty system.
+fn run_in_empty_system<O: Sink>(
     alloc: Global,
     srel: Srel,
-    date: YyDdd,
-    files: &JobFiles,
+    rehearsal: &Rehearsal,
     out: &mut O,
 ) -> Result<Vec<Answer>, JobError>
-    ensures { TriesWith O.Sink out.old srel date files.now.cntl.items
-        (record { ptfin = files.now.ptfin.items; holds = files.now.hold.items }) (λ v. map answer_of v.items) result
-        out.new }
+    requires { rehearsal.now.receive.items ≡ receive_records }
+    ensures { JobsInMemory O.Sink (set_jobs srel rehearsal.now.date rehearsal.now.files.cntl.items
+        (record { ptfin = rehearsal.now.files.ptfin.items; holds = rehearsal.now.files.hold.items })) out.old
+        (λ v. map answer_of v.items) result out.new }
 {
-    let receive = two_commands(alloc, b"SET BDY(GLOBAL).", b"RECEIVE.")?;
-    let receive = receive.as_slice();
-    let cntl = files.cntl.as_slice();
-    let ptfin = files.ptfin.as_slice();
-    let hold = files.hold.as_slice();
+    let date = rehearsal.date;
+    let receive = rehearsal.receive.as_slice();
+    let cntl = rehearsal.files.cntl.as_slice();
+    let ptfin = rehearsal.files.ptfin.as_slice();
+    let hold = rehearsal.files.hold.as_slice();
     let distribution = ZoneName::read(b"DLIB").unwrap();
     let target = ZoneName::read(b"TGT").unwrap();
     let jobs = [

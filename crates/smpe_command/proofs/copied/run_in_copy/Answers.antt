@@ -1,23 +1,15 @@
-use Rattle.std.proofs.Common.{◌∙◌, ◌∷◌, [], List, Err, ap, inl, inr, refl, subst}
-use Rattle.std.proofs.lemmas.Result.{err_from_is_err_and}
+use Rattle.std.proofs.Common.{◌∙◌, ◌∷◌, [], List, inr, subst}
 use Rattle.machine.specs.Machine as machine
 use Rattle.machine.specs.Machine.{RunFiles}
 use Rattle.sqlite_disk.specs.contracts.memory.MemoryDisk.TheImpl.{ghosts as memory_disk}
-use Rattle.smpe_jobs.specs.Errors.{job_error}
 use Rattle.smpe_command.specs.Copied.{TriesBytes, TriesCopied}
-use Rattle.smpe_command.proofs.copied.rehearse_files_in_copy.Goals as goal
-
-pub returns-in_err-bytes : goal.returns-in_err-bytes
-returns-in_err-bytes g c =
-    let p = err_from_is_err_and c.from_residual-in_err-bytes.result c.from_residual-in_err-bytes.ensures.1 in
-    let refused = c.in_err-bytes.ensures.err in
-    inr (inl (refused.0, refused.1, p.1 ∙ ap Err (p.2 ∙ ap job_error refused.2), refl))
+use Rattle.smpe_command.proofs.copied.run_in_copy.Goals as goal
 
 pub returns : goal.returns
 returns g c =
     let jobs : List _ → List _ → List _ → List _ → List machine.Job = λ receive cntl ptfin hold.
-    RunFiles c.args.date receive (record { ptfin = ptfin; holds = hold })
-    ∷ RunFiles c.args.date cntl (record { ptfin = ptfin; holds = hold }) ∷ [] in
+    RunFiles c.args.rehearsal.now.date receive (record { ptfin = ptfin; holds = hold })
+    ∷ RunFiles c.args.rehearsal.now.date cntl (record { ptfin = ptfin; holds = hold }) ∷ [] in
     let Ran : List machine.Job → Type 0 = λ all. TriesCopied g.H.Host memory_disk g.O.Sink c.args.host.now
     c.args.copy.now
     c.args.out.now all c.rehearse_over_bytes.result c.read_database_bytes.new.host c.rehearse_over_bytes.new.out in
@@ -25,7 +17,7 @@ returns g c =
     let cntl = c.as_slice-cntl in
     let ptfin = c.as_slice-ptfin in
     let hold = c.as_slice-hold in
-    let files = c.args.files.now in
+    let files = c.args.rehearsal.now.files in
     let bytes = c.in_ok-bytes.bytes in
     let ran : Ran (jobs receive.result.now cntl.result.now ptfin.result.now hold.result.now) = inr (
       bytes.db.items,
@@ -36,8 +28,8 @@ returns g c =
           c.rehearse_over_bytes.result c.rehearse_over_bytes.new.out) c.as_slice.ensures.value
           c.rehearse_over_bytes.ensures,
     ) in
-    inr (subst (λ t. Ran (jobs t files.cntl.items files.ptfin.items files.hold.items))
-    (receive.ensures.value ∙ c.in_ok-receive.ensures)
+    subst (λ t. Ran (jobs t files.cntl.items files.ptfin.items files.hold.items))
+    (receive.ensures.value ∙ c.requires)
     (subst (λ t. Ran (jobs receive.result.now t files.ptfin.items files.hold.items)) cntl.ensures.value
     (subst (λ t. Ran (jobs receive.result.now cntl.result.now files.ptfin.items t)) hold.ensures.value
-    (subst (λ t. Ran (jobs receive.result.now cntl.result.now t hold.result.now)) ptfin.ensures.value ran))))
+    (subst (λ t. Ran (jobs receive.result.now cntl.result.now t hold.result.now)) ptfin.ensures.value ran)))
