@@ -4,7 +4,7 @@ ghost use Rattle.std.specs.String.{string_bytes};
 ghost use Rattle.store_schema.specs.Known.{told};
 ghost use Rattle.smpe_jobs.specs.Ending.{job_of};
 ghost use Rattle.smpe_command.specs.Copied.{AsksIfAny, TriedOver, TriesBytes, TriesCopied, TriesCopy};
-ghost use Rattle.smpe_command.specs.Copied.{TriesOver, apply_to, copy_jobs};
+ghost use Rattle.smpe_command.specs.Copied.{TriesOver, copy_jobs};
 ghost use Rattle.smpe_command.specs.Database.{IsStoreOver};
 ghost use Rattle.smpe_command.specs.ServiceSet.{receive_records};
 ghost use Rattle.sqlite.specs.Held.{Held};
@@ -18,12 +18,12 @@ use crate::questions::answer_and_write;
 use crate::service_set::{Rehearsal, greatest_status};
 use fields::{Bypass, Id, ZoneName};
 use report::Sink;
-use smpe::{CommandJob, DatabaseFile, Job, JobError, run_jobs, two_commands};
+use smpe::{CommandJob, DatabaseFile, Job, JobError, commands_in_zone, run_jobs, two_commands};
 use smpe_invocation::SystemCopy;
 use smpe_why::{Question, load_zones};
 use sqlite::{Alter, Connection};
 use sqlite_disk::{Disk, Memory};
-use std::alloc::{AllocError, Global};
+use std::alloc::Global;
 use store::{Store, StoreError};
 
 /// Rehearses the set in the copy with its commands, or with those that apply all of it to the zone, and then asks about
@@ -50,7 +50,8 @@ pub(crate) fn rehearse_in_copy<H: Host, O: Sink>(
             run_in_copy(alloc, host, copy, &rehearsal, out)
         }
         None => {
-            let cntl = apply_check_commands(alloc, copy.zone)?;
+            let apply = b"APPLY FUNCTIONS PTFS GROUPEXTEND CHECK.";
+            let cntl = commands_in_zone(alloc, copy.zone, apply)?;
             files.cntl = cntl;
             let rehearsal = Rehearsal {
                 date: any_date(),
@@ -60,21 +61,6 @@ pub(crate) fn rehearse_in_copy<H: Host, O: Sink>(
             run_in_copy(alloc, host, copy, &rehearsal, out)
         }
     }
-}
-
-// The command file of an APPLY with CHECK that selects all that fits the zone. Returns an error if memory runs out.
-fn apply_check_commands(alloc: Global, zone: ZoneName) -> Result<Vec<u8>, AllocError>
-    ensures { IfOk result (λ file. file.items ≡ apply_to zone) }
-{
-    let mut set = Vec::new(alloc);
-    set.extend_from_slice(b"SET BDY(")?;
-    set.extend_from_slice(zone.as_bytes())?;
-    set.extend_from_slice(b").")?;
-    two_commands(
-        alloc,
-        set.as_slice(),
-        b"APPLY FUNCTIONS PTFS GROUPEXTEND CHECK.",
-    )
 }
 
 // Runs the jobs of the rehearsal in the copy of the database, and then asks about the ids. Returns the greatest status of
