@@ -14,7 +14,7 @@ use cntl::Install;
 use fields::{YyDdd, ZoneName};
 use report::{Header, Outcome};
 use smpe_service::{InstallChange, apply};
-use smpe_session::{Session, lines_or_nothing};
+use smpe_session::{Session, ZoneChange, lines_or_nothing};
 use sqlite::Alter;
 use std::alloc::Global;
 use store::{Store, StoreError};
@@ -72,5 +72,5 @@ pub(crate) fn install<S: Alter>(
         date,
     )?;
     let lines = lines_or_nothing(lines)?;
-    session.carry_out(alloc, store, header, name, delta, lines)
+    session.carry_out(alloc, store, header, ZoneChange { name, delta }, lines)
 }
