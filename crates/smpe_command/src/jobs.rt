@@ -93,13 +93,9 @@ fn serve_run<'a, H: Host, O: Sink>(
         out.old options.entry.now result host.new out.new }
 {
     let cntl = Some(options.cntl.as_str());
-    let files = read_files(
-        alloc,
-        host,
-        cntl,
-        options.ptfin.as_deref(),
-        options.hold.as_deref(),
-    )?;
+    let ptfin = options.ptfin.as_deref();
+    let hold = options.hold.as_deref();
+    let files = read_files(alloc, host, cntl, ptfin, hold)?;
     check_commands_if_careful(alloc, host, db, options, files.cntl.as_slice())?;
     status_or_fault(run_job_over_files(alloc, host, db, options.date, &files, out))
 }

@@ -23,7 +23,7 @@ returns-in_err-files g c =
     inl (
       fault,
       subst (λ names. ReadsAll g.H.Host c.args.host.now names (Err fault) c.read_files.new.host)
-          (same_names c.as_str.ensures.value c.as_deref.ensures.value c.as_deref-2.ensures.value)
+          (same_names c.as_str.ensures.value c.as_deref-ptfin.ensures.value c.as_deref-hold.ensures.value)
           c.in_err-files.ensures.err,
       p.1 ∙ ap Err p.2,
       refl,
@@ -39,7 +39,7 @@ reads g c =
     let files = c.in_ok-files.files in
     subst (λ names. ReadsAll g.H.Host c.args.host.now names
     (Ok (files.cntl.items ∷ files.ptfin.items ∷ files.hold.items ∷ [])) c.read_files.new.host)
-    (same_names c.as_str.ensures.value c.as_deref.ensures.value c.as_deref-2.ensures.value)
+    (same_names c.as_str.ensures.value c.as_deref-ptfin.ensures.value c.as_deref-hold.ensures.value)
     c.in_ok-files.ensures.ok
 
 looks : (g : Over) (c : After-check_commands_if_careful g) → ChecksIfCareful g.H.Host g.H.Disk.Store
