@@ -1,6 +1,6 @@
 use Rattle.clap.specs.Words.{found_of, rows_of}
 use Rattle.smpe_invocation.proofs.Excluding.{handed_on, check_in}
-use Rattle.smpe_invocation.proofs.invocation_reading.check_invocation.Goals as goal
+use Rattle.smpe_invocation.proofs.invocation_reading.read_check_options.Goals as goal
 
 pub returns-in_err-system-clause-err : goal.returns-in_err-system-clause-err
 returns-in_err-system-clause-err c =

@@ -1,6 +1,6 @@
 use Rattle.clap.specs.Words.{found_of, rows_of}
 use Rattle.smpe_invocation.proofs.Excluding.{handed_on, migrate_in}
-use Rattle.smpe_invocation.proofs.invocation_reading.migrate_invocation.Goals as goal
+use Rattle.smpe_invocation.proofs.invocation_reading.read_migrate_options.Goals as goal
 
 pub returns-in_err-db-clause-err : goal.returns-in_err-db-clause-err
 returns-in_err-db-clause-err c =

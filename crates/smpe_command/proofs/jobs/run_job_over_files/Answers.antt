@@ -4,9 +4,9 @@ use Rattle.std.proofs.lemmas.Result.{err_from_is_err_and}
 use Rattle.machine.specs.Machine as machine
 use Rattle.machine.specs.Machine.{RunFiles}
 use Rattle.smpe_command.specs.Database.{JobOver}
-use Rattle.smpe_command.proofs.jobs.run_files.Given.{Over}
-use Rattle.smpe_command.proofs.jobs.run_files.Goals.{After-run_job_in_database}
-use Rattle.smpe_command.proofs.jobs.run_files.Goals as goal
+use Rattle.smpe_command.proofs.jobs.run_job_over_files.Given.{Over}
+use Rattle.smpe_command.proofs.jobs.run_job_over_files.Goals.{After-run_job_in_database}
+use Rattle.smpe_command.proofs.jobs.run_job_over_files.Goals as goal
 
 ran : (g : Over) (c : After-run_job_in_database g) → JobOver g.H.Host g.H.Disk.Store g.O.Sink c.args.host.now
     (string_bytes c.args.db.now.name)
