@@ -51,7 +51,7 @@ fn put_install(spelled: &mut RowText, name: &[u8], install: &Install) {
     spelled.put_if(install.selection.ptfs, b" PTFS");
     spelled.put_if(install.selection.groupextend, b" EXTEND");
     spelled.put_if(install.check, b" CHECK");
-    spelled.put_ids(b" SELECT", &install.selection.select);
+    spelled.put_id_list(b" SELECT", &install.selection.select);
     put_bypass(spelled, &install.bypass);
 }
 
@@ -63,15 +63,15 @@ fn put_command(spelled: &mut RowText, command: &Command) {
             spelled.put_if(zone.is_global(), b" all");
         }
         Command::Receive(what) => put_receive(spelled, what),
-        Command::Reject(ids) => spelled.put_ids(b"REJECT SELECT", ids),
+        Command::Reject(ids) => spelled.put_id_list(b"REJECT SELECT", ids),
         Command::Apply(install) => put_install(spelled, b"APPLY", install),
         Command::Accept(install) => put_install(spelled, b"ACCEPT", install),
         Command::Restore { list, check } => {
             spelled.put(b"RESTORE");
             spelled.put_if(*check, b" CHECK");
             match list {
-                RestoreList::Select(ids) => spelled.put_ids(b" SELECT", ids),
-                RestoreList::Group(ids) => spelled.put_ids(b" GROUP", ids),
+                RestoreList::Select(ids) => spelled.put_id_list(b" SELECT", ids),
+                RestoreList::Group(ids) => spelled.put_id_list(b" GROUP", ids),
             }
         }
         Command::List { text } => {

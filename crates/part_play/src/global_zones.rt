@@ -11,14 +11,14 @@ use sysmods::{GlobalZone, Overs, Placed, RejectError, ReleaseError, VerChoice};
 use sysmods_values::Hold;
 use terms::HoldKind;
 
-/// What each of the actions, with a comma between two, answers in the global zone that has received the file.
+/// What each of the actions, with a comma between two, returns in the global zone that has received the file.
 pub(crate) fn read_global(alloc: Global, file: &[u8], actions: &str) -> Result<RowText, Fail> {
     let mut global = zone_that_received(alloc, file)?;
     let mut spelled = RowText::new();
     for action in actions.split(',') {
         let (word, ids) = action.split_once(' ').ok_or("an action has an id")?;
         spelled.put(b" ");
-        act(alloc, &mut global, word, ids, &mut spelled)?;
+        perform_action(alloc, &mut global, word, ids, &mut spelled)?;
     }
     Ok(spelled)
 }
@@ -34,8 +34,8 @@ fn zone_that_received(alloc: Global, file: &[u8]) -> Result<GlobalZone, Fail> {
     Ok(global)
 }
 
-// Performs an action and spells what became of it, or answers a question.
-fn act(
+// Performs an action and appends what became of it, or answers a question.
+fn perform_action(
     alloc: Global,
     global: &mut GlobalZone,
     word: &str,
@@ -47,7 +47,7 @@ fn act(
         b"RELEASE" => spelled.put(remove_test_hold(global, read_id(ids)?)?),
         b"ASSIGN" => spelled.put(assign_test_source(global, read_id(ids)?)?),
         b"REJECT" => spelled.put(reject_sysmod(global, read_id(ids)?)),
-        _ => return ask(alloc, global, word, ids, spelled),
+        _ => return answer_question(alloc, global, word, ids, spelled),
     }
     Ok(())
 }
@@ -98,8 +98,8 @@ fn reject_sysmod(global: &mut GlobalZone, id: Id) -> &'static [u8] {
     }
 }
 
-// Answers how many SYSMODs or sources there are, which SYSMODs name an id, or which SYSMOD is over which.
-fn ask(
+// Appends how many SYSMODs or sources there are, which SYSMODs name an id, or which SYSMOD is over which.
+fn answer_question(
     alloc: Global,
     global: &GlobalZone,
     word: &str,
@@ -120,7 +120,7 @@ fn ask(
         b"SUPERSEDED" => return put_superseded(alloc, global, srel, ids, spelled),
         _ => return Err(Fail::from("no action has this name")),
     }
-    spelled.put_each(found.as_slice());
+    spelled.put_ids(found.as_slice());
     Ok(())
 }
 
@@ -134,21 +134,22 @@ fn put_superseded(
 ) -> Result<(), Fail> {
     let vers = VerChoice::new(global, srel, Table::new(alloc), Table::new(alloc));
     let superseded = vers.sup_all(alloc, read_id(id)?)?;
-    spelled.put_each(superseded.as_slice());
+    spelled.put_ids(superseded.as_slice());
     Ok(())
 }
 
-// Whether x is over z: as `VerChoice` says, as `Overs` says if it is asked first, and as it says from its memory.
+// Whether the SYSMOD `above` is over `below`: as `VerChoice` says, as `Overs` says when it is asked first, and as it
+// says from its memory.
 fn over_answers(
     alloc: Global,
     vers: &VerChoice<'_>,
-    x: Id,
-    z: Id,
+    above: Id,
+    below: Id,
 ) -> Result<[bool; 3], AllocError> {
     let mut overs = Overs::new(alloc, vers);
-    let first = overs.over(alloc, x, z)?;
-    let second = overs.over(alloc, x, z)?;
-    Ok([vers.over(alloc, x, z)?, first, second])
+    let first = overs.over(alloc, above, below)?;
+    let second = overs.over(alloc, above, below)?;
+    Ok([vers.over(alloc, above, below)?, first, second])
 }
 
 // Appends a letter for each answer to whether the first SYSMOD is over the second one.
@@ -159,10 +160,10 @@ fn put_over(
     ids: &str,
     spelled: &mut RowText,
 ) -> Result<(), Fail> {
-    let (x, z) = ids.split_once(' ').ok_or("two ids")?;
+    let (above, below) = ids.split_once(' ').ok_or("two ids")?;
     let vers = VerChoice::new(global, srel, Table::new(alloc), Table::new(alloc));
-    for flag in over_answers(alloc, &vers, read_id(x)?, read_id(z)?)? {
-        spelled.put(if flag { b"T" } else { b"F" });
+    for answer in over_answers(alloc, &vers, read_id(above)?, read_id(below)?)? {
+        spelled.put(if answer { b"T" } else { b"F" });
     }
     Ok(())
 }

@@ -8,14 +8,15 @@ use std::alloc::Global;
 use sysmods_values::Hold;
 use terms::HoldKind;
 
-fn put_key(spelled: &mut RowText, id: Id, kind: HoldKind, reason: Reason, fmid: Id) {
+// Appends the key of a hold or of a release, and its FMID.
+fn put_hold_key(spelled: &mut RowText, id: Id, kind: HoldKind, reason: Reason, fmid: Id) {
     spelled.put_words(&[id.as_bytes(), hold_text(kind)]);
     spelled.put_words(&[reason.as_bytes(), fmid.as_bytes()]);
 }
 
 /// Appends the hold.
 pub(crate) fn put_hold(spelled: &mut RowText, hold: &Hold) {
-    put_key(spelled, hold.id, hold.kind, hold.reason, hold.fmid);
+    put_hold_key(spelled, hold.id, hold.kind, hold.reason, hold.fmid);
     if let Some(class) = hold.class {
         spelled.put_words(&[class.as_bytes()]);
     }
@@ -37,9 +38,15 @@ fn put_items(spelled: &mut RowText, items: &[HoldItem]) {
                 spelled.put(b"HOLD");
                 put_hold(spelled, hold);
             }
-            HoldItem::Release(gone) => {
+            HoldItem::Release(release) => {
                 spelled.put(b"RELEASE");
-                put_key(spelled, gone.id, gone.kind, gone.reason, gone.fmid);
+                put_hold_key(
+                    spelled,
+                    release.id,
+                    release.kind,
+                    release.reason,
+                    release.fmid,
+                );
             }
         }
         spelled.put(b";");

@@ -14,8 +14,8 @@ fn operand_in<'a>(alloc: Global, cards: &'a [Record], name: &[u8]) -> Option<Wor
     operand(operands.only()?, name)
 }
 
-/// Whether the file's first command has such an operand, and its list as ids, as so many ids in any order, as sources
-/// and as the name of a zone, if it is that.
+/// Whether the file's first command has the operand, and what its list is read as: ids in rising order, the number of
+/// ids in the order of the file, sources, and the name of a zone. What the list cannot be read as is left out.
 pub(crate) fn operand_text(alloc: Global, file: &[u8], name: &[u8]) -> Result<RowText, Fail> {
     let mut spelled = RowText::new();
     let found = operand_in(alloc, records(file)?.all, name);
@@ -34,9 +34,10 @@ pub(crate) fn operand_text(alloc: Global, file: &[u8], name: &[u8]) -> Result<Ro
     Ok(spelled)
 }
 
+// Appends the operand's ids in rising order, and how many ids it has in the order of the file.
 fn put_ids(alloc: Global, spelled: &mut RowText, word: &Word<'_>) {
     if let Ok(list) = ids(alloc, word) {
-        spelled.put_ids(b"ids", &list);
+        spelled.put_id_list(b"ids", &list);
     }
     if let Ok(list) = ids_in_file_order(alloc, word) {
         spelled.put(b" listed ");
@@ -44,6 +45,7 @@ fn put_ids(alloc: Global, spelled: &mut RowText, word: &Word<'_>) {
     }
 }
 
+// Appends the operand's sources.
 fn put_sources(alloc: Global, spelled: &mut RowText, word: &Word<'_>) {
     if let Ok(list) = rising::<Source>(alloc, word) {
         for source in list.iter() {

@@ -12,12 +12,12 @@ fn put_ver(spelled: &mut RowText, ver: &Ver) {
     if let Some(fmid) = ver.fmid {
         spelled.put_words(&[fmid.as_bytes()]);
     }
-    spelled.put_ids(b" PRE", &ver.pre);
-    spelled.put_ids(b" SUP", &ver.sup);
-    spelled.put_ids(b" DELETE", &ver.del);
+    spelled.put_id_list(b" PRE", &ver.pre);
+    spelled.put_id_list(b" SUP", &ver.sup);
+    spelled.put_id_list(b" DELETE", &ver.del);
     for condition in ver.ifs.iter() {
         spelled.put_words(&[b"IF", condition.function.as_bytes()]);
-        spelled.put_ids(b" REQ", &condition.req);
+        spelled.put_id_list(b" REQ", &condition.req);
     }
 }
 
@@ -60,7 +60,7 @@ pub(crate) fn put_sysmod(spelled: &mut RowText, sysmod: &Sysmod) {
 fn put_assign(spelled: &mut RowText, assign: &Assign) {
     spelled.put(b"ASSIGN");
     spelled.put_words(&[assign.source.as_bytes()]);
-    spelled.put_each(assign.to.as_slice());
+    spelled.put_ids(assign.to.as_slice());
 }
 
 fn put_items(spelled: &mut RowText, items: &[Item]) {

@@ -22,7 +22,7 @@ pub(crate) fn read_system(alloc: Global, name: &str, text: &str) -> Result<RowTe
 }
 
 /// A flag for each letter, which is set for a `T`.
-pub(crate) fn flags_of(alloc: Global, letters: &str) -> Result<Vec<bool>, Fail> {
+pub(crate) fn parse_flags(alloc: Global, letters: &str) -> Result<Vec<bool>, Fail> {
     let mut flags = Vec::new(alloc);
     for letter in letters.as_bytes() {
         flags.push(*letter == b'T')?;
@@ -38,7 +38,7 @@ pub(crate) fn put_flags(spelled: &mut RowText, flags: &[bool]) {
 }
 
 /// Numbers with a comma between two, if there are any.
-pub(crate) fn numbers_of(alloc: Global, text: &str) -> Result<Vec<u32>, Fail> {
+pub(crate) fn parse_numbers(alloc: Global, text: &str) -> Result<Vec<u32>, Fail> {
     let mut numbers = Vec::new(alloc);
     for word in text.split(',') {
         if !word.is_empty() {
@@ -48,11 +48,11 @@ pub(crate) fn numbers_of(alloc: Global, text: &str) -> Result<Vec<u32>, Fail> {
     Ok(numbers)
 }
 
-// The need, as `0<1,2`.
-fn need_of(alloc: Global, word: &str) -> Result<Need, Fail> {
+// The need that the word spells, as `0<1,2`.
+fn parse_need(alloc: Global, word: &str) -> Result<Need, Fail> {
     let (of, any) = word.split_once('<').ok_or("no need")?;
     let of: u32 = of.parse()?;
-    let any = numbers_of(alloc, any)?;
+    let any = parse_numbers(alloc, any)?;
     Ok(Need { of, any })
 }
 
@@ -64,22 +64,22 @@ fn add_need(system: &mut System, need: Need) -> Result<(), Fail> {
     Ok(system.add_need(need)?)
 }
 
-// The system, to which candidates and needs are added one by one.
-fn system_of(alloc: Global, text: &str) -> Result<System, Fail> {
+// The system that the text spells. Candidates and needs are added to it one by one.
+fn parse_system(alloc: Global, text: &str) -> Result<System, Fail> {
     let (letters, needs) = split_at_first(text, " ");
     let mut system = System::new(alloc, Vec::new(alloc))?;
     for letter in letters.as_bytes() {
         system.add_candidate(*letter == b'T')?;
     }
     for word in needs.split_whitespace() {
-        add_need(&mut system, need_of(alloc, word)?)?;
+        add_need(&mut system, parse_need(alloc, word)?)?;
     }
     Ok(system)
 }
 
-// Which candidates stay, how many strikes that takes, and the causers of each.
+// Which candidates are kept, how many strikes that takes, and the causers of each.
 fn solve_text(alloc: Global, text: &str) -> Result<RowText, Fail> {
-    let system = system_of(alloc, text)?;
+    let system = parse_system(alloc, text)?;
     let mut spelled = RowText::new();
     let (kept, strikes) = solve_twice(alloc, &system, &mut spelled)?;
     put_flags(&mut spelled, kept.flags());
@@ -88,7 +88,7 @@ fn solve_text(alloc: Global, text: &str) -> Result<RowText, Fail> {
     Ok(spelled)
 }
 
-// Which candidates the work list keeps, and its strikes. If the sweep keeps others, the text says so.
+// Which candidates the work list keeps, and its strikes. Appends a remark if the sweep keeps others.
 fn solve_twice(
     alloc: Global,
     system: &System,
@@ -123,23 +123,23 @@ fn put_causers(
     Ok(())
 }
 
-// The causers in the first system for what the second one keeps, after the size of that, its members and whether a
-// number past its end is one.
+// How many candidates the second system has, a letter for whether it keeps each of them and the number after them, and
+// the causers in the first system for what the second one keeps.
 fn causers_for_other(alloc: Global, text: &str) -> Result<RowText, Fail> {
     let (first, second) = text.split_once('/').ok_or("two systems")?;
-    let kept = Sweep.greatest(alloc, &system_of(alloc, second.trim())?)?;
+    let kept = Sweep.greatest(alloc, &parse_system(alloc, second.trim())?)?;
     let mut spelled = RowText::new();
     spelled.put_number(kept.size() as usize);
     spelled.put(b" ");
     for number in 0..=kept.size() {
         spelled.put(if kept.contains(number) { b"T" } else { b"F" });
     }
-    let system = system_of(alloc, first.trim())?;
+    let system = parse_system(alloc, first.trim())?;
     put_causers(alloc, &system, &kept, &mut spelled)?;
     Ok(spelled)
 }
 
-// The needs of a chain: each candidate needs the next one, up to the last one, which has this number.
+// The needs of a chain: each candidate needs the next one, up to the candidate with the number `last`.
 fn chain(alloc: Global, last: u32) -> Result<Vec<Need>, Fail> {
     let mut needs = Vec::new(alloc);
     for of in 0..last {
@@ -149,16 +149,16 @@ fn chain(alloc: Global, last: u32) -> Result<Vec<Need>, Fail> {
     Ok(needs)
 }
 
-// Appends the needs of these words.
+// Appends the needs that these words spell.
 fn append_needs(alloc: Global, words: &str, needs: &mut Vec<Need>) -> Result<(), Fail> {
     for word in words.split_whitespace() {
-        needs.push(need_of(alloc, word)?)?;
+        needs.push(parse_need(alloc, word)?)?;
     }
     Ok(())
 }
 
-// How many candidates stay in a chain of so many, and how many strikes that takes. All are eligible, but the last one
-// perhaps not. It may have further needs.
+// How many candidates of a chain are kept, and how many strikes that takes. The text has the number of the last
+// candidate, the letter that says whether it is eligible, and any further needs. All other candidates are eligible.
 fn solve_chain(alloc: Global, text: &str) -> Result<RowText, Fail> {
     let (last, more) = split_at_first(text, " ");
     let (letter, more) = split_at_first(more, " ");
@@ -175,13 +175,13 @@ fn solve_chain(alloc: Global, text: &str) -> Result<RowText, Fail> {
     Ok(spelled)
 }
 
-// How many needs the system has that is made of them, or why it is not made.
+// How many needs a system has that is made of all of them at once, or why it is not made.
 fn need_count(alloc: Global, text: &str) -> Result<RowText, Fail> {
     let (letters, words) = split_at_first(text, " ");
     let mut needs = Vec::new(alloc);
     append_needs(alloc, words, &mut needs)?;
     let mut spelled = RowText::new();
-    match System::from_needs(flags_of(alloc, letters)?, needs) {
+    match System::from_needs(parse_flags(alloc, letters)?, needs) {
         Ok(system) => spelled.put_number(system.needs().len()),
         Err(SystemError::BadNeed) => spelled.put(b"bad need"),
         Err(error) => return Err(Fail::from(error)),

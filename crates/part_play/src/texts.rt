@@ -4,23 +4,20 @@ use crate::spelled::RowText;
 use std::alloc::Global;
 use std::test::Fail;
 use terms::{TextCode, TextFault};
-use text80::{Line, Numbered, TextError, Update, bytes_of, lines_of, merge};
+use text80::{Line, Numbered, RECORD, TextError, Update, bytes_of, lines_of, merge};
 
-/// The bytes of a record.
-const RECORD: usize = 80;
+/// How many columns of a record come before its number.
+const TEXT_COLUMNS: usize = 72;
 
-/// The bytes of a record before its number.
-const COLUMNS: usize = 72;
-
-/// The element of all updates.
+/// The name of the element that all updates change.
 const ELEMENT: &[u8] = b"M1";
 
-// The records of the file.
-fn lines_in(alloc: Global, file: &[u8]) -> Result<Vec<Line>, Fail> {
-    if file.len() % RECORD == 0 {
-        return Ok(lines_of(alloc, file)?);
+// The records of the file, which must all be whole.
+fn whole_lines(alloc: Global, file: &[u8]) -> Result<Vec<Line>, Fail> {
+    if file.len() % RECORD != 0 {
+        return Err(Fail::from("the last record is not whole"));
     }
-    Err(Fail::from("no whole records"))
+    Ok(lines_of(alloc, file)?)
 }
 
 fn put_fault(spelled: &mut RowText, fault: TextFault) {
@@ -38,7 +35,7 @@ fn put_fault(spelled: &mut RowText, fault: TextFault) {
 /// The number of records of the text, or its fault.
 pub(crate) fn text_size(alloc: Global, file: &[u8]) -> Result<RowText, Fail> {
     let mut spelled = RowText::new();
-    match Numbered::read(lines_in(alloc, file)?) {
+    match Numbered::read(whole_lines(alloc, file)?) {
         Ok(text) => spelled.put_number(text.lines().len()),
         Err(fault) => put_fault(&mut spelled, fault),
     }
@@ -48,7 +45,7 @@ pub(crate) fn text_size(alloc: Global, file: &[u8]) -> Result<RowText, Fail> {
 /// The number of records of the update, or its fault.
 pub(crate) fn update_size(alloc: Global, file: &[u8]) -> Result<RowText, Fail> {
     let mut spelled = RowText::new();
-    match Update::read(alloc, lines_in(alloc, file)?, ELEMENT) {
+    match Update::read(alloc, whole_lines(alloc, file)?, ELEMENT) {
         Ok(update) => spelled.put_number(update.records().len()),
         Err(TextError::Fault(fault)) => put_fault(&mut spelled, fault),
         Err(TextError::Memory) => return Err(Fail::from("out of memory")),
@@ -58,7 +55,7 @@ pub(crate) fn update_size(alloc: Global, file: &[u8]) -> Result<RowText, Fail> {
 
 /// How many records a copy of the update has, and how many of them it gives.
 pub(crate) fn copy_sizes(alloc: Global, file: &[u8]) -> Result<RowText, Fail> {
-    let original = Update::read(alloc, lines_in(alloc, file)?, ELEMENT)?;
+    let original = Update::read(alloc, whole_lines(alloc, file)?, ELEMENT)?;
     let update = original.clone()?;
     let mut spelled = RowText::new();
     spelled.put_number(update.records().len());
@@ -67,15 +64,16 @@ pub(crate) fn copy_sizes(alloc: Global, file: &[u8]) -> Result<RowText, Fail> {
     Ok(spelled)
 }
 
-/// Each record of what the update makes of the text: its columns without the blanks at their end, and its number.
+/// The records of the text after the update: the columns of each before its number, without the blanks at their end,
+/// and its number.
 pub(crate) fn merged_text(alloc: Global, text: &[u8], update: &[u8]) -> Result<RowText, Fail> {
-    let old = Numbered::read(lines_in(alloc, text)?)?;
-    let update = Update::read(alloc, lines_in(alloc, update)?, ELEMENT)?;
+    let old = Numbered::read(whole_lines(alloc, text)?)?;
+    let update = Update::read(alloc, whole_lines(alloc, update)?, ELEMENT)?;
     let merged = merge(alloc, &old, &update)?;
     let bytes = bytes_of(alloc, merged.lines())?;
     let mut spelled = RowText::new();
     for record in bytes.chunks(RECORD) {
-        if let Some((columns, number)) = record.split_at_checked(COLUMNS) {
+        if let Some((columns, number)) = record.split_at_checked(TEXT_COLUMNS) {
             spelled.put_words(&[columns.trim_ascii_end(), number]);
         }
     }

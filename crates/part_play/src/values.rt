@@ -8,12 +8,15 @@ use std::alloc::Global;
 use std::collections::BTreeMap;
 use std::test::Fail;
 
+/// How many bytes a file of the table BYTES has at most: two records and a byte.
+const MOST_FILE_BYTES: usize = 161;
+
 /// What this reader makes of the text.
 pub(crate) fn read_value(alloc: Global, name: &str, text: &str) -> Result<RowText, Fail> {
     match name.as_bytes() {
-        b"FIELD" => Ok(fields_of(text)),
-        b"DATE" => Ok(date_of(text)),
-        b"RISING" => changed_list(alloc, text),
+        b"FIELD" => Ok(fitting_fields(text)),
+        b"DATE" => Ok(date_of_day(text)),
+        b"RISING" => list_calls(alloc, text),
         b"SORTED" => sorted_ids(alloc, text),
         b"LISTS" => lists_by_key(alloc),
         b"BYTES" => record_count(text),
@@ -37,12 +40,13 @@ fn takes_text(letter: u8, text: &[u8]) -> bool {
         b'Z' => ZoneName::read(text).is_some(),
         b'L' => Srel::read(text).is_some(),
         b'H' => HoldDate::read(text).is_some(),
-        _ => YyDdd::read(text).is_some(),
+        b'D' => YyDdd::read(text).is_some(),
+        _ => false,
     }
 }
 
 // The letters of the fields that may have this text.
-fn fields_of(text: &str) -> RowText {
+fn fitting_fields(text: &str) -> RowText {
     let mut spelled = RowText::new();
     for letter in b"ISCRNZLHD" {
         if takes_text(*letter, text.as_bytes()) {
@@ -52,19 +56,19 @@ fn fields_of(text: &str) -> RowText {
     spelled
 }
 
-// The day of 2024 with this number.
-fn date_of(text: &str) -> RowText {
+// The date of the day of 2024 with this number, if there is one.
+fn date_of_day(text: &str) -> RowText {
     let mut spelled = RowText::new();
-    if let Ok(day) = text.parse::<u16>() {
-        if day >= 1 && day <= 366 {
-            spelled.put(YyDdd::new(2024, day).as_bytes());
-        }
+    if let Ok(day) = text.parse::<u16>()
+        && (1..=366).contains(&day)
+    {
+        spelled.put(YyDdd::new(2024, day).as_bytes());
     }
     spelled
 }
 
-// Inserts an id (`+`), appends it (`>`), removes it (`-`), or asks for it (`?`), and returns what the call does.
-fn change_list(list: &mut IdList, word: &str) -> Result<bool, Fail> {
+// Inserts an id (`+`), appends it (`>`), removes it (`-`), or looks for it (`?`), and returns what that call returns.
+fn call_list(list: &mut IdList, word: &str) -> Result<bool, Fail> {
     let (sign, id) = word.split_at_checked(1).ok_or("no sign")?;
     let id = read_id(id)?;
     Ok(match sign.as_bytes() {
@@ -75,15 +79,15 @@ fn change_list(list: &mut IdList, word: &str) -> Result<bool, Fail> {
     })
 }
 
-// A letter for what each of these calls returns, and then a copy of the list.
-fn changed_list(alloc: Global, text: &str) -> Result<RowText, Fail> {
+// A letter for what each of these calls on a list returns, and then a copy of the list.
+fn list_calls(alloc: Global, text: &str) -> Result<RowText, Fail> {
     let mut list = IdList::new(alloc);
     let mut spelled = RowText::new();
     for word in text.split_whitespace() {
-        let is_so = change_list(&mut list, word)?;
-        spelled.put(if is_so { b"T" } else { b"F" });
+        let answer = call_list(&mut list, word)?;
+        spelled.put(if answer { b"T" } else { b"F" });
     }
-    spelled.put_ids(b" ", &list.try_clone(alloc)?);
+    spelled.put_id_list(b" ", &list.try_clone(alloc)?);
     Ok(spelled)
 }
 
@@ -94,7 +98,7 @@ fn sorted_ids(alloc: Global, text: &str) -> Result<RowText, Fail> {
         ids.push(read_id(word)?)?;
     }
     let mut spelled = RowText::new();
-    spelled.put_ids(b"", &Rising::from_vec(ids));
+    spelled.put_id_list(b"", &Rising::from_vec(ids));
     Ok(spelled)
 }
 
@@ -113,14 +117,14 @@ fn lists_by_key(alloc: Global) -> Result<RowText, Fail> {
     Ok(spelled)
 }
 
-// How many records a file of so many bytes has, all blank but one, which is given by its place and its value, or why
-// it has none.
+// How many records a file has, or why it has none. The text has the size of the file, and the place and the value of
+// its one byte that is not blank.
 fn record_count(text: &str) -> Result<RowText, Fail> {
     let mut numbers = text.split_whitespace();
     let size: usize = numbers.next().unwrap_or("").parse()?;
     let place: usize = numbers.next().unwrap_or("").parse()?;
     let byte: u8 = numbers.next().unwrap_or("").parse()?;
-    let mut bytes = [b' '; 161];
+    let mut bytes = [b' '; MOST_FILE_BYTES];
     if let Some(at) = bytes.get_mut(place) {
         *at = byte;
     }

@@ -6,7 +6,7 @@ use rec80::{Commands, Group, Groups, Piece, Record, Records, StmtError, Text, Wo
 /// How many members, words, statements, commands or pieces of one text are spelled.
 const MOST_ITEMS: usize = 9;
 
-// Appends each member with its own list in parentheses and a semicolon; a `?` for anything else.
+// Appends each member with its own list in parentheses and a semicolon, and a `?` if the rest is no list of members.
 fn put_members(spelled: &mut RowText, list: &Text<'_>) {
     let mut members = list.members();
     for _ in 0..MOST_ITEMS {
@@ -26,7 +26,7 @@ fn put_members(spelled: &mut RowText, list: &Text<'_>) {
     }
 }
 
-// Appends each word with its members in parentheses and a blank; a `?` for anything else.
+// Appends each word with its members in parentheses and a blank, and a `?` if something else comes instead of a word.
 fn put_operands(spelled: &mut RowText, mut words: Words<'_>) {
     for _ in 0..MOST_ITEMS {
         match words.next_word() {
@@ -54,7 +54,7 @@ fn put_fault(spelled: &mut RowText, error: StmtError) {
     });
 }
 
-/// The words of the statement that these records are, or its fault.
+/// The words of the statement in these records, or its fault.
 pub(crate) fn statement_text(found: Records<'_>) -> RowText {
     let mut spelled = RowText::new();
     let group = Group {
@@ -134,8 +134,8 @@ pub(crate) fn pieces_of(found: Records<'_>) -> RowText {
     spelled
 }
 
-// Appends the first two lines of the list of the statement's first word, and the first byte of the second one, as far as
-// they exist. Returns `None` if one is missing.
+// Appends the first two lines of the list of the statement's first word, and the first byte of the second line. Stops
+// and returns `None` where one is missing.
 fn put_lines(spelled: &mut RowText, records: &[Record]) -> Option<()> {
     let mut words = statement(&Group { number: 1, records }).ok()?;
     let text = words.next_word().ok()??.list?;
