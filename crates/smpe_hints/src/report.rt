@@ -5,7 +5,7 @@ use crate::related::{RelatedZone, related_hint};
 use std::alloc::{AllocError, Global};
 
 /// How many bytes of a line the watch looks at.
-const LONGEST: usize = 100;
+const MOST_LINE_BYTES: usize = 100;
 
 /// A file that was read.
 #[derive(Drop)]
@@ -57,6 +57,7 @@ pub struct ReportWatch {
 }
 
 impl ReportWatch {
+    /// A watch that has seen nothing of the report.
     pub fn new(alloc: Global) -> ReportWatch {
         ReportWatch {
             alloc,
@@ -93,7 +94,7 @@ impl ReportWatch {
         for &byte in piece {
             if byte == b'\n' {
                 self.end_line()?;
-            } else if self.line.len() < LONGEST {
+            } else if self.line.len() < MOST_LINE_BYTES {
                 self.line.push(byte)?;
             }
         }
@@ -113,8 +114,8 @@ impl ReportWatch {
 
     // Follows the beginning or the end of a command, and notices what the line says of a card or a refusal. `Cm4` and
     // `Cm5` are faults of the PTFIN and of the hold file, `Cm2` is a zone that is not defined, and `Zn2` a related zone
-    // that does not fit. The id of a SYSMOD may be the word of a command, as RESTORE: its type and its status follow it,
-    // and not a zone and CHECK.
+    // that does not fit. A SYSMOD may have the word of a command as its id, as RESTORE. Its type and its status follow
+    // it then, and not a zone and CHECK.
     fn follow_line(&mut self, line: &str) -> Result<(), AllocError> {
         let mut words = line.split(' ');
         let first = words.next().unwrap_or("");
@@ -199,8 +200,8 @@ impl ReportWatch {
         Ok(())
     }
 
-    /// What to say, a line each, about a report for which these words asked over these files, and over a database that
-    /// knows this about the related zone. No line is said twice.
+    /// What to say about the report, a line for each notice, and no line twice. The command line has these words, the
+    /// job read these files, and `related` is what the database knows of the related zone.
     pub fn hints(
         &self,
         words: &[Vec<u8>],
@@ -221,10 +222,10 @@ impl ReportWatch {
 
 // Whether the word begins the header of a command.
 fn is_command(word: &str) -> bool {
-    match word {
-        "SET" | "RECEIVE" | "REJECT" | "APPLY" | "ACCEPT" | "RESTORE" | "LIST" | "REPORT" => true,
-        _ => false,
-    }
+    matches!(
+        word,
+        "SET" | "RECEIVE" | "REJECT" | "APPLY" | "ACCEPT" | "RESTORE" | "LIST" | "REPORT"
+    )
 }
 
 impl Notice {
@@ -266,12 +267,7 @@ fn file_of_option<'a>(
     files: &'a [ReadFile],
 ) -> Option<&'a ReadFile> {
     let name = line.value(option)?;
-    for file in files {
-        if file.name.as_str() == name {
-            return Some(file);
-        }
-    }
-    None
+    files.iter().find(|file| file.name.as_str() == name)
 }
 
 // What is wrong with a record: its bytes, if they are no card, otherwise what the code says of the card. `None` if that
@@ -288,7 +284,7 @@ fn record_hint(
         RecordForm::NotAscii => Ok(Some(format!(in alloc;
             "{name} record {record} is not ASCII; smpe-intake and iconv convert EBCDIC"
         )?)),
-        // (of a file with another length, this is said when it is read)
+        // `smpe` has said this already when it read a file that has not only whole records.
         RecordForm::LineEnd if !has_whole_records(file.bytes.as_slice()) => Ok(None),
         RecordForm::LineEnd => Ok(Some(format!(in alloc;
             "{name} record {record} has the end of a line in it; smpe-cards makes records of text"
