@@ -3,7 +3,7 @@
 use crate::commands::commands_text;
 use crate::holds::hold_file_text;
 use crate::ptfin::ptfin_text;
-use crate::spelled::RowText;
+use crate::row_text::RowText;
 use crate::texts::{copy_sizes, text_size, update_size};
 use crate::words::{group_sizes, lines_of_list, pieces_of, statement_text, words_of_commands};
 use rec80::records;

@@ -1,6 +1,6 @@
 //! Sets of numbers that grow by rules.
 
-use crate::spelled::RowText;
+use crate::row_text::RowText;
 use crate::systems::{parse_flags, parse_numbers, put_flags};
 use solve::{Rule, Rules, least};
 use std::alloc::Global;
@@ -31,9 +31,9 @@ pub(crate) fn least_set(alloc: Global, text: &str) -> Result<RowText, Fail> {
     for word in words.split_whitespace() {
         add_rule(&mut rules, parse_rule(alloc, word)?)?;
     }
-    let mut spelled = RowText::new();
-    spelled.put_number(rules.size() as usize);
-    spelled.put(b" ");
-    put_flags(&mut spelled, least(alloc, &rules)?.as_slice());
-    Ok(spelled)
+    let mut out = RowText::new();
+    out.put_number(rules.size() as usize);
+    out.put(b" ");
+    put_flags(&mut out, least(alloc, &rules)?.as_slice());
+    Ok(out)
 }

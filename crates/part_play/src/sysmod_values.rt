@@ -1,7 +1,7 @@
 //! What a SYSMOD names, and how it grows by the parts of another one.
 
 use crate::ptfin::put_sysmod;
-use crate::spelled::RowText;
+use crate::row_text::RowText;
 use crate::values::read_id;
 use fields::spelling::read_type;
 use fields::{Name, Source, Srel};
@@ -14,15 +14,15 @@ use sysmods_values::{Sysmod, Ver};
 /// part of the second one.
 pub(crate) fn read_sysmod(alloc: Global, file: &[u8], text: &str) -> Result<RowText, Fail> {
     let (mut sysmod, mut other) = last_two_sysmods(alloc, file)?;
-    let mut spelled = RowText::new();
+    let mut out = RowText::new();
     match text.split_once(' ') {
-        Some((word, names)) => answer_question(alloc, &sysmod, word, names, &mut spelled)?,
+        Some((word, names)) => answer_question(alloc, &sysmod, word, names, &mut out)?,
         None => {
-            grow(alloc, &mut sysmod, &mut other, text, &mut spelled)?;
-            put_sysmod(&mut spelled, &sysmod);
+            grow(alloc, &mut sysmod, &mut other, text, &mut out)?;
+            put_sysmod(&mut out, &sysmod);
         }
     }
-    Ok(spelled)
+    Ok(out)
 }
 
 // The last two SYSMODs of the file.
@@ -59,20 +59,20 @@ fn grow(
     sysmod: &mut Sysmod,
     other: &mut Sysmod,
     part: &str,
-    spelled: &mut RowText,
+    out: &mut RowText,
 ) -> Result<(), Fail> {
     match part.as_bytes() {
-        b"VER" => spelled.put_number(sysmod.insert_ver(remove_ver(other)?)?),
+        b"VER" => out.put_number(sysmod.insert_ver(remove_ver(other)?)?),
         b"IF" => insert_if(sysmod, remove_ver(other)?)?,
         b"ELEMENT" => move_element(sysmod, other)?,
         b"SOURCE" => {
             sysmod.insert_source(Source::read(b"RSU2404").ok_or("no source")?)?;
-            spelled.put_number(sysmod.sources.len());
+            out.put_number(sysmod.sources.len());
         }
-        b"HOLDS" => spelled.put_number(sysmod.take_holds(alloc).len()),
+        b"HOLDS" => out.put_number(sysmod.take_holds(alloc).len()),
         _ => return Err(Fail::from("no part has this name")),
     }
-    spelled.put(b" ");
+    out.put(b" ");
     Ok(())
 }
 
@@ -82,40 +82,35 @@ fn answer_question(
     sysmod: &Sysmod,
     word: &str,
     names: &str,
-    spelled: &mut RowText,
+    out: &mut RowText,
 ) -> Result<(), Fail> {
     match word.as_bytes() {
         b"NAMES" => {
             let id = read_id(names)?;
-            spelled.put_if(sysmod.names(id), b" names");
-            spelled.put_if(sysmod.names_function(id), b" as function");
-            spelled.put_if(sysmod.supersedes(id), b" supersedes");
+            out.put_if(sysmod.names(id), b" names");
+            out.put_if(sysmod.names_function(id), b" as function");
+            out.put_if(sysmod.supersedes(id), b" supersedes");
         }
-        b"NAMED" => return put_named(alloc, sysmod, names, spelled),
+        b"NAMED" => return put_named(alloc, sysmod, names, out),
         b"FOR" => {
             let (srel, id) = names.split_once(' ').ok_or("no id")?;
             let srel = Srel::read(srel.as_bytes()).ok_or("no SREL")?;
-            spelled.put_if(sysmod.names_for(srel, read_id(id)?), b"names");
+            out.put_if(sysmod.names_for(srel, read_id(id)?), b"names");
         }
         _ => {
             let elem_type = read_type(word.as_bytes()).ok_or("no type")?;
             let name = Name::read(names.as_bytes()).ok_or("no name")?;
-            spelled.put_if(sysmod.has_change(elem_type, name), b"has");
+            out.put_if(sysmod.has_change(elem_type, name), b"has");
         }
     }
     Ok(())
 }
 
 // Appends the ids that the SYSMOD names for the SREL.
-fn put_named(
-    alloc: Global,
-    sysmod: &Sysmod,
-    srel: &str,
-    spelled: &mut RowText,
-) -> Result<(), Fail> {
+fn put_named(alloc: Global, sysmod: &Sysmod, srel: &str, out: &mut RowText) -> Result<(), Fail> {
     let srel = Srel::read(srel.as_bytes()).ok_or("no SREL")?;
     let mut found = Vec::new(alloc);
     sysmod.append_named(srel, &mut found)?;
-    spelled.put_ids(found.as_slice());
+    out.put_ids(found.as_slice());
     Ok(())
 }

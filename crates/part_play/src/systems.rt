@@ -1,8 +1,8 @@
 //! Systems of numbers: the greatest set that supports itself, and the causers of failures. A system is a letter for
 //! each candidate, which tells whether it is eligible (`T` or `F`), and its needs, as `0<1,2` if 0 needs 1 or 2.
 
+use crate::row_text::RowText;
 use crate::rules::least_set;
-use crate::spelled::RowText;
 use itoa::Buffer;
 use scripts::split_at_first;
 use solve::{Kept, Need, Solver, Sweep, System, SystemError, Worklist, causers};
@@ -31,9 +31,9 @@ pub(crate) fn parse_flags(alloc: Global, letters: &str) -> Result<Vec<bool>, Fai
 }
 
 /// Appends a letter for each flag.
-pub(crate) fn put_flags(spelled: &mut RowText, flags: &[bool]) {
+pub(crate) fn put_flags(out: &mut RowText, flags: &[bool]) {
     for flag in flags {
-        spelled.put(if *flag { b"T" } else { b"F" });
+        out.put_flag(*flag);
     }
 }
 
@@ -80,45 +80,36 @@ fn parse_system(alloc: Global, text: &str) -> Result<System, Fail> {
 // Which candidates are kept, how many strikes that takes, and the causers of each.
 fn solve_text(alloc: Global, text: &str) -> Result<RowText, Fail> {
     let system = parse_system(alloc, text)?;
-    let mut spelled = RowText::new();
-    let (kept, strikes) = solve_twice(alloc, &system, &mut spelled)?;
-    put_flags(&mut spelled, kept.flags());
-    put_strikes(&mut spelled, strikes);
-    put_causers(alloc, &system, &kept, &mut spelled)?;
-    Ok(spelled)
+    let mut out = RowText::new();
+    let (kept, strikes) = solve_twice(alloc, &system, &mut out)?;
+    put_flags(&mut out, kept.flags());
+    put_strikes(&mut out, strikes);
+    put_causers(alloc, &system, &kept, &mut out)?;
+    Ok(out)
 }
 
 // Which candidates the work list keeps, and its strikes. Appends a remark if the sweep keeps others.
-fn solve_twice(
-    alloc: Global,
-    system: &System,
-    spelled: &mut RowText,
-) -> Result<(Kept, u128), Fail> {
+fn solve_twice(alloc: Global, system: &System, out: &mut RowText) -> Result<(Kept, u128), Fail> {
     let swept = Sweep.greatest(alloc, system)?;
     let (kept, count) = Worklist::count(alloc, system)?;
-    spelled.put_if(swept.flags() != kept.flags(), b"SWEEP DIFFERS ");
+    out.put_if(swept.flags() != kept.flags(), b"SWEEP DIFFERS ");
     Ok((kept, count.strikes))
 }
 
-fn put_strikes(spelled: &mut RowText, strikes: u128) {
-    spelled.put(b" ");
-    spelled.put(Buffer::new().format(strikes).as_bytes());
+fn put_strikes(out: &mut RowText, strikes: u128) {
+    out.put(b" ");
+    out.put(Buffer::new().format(strikes).as_bytes());
 }
 
 // Appends the causers of each candidate, between a blank and a slash.
-fn put_causers(
-    alloc: Global,
-    system: &System,
-    kept: &Kept,
-    spelled: &mut RowText,
-) -> Result<(), Fail> {
+fn put_causers(alloc: Global, system: &System, kept: &Kept, out: &mut RowText) -> Result<(), Fail> {
     for row in causers(alloc, system, kept)? {
-        spelled.put(b" ");
+        out.put(b" ");
         for causer in row.iter() {
-            spelled.put_number(*causer as usize);
-            spelled.put(b",");
+            out.put_number(*causer as usize);
+            out.put(b",");
         }
-        spelled.put(b"/");
+        out.put(b"/");
     }
     Ok(())
 }
@@ -128,15 +119,15 @@ fn put_causers(
 fn causers_for_other(alloc: Global, text: &str) -> Result<RowText, Fail> {
     let (first, second) = text.split_once('/').ok_or("two systems")?;
     let kept = Sweep.greatest(alloc, &parse_system(alloc, second.trim())?)?;
-    let mut spelled = RowText::new();
-    spelled.put_number(kept.size() as usize);
-    spelled.put(b" ");
+    let mut out = RowText::new();
+    out.put_number(kept.size() as usize);
+    out.put(b" ");
     for number in 0..=kept.size() {
-        spelled.put(if kept.contains(number) { b"T" } else { b"F" });
+        out.put_flag(kept.contains(number));
     }
     let system = parse_system(alloc, first.trim())?;
-    put_causers(alloc, &system, &kept, &mut spelled)?;
-    Ok(spelled)
+    put_causers(alloc, &system, &kept, &mut out)?;
+    Ok(out)
 }
 
 // The needs of a chain: each candidate needs the next one, up to the candidate with the number `last`.
@@ -168,11 +159,11 @@ fn solve_chain(alloc: Global, text: &str) -> Result<RowText, Fail> {
     let mut needs = chain(alloc, last)?;
     append_needs(alloc, more, &mut needs)?;
     let system = System::from_needs(eligible, needs)?;
-    let mut spelled = RowText::new();
-    let (kept, strikes) = solve_twice(alloc, &system, &mut spelled)?;
-    spelled.put_number(kept.flags().iter().filter(|flag| **flag).count());
-    put_strikes(&mut spelled, strikes);
-    Ok(spelled)
+    let mut out = RowText::new();
+    let (kept, strikes) = solve_twice(alloc, &system, &mut out)?;
+    out.put_number(kept.flags().iter().filter(|flag| **flag).count());
+    put_strikes(&mut out, strikes);
+    Ok(out)
 }
 
 // How many needs a system has that is made of all of them at once, or why it is not made.
@@ -180,11 +171,11 @@ fn need_count(alloc: Global, text: &str) -> Result<RowText, Fail> {
     let (letters, words) = split_at_first(text, " ");
     let mut needs = Vec::new(alloc);
     append_needs(alloc, words, &mut needs)?;
-    let mut spelled = RowText::new();
+    let mut out = RowText::new();
     match System::from_needs(parse_flags(alloc, letters)?, needs) {
-        Ok(system) => spelled.put_number(system.needs().len()),
-        Err(SystemError::BadNeed) => spelled.put(b"bad need"),
+        Ok(system) => out.put_number(system.needs().len()),
+        Err(SystemError::BadNeed) => out.put(b"bad need"),
         Err(error) => return Err(Fail::from(error)),
     }
-    Ok(spelled)
+    Ok(out)
 }

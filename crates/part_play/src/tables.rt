@@ -3,7 +3,7 @@
 use crate::files::{read_cuts, read_file};
 use crate::global_zones::read_global;
 use crate::operands::operand_text;
-use crate::spelled::RowText;
+use crate::row_text::RowText;
 use crate::sysmod_values::read_sysmod;
 use crate::systems::read_system;
 use crate::texts::merged_text;
@@ -73,8 +73,8 @@ impl RowReader<'_> {
     fn put_differences(self, alloc: Global, row: &str, printed: &mut Vec<u8>) -> Result<(), Fail> {
         let (texts, wanted) = row.split_once(" =>").ok_or("no arrow in a row")?;
         for text in texts.split(';') {
-            let spelled = self.read(alloc, text)?;
-            let got = spelled.text().trim();
+            let out = self.read(alloc, text)?;
+            let got = out.text().trim();
             if got != wanted.trim() {
                 let line = format!(in alloc; "{text} => {got}\n")?;
                 printed.extend_from_slice(line.as_bytes())?;

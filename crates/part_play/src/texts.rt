@@ -1,6 +1,6 @@
 //! Numbered texts, updates and merges, as text.
 
-use crate::spelled::RowText;
+use crate::row_text::RowText;
 use std::alloc::Global;
 use std::test::Fail;
 use terms::{TextCode, TextFault};
@@ -20,9 +20,9 @@ fn whole_lines(alloc: Global, file: &[u8]) -> Result<Vec<Line>, Fail> {
     Ok(lines_of(alloc, file)?)
 }
 
-fn put_fault(spelled: &mut RowText, fault: TextFault) {
-    spelled.put_number(fault.number);
-    spelled.put(match fault.code {
+fn put_fault(out: &mut RowText, fault: TextFault) {
+    out.put_number(fault.number);
+    out.put(match fault.code {
         TextCode::NoNumber => b" no number",
         TextCode::NumberOutOfOrder => b" number out of order",
         TextCode::NoChangeRecord => b" no CHANGE",
@@ -34,34 +34,34 @@ fn put_fault(spelled: &mut RowText, fault: TextFault) {
 
 /// The number of records of the text, or its fault.
 pub(crate) fn text_size(alloc: Global, file: &[u8]) -> Result<RowText, Fail> {
-    let mut spelled = RowText::new();
+    let mut out = RowText::new();
     match Numbered::read(whole_lines(alloc, file)?) {
-        Ok(text) => spelled.put_number(text.lines().len()),
-        Err(fault) => put_fault(&mut spelled, fault),
+        Ok(text) => out.put_number(text.lines().len()),
+        Err(fault) => put_fault(&mut out, fault),
     }
-    Ok(spelled)
+    Ok(out)
 }
 
 /// The number of records of the update, or its fault.
 pub(crate) fn update_size(alloc: Global, file: &[u8]) -> Result<RowText, Fail> {
-    let mut spelled = RowText::new();
+    let mut out = RowText::new();
     match Update::read(alloc, whole_lines(alloc, file)?, ELEMENT) {
-        Ok(update) => spelled.put_number(update.records().len()),
-        Err(TextError::Fault(fault)) => put_fault(&mut spelled, fault),
+        Ok(update) => out.put_number(update.records().len()),
+        Err(TextError::Fault(fault)) => put_fault(&mut out, fault),
         Err(TextError::Memory) => return Err(Fail::from("out of memory")),
     }
-    Ok(spelled)
+    Ok(out)
 }
 
 /// How many records a copy of the update has, and how many of them it gives.
 pub(crate) fn copy_sizes(alloc: Global, file: &[u8]) -> Result<RowText, Fail> {
     let original = Update::read(alloc, whole_lines(alloc, file)?, ELEMENT)?;
     let update = original.clone()?;
-    let mut spelled = RowText::new();
-    spelled.put_number(update.records().len());
-    spelled.put(b" ");
-    spelled.put_number(update.given_records(alloc)?.lines().len());
-    Ok(spelled)
+    let mut out = RowText::new();
+    out.put_number(update.records().len());
+    out.put(b" ");
+    out.put_number(update.given_records(alloc)?.lines().len());
+    Ok(out)
 }
 
 /// The records of the text after the update: the columns of each before its number, without the blanks at their end,
@@ -71,11 +71,11 @@ pub(crate) fn merged_text(alloc: Global, text: &[u8], update: &[u8]) -> Result<R
     let update = Update::read(alloc, whole_lines(alloc, update)?, ELEMENT)?;
     let merged = merge(alloc, &old, &update)?;
     let bytes = bytes_of(alloc, merged.lines())?;
-    let mut spelled = RowText::new();
+    let mut out = RowText::new();
     for record in bytes.chunks(RECORD) {
         if let Some((columns, number)) = record.split_at_checked(TEXT_COLUMNS) {
-            spelled.put_words(&[columns.trim_ascii_end(), number]);
+            out.put_words(&[columns.trim_ascii_end(), number]);
         }
     }
-    Ok(spelled)
+    Ok(out)
 }

@@ -1,4 +1,4 @@
-//! What in a report needs more words.
+//! What in a report needs an explanation.
 use crate::card::{RecordForm, card_fault, card_text, find_set, has_whole_records, record_bytes};
 use crate::operand::CommandLine;
 use crate::related::{RelatedZone, related_hint};
@@ -14,7 +14,7 @@ pub struct ReadFile {
     pub bytes: Vec<u8>,
 }
 
-/// What needs more words.
+/// Something in a report that needs an explanation.
 #[derive(Drop)]
 enum Notice {
     /// A card of the file of this option is at fault.
@@ -37,7 +37,7 @@ enum Notice {
     Related,
 }
 
-/// Takes the bytes of a report, and finds what needs more words.
+/// Takes the bytes of a report, and notices what needs an explanation.
 #[derive(Drop)]
 pub struct ReportWatch {
     alloc: Global,
@@ -89,7 +89,7 @@ impl ReportWatch {
         self.header.as_str()
     }
 
-    /// Takes the next bytes of the report, and follows each line that they end. Returns an error if memory runs out.
+    /// Takes the next bytes of the report, and follows each line that they end.
     pub fn feed(&mut self, piece: &[u8]) -> Result<(), AllocError> {
         for &byte in piece {
             if byte == b'\n' {
@@ -229,7 +229,7 @@ fn is_command(word: &str) -> bool {
 }
 
 impl Notice {
-    // The line about the notice. `None` about a card of a file that was not read, or if there is no more to say.
+    // The line that explains the notice. `None` if its file was not read, or if there is nothing to add.
     fn hint(
         &self,
         alloc: Global,

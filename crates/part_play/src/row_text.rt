@@ -1,4 +1,4 @@
-//! What is read, as text.
+//! The text of what is read from a row.
 
 use fields::{Id, IdList};
 use itoa::Buffer;
@@ -41,6 +41,11 @@ impl RowText {
 
     pub(crate) fn put_number(&mut self, number: usize) {
         self.put(Buffer::new().format(number).as_bytes());
+    }
+
+    /// Appends `T` if the flag is set, and `F` if not.
+    pub(crate) fn put_flag(&mut self, flag: bool) {
+        self.put(if flag { b"T" } else { b"F" });
     }
 
     /// Appends the word if the condition holds.
