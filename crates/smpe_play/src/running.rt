@@ -35,7 +35,7 @@ pub fn zone_name(name: &[u8]) -> Result<ZoneName, Fail> {
 }
 
 /// Defines the target zone and the distribution zone of all cases.
-pub fn define_both<S: Alter>(alloc: Global, store: &mut Store<S>) -> Result<(), Fail> {
+pub(crate) fn define_both_zones<S: Alter>(alloc: Global, store: &mut Store<S>) -> Result<(), Fail> {
     let distribution_name = zone_name(b"DLB1")?;
     let target_name = zone_name(b"TGT1")?;
     let srel = Srel::read(b"Z038").ok_or("no SREL")?;

@@ -3,7 +3,7 @@
 use crate::cards::{BEGINNING, Case, JobStep};
 use crate::disks::{in_memory, new_files, open_store, reopen_files};
 use crate::rows::query_lines;
-use crate::running::{define_both, job_over, run_printing};
+use crate::running::{define_both_zones, job_over, run_printing};
 use scripts::{Difference, card_file, compare, first_difference, put_cards};
 use smpe::{Answer, JobError};
 use sqlite::{Alter, Connection, FileStore, MemStore};
@@ -127,7 +127,7 @@ fn begin_store<S: Alter + Drop>(
     place: StepPlace,
 ) -> Result<Store<S>, Fail> {
     let mut store = open_store(alloc, conn, place.shows)?;
-    define_both(alloc, &mut store)?;
+    define_both_zones(alloc, &mut store)?;
     play_all(alloc, &mut store, before, place)?;
     Ok(store)
 }
