@@ -1,4 +1,4 @@
-//! What is read, as text.
+//! The text of what is read from a row.
 
 use fields::{Id, IdList};
 use itoa::Buffer;
@@ -6,7 +6,7 @@ use itoa::Buffer;
 /// How many bytes of a text are kept.
 const MOST_BYTES: usize = 480;
 
-/// The beginning of a text. It drops what does not fit.
+/// What a row's text was read as, in words. It keeps the first `MOST_BYTES` bytes and drops the others.
 #[derive(Clone, Copy)]
 pub(crate) struct RowText {
     bytes: [u8; MOST_BYTES],
@@ -43,22 +43,27 @@ impl RowText {
         self.put(Buffer::new().format(number).as_bytes());
     }
 
-    /// Appends the word, if it is so.
-    pub(crate) fn put_if(&mut self, is_so: bool, word: &[u8]) {
-        if is_so {
+    /// Appends `T` if the flag is set, and `F` if not.
+    pub(crate) fn put_flag(&mut self, flag: bool) {
+        self.put(if flag { b"T" } else { b"F" });
+    }
+
+    /// Appends the word if the condition holds.
+    pub(crate) fn put_if(&mut self, condition: bool, word: &[u8]) {
+        if condition {
             self.put(word);
         }
     }
 
     /// Appends each id after a blank.
-    pub(crate) fn put_each(&mut self, ids: &[Id]) {
+    pub(crate) fn put_ids(&mut self, ids: &[Id]) {
         for id in ids {
             self.put_words(&[id.as_bytes()]);
         }
     }
 
     /// Appends the ids in parentheses after the name, if there are any.
-    pub(crate) fn put_ids(&mut self, name: &[u8], ids: &IdList) {
+    pub(crate) fn put_id_list(&mut self, name: &[u8], ids: &IdList) {
         if ids.is_empty() {
             return;
         }
@@ -72,7 +77,7 @@ impl RowText {
     }
 
     pub(crate) fn text(&self) -> &str {
-        // (`len` is never more than the array has)
+        // `len` is at most the length of the array, so `get` finds the text.
         let text = self.bytes.get(..self.len).unwrap_or(self.bytes.as_slice());
         std::str::from_utf8(text).unwrap_or("not UTF-8")
     }
