@@ -67,10 +67,10 @@ impl<'a> Selecting<'a> {
         ensures { IfOk result (λ found. found.items ≡ superseders self.now id) }
     {
         let selection = self.selection;
-        let mut namers = Vec::new(alloc);
         if !selection.groupextend {
-            return Ok(namers);
+            return Ok(Vec::new(alloc));
         }
+        let mut namers = Vec::new(alloc);
         self.global
             .append_namers(self.zone.srel(), id, &mut namers)?;
         self.superseders_among(alloc, id, namers.as_slice())
