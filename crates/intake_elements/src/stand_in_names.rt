@@ -89,8 +89,8 @@ fn stand_in_name_bytes(word: &[u8], name: &[u8]) -> [u8; 8]
     name_of(hash_of(owner_word(word), name))
 }
 
-/// The name of the stand-in of an element of this name in a statement of this word, or `None` if it does not have
-/// the form of a name.
+/// The name of the stand-in of an element of this name in a statement of this word, or `None` if it does not
+/// have the form of a name.
 pub(crate) fn stand_in_name(word: &[u8], name: &[u8]) -> Option<Name>
     ensures { IfSome result (λ found. found ≡ stand_in_name word.now name.now) }
 {

@@ -59,8 +59,8 @@ fn read_if(
     Ok(Some(IfReq { function, req }))
 }
 
-/// The `++IF`s of a `++VER`, which is the subject. `own_id` is that of its SYSMOD. Returns `None`, with a remark, if one
-/// cannot be carried, or if there are too many.
+/// The `++IF`s of a `++VER`, which is the subject. `own_id` is that of its SYSMOD. Returns `None`, with a remark, if
+/// one cannot be carried, or if there are too many.
 pub(crate) fn read_ifs(
     alloc: Global,
     remarks: &mut Remarks,

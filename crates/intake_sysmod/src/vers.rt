@@ -156,8 +156,8 @@ fn has_faulty_ver(sysmod: &WideSysmod) -> bool {
         .any(|other| other.word.as_slice() == b"VER".as_slice())
 }
 
-/// The `++VER`s of a SYSMOD, sorted by their SRELs. Returns `None`, with a remark, if one cannot be carried, if there is none,
-/// if there are too many, or if the SYSMOD may not have two of them together.
+/// The `++VER`s of a SYSMOD, sorted by their SRELs. Returns `None`, with a remark, if one cannot be carried, if there is
+/// none, if there are too many, or if the SYSMOD may not have two of them together.
 pub(crate) fn read_vers(
     alloc: Global,
     remarks: &mut Remarks,
