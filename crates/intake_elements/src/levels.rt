@@ -16,9 +16,12 @@ pub(crate) fn is_level_operand(name: &[u8]) -> bool
 pub(crate) fn first_level_operand(operands: &[WideOperand]) -> Option<&WideOperand>
     ensures { IfNone result (All HasNoLevel operands.now) }
 {
-    operands
-        .iter()
-        .find(|operand| is_level_operand(operand.name.as_slice()))
+    for operand in operands {
+        if is_level_operand(operand.name.as_slice()) {
+            return Some(operand);
+        }
+    }
+    None
 }
 
 /// Whether an operand of the element decides whether the SYSMOD can be installed.

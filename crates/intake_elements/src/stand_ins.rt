@@ -32,7 +32,8 @@ fn stand_in_card(place: CardPlace, word: &[u8], name: &[u8]) -> Card {
     for (to, from) in text.iter_mut().take(TEXT_COLUMNS).zip(parts) {
         *to = printable_or_question_mark(*from);
     }
-    text[TEXT_COLUMNS..].copy_from_slice(b"00000100");
+    let (_, number) = text.split_at_mut(TEXT_COLUMNS);
+    number.copy_from_slice(b"00000100");
     Card {
         place,
         text,

@@ -35,10 +35,13 @@ fn read_id_list(alloc: Global, stated: &[Vec<u8>]) -> Result<Option<IdList>, All
 
 // The first of the texts that does not have the form of an id, or an empty text if all have it.
 fn first_bad_id(stated: &[Vec<u8>]) -> &[u8] {
-    let bad = stated
+    match stated
         .iter()
-        .find(|text| Id::read(text.as_slice()).is_none());
-    bad.map_or(b"".as_slice(), |text| text.as_slice())
+        .find(|text| Id::read(text.as_slice()).is_none())
+    {
+        Some(text) => text.as_slice(),
+        None => b"",
+    }
 }
 
 /// The ids of an operand. Returns `None`, with a remark, if one does not have the form of an id, or if there are more

@@ -170,8 +170,10 @@ fn operand_with_own_id(
     fmid: &Option<Id>,
     lists: &VerLists,
 ) -> Option<&'static [u8]> {
-    if fmid.is_some_and(|fmid| fmid.as_bytes() == own_id) {
-        return Some(b"FMID");
+    if let Some(fmid) = fmid {
+        if fmid.as_bytes() == own_id {
+            return Some(b"FMID");
+        }
     }
     if has_id(&lists.pre, own_id) {
         return Some(b"PRE");

@@ -140,9 +140,10 @@ fn may_have_both(kind: Kind, first: &Ver, second: &Ver) -> bool {
 // The first `++VER` that a SYSMOD of the kind may not have beside an earlier one, or `None` if it may have all.
 fn first_conflicting_ver(kind: Kind, vers: &[Ver]) -> Option<&Ver> {
     for (place, ver) in vers.iter().enumerate() {
-        let earlier = &vers[..place];
-        if !earlier.iter().all(|other| may_have_both(kind, other, ver)) {
-            return Some(ver);
+        for earlier in &vers[..place] {
+            if !may_have_both(kind, earlier, ver) {
+                return Some(ver);
+            }
         }
     }
     None
@@ -156,8 +157,8 @@ fn has_faulty_ver(sysmod: &WideSysmod) -> bool {
         .any(|other| other.word.as_slice() == b"VER".as_slice())
 }
 
-/// The `++VER`s of a SYSMOD, sorted by their SRELs. Returns `None`, with a remark, if one cannot be carried, if there is
-/// none, if there are too many, or if the SYSMOD may not have two of them together.
+/// The `++VER`s of a SYSMOD, sorted by their SRELs. Returns `None`, with a remark, if one cannot be carried, if there
+/// is none, if there are too many, or if the SYSMOD may not have two of them together.
 pub(crate) fn read_vers(
     alloc: Global,
     remarks: &mut Remarks,
