@@ -45,7 +45,7 @@ pub(crate) fn reopen_files(
     }
 }
 
-/// A store over the connection. A failure begins with the name.
+/// A store over the connection. A failure begins with this name.
 pub fn open_store<S: Alter + Drop>(
     alloc: Global,
     conn: Connection<S>,

@@ -30,7 +30,7 @@ fn run_in_store<S: Alter + Drop>(
     Ok(store.close())
 }
 
-// A failure, unless this is what the jobs printed and returned.
+// Checks what the jobs printed and returned. A failure begins with the disk.
 fn check_jobs(
     alloc: Global,
     disk: &str,
@@ -40,8 +40,8 @@ fn check_jobs(
 ) -> Result<(), Fail> {
     compare(disk, report, wanted.report)?;
     let got = format!(in alloc; "{answers:?}")?;
-    let answers = wanted.answers;
-    let wanted = format!(in alloc; "{answers:?}")?;
+    let wanted_answers = wanted.answers;
+    let wanted = format!(in alloc; "{wanted_answers:?}")?;
     compare(disk, got.as_bytes(), wanted.as_str())
 }
 
@@ -86,8 +86,8 @@ fn run_each_on_disks(alloc: Global, jobs: &[Job<'_>], wanted: ListWanted<'_>) ->
     check_jobs(alloc, disk, report.as_slice(), answers.as_slice(), wanted)
 }
 
-/// Runs the jobs in memory and on disks in memory: in one call, and each in a call over a store that is opened for it.
-/// A failure says in which of these ways.
+/// Runs the jobs in memory and on disks in memory, each time in one call, and then each job in a call of its own over a
+/// store that is opened for it. A failure says in which of these ways the jobs ran.
 pub fn play_jobs(alloc: Global, jobs: &[Job<'_>], wanted: ListWanted<'_>) -> Result<(), Fail> {
     run_in_one_call(alloc, open_in_memory(alloc)?, "in memory", jobs, wanted)?;
     run_each_in_memory(alloc, jobs, wanted)?;
