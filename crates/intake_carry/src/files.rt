@@ -170,12 +170,12 @@ pub fn narrow(
         files.now holds narrowed.items.items narrowed.hold_items.items) }
 {
     let mut options = options;
-    options.sort();
+    options.sort_members();
     let users = Users::of_files(alloc, &options, files)?;
     let copies = OtherCopies::of_files(alloc, files)?;
     let mut remarks = Remarks::new(alloc);
     let mut held = held;
-    if held.refuse_all(alloc, &mut remarks, files)? {
+    if held.refuse_bad_statements(alloc, &mut remarks, files)? {
         return Err(NarrowError::Refused(remarks.list));
     }
     let mut held_remarks = held.remarks;
