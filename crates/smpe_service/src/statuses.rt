@@ -90,8 +90,8 @@ fn push_left_out_statuses(
     Ok(())
 }
 
-/// The statuses of all ids that have one: the kept ones, which are installed in a zone of this kind or superseded, those
-/// that failed, and those that were left out.
+/// The statuses of all ids that have one: the kept ones, which are installed in a zone of this kind or superseded,
+/// those that failed, and those that were left out.
 pub(crate) fn install_statuses(
     alloc: Global,
     kind: ZoneKind,
