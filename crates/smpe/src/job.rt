@@ -22,7 +22,7 @@ use sqlite::Alter;
 use std::alloc::Global;
 use store::Store;
 
-// What each command of a job is given.
+// The date and the files of a job, which each of its commands is given.
 #[derive(Drop)]
 struct JobInput<'a> {
     date: YyDdd,

@@ -20,7 +20,7 @@ use std::alloc::Global;
 use store::Store;
 use terms::ZoneKind;
 
-// Defines a zone, and returns how that ended. A refusal is an answer. Returns the error `Memory` if memory runs out, and
+// Defines a zone, and returns how that ended. A refusal is an answer too. Returns `Memory` if memory runs out, and
 // `Store` if the database fails.
 fn answer_definition<S: Alter>(
     store: &mut Store<S>,

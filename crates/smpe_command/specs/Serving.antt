@@ -119,7 +119,8 @@ ServesRun host g sink h db out options r after out' =
     ∷ option_map string_bytes options.hold ∷ [] in
     ((fault : Fault) × ReadsAll host h names (Err fault) after × (r ≡ Err fault) × (out' ≡ out))
     ⊎ ((m : _) × (cntl ptfin hold : List ℕ) × ReadsAll host h names (Ok (cntl ∷ ptfin ∷ hold ∷ [])) m
-    × RunsIf host g sink m db out options.careful options.date cntl (record { ptfin = ptfin; holds = hold }) r after out')
+    × RunsIf host g sink m db out options.careful options.date cntl (record { ptfin = ptfin; holds = hold }) r after
+    out')
 
 module _ {H D M O : Type 0} (host : HostGhosts H D) (memory : disk.Ghosts M)
     (sink : SinkGhosts O) where

@@ -1,13 +1,13 @@
-//! The date of a job that prints and changes nothing that has a date.
+//! A date for jobs whose date nothing shows.
 use fields::YyDdd;
 
-// Its year: any other would do.
+// The year of `any_date`. Any other would do.
 const ANY_YEAR: u16 = 2000;
 
-// Its day within the year: any other would do.
+// The day of `any_date` in its year. Any other would do.
 const ANY_DAY: u16 = 1;
 
-/// A date for a job that prints and changes nothing that has a date.
+/// A date for a job that neither prints its date nor stores it.
 pub(crate) fn any_date() -> YyDdd {
     YyDdd::new(ANY_YEAR, ANY_DAY)
 }

@@ -13,9 +13,9 @@ use smpe::{DatabaseFile, Fault, JobError};
 use smpe_invocation::RunOptions;
 use std::alloc::Global;
 
-/// Checks the commands of a careful job before it runs; any other job runs unchecked. The error says why nothing runs:
-/// `NoCommand`, `NoZone` for the first zone that is not defined, or `Job` if memory runs out or the database cannot be
-/// used.
+/// Checks the commands of a careful job before it runs, and does nothing for any other job. The error says why the job
+/// must not run: `NoCommand`, `NoZone` for the first zone that is not defined, or `Job` if memory runs out or the
+/// database cannot be used.
 pub(crate) fn check_commands_if_careful<'a, H: Host>(
     alloc: Global,
     host: &mut H,

@@ -63,8 +63,8 @@ pub(crate) fn rehearse_in_copy<H: Host, O: Sink>(
     }
 }
 
-// Runs the jobs of the rehearsal in the copy of the database, and then asks about the ids. Returns the greatest status of
-// the jobs and the answer. So do the calls below that run the jobs.
+// Runs the jobs of the rehearsal in the copy of the database, and then asks about the ids. This function and those
+// below that run the jobs return the greatest status of the jobs and the answer.
 fn run_in_copy<H: Host, O: Sink>(
     alloc: Global,
     host: &mut H,
@@ -101,7 +101,7 @@ fn run_in_copy<H: Host, O: Sink>(
     rehearse_over_bytes(alloc, &bytes, &jobs, copy.zone, copy.ids.as_slice(), out)
 }
 
-// Reads the bytes of the database's file and of its log. An error of the library becomes one of the store.
+// Reads the bytes of the database's file and of its log. An error of the database library becomes one of the store.
 fn read_database_bytes<H: Host>(
     host: &mut H,
     db: &DatabaseFile,
@@ -155,7 +155,7 @@ fn rehearse_over_connection<S: Alter + Drop, O: Sink>(
     }
 }
 
-// Runs the jobs over the store, asks about the ids, and returns the greatest status.
+// Runs the jobs over the store, and asks about the ids.
 fn run_and_ask<S: Alter, O: Sink>(
     alloc: Global,
     store: &mut Store<S>,
@@ -173,8 +173,8 @@ fn run_and_ask<S: Alter, O: Sink>(
     Ok(status.max(answer_status))
 }
 
-// Asks about each id by itself, without BYPASS, writes one answer for all, and returns its status. Without an id, asks
-// nothing and returns 0.
+// Asks about each id by itself, without BYPASS, writes one answer for all, and returns its status. If there are no ids,
+// this asks nothing and returns 0.
 fn ask_about_ids<S: Alter, O: Sink>(
     alloc: Global,
     store: &mut Store<S>,

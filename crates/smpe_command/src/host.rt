@@ -44,23 +44,23 @@ pub trait Host {
     /// The text of `clap`'s error was shown on standard error.
     ghost shows: { Self → WordsError → Self → Type 0 };
 
-    /// The text that `clap` has instead of an answer, as for `--help`, was shown on standard output.
+    /// The text of `--help` or `--version`, which `clap` returns as an error, was printed on standard output.
     ghost prints: { Self → WordsError → Self → Type 0 };
 
-    /// Reads a file whole. The error says why it cannot be read.
+    /// Reads the whole file. The error says why it cannot be read.
     fn read(&mut self, name: &str) -> io::Result<Vec<u8>>
         ensures ok { IfOk result (λ bytes. gives self.old name.now bytes.items self.new) }
         ensures err { IfErr result (λ error. withholds self.old name.now error self.new) };
 
-    /// Opens the database, or creates it. If another program has it, it may wait for it, as long as the words say. The
-    /// error says why it cannot be used.
+    /// Opens the database, or creates it. If another program has it, this may wait for it, as long as the words say.
+    /// The error says why the database cannot be used.
     fn open(&mut self, db: &DatabaseFile) -> Result<Connection<Self::Disk>, sqlite::Error>
         ensures ok { IfOk result (λ conn. opens self.old (string_bytes db.now.name) conn self.new) }
         ensures err { IfErr result (λ error. refuses self.old (string_bytes db.now.name) error self.new) }
         ensures mode { IfOk result (λ conn. conn.in_transaction ≡ false) };
 
-    /// Reads the files of a database, and changes nothing. If another program is changing them, it may wait until that
-    /// is done, as long as the words say. The error says why they cannot be read.
+    /// Reads the files of a database, and changes nothing. If another program is changing them, this may wait until
+    /// that is done, as long as the words say. The error says why the files cannot be read.
     fn read_database(&mut self, db: &DatabaseFile) -> Result<DatabaseBytes, sqlite::Error>
         ensures ok { IfOk result (λ files. holds self.old (string_bytes db.now.name) files.db.items files.log.items
             self.new) }

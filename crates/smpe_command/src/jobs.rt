@@ -27,7 +27,7 @@ use smpe_verify::describe_verification;
 use sqlite_disk::{Disk, Memory};
 use std::alloc::Global;
 
-/// Does what the words ask for, and returns the status. The fault is the first that keeps it from its end.
+/// Does what the words ask for, and returns the status, or the first fault that stops it.
 pub(crate) fn serve<'a, H: Host, O: Sink>(
     alloc: Global,
     host: &mut H,
@@ -157,8 +157,8 @@ fn serve_migrate<H: Host, O: Sink>(
     Ok(write_migrated_line(out)?)
 }
 
-// Verifies that all zones are closed, writes the answer, and returns its status. All of it is made before any of it is
-// written.
+// Verifies that all zones are closed, writes the answer, and returns its status. The whole answer is made before any of
+// it is written.
 fn serve_verify<H: Host, O: Sink>(
     alloc: Global,
     host: &mut H,

@@ -14,8 +14,8 @@ use store::StoreError;
 // The seed that `sqlite` takes for each connection: any other would do.
 const SEED: u64 = 1;
 
-/// Connects to a copy in memory of a database whose file and log have these bytes. What is written stays in memory. The
-/// error is what the store makes of the database's error.
+/// Connects to a copy in memory of a database whose file and log have these bytes. What is written stays in memory. An
+/// error of the database library becomes one of the store.
 pub(crate) fn connect_in_memory(
     alloc: Global,
     db: &[u8],
@@ -28,7 +28,7 @@ pub(crate) fn connect_in_memory(
     Ok(open_files(alloc, memory_file(alloc, db)?, memory_file(alloc, log)?)?)
 }
 
-// Opens a connection over these two files. The error says why they are no database.
+// Opens a connection over these two files. The error says why they are not a database.
 fn open_files(
     alloc: Global,
     db: Memory,

@@ -13,8 +13,8 @@ use smpe::{ArgFault, FAULT_STATUS, Fault, write_fault_line};
 use sqlite_disk::{Disk, Memory};
 use std::alloc::{AllocError, Global};
 
-/// Does what the words ask for, the first of which is the program's name, and returns the status. `words` is an error if
-/// memory ran out while they were read. `--help` and `--version` are no faults.
+/// Does what the words ask for, and returns the status. The first word is the program's name. `words` is an error if
+/// memory ran out while they were read. `--help` and `--version` are not faults.
 pub fn command<H: Host, O: Sink, E: Sink>(
     alloc: Global,
     host: &mut H,

@@ -16,7 +16,7 @@ use smpe_why::{LoadedZones, Question, answer_question, read_bypass};
 use std::alloc::Global;
 
 /// Asks about the ids in a zone of the database, as the words say, writes the answer, and returns its status. Returns
-/// `Arg` if ACCEPT takes no such list of BYPASS, and `Job` for a fault of the database, memory or the output.
+/// `Arg` if ACCEPT would refuse the list of BYPASS, and `Job` for a fault of the database, memory or the output.
 pub(crate) fn serve_why<'a, H: Host, O: Sink>(
     alloc: Global,
     host: &mut H,
@@ -30,10 +30,10 @@ pub(crate) fn serve_why<'a, H: Host, O: Sink>(
     let Some(bypass) = stated_bypass(alloc, options)? else {
         return Err(Fault::Arg(ArgFault::BadOperand));
     };
-    status_or_fault(ask_zone(alloc, host, db, options, &bypass, out))
+    status_or_fault(answer_why(alloc, host, db, options, &bypass, out))
 }
 
-// The BYPASS of the words, one of nothing if they have none, or `None` if ACCEPT does not take its list. Returns
+// The BYPASS that the words state, an empty one if they state none, or `None` if ACCEPT would refuse its list. Returns
 // `Memory` if memory runs out.
 fn stated_bypass(alloc: Global, options: &WhyOptions) -> Result<Option<Bypass>, JobError>
     ensures ok { IfOk result (IsGiven options.now) }
@@ -45,8 +45,8 @@ fn stated_bypass(alloc: Global, options: &WhyOptions) -> Result<Option<Bypass>, 
     }
 }
 
-// Asks with this BYPASS: loads the zones from the database, writes the answer, and returns its status.
-fn ask_zone<H: Host, O: Sink>(
+// Asks about the ids with this BYPASS: loads the zones from the database, writes the answer, and returns its status.
+fn answer_why<H: Host, O: Sink>(
     alloc: Global,
     host: &mut H,
     db: &DatabaseFile,
@@ -67,8 +67,8 @@ fn ask_zone<H: Host, O: Sink>(
     answer_and_write(alloc, &zones, &question, out)
 }
 
-/// Answers the question by the zones that were loaded, writes the answer, and returns its status. All of it is made
-/// before any of it is written. Returns `Memory` if memory runs out, and `Write` if it cannot be written.
+/// Answers the question by the zones that were loaded, writes the answer, and returns its status. The whole answer is
+/// made before any of it is written. Returns `Memory` if memory runs out, and `Write` if the answer cannot be written.
 pub(crate) fn answer_and_write<O: Sink>(
     alloc: Global,
     zones: &LoadedZones,

@@ -23,8 +23,8 @@ pub(crate) struct Rehearsal {
     pub(crate) files: JobFiles,
 }
 
-/// Rehearses the set in an empty system with its commands, or with those that apply all of it, and returns how each of
-/// the jobs ended.
+/// Rehearses the set in an empty system with its commands, or with those that apply all of it. Returns how each of the
+/// jobs ended.
 pub(crate) fn rehearse_in_empty_system<O: Sink>(
     alloc: Global,
     srel: Srel,

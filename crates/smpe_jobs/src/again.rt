@@ -32,8 +32,8 @@ fn reconnect<D: Crash + Drop>(
 }
 
 /// Opens the store again after jobs, even if a fault shut the connection: takes apart what is left of it, brings its
-/// disks back, and opens the store over their files. The error returns the files, with `Memory` if memory runs out,
-/// `Fault` if the disks fail, and any other one if the tables were not the store's.
+/// disks back, and opens the store over their files. An error returns the files, with `Memory` if memory runs out,
+/// `Fault` if the disks fail, and another error if the tables were not the store's.
 pub fn reopen<D: Crash + Drop>(
     alloc: Global,
     conn: Connection<FileStore<D>>,

@@ -24,8 +24,8 @@ pub fn listing_commands(alloc: Global, zone: ZoneName) -> Result<Vec<u8>, AllocE
     commands_in_zone(alloc, zone, b"LIST.")
 }
 
-/// The command file of `SET BDY(zone).` and a command that runs in this zone, a record each. Returns an error if memory
-/// runs out.
+/// The command file that runs a command in this zone: `SET BDY(zone).` and the command, a record each. Returns an error
+/// if memory runs out.
 pub fn commands_in_zone(
     alloc: Global,
     zone: ZoneName,

@@ -161,7 +161,7 @@ fn job_error_text(error: JobError) -> &'static [u8]
     }
 }
 
-// Writes a line of `smpe: ` and the text. Returns an error if it cannot be written; so do the calls below.
+// Writes a line of `smpe: ` and the text. This function and those below return an error if the line cannot be written.
 fn write_program_line<W: Sink>(text: &[u8], w: &mut W) -> Result<(), WriteFault>
     ensures sends { Sent W.Sink w.old w.new (program_line text.now) }
     ensures fault { W.has_failed w.new ≡ is_err result }
@@ -171,7 +171,7 @@ fn write_program_line<W: Sink>(text: &[u8], w: &mut W) -> Result<(), WriteFault>
     write_all(b"\n", w)
 }
 
-// Writes the line of a file that cannot be read. Its text has two pieces, and `write_program_line` takes one.
+// Writes the line of a file that cannot be read. This text has two pieces, and `write_program_line` takes one.
 fn write_unreadable_file<W: Sink>(name: &str, w: &mut W) -> Result<(), WriteFault>
     ensures sends { Sent W.Sink w.old w.new (program_line (codes "cannot read " ++ name.now)) }
     ensures fault { W.has_failed w.new ≡ is_err result }

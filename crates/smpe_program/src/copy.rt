@@ -11,12 +11,12 @@ use std::os::unix::fs::MetadataExt;
 use std::time::Duration;
 use std::{fs, io, thread};
 
-// How often the files are read at most, for each second of the wait. With the pause of each reading, that takes nearly
-// a second.
+// How many times the files are read at most for each second of the wait. With the pause in each reading, that takes
+// nearly a second.
 const READINGS_PER_SECOND: u32 = 40;
 
-// The pause of a reading, in milliseconds. A file that is changed before the pause and after it has two different times
-// of change.
+// The pause in a reading, in milliseconds. It is so long that a file which is changed before it and after it gets two
+// different times of change.
 const PAUSE_MILLISECONDS: u64 = 20;
 
 // The first columns of the row that `sqlite_schema` has for a table `meta`: its type, its name and its table.
@@ -38,15 +38,13 @@ pub(crate) enum CopyFault {
 }
 
 impl CopyFault {
-    /// The error of the library that stands for this fault.
+    /// The error of the database library that the host returns for this fault.
     pub(crate) fn library_error(&self) -> Error
         ensures { IsTrue (is_open_error result) }
     {
         match self {
             CopyFault::Memory => Error::SqliteFailure(ErrorCode::OutOfMemory),
-            CopyFault::Unread(_) | CopyFault::Unfit(_) | CopyFault::NoDatabase => {
-                Error::SqliteFailure(ErrorCode::CannotOpen)
-            }
+            _ => Error::SqliteFailure(ErrorCode::CannotOpen),
         }
     }
 }
@@ -78,10 +76,10 @@ struct Stamp {
     change_nanoseconds: i64,
 }
 
-/// Reads the bytes of the database's files. As long as another program changes them it reads them again, for the wait
-/// (in seconds) and one second more. If the name is a link, the files are where it leads. Returns `NoDatabase` if it is
-/// no database, `Unfit` if a journal is beside it, it is no plain file, or it is still being changed, and `Unread` or
-/// `Memory` if it cannot be read.
+/// Reads the bytes of the database's files. While another program is changing them, it reads them again, for `wait`
+/// seconds and one second more. If the name is a link, the files are where the link leads. Returns `NoDatabase` if the
+/// file is not a database, `Unfit` if it has a journal beside it, is not a plain file or is still being changed, and
+/// `Unread` or `Memory` if it cannot be read.
 pub(crate) fn read_for_copy(
     rt: &HostRuntime,
     name: &str,

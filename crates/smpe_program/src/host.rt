@@ -21,9 +21,9 @@ use std::{fs, io, thread};
 /// The files of a database. Nothing is assumed about the bytes that a torn write leaves in them.
 pub(crate) type DatabaseFiles = FileStore<FileFrom<Wary>>;
 
-// A database that the program makes has no sums on its pages, which a sqlite3 without the extension for them would
-// spoil.
-const NEW_HAS_SUMS: bool = false;
+// A database that the program creates has no checksums on its pages, because a sqlite3 without the extension for
+// checksums would spoil them.
+const NEW_HAS_CHECKSUMS: bool = false;
 
 /// What is known of the database when the program ends.
 #[derive(Drop)]
@@ -109,7 +109,7 @@ impl ProgramHost<'_> {
         }
     }
 
-    // Keeps a copy of the file, for the hints about its records. If memory runs out, there are none.
+    // Keeps a copy of the file, for the hints about its records. If memory runs out, these hints are left out.
     fn keep_file(&mut self, name: &str, bytes: &[u8]) {
         let alloc = self.rt.alloc();
         if let (Ok(name), Ok(bytes)) = (
@@ -178,7 +178,7 @@ impl ProgramHost<'_> {
         if is_surely_no_database(self.rt, name) {
             return Err(Error::SqliteFailure(ErrorCode::NotADatabase));
         }
-        match Connection::open_from(self.rt, name, NEW_HAS_SUMS, Wary) {
+        match Connection::open_from(self.rt, name, NEW_HAS_CHECKSUMS, Wary) {
             Ok(conn) => Ok(conn),
             Err((error, _)) => Err(error),
         }

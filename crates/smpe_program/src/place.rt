@@ -11,19 +11,19 @@ pub(crate) const LEFT_JOURNAL: &str =
 /// What is said of a name that is of no plain file.
 pub(crate) const NO_PLAIN_FILE: &str = "it is no plain file";
 
-// The first bytes of a file of SQLite.
+// The first bytes of each database file of SQLite.
 const HEAD: &[u8] = b"SQLite format 3\0";
 
 // The length of `HEAD`.
 const HEAD_BYTES: usize = 16;
 
-/// Whether no file has this name; false if the system does not tell.
+/// Whether no file has this name. The answer is false if the system does not tell.
 pub(crate) fn is_missing(rt: &HostRuntime, name: &str) -> bool {
     matches!(fs::exists(rt, name), Ok(false))
 }
 
-/// Whether a file is not empty and does not begin as those of SQLite do; false if it cannot be read, or if a log is
-/// next to it, which may make it whole.
+/// Whether a file is not empty and does not begin as those of SQLite do. The answer is false if the file cannot be
+/// read, or if a log is next to it, which may make it whole.
 pub(crate) fn is_surely_no_database(rt: &HostRuntime, name: &str) -> bool {
     match (has_other_head(rt, name), has_log(rt, name)) {
         (Ok(has_other_head), Ok(has_log)) => has_other_head && !has_log,
@@ -31,7 +31,8 @@ pub(crate) fn is_surely_no_database(rt: &HostRuntime, name: &str) -> bool {
     }
 }
 
-// Whether the file is not empty and begins with other bytes than a file of SQLite; false if it is no plain file.
+// Whether the file is not empty and begins with other bytes than a file of SQLite. The answer is false if it is not a
+// plain file.
 fn has_other_head(rt: &HostRuntime, name: &str) -> io::Result<bool> {
     if !fs::metadata(rt, name)?.is_file() {
         return Ok(false);
@@ -89,8 +90,8 @@ fn file_fault(rt: &HostRuntime, name: &str) -> &'static str {
     }
 }
 
-// Whether a rollback journal with bytes is beside the database; false if the system does not tell, or if memory runs
-// out.
+// Whether a rollback journal with bytes is beside the database. The answer is false if the system does not tell, or if
+// memory runs out.
 fn has_journal(rt: &HostRuntime, name: &str) -> bool {
     match format!(in rt.alloc(); "{name}-journal") {
         Ok(journal) => has_bytes(rt, journal.as_str()).unwrap_or(false),

@@ -59,7 +59,7 @@ fn hint_lines(
     Ok(lines)
 }
 
-// The line that explains the line of a fault; `None` if there is nothing to add.
+// The line that explains the line of a fault, or `None` if there is nothing to add.
 fn fault_hint(
     rt: &HostRuntime,
     words: &[Vec<u8>],
@@ -85,7 +85,8 @@ fn push_if_any(line: Option<String>, lines: &mut Vec<String>) -> Result<(), Allo
     Ok(())
 }
 
-// The line that says that the program has made the database, as after a name that was misspelled; `None` if it has not.
+// The line that says that the program has created the database, as it does for a misspelled name, or `None` if it has
+// not.
 fn new_database_hint(rt: &HostRuntime, database: &Database) -> Result<Option<String>, AllocError> {
     match database {
         Database::Opened {
@@ -97,7 +98,7 @@ fn new_database_hint(rt: &HostRuntime, database: &Database) -> Result<Option<Str
     }
 }
 
-// Why the database failed, as far as the library or its file shows that; `None` if the words ask for none.
+// Why the database failed, as far as the library or the file shows that, or `None` if the words ask for no database.
 fn database_hint(rt: &HostRuntime, database: &Database) -> Result<Option<String>, AllocError> {
     match database {
         Database::None => Ok(None),
@@ -141,7 +142,7 @@ fn open_error_text(error: Error) -> &'static str {
     }
 }
 
-// Why a database that was copied failed, as far as its files show it. They are read once more.
+// Why a database that was copied failed, as far as its files, which are read once more, show the reason.
 fn copy_error_text(rt: &HostRuntime, name: &str) -> &'static str {
     match read_for_copy(rt, name, 0) {
         Ok(bytes) if !may_have_meta_table(&bytes) => NO_META_TABLE,

@@ -19,7 +19,7 @@ pub(crate) struct Progress<'a> {
 }
 
 impl Progress<'_> {
-    /// Begins to take times; `None` if standard error is no terminal or there is no clock.
+    /// Begins to take times. Returns `None` if standard error is not a terminal or there is no clock.
     pub(crate) fn new<'a>(rt: &'a HostRuntime) -> Option<Progress<'a>> {
         if !rt.stderr().is_terminal() {
             return None;

@@ -66,7 +66,8 @@ returns-in_err-next-clause-ends g c clean s is keeps =
     let error = c.in_err-next.field-0.0 in
     commands_err g.S.Store c.args.input.now.date c.args.input.now.files c.args.store.now at s c.run_command.new.session
     (map command_of c.args.commands.now) old new c.from_residual.result error c.from_residual.ensures.1
-    (subst (λ cs. EndsEarly g.S.Store c.args.store.now at s (map (Perform c.args.input.now.date c.args.input.now.files) cs) old new
+    (subst (λ cs. EndsEarly g.S.Store c.args.store.now at s (map (Perform c.args.input.now.date c.args.input.now.files)
+    cs) old new
     error)
     (sym (taken_split command_of c.args.commands.now c.loop-command.command-index c.command-item.result
     c.loop-command-test.true c.command-item.is))
@@ -96,7 +97,8 @@ returns-in_err-next-clause-goes g c =
     (subst (λ cs. GoesEarly g.S.Store c.args.store.now at (map perform cs) old new error)
     (sym (taken_split command_of c.args.commands.now c.loop-command.command-index c.command-item.result
     c.loop-command-test.true c.command-item.is))
-    (early_commands g.S.Store c.args.input.now.date c.args.input.now.files c.args.store.now c.loop-command.store at done next old
+    (early_commands g.S.Store c.args.input.now.date c.args.input.now.files c.args.store.now c.loop-command.store at done
+    next old
     (g.W.Sink.taken c.loop-command.w) new c.loop-command.code c.loop-command.invariant.goes rest error
     c.in_err-next.ensures.goes))
 
@@ -110,7 +112,8 @@ returns-clause-goes g c =
 
 pub returns-clause-ends : goal.returns-clause-ends
 returns-clause-ends g c clean s is keeps =
-    subst (λ cs. EndsCommands g.S.Store c.args.store.now c.loop-command.store s c.loop-command.session c.args.input.now.date
+    subst (λ cs. EndsCommands g.S.Store c.args.store.now c.loop-command.store s c.loop-command.session
+    c.args.input.now.date
     c.args.input.now.files (map command_of cs) (g.W.Sink.taken c.args.w.now) (g.W.Sink.taken c.loop-command.w)
     (Ok c.loop-command.code))
     (take_all c.loop-command.command-index c.args.commands.now (omega (arith, c.loop-command-test.false)))

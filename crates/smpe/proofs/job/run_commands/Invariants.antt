@@ -16,7 +16,8 @@ invariant-loop-command g l = record {
   follows : Follows g.S.Store l.fn.store l.store;
   ran : HasCleanDisk (state g.S.Store l.store) → (s : State) → IsSessionOf s l.fn.session → Keeps g.S.Store l.fn.store s
       →
-      EndsCommands g.S.Store l.fn.store l.store s l.session l.fn.input.date l.fn.input.files (map command_of (take l.command-index
+      EndsCommands g.S.Store l.fn.store l.store s l.session l.fn.input.date l.fn.input.files (map command_of
+      (take l.command-index
       l.commands))
       (g.W.Sink.taken l.fn.w) (g.W.Sink.taken l.w) (Ok l.code);
   goes : GoesCommands g.S.Store l.fn.store l.store

@@ -67,7 +67,8 @@ returns-in_err-check_commands_if_careful g c =
       inl (
         fault,
         subst (λ (r : Result _ Fault). ChecksIfCareful g.H.Host g.H.Disk.Store c.read_files.new.host
-            (string_bytes c.args.db.now.name) files.cntl.items c.args.options.now.careful r c.check_commands_if_careful.new.host)
+            (string_bytes c.args.db.now.name) files.cntl.items c.args.options.now.careful r
+            c.check_commands_if_careful.new.host)
             c.in_err-check_commands_if_careful.was (looks g at),
         p.1 ∙ ap Err p.2,
         refl,
@@ -88,7 +89,8 @@ returns g c =
       inr (
         c.check_commands_if_careful.new.host,
         subst (λ (r : Result _ Fault). ChecksIfCareful g.H.Host g.H.Disk.Store c.read_files.new.host
-            (string_bytes c.args.db.now.name) files.cntl.items c.args.options.now.careful r c.check_commands_if_careful.new.host)
+            (string_bytes c.args.db.now.name) files.cntl.items c.args.options.now.careful r
+            c.check_commands_if_careful.new.host)
             c.in_ok-check_commands_if_careful.was (looks g at),
         ran.0,
         ran.1,

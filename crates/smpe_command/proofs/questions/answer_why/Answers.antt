@@ -1,7 +1,7 @@
 use Rattle.std.proofs.Common.{List, Ok, subst}
 use Rattle.terms.specs.Types.{Text}
 use Rattle.smpe_command.specs.Told.{TellsFound}
-use Rattle.smpe_command.proofs.questions.ask_zone.Goals as goal
+use Rattle.smpe_command.proofs.questions.answer_why.Goals as goal
 
 pub returns : goal.returns
 returns g c = (
