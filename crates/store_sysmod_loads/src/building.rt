@@ -94,7 +94,8 @@ fn are_changes_allowed(kind: Kind, changes: &[ElemChange]) -> bool
     changes.iter().all(|change| is_change_allowed(kind, change))
 }
 
-// Whether the element statements rise by type and name. The contract calls that order `change_cmp`.
+// Whether the element statements rise by type and name. `sorted` compares their keys; the contract says the same by
+// `change_cmp`, the order of the definitions.
 fn are_changes_rising(changes: &[ElemChange]) -> bool
     ensures { IsTrue result ↔ Rises change_cmp (λ c. c) changes.now }
 {
