@@ -38,10 +38,7 @@ fn suits_kind(kind: Kind, ver: &Ver) -> bool
 fn is_change_allowed(kind: Kind, change: &ElemChange) -> bool
     ensures { IsTrue result ↔ MayDo kind change.now.action }
 {
-    match (kind, &change.action) {
-        (Kind::Function, Action::Updates { .. }) => false,
-        _ => true,
-    }
+    kind != Kind::Function || !matches!(change.action, Action::Updates { .. })
 }
 
 // Whether the operands of each `++VER` are those of a SYSMOD of this kind.
