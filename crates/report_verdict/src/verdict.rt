@@ -24,11 +24,11 @@ use report::{Fact, LineWord, ReportLine, Resolution, Status, append_words, statu
 use std::alloc::AllocError;
 use terms::NeedKind;
 
-// What the line of a need says if the facts do not tell why it is open.
+// What the line of a need says if no fact says why the need is open.
 const UNSUPPLIED: &[u8] = b"nothing supplies it";
 
-// Whether the need is of this kind and for this id. It compares the words of the kinds, as its clause does: no two
-// kinds have the same word.
+// Whether the need is of this kind and for this id. The kinds are compared by their words, as in the contract, because
+// no two kinds have the same word.
 fn matches_need(need: &OpenNeed, kind: NeedKind, id: &[u8]) -> bool
     ensures { result ≡ (bytes_eq (need_text need.now.kind) (need_text kind) && bytes_eq need.now.id id.now) }
 {
@@ -154,8 +154,8 @@ fn put_tests(
     ensures { OnOk result (text.new.items
         ≡ text.old.items ++ flat_map (test_told (basis_of grounds.now)) (tests_of tests)) }
 {
-    for failed in tests.iter() {
-        put_failed_test(grounds, failed, text)?;
+    for test in tests.iter() {
+        put_failed_test(grounds, test, text)?;
     }
     Ok(())
 }
