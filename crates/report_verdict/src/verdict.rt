@@ -102,7 +102,7 @@ fn put_need_line<'a>(
     append_words(INDENT, &words, text)
 }
 
-// Appends the line of an open need with how it could be resolved, if a fact says that.
+// Appends the line of an open need, with how it could be resolved if that is known.
 fn put_need_resolution<'a>(
     need: &'a OpenNeed,
     resolution: Option<&'a Resolution>,
@@ -121,7 +121,7 @@ fn put_need_resolution<'a>(
     }
 }
 
-// Appends the line of an open need of an id that has these facts.
+// Appends the line of an open need, with how the first of these facts about it says that it could be resolved.
 fn put_need<'a>(
     facts: &'a [Fact<'_>],
     need: &'a OpenNeed,
@@ -160,7 +160,7 @@ fn put_tests(
     Ok(())
 }
 
-// Appends the lines of the open needs of an id that has these facts.
+// Appends the lines of the open needs, with how these facts say that they could be resolved.
 fn put_needs<'a>(
     facts: &'a [Fact<'_>],
     needs: &'a [OpenNeed],
@@ -239,6 +239,7 @@ fn put_status(
     ensures { OnOk result (text.new.items
         ≡ text.old.items ++ status_told id (basis_of grounds.now) (status_view status.now)) }
 {
+    // The line begins with two blanks: the one of its prefix and the one before its first word.
     append_words(b" ", &[LineWord::Text(verdict_word(status))], text)?;
     put_failure_if_any(id, grounds, status, text)?;
     put_suppliers_and_bypassed(grounds, status, text)

@@ -54,6 +54,7 @@ pub(crate) fn put_requisite(
     let id = LineWord::Text(requisite.id.as_bytes());
     let by = LineWord::Text(requisite.by.as_bytes());
     let resolved = LineWord::Text(resolution_word(resolution));
+    // The line begins with two blanks: the one of its prefix and the one before its first word.
     match &requisite.function {
         Some(function) => {
             let function = LineWord::Text(function.as_bytes());
