@@ -242,7 +242,8 @@ fn put_bypassed_fact(bypass: &Bypass, fact: &Fact<'_>, text: &mut Vec<u8>) -> Re
     }
 }
 
-// Appends what would become of the SYSMODs that would supply the requisites, or resolve the ERROR holds, of these facts.
+// Appends what would become of the SYSMODs that would supply the requisites, or resolve the ERROR holds, of these
+// facts.
 fn put_suppliers_of_facts(
     facts: &[Fact<'_>],
     lines: &[ReportLine],

@@ -16,7 +16,8 @@ use std::alloc::{AllocError, Global};
 use terms::NeedKind;
 use zones::Zone;
 
-// A list of only the id, if the id remains applied despite the DELETE of the SYSMOD in question; otherwise an empty list.
+// A list of only the id, if the id remains applied despite the DELETE of the SYSMOD in question; otherwise an empty
+// list.
 fn id_if_remains_applied(
     alloc: Global,
     asking: &Asking<'_, '_>,

@@ -29,8 +29,8 @@ fn ver_fact(scope: &Scope<'_, '_>, id: Id, ver: &Ver, number: usize) -> Fact<'st
     })
 }
 
-// Adds the fact of the `++VER`, if the `++VER` is for the zone's SREL. `facts` has a fact for each earlier one of this SREL,
-// so the number is one more than there are facts.
+// Adds the fact of the `++VER`, if the `++VER` is for the zone's SREL. `facts` has a fact for each earlier `++VER` of
+// this SREL, so the number is one more than there are facts.
 fn push_ver_fact(
     scope: &Scope<'_, '_>,
     id: Id,

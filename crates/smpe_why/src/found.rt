@@ -21,8 +21,8 @@ pub struct LoadedZones {
 }
 
 /// Loads the global zone, the zone of this name and the target zone at which an ACCEPT into that zone also looks, and
-/// changes nothing. Returns `Memory` if memory runs out, `Fault` if the database fails, and `NoState` if the rows of one
-/// of them stand for no state.
+/// changes nothing. Returns `Memory` if memory runs out, `Fault` if the database fails, and `NoState` if the rows of
+/// one of them stand for no state.
 pub fn load_zones<S: Alter>(store: &mut Store<S>, name: ZoneName) -> Result<LoadedZones, StoreError>
     ensures { Loads S.Store store.old store.new (IsFoundIn name) result }
 {
