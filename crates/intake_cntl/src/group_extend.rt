@@ -33,8 +33,8 @@ const EXCLUSIONS: &[KindExclusion] = &[
 ];
 
 /// Adds to EXCLUDE the known SYSMODs of each type that GROUPEXTEND keeps out, except those that SELECT or GROUP names.
-/// Remarks refuse a member that keeps out no type or that contradicts another operand, want of known SYSMODs, and too
-/// long an EXCLUDE.
+/// Remarks refuse a member that keeps out no type, one that contradicts another operand, one for which no list of known
+/// SYSMODs is given, and an EXCLUDE that gets too long.
 pub(crate) fn exclude_kinds(
     alloc: Global,
     remarks: &mut CommandRemarks,
@@ -94,20 +94,21 @@ fn is_selected(carried: &[CarriedOperand], id: &[u8]) -> bool {
     })
 }
 
-// Adds the ids to EXCLUDE. If there is no EXCLUDE, it is appended.
+// Adds the ids to EXCLUDE, which is appended if the command has none.
 fn add_to_exclude(
     alloc: Global,
     carried: &mut Vec<CarriedOperand>,
     ids: Vec<Vec<u8>>,
 ) -> Result<(), AllocError> {
     for operand in carried.iter_mut() {
-        if operand.word == b"EXCLUDE".as_slice() {
-            if let CarriedValue::List(excluded) = &mut operand.value {
+        match &mut operand.value {
+            CarriedValue::List(excluded) if operand.word == b"EXCLUDE".as_slice() => {
                 for id in &ids {
                     push_if_absent(alloc, excluded, id.as_slice())?;
                 }
                 return Ok(());
             }
+            _ => {}
         }
     }
     if !ids.is_empty() {

@@ -7,7 +7,7 @@ use intake_cards::{Deed, RemarkReason};
 use intake_read::WideOperand;
 use std::alloc::{AllocError, Global};
 
-/// An operand of a shop's command, or a member of its BYPASS, with all that decides how it is carried.
+/// An operand of a shop's command, or a member of its BYPASS, with everything that decides how it is carried.
 #[derive(Clone, Copy)]
 pub(crate) struct OperandContext<'a> {
     /// The words that the command may have.
@@ -50,14 +50,12 @@ impl OperandContext<'_> {
 
     /// Whether the command has such an operand, and it is of this form.
     pub(crate) fn has_form(&self, form: OperandForm) -> bool {
-        match self.spelling() {
-            Some(spelling) => spelling.form == form,
-            None => false,
-        }
+        self.spelling()
+            .is_some_and(|spelling| spelling.form == form)
     }
 
-    /// Returns the spelling if the operand is carried, with a remark if its word is an abbreviation. Otherwise a remark
-    /// drops the operand, or refuses it if it has no spelling.
+    /// Returns the spelling if the operand is carried, and remarks on it if the word is an abbreviation. Otherwise a
+    /// remark drops the operand, or refuses it if it has no spelling.
     pub(crate) fn check_spelling(
         &self,
         remarks: &mut CommandRemarks,

@@ -143,7 +143,7 @@ fn check_path<H: IntakeHost>(
         Err(error) => return Err(IntakeFault::of_unread_file(alloc, path, error.kind())),
     };
     if is_same {
-        return Err(IntakeFault::of_output(alloc, input, path));
+        return Err(IntakeFault::of_overwritten_input(alloc, input, path));
     }
     Ok(())
 }

@@ -71,8 +71,7 @@ fn known_sysmods<H: IntakeHost>(
         return Ok(None);
     };
     let bytes = read_input(alloc, host, name.as_str())?;
-    let list = read_known_list(alloc, name.as_str(), &bytes)?;
-    Ok(Some(list))
+    Ok(Some(read_known_list(alloc, name.as_str(), &bytes)?))
 }
 
 // The SYSMODs of a list of known ones. Returns `KnownLine` if a line is not in form, `Memory` if memory runs out.
@@ -103,7 +102,7 @@ fn commands_output(
     let cards = inputs.read_cards(alloc, name, &bytes, asked.cards)?;
     let wide = wide_commands(alloc, &cards)?;
     let file = command_file(alloc, &cards, &wide, known)?;
-    if file.carried == 0 && file.others == 0 {
+    if file.carried == 0 && file.not_carried == 0 {
         return Err(IntakeFault::NoStatement);
     }
     let mut remarks = inputs.take_reading_lines(alloc);
@@ -119,7 +118,7 @@ fn commands_output(
 // The summary of the run, which tells whether a command file is written.
 fn summary_of(alloc: Global, file: &CommandFile) -> Result<Vec<u8>, AllocError> {
     match &file.bytes {
-        Some(_) => command_summary(alloc, file.carried, file.others, &file.remarks),
+        Some(_) => command_summary(alloc, file.carried, file.not_carried, &file.remarks),
         None => refused_command_summary(alloc, &file.remarks),
     }
 }

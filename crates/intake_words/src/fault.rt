@@ -18,9 +18,9 @@ pub enum IntakeFault {
     OutputIsInput { input: String, output: String },
     /// A line of the list of known SYSMODs is not in form. Lines are counted from 1.
     KnownLine { name: String, line: usize },
-    /// The folder does not take the files.
+    /// The files cannot be written into the folder.
     CannotWrite,
-    /// Standard output takes nothing.
+    /// Standard output cannot be written to.
     CannotPrint,
     /// Why the file of that name cannot be read as cards.
     NoCards { name: String, error: CardError },
@@ -58,7 +58,7 @@ impl IntakeFault {
     }
 
     /// The fault of an input that is one of the files that would be written.
-    pub fn of_output(alloc: Global, input: &str, output: &str) -> IntakeFault {
+    pub fn of_overwritten_input(alloc: Global, input: &str, output: &str) -> IntakeFault {
         match (
             String::from_str(alloc, input),
             String::from_str(alloc, output),

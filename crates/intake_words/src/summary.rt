@@ -204,10 +204,10 @@ pub fn service_summary(
 pub fn command_summary(
     alloc: Global,
     carried: usize,
-    others: usize,
+    not_carried: usize,
     remarks: &RemarkList,
 ) -> Result<Vec<u8>, AllocError> {
-    let line = format!(in alloc; "COMMAND {carried:>7} carried {others:>7} not\n")?;
+    let line = format!(in alloc; "COMMAND {carried:>7} carried {not_carried:>7} not\n")?;
     let mut lines = line.into_bytes();
     append_remark_counts(alloc, remarks, &mut lines)?;
     Ok(lines)
@@ -244,7 +244,8 @@ fn text_summary(
     Ok(lines)
 }
 
-// Appends warnings: of holds that moved, of statements in comments, and of SYSMODs left out that would forbid others.
+// Appends warnings about holds that moved, about statements in comments, and about SYSMODs that are left out and would
+// forbid others.
 fn append_warnings(
     alloc: Global,
     narrowed: &Narrowed,
@@ -252,14 +253,14 @@ fn append_warnings(
 ) -> Result<(), AllocError> {
     let remarks = &narrowed.remarks;
     let outside = count_with_reason(remarks, RemarkReason::HeldOutside);
-    let text =
+    let held =
         "of SYSMODs stand in the hold file: they are on others, or the SYSMOD is not carried";
-    append_warning(alloc, "HELD", outside, text, lines)?;
+    append_warning(alloc, "HELD", outside, held, lines)?;
     let swallowed = count_with_reason(remarks, RemarkReason::StatementInComment);
-    let text = "statements stand in a comment: is it closed where it should be?";
-    append_warning(alloc, "COMMENT", swallowed, text, lines)?;
-    let text = "left out have elements, NPRE or DELETE, which nothing asks for now";
-    append_warning(alloc, "FORBIDS", narrowed.forbidding, text, lines)
+    let commented = "statements stand in a comment: is it closed where it should be?";
+    append_warning(alloc, "COMMENT", swallowed, commented, lines)?;
+    let forbids = "left out have elements, NPRE or DELETE, which nothing asks for now";
+    append_warning(alloc, "FORBIDS", narrowed.forbidding, forbids, lines)
 }
 
 // Appends how many SYSMODs have stand-ins, and that the files are only for CHECK. If elements are passed over, CHECK
