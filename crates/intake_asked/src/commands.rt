@@ -144,8 +144,9 @@ fn says_zone(alloc: Global, operands: &[WideOperand], zone: ZoneName) -> Result<
     is_only_wanted_text(alloc, &zone, &wanted)
 }
 
-// Whether the ids are just the stated ones, and no other ids are stated.
-fn are_only_in(
+// Whether the ids are just those of the stated list, and the other list has none: a RESTORE has only one of SELECT and
+// GROUP.
+fn says_single_list(
     alloc: Global,
     ids: &[Id],
     stated: &[&[u8]],
@@ -171,8 +172,8 @@ fn says_restore_list(
     let selected = selected_ids(alloc, operands)?;
     let grouped = grouped_ids(alloc, operands)?;
     match list {
-        RestoreList::Select(ids) => are_only_in(alloc, ids.as_slice(), &selected, &grouped),
-        RestoreList::Group(ids) => are_only_in(alloc, ids.as_slice(), &grouped, &selected),
+        RestoreList::Select(ids) => says_single_list(alloc, ids.as_slice(), &selected, &grouped),
+        RestoreList::Group(ids) => says_single_list(alloc, ids.as_slice(), &grouped, &selected),
     }
 }
 

@@ -13,7 +13,7 @@ pub(crate) trait Worded {
 
     ghost text: { Self → List ℕ };
 
-    /// Its text.
+    /// The text of the word.
     fn word(&self) -> &[u8]
         ensures { result.now ≡ text self.now };
 }

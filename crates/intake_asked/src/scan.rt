@@ -73,45 +73,33 @@ struct CommandScanner {
     commands: Vec<WideCommand>,
     words: Vec<WideOperand>,
     within: Within,
-    // Where the last comment opens, and what it has on later cards, if it is inside a command.
+    /// Where the last comment opens.
     comment: CardPlace,
+    /// What this comment has on later cards, if it is inside a command.
     swallowed: Vec<u8>,
     comments: Vec<CommandComment>,
-    // Parentheses that are open.
+    /// The cards that are cut outside comments.
+    cut: Vec<CardPlace>,
+    /// How many parentheses are open.
     depth: usize,
-    // The last word goes on with the next character.
+    /// The last word goes on with the next character.
     in_word: bool,
     has_lower_case: bool,
-    // The card on which the last command ended.
+    /// The card on which the last command ended.
     ended: Option<CardPlace>,
 }
 
-/// The commands of the cards. The last one may have no end, and none of them need be one that SMP/E has.
+/// The commands of the cards. The last one may have no end, and their words need not be commands of SMP/E.
 pub fn wide_commands(alloc: Global, cards: &[Card]) -> Result<WideCommands, AllocError> {
     let mut scanner = CommandScanner::new(alloc);
-    let mut cut = Vec::new(alloc);
     for card in cards {
-        scanner.keep_comment_text(card.columns())?;
-        for byte in card.columns() {
-            scanner.read_byte(*byte, card.place)?;
-        }
-        scanner.read_byte(b' ', card.place)?;
-        if card.ends_comment && scanner.is_in_comment() {
-            scanner.close_comment()?;
-        } else if card.is_cut && !scanner.is_in_comment() {
-            cut.push(card.place)?;
-        }
+        scanner.read_card(card)?;
     }
-    let comments = std::mem::replace(&mut scanner.comments, Vec::new(alloc));
-    let mut commands = scanner.into_commands()?;
-    for command in commands.iter_mut() {
+    let mut wide = scanner.finish()?;
+    for command in wide.commands.iter_mut() {
         command.bypassed = bypass_members(alloc, &command.operands)?;
     }
-    Ok(WideCommands {
-        commands,
-        cut,
-        comments,
-    })
+    Ok(wide)
 }
 
 // The members of all BYPASS operands.
@@ -152,11 +140,29 @@ impl CommandScanner {
             comment: CardPlace { file: 0, card: 1 },
             swallowed: Vec::new(alloc),
             comments: Vec::new(alloc),
+            cut: Vec::new(alloc),
             depth: 0,
             in_word: false,
             has_lower_case: false,
             ended: None,
         }
+    }
+
+    // Reads a card. Its end separates words, and ends a comment if the card says so.
+    fn read_card(&mut self, card: &Card) -> Result<(), AllocError> {
+        self.keep_comment_text(card.columns())?;
+        for byte in card.columns() {
+            self.read_byte(*byte, card.place)?;
+        }
+        self.read_byte(b' ', card.place)?;
+        if !self.is_in_comment() {
+            if card.is_cut {
+                self.cut.push(card.place)?;
+            }
+        } else if card.ends_comment {
+            self.close_comment()?;
+        }
+        Ok(())
     }
 
     // Whether a comment is open.
@@ -199,9 +205,8 @@ impl CommandScanner {
     // Reads the next character of a card.
     fn read_byte(&mut self, byte: u8, place: CardPlace) -> Result<(), AllocError> {
         match self.within {
-            Within::Comment => self.within = after_comment_byte(byte),
             Within::Star if byte == b'/' => self.close_comment()?,
-            Within::Star => self.within = after_comment_byte(byte),
+            Within::Comment | Within::Star => self.within = after_comment_byte(byte),
             Within::Slash if byte == b'*' => {
                 self.within = Within::Comment;
                 self.comment = place;
@@ -277,10 +282,7 @@ impl CommandScanner {
     fn open_list(&mut self, place: CardPlace) -> Result<(), AllocError> {
         self.in_word = false;
         self.depth = 1;
-        let is_free = match self.words.last() {
-            Some(word) => word.value.is_none(),
-            None => false,
-        };
+        let is_free = self.words.last().is_some_and(|word| word.value.is_none());
         if !is_free {
             self.begin_word(place)?;
         }
@@ -334,10 +336,7 @@ impl CommandScanner {
             return Ok(());
         };
         let begins = head.place;
-        let shares_card = match self.ended {
-            Some(ended) => ended == begins,
-            None => false,
-        };
+        let shares_card = self.ended == Some(begins);
         let mut operands = Vec::new(self.alloc);
         for word in words {
             operands.push(word)?;
@@ -356,8 +355,8 @@ impl CommandScanner {
         Ok(())
     }
 
-    // Ends the last command, and returns all commands.
-    fn into_commands(mut self) -> Result<Vec<WideCommand>, AllocError> {
+    // Ends the last command, and returns what was read. The members of BYPASS are not read yet.
+    fn finish(mut self) -> Result<WideCommands, AllocError> {
         let end = match self.within {
             Within::Comment | Within::Star => CommandEnd::OpenComment(self.comment),
             _ if self.depth > 0 => CommandEnd::OpenParenthesis,
@@ -368,7 +367,11 @@ impl CommandScanner {
             self.begin_word(comment)?;
         }
         self.end_begun_command(end)?;
-        Ok(self.commands)
+        Ok(WideCommands {
+            commands: self.commands,
+            cut: self.cut,
+            comments: self.comments,
+        })
     }
 }
 

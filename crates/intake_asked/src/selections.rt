@@ -5,7 +5,7 @@ ghost use Rattle.intake_asked.specs.Words.{groupextend_names};
 ghost use Rattle.intake_asked.specs.Said.{known_in, AreThese, SaysLists, SaysSelection};
 
 use crate::known::KnownSysmod;
-use crate::lists::{grouped_ids, groupextend_names, ids_excluded, selected_ids};
+use crate::lists::{excluded_ids, grouped_ids, groupextend_names, selected_ids};
 use crate::operands::{has_operand, members_of_operands};
 use crate::same::are_wanted_texts;
 use crate::sources::sources_of_members;
@@ -65,7 +65,7 @@ fn says_exclude(
 ) -> Result<bool, AllocError>
     ensures { IfOk result (λ are. IsTrue are → AreThese ids.now (excluded known.now operands.now)) }
 {
-    let wanted = ids_excluded(alloc, known, operands)?;
+    let wanted = excluded_ids(alloc, known, operands)?;
     are_wanted_texts(alloc, ids, &wanted)
 }
 
@@ -95,9 +95,9 @@ fn says_sources(
     are_wanted_texts(alloc, source_ids, &wanted)
 }
 
-// Whether it is known which SYSMODs GROUPEXTEND keeps out: some are given as known, or it has no member that keeps any
-// out.
-fn are_kept_out_known(
+// Whether it is known which SYSMODs GROUPEXTEND keeps out: a list of known SYSMODs is given, or GROUPEXTEND has no
+// member and keeps none out.
+fn knows_kept_out_ids(
     alloc: Global,
     known: &Option<Vec<KnownSysmod>>,
     operands: &[WideOperand],
@@ -152,7 +152,7 @@ pub(crate) fn says_selection(
     if !sources {
         return Ok(false);
     }
-    let enough = are_kept_out_known(alloc, known, operands)?;
+    let enough = knows_kept_out_ids(alloc, known, operands)?;
     if !enough {
         return Ok(false);
     }

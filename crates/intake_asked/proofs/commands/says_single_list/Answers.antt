@@ -2,7 +2,7 @@ use Rattle.std.proofs.Common.{refl}
 use Rattle.std.proofs.lemmas.List.{map-id}
 use Rattle.std.proofs.lemmas.Result.{IfOk-weaker}
 use Rattle.intake_asked.proofs.Alike.{turned}
-use Rattle.intake_asked.proofs.commands.are_only_in.Goals as goal
+use Rattle.intake_asked.proofs.commands.says_single_list.Goals as goal
 
 pub returns : goal.returns
 returns c =
