@@ -32,7 +32,6 @@ pub(crate) struct CarriedItems {
 }
 
 impl CarriedItems {
-    // No items.
     fn new(alloc: Global) -> CarriedItems
         ensures items { result.items.items ≡ [] }
         ensures outside { result.outside.items ≡ [] }
@@ -43,7 +42,7 @@ impl CarriedItems {
         }
     }
 
-    // Adds one more SYSMOD, if it is carried, and its holds for the hold file.
+    // Adds what one more SYSMOD becomes: itself, if it is carried, and its holds for the hold file.
     fn push(&mut self, part: CarriedSysmod) -> Result<(), AllocError>
         ensures items { OnOk result (self.new.items.items ≡ self.old.items.items ++ item_in part.sysmod) }
         ensures outside { OnOk result (self.new.outside.items ≡ self.old.outside.items ++ part.outside.items) }
@@ -59,7 +58,7 @@ impl CarriedItems {
         Ok(())
     }
 
-    // Adds the others after these.
+    // Adds those of one more file after these.
     fn append(&mut self, mut other: CarriedItems) -> Result<(), AllocError>
         ensures items { OnOk result (self.new.items.items ≡ self.old.items.items ++ other.items.items) }
         ensures outside { OnOk result (self.new.outside.items ≡ self.old.outside.items ++ other.outside.items) }

@@ -47,19 +47,20 @@ pub(crate) fn carry_left_out_holds(
     remarks: &mut Remarks,
     stated: &WideSysmod,
 ) -> Result<Vec<PlacedItem>, HoldError>
-    ensures { IfOk result (λ left. Become (LeftHoldBecomes stated.now.id.items) stated.now.holds.items [] left.items) }
+    ensures { IfOk result (λ outside. Become (LeftHoldBecomes stated.now.id.items) stated.now.holds.items []
+        outside.items) }
 {
-    let mut left = Vec::with_capacity(alloc, stated.holds.len())?;
+    let mut outside = Vec::with_capacity(alloc, stated.holds.len())?;
     for hold in stated.holds.iter() {
         let Some(carried) = carry_hold(alloc, remarks, hold, None)? else {
             continue;
         };
         let was_internal = is_internal_in(stated.id.as_slice(), hold);
-        left.push(PlacedItem {
+        outside.push(PlacedItem {
             place: hold.place,
             item: HoldItem::Hold(carried),
             was_internal,
         })?;
     }
-    Ok(left)
+    Ok(outside)
 }

@@ -92,7 +92,7 @@ pub(crate) fn stated_text(stated: &Option<Vec<u8>>) -> &[u8] {
 }
 
 // Remarks on each internal hold that a later one of the same key follows: RECEIVE keeps only the later one.
-fn tell_later_holds(
+fn tell_replaced_holds(
     alloc: Global,
     remarks: &mut Remarks,
     stated: &WideSysmod,
@@ -125,7 +125,7 @@ fn carry_holds(
     ensures same { IfOk result (λ part. IfSome part.sysmod (λ s. s ≡ record sysmod { holds = s.holds })) }
     ensures held { IfOk result (λ part. HoldsBecome stated.now part.sysmod part.outside.items) }
 {
-    tell_later_holds(alloc, remarks, stated)?;
+    tell_replaced_holds(alloc, remarks, stated)?;
     let outside = place_holds(alloc, remarks, stated, &mut sysmod)?;
     Ok(CarriedSysmod {
         sysmod: Some(sysmod),
