@@ -45,7 +45,7 @@ pub(crate) fn selected_ids(
     members_of_operands(alloc, select_names(), operands)
 }
 
-// The ids of SELECT if a GROUP without a list takes them, or else none.
+// The ids of SELECT if a GROUP without a list takes them, or none.
 fn ids_of_grouped_select(alloc: Global, operands: &[WideOperand]) -> Result<Vec<&[u8]>, AllocError>
     ensures { IfOk result (λ ids. map (λ id. id.now) ids.items
         ≡ (if stands_alone group_names operands.now then listed select_names operands.now else [])) }

@@ -86,7 +86,7 @@ fn have_same_texts(texts: &[&[u8]], others: &[&[u8]]) -> bool
     are_among(others, texts)
 }
 
-/// Whether the texts of the values are just the wanted ones, in whatever order.
+/// Whether the texts of the values are exactly the wanted ones, in whatever order.
 pub(crate) fn are_wanted_texts<T: Worded>(
     alloc: Global,
     values: &[T],

@@ -23,7 +23,7 @@ pub(crate) fn known_sysmods(known: &Option<Vec<KnownSysmod>>) -> &[KnownSysmod]
     }
 }
 
-// Whether each type, and GROUPEXTEND, is chosen just if an operand asks for it.
+// Whether each type, and GROUPEXTEND, is chosen if and only if an operand asks for it.
 fn says_types(operands: &[WideOperand], selection: &Selection) -> bool
     ensures functions { IsTrue result
         → selection.now.functions ≡ has (codes "FUNCTIONS" ∷ codes "FUNCTION" ∷ []) operands.now }
@@ -40,7 +40,7 @@ fn says_types(operands: &[WideOperand], selection: &Selection) -> bool
         && selection.groupextend == has_operand(groupextend_names(), operands)
 }
 
-// Whether the ids are just those of SELECT, or there are none because a GROUP without a list takes them.
+// Whether the ids are exactly those of SELECT, or there are none because a GROUP without a list takes them.
 fn says_select(alloc: Global, operands: &[WideOperand], ids: &[Id]) -> Result<bool, AllocError>
     ensures { IfOk result (λ are. IsTrue are → AreThese ids.now (selected operands.now)) }
 {
@@ -48,7 +48,7 @@ fn says_select(alloc: Global, operands: &[WideOperand], ids: &[Id]) -> Result<bo
     are_wanted_texts(alloc, ids, &wanted)
 }
 
-// Whether the ids are just those of GROUP, with those of SELECT if GROUP has no list.
+// Whether the ids are exactly those of GROUP, with those of SELECT if GROUP has no list.
 fn says_group(alloc: Global, operands: &[WideOperand], ids: &[Id]) -> Result<bool, AllocError>
     ensures { IfOk result (λ are. IsTrue are → AreThese ids.now (grouped operands.now)) }
 {
@@ -56,7 +56,7 @@ fn says_group(alloc: Global, operands: &[WideOperand], ids: &[Id]) -> Result<boo
     are_wanted_texts(alloc, ids, &wanted)
 }
 
-// Whether the ids are just those that EXCLUDE names or GROUPEXTEND keeps out.
+// Whether the ids are exactly those that EXCLUDE names or GROUPEXTEND keeps out.
 fn says_exclude(
     alloc: Global,
     known: &[KnownSysmod],
@@ -69,7 +69,7 @@ fn says_exclude(
     are_wanted_texts(alloc, ids, &wanted)
 }
 
-// Whether the ids are just those of FORFMID.
+// Whether the ids are exactly those of FORFMID.
 fn says_forfmid(alloc: Global, operands: &[WideOperand], ids: &[Id]) -> Result<bool, AllocError>
     ensures { IfOk result (λ are. IsTrue are → AreThese ids.now (listed (codes "FORFMID" ∷ []) operands.now)) }
 {
@@ -77,7 +77,7 @@ fn says_forfmid(alloc: Global, operands: &[WideOperand], ids: &[Id]) -> Result<b
     are_wanted_texts(alloc, ids, &wanted)
 }
 
-// Whether the source ids are just those that SOURCEID names, and each member of SOURCEID names some.
+// Whether the source ids are exactly those that SOURCEID names, and each member of SOURCEID names some.
 fn says_sources(
     alloc: Global,
     known: &[KnownSysmod],
@@ -110,7 +110,7 @@ fn knows_kept_out_ids(
     Ok(members_of_operands(alloc, groupextend_names(), operands)?.is_empty())
 }
 
-// Whether SELECT, GROUP, EXCLUDE and FORFMID have just the ids that the operands ask for.
+// Whether SELECT, GROUP, EXCLUDE and FORFMID have exactly the ids that the operands ask for.
 fn says_lists(
     alloc: Global,
     known: &[KnownSysmod],
@@ -134,7 +134,7 @@ fn says_lists(
     says_forfmid(alloc, operands, selection.forfmid.as_slice())
 }
 
-/// Whether the selection chooses just what the operands ask for.
+/// Whether the selection chooses exactly what the operands ask for.
 pub(crate) fn says_selection(
     alloc: Global,
     known: &Option<Vec<KnownSysmod>>,

@@ -101,7 +101,7 @@ fn read_source(
 }
 
 // Appends the assignments of an `++ASSIGN`, if none of its operands is missing or faulty. Remarks say what is left out
-// and what differs.
+// or changed.
 fn carry_assign(
     alloc: Global,
     remarks: &mut Remarks,
@@ -128,7 +128,7 @@ fn carry_assign(
 }
 
 /// Carries the assignments of the files, and adds those of the source id STANDIN to the SYSMODs with stand-ins. Remarks
-/// say what is left out and what differs.
+/// say what is left out or changed.
 pub(crate) fn carry_assigns(
     alloc: Global,
     remarks: &mut Remarks,

@@ -89,8 +89,8 @@ fn carry_sysmods(
     Ok(gathered)
 }
 
-// Carries the SYSMODs and the releases of a file. The remarks on its holds outside SYSMODs come between the remarks on
-// both. Returns `BadHold` if a hold or a release has no key, `Memory` if memory runs out.
+// Carries the SYSMODs and the releases of a file. Its remarks on holds outside SYSMODs come after those on SYSMODs and
+// before those on releases. Returns `BadHold` if a hold or a release has no key, `Memory` if memory runs out.
 fn carry_file(
     alloc: Global,
     options: &Options,
@@ -157,7 +157,7 @@ fn finish_narrowed(
 
 /// Makes items that RECEIVE takes of what the files state, in the order of the files. Each SYSMOD that is carried is no
 /// looser than it is stated, and no ERROR, SYSTEM or USER hold or release is lost. `held` has the files' holds outside
-/// SYSMODs, which were carried as they were read. Remarks say what is left out and what differs. Returns `Refused`,
+/// SYSMODs, which were carried as they were read. Remarks say what is left out or changed. Returns `Refused`,
 /// with all remarks, if a hold or a release of such a kind cannot be carried, and `Memory` if memory runs out.
 pub fn narrow(
     alloc: Global,

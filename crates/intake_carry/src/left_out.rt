@@ -40,8 +40,8 @@ pub(crate) fn tell_left_out_holds(
     Ok(())
 }
 
-/// Carries the holds of a SYSMOD that is left out: returns each as an external one, but none of FIXCAT. Remarks say
-/// what differs. Returns `BadHold` if one has no key, `Memory` if memory runs out.
+/// Carries the holds of a SYSMOD that is left out: returns each of them as an external hold, except those of FIXCAT.
+/// Remarks say what is changed. Returns `BadHold` if one has no key, `Memory` if memory runs out.
 pub(crate) fn carry_left_out_holds(
     alloc: Global,
     remarks: &mut Remarks,

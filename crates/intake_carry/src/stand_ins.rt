@@ -81,7 +81,7 @@ fn find_stand_in<'a>(sorted: &'a [StandIn], name: &[u8], elem_type: &[u8]) -> Op
 }
 
 // Remarks on the stand-in that has the name and type of this element of the profile, if there is one.
-fn tell_name_of_element(
+fn tell_if_shared_with_element(
     alloc: Global,
     remarks: &mut Remarks,
     sorted: &[StandIn],
@@ -111,7 +111,7 @@ pub(crate) fn sort_and_check_stand_ins(
     for file in files {
         for sysmod in file.sysmods.iter() {
             for element in sysmod.elements.iter() {
-                tell_name_of_element(alloc, remarks, named.as_slice(), element)?;
+                tell_if_shared_with_element(alloc, remarks, named.as_slice(), element)?;
             }
         }
     }

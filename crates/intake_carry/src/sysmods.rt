@@ -26,7 +26,7 @@ pub(crate) struct CarriedSysmod {
     pub outside: Vec<PlacedItem>,
 }
 
-// Puts an internal hold into the SYSMOD, and another one into the hold file.
+// Puts the hold into the SYSMOD if it is internal, and into the hold file if it is not.
 fn place_hold(
     sysmod: &mut Sysmod,
     outside: &mut Vec<PlacedItem>,
@@ -49,8 +49,8 @@ fn place_hold(
     }
 }
 
-// Puts the SYSTEM holds on the SYSMOD into it, and returns the others, which go to the hold file. Remarks say what
-// differs. Returns `BadHold` if a hold has no key, `Memory` if memory runs out.
+// Puts the internal holds into the SYSMOD, and returns the others, which go to the hold file. Remarks say what is
+// changed. Returns `BadHold` if a hold has no key, `Memory` if memory runs out.
 fn place_holds(
     alloc: Global,
     remarks: &mut Remarks,
@@ -168,7 +168,7 @@ fn carry_without_holds(
 }
 
 /// Carries a SYSMOD with its holds. If it is left out, all its holds go to the hold file. Remarks say why it is left
-/// out, and what differs. Returns `BadHold` if a hold has no key, `Memory` if memory runs out.
+/// out, or what is changed. Returns `BadHold` if a hold has no key, `Memory` if memory runs out.
 pub(crate) fn carry_with_holds(
     alloc: Global,
     options: &Options,

@@ -28,9 +28,8 @@ pub struct CommandFile {
     pub not_carried: usize,
 }
 
-/// The shop's commands `wide`, which stand on these cards, as records that say just what they ask for. If a word keeps
-/// them from that, there are no records, and remarks name each such word. `known` are the SYSMODs of a list, if one is
-/// given.
+/// Records that say exactly what the shop's commands `wide`, which are on these cards, ask for. If a word cannot be
+/// carried, there are no records, and remarks name each such word. `known` are the SYSMODs of a list, if one is given.
 pub fn command_file(
     alloc: Global,
     cards: &[Card],
@@ -181,8 +180,8 @@ fn command_records(
     }
 }
 
-// Why the records of `command` are not read back as one command that says just what the shop's command `wide` asks for,
-// or `None` if they are.
+// Why the records of `command` are not read back as one command that says exactly what the shop's command `wide` asks
+// for, or `None` if they are.
 fn unread_reason(
     alloc: Global,
     known: &Option<Vec<KnownSysmod>>,
@@ -230,7 +229,7 @@ fn required_operand(command: &[u8]) -> &'static [u8] {
     }
 }
 
-// Whether just one command was read, and it says just what the shop's command asks for.
+// Whether only one command was read, and it says exactly what the shop's command asks for.
 fn is_said_alone(
     alloc: Global,
     known: &Option<Vec<KnownSysmod>>,
@@ -254,7 +253,7 @@ fn fault_reason(command: &CarriedCommand, code: CommandCode) -> RemarkReason {
     }
 }
 
-// The records. Returns `None` if a remark refuses something, or if they are not read back as commands that say just
+// The records. Returns `None` if a remark refuses something, or if they are not read back as commands that say exactly
 // what the shop's commands ask for.
 fn checked_records(
     alloc: Global,

@@ -35,7 +35,7 @@ struct CommandsOutput {
 }
 
 /// Puts the command file into the folder, if all of it is carried, and the remarks in any case. Returns the status, or
-/// the fault for which nothing is put there or no summary is printed.
+/// a fault if nothing was put there or the summary was not printed.
 pub(crate) fn serve_commands<H: IntakeHost>(
     alloc: Global,
     host: &mut H,
@@ -115,7 +115,7 @@ fn commands_output(
     })
 }
 
-// The summary of the run, which tells whether a command file is written.
+// The summary of the run, which says whether a command file is written.
 fn summary_of(alloc: Global, file: &CommandFile) -> Result<Vec<u8>, AllocError> {
     match &file.bytes {
         Some(_) => command_summary(alloc, file.carried, file.not_carried, &file.remarks),

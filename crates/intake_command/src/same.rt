@@ -1,4 +1,4 @@
-//! Whether items are the same, as contracts see them: `is_same` is true just if their views are equal.
+//! Whether items are the same, as contracts see them: `is_same` is true if and only if their views are equal.
 ghost use Rattle.std.specs.Prelude.{◌≡◌, ◌↔◌, IsTrue, option_map};
 ghost use Rattle.std.specs.String.{string_bytes};
 ghost use Rattle.sysmods_values.specs.Views.{action_of};

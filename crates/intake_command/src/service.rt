@@ -41,8 +41,8 @@ struct ServiceOutput {
     summary: Vec<u8>,
 }
 
-/// Puts what the files state into the folder, with the remarks, and prints the summary. Returns the status, or the
-/// fault for which nothing is put there or no summary is printed.
+/// Puts what the files state into the folder, with the remarks, and prints the summary. Returns the status, or a fault
+/// if nothing was put there or the summary was not printed.
 pub(crate) fn serve_files<H: IntakeHost>(
     alloc: Global,
     host: &mut H,
@@ -244,7 +244,7 @@ fn keep_files<H: IntakeHost>(
     Ok(())
 }
 
-// Appends the lines of the remarks to those before, and these to the draft whenever there are enough of them. Returns
+// Appends a line for each remark to `lines`, and the lines to the draft whenever there are enough of them. Returns
 // the lines that are not in the draft, or `CannotWrite` if the folder does not take the draft, `Memory` if memory runs
 // out.
 fn draft_remarks<H: IntakeHost>(

@@ -24,11 +24,12 @@ pub enum IntakeFault {
     CannotPrint,
     /// Why the file of that name cannot be read as cards.
     NoCards { name: String, error: CardError },
-    /// Statements that no SYSMOD can be left out for, each with its file and card.
+    /// Statements that cannot be carried, and that belong to no SYSMOD that could be left out. Each has its file and
+    /// card.
     Statements(Vec<Vec<u8>>),
-    /// No statement stands in any file.
+    /// No file has a statement.
     NoStatement,
-    /// The bytes for this file are not read back as what they stand for.
+    /// The bytes for this file are not read back as the items that they were made of.
     NotReadBack(&'static str),
 }
 

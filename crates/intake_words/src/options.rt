@@ -29,7 +29,7 @@ pub struct IntakeOptions {
     pub cntl: Option<String>,
     /// The list of the SYSMODs that are known, for the command file.
     pub known: Option<String>,
-    /// The folder of the files that RELFILE speaks of.
+    /// The folder of the files that RELFILE names.
     pub relfile: Option<String>,
     /// For each DISTLIB, the SYSLIB that is given.
     pub syslibs: Vec<Syslib>,

@@ -6,7 +6,7 @@ use intake_cards::{Deed, Remark, RemarkList, RemarkReason};
 use intake_carry::{Narrowed, Tally};
 use std::alloc::{AllocError, Global};
 
-/// How many SYSMODs that are left out have lines of their own, at most.
+/// At most so many SYSMODs that are left out have lines of their own.
 const MOST_LEFT_OUT_LINES: usize = 20;
 
 /// How many remarks have a deed and a reason.
@@ -71,8 +71,8 @@ pub(crate) fn is_of_left_out_sysmod(remark: &Remark<'_>) -> bool {
     )
 }
 
-/// Why the SYSMOD of the remark at the place, `header`, is left out: the first remark on one of its statements that
-/// says so, or itself.
+/// The remark that says why a SYSMOD is left out. `header`, which is at this place, is on the whole SYSMOD. The cause
+/// is the first remark that leaves one of its statements out, or else `header` itself.
 pub(crate) fn cause_of<'a>(
     remarks: &'a RemarkList,
     place: usize,
@@ -99,7 +99,7 @@ pub(crate) fn cause_of<'a>(
     cause
 }
 
-/// What the cause says, in words.
+/// The cause in words: its statement, its reason and its text.
 pub(crate) fn cause_text(alloc: Global, cause: &Remark<'_>) -> Result<Vec<u8>, AllocError> {
     let mut text = cause.subject_text(alloc)?;
     if !text.is_empty() {
@@ -213,7 +213,7 @@ pub fn command_summary(
     Ok(lines)
 }
 
-/// The summary of a run that writes no command file, because words of the shop's are refused.
+/// The summary of a run that writes no command file because words of the shop's commands are refused.
 pub fn refused_command_summary(alloc: Global, remarks: &RemarkList) -> Result<Vec<u8>, AllocError> {
     let mut lines = Vec::from_slice(
         alloc,
