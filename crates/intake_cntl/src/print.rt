@@ -14,8 +14,7 @@ pub(crate) fn print_command(
     for operand in &command.operands {
         print_operand(alloc, cards, operand)?;
     }
-    cards.add_directly(b".")?;
-    Ok(())
+    cards.add_directly(b".")
 }
 
 // Prints an operand with its value.

@@ -291,6 +291,5 @@ fn append_tally(
     let carried = tally.carried;
     let left_out = tally.left_out;
     let line = format!(in alloc; "{label:<7} {carried:>7} carried {left_out:>7} left out\n")?;
-    lines.extend_from_slice(line.as_bytes())?;
-    Ok(())
+    lines.extend_from_slice(line.as_bytes())
 }
