@@ -11,7 +11,7 @@ ghost use Rattle.intake_command.specs.Done.{HasDone};
 ghost use Rattle.intake_command.specs.Serving.{AreRead, ServesFiles, KeepsService, DraftsRemarks, IsWithin, folder_of};
 
 use crate::host_calls::{print_summary, read_input};
-use crate::keep::keep_service;
+use crate::keep::{ServiceContents, keep_service};
 use crate::members::relfile_members;
 use crate::surroundings::IntakeHost;
 use intake_cards::RemarkList;
@@ -127,8 +127,7 @@ fn read_file<H: IntakeHost>(
     ensures err { OnErr result (HasDone H.IntakeHost (All IsQuiet) host.old host.new) }
 {
     let bytes = read_input(alloc, host, name)?;
-    let file = read_file_statements(alloc, inputs, asked, name, bytes, held)?;
-    Ok(file)
+    read_file_statements(alloc, inputs, asked, name, bytes, held)
 }
 
 // The statements of a file of these bytes. Returns `NoCards` if the bytes cannot be read as cards, `Statements` if the
@@ -184,8 +183,7 @@ fn service_output(
         Err(NarrowError::Memory) => return Err(IntakeFault::Memory),
         Err(NarrowError::Refused(remarks)) => return Err(refusal_fault(alloc, inputs, &remarks)),
     };
-    let made = add_summary(alloc, asked, narrowed)?;
-    Ok(made)
+    Ok(add_summary(alloc, asked, narrowed)?)
 }
 
 // The items and remarks, with their summary and the file of stand-ins.
@@ -240,7 +238,13 @@ fn keep_files<H: IntakeHost>(
     let folder = asked.out.as_str();
     let reading_lines = inputs.take_reading_lines(alloc);
     let lines = draft_remarks(alloc, host, folder, inputs, made.remarks, reading_lines)?;
-    keep_service(alloc, host, folder, &items, &hold_items, stand_ins, lines)?;
+    let contents = ServiceContents {
+        items: items.as_slice(),
+        hold_items: hold_items.as_slice(),
+        stand_ins,
+        remarks: lines,
+    };
+    keep_service(alloc, host, folder, contents)?;
     Ok(())
 }
 
