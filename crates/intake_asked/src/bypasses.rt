@@ -85,30 +85,18 @@ pub(crate) fn says_bypass(
 ) -> Result<bool, AllocError>
     ensures { IfOk result (λ says. IsTrue says → SaysBypass bypassed.now bypass.now) }
 {
-    let errors = says_reasons(
-        alloc,
-        &[b"HOLDERROR", b"HOLDERR"],
-        bypassed,
-        &bypass.holderror,
-    )?;
-    if !errors {
+    let error_names: &[&[u8]] = &[b"HOLDERROR", b"HOLDERR"];
+    if !says_reasons(alloc, error_names, bypassed, &bypass.holderror)? {
         return Ok(false);
     }
-    let systems = says_reasons(
-        alloc,
-        &[b"HOLDSYSTEM", b"HOLDSYS"],
-        bypassed,
-        &bypass.holdsystem,
-    )?;
-    if !systems {
+    let system_names: &[&[u8]] = &[b"HOLDSYSTEM", b"HOLDSYS"];
+    if !says_reasons(alloc, system_names, bypassed, &bypass.holdsystem)? {
         return Ok(false);
     }
-    let users = says_reasons(alloc, &[b"HOLDUSER"], bypassed, &bypass.holduser)?;
-    if !users {
+    if !says_reasons(alloc, &[b"HOLDUSER"], bypassed, &bypass.holduser)? {
         return Ok(false);
     }
-    let classes = says_classes(alloc, bypassed, bypass.holdclass.as_slice())?;
-    if !classes {
+    if !says_classes(alloc, bypassed, bypass.holdclass.as_slice())? {
         return Ok(false);
     }
     Ok(says_flags(bypassed, bypass))

@@ -73,12 +73,10 @@ fn says_install(
     if !says_check(operands, install.check) {
         return Ok(false);
     }
-    let selection = says_selection(alloc, known, operands, &install.selection)?;
-    if !selection {
+    if !says_selection(alloc, known, operands, &install.selection)? {
         return Ok(false);
     }
-    let bypass = says_bypass(alloc, wide.bypassed.as_slice(), &install.bypass)?;
-    Ok(bypass)
+    says_bypass(alloc, wide.bypassed.as_slice(), &install.bypass)
 }
 
 // Whether the RECEIVE takes SYSMODs if and only if the operands have SYSMODS or lack HOLDDATA, and holds if and only if
@@ -277,8 +275,7 @@ pub fn are_said(
         let Some((first, rest)) = left.split_first() else {
             return Ok(false);
         };
-        let says = says(alloc, known, command, first)?;
-        if !says {
+        if !says(alloc, known, command, first)? {
             return Ok(false);
         }
         left = rest;

@@ -80,10 +80,7 @@ fn are_among(texts: &[&[u8]], others: &[&[u8]]) -> bool
 fn have_same_texts(texts: &[&[u8]], others: &[&[u8]]) -> bool
     ensures { IsTrue result → AreThese (map (λ text. text.now) texts.now) (map (λ other. other.now) others.now) }
 {
-    if !are_among(texts, others) {
-        return false;
-    }
-    are_among(others, texts)
+    are_among(texts, others) && are_among(others, texts)
 }
 
 /// Whether the texts of the values are exactly the wanted ones, in whatever order.

@@ -119,16 +119,13 @@ fn says_lists(
 ) -> Result<bool, AllocError>
     ensures { IfOk result (λ are. IsTrue are → SaysLists known.now operands.now selection.now) }
 {
-    let select = says_select(alloc, operands, selection.select.as_slice())?;
-    if !select {
+    if !says_select(alloc, operands, selection.select.as_slice())? {
         return Ok(false);
     }
-    let group = says_group(alloc, operands, selection.group.as_slice())?;
-    if !group {
+    if !says_group(alloc, operands, selection.group.as_slice())? {
         return Ok(false);
     }
-    let exclude = says_exclude(alloc, known, operands, selection.exclude.as_slice())?;
-    if !exclude {
+    if !says_exclude(alloc, known, operands, selection.exclude.as_slice())? {
         return Ok(false);
     }
     says_forfmid(alloc, operands, selection.forfmid.as_slice())
@@ -144,16 +141,13 @@ pub(crate) fn says_selection(
     ensures { IfOk result (λ says. IsTrue says → SaysSelection known.now operands.now selection.now) }
 {
     let list = known_sysmods(known);
-    let lists = says_lists(alloc, list, operands, selection)?;
-    if !lists {
+    if !says_lists(alloc, list, operands, selection)? {
         return Ok(false);
     }
-    let sources = says_sources(alloc, list, operands, selection.sourceid.as_slice())?;
-    if !sources {
+    if !says_sources(alloc, list, operands, selection.sourceid.as_slice())? {
         return Ok(false);
     }
-    let enough = knows_kept_out_ids(alloc, known, operands)?;
-    if !enough {
+    if !knows_kept_out_ids(alloc, known, operands)? {
         return Ok(false);
     }
     Ok(says_types(operands, selection))
