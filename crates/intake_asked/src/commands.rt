@@ -73,10 +73,12 @@ fn says_install(
     if !says_check(operands, install.check) {
         return Ok(false);
     }
-    if !says_selection(alloc, known, operands, &install.selection)? {
+    let selection = says_selection(alloc, known, operands, &install.selection)?;
+    if !selection {
         return Ok(false);
     }
-    says_bypass(alloc, wide.bypassed.as_slice(), &install.bypass)
+    let bypass = says_bypass(alloc, wide.bypassed.as_slice(), &install.bypass)?;
+    Ok(bypass)
 }
 
 // Whether the RECEIVE takes SYSMODs if and only if the operands have SYSMODS or lack HOLDDATA, and holds if and only if
