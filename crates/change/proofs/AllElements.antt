@@ -38,7 +38,7 @@ use Rattle.change.specs.Elements.{IsInstallOf, AreElementsAfter}
 use Rattle.change.specs.Folding.{AreChangers}
 use Rattle.sorted.specs.ElementKeys.{Key, key_cmp}
 use Rattle.sorted.specs.Lists.{Lists}
-use Rattle.change.specs.Grouping.{AreByElement}
+use Rattle.zones.specs.Grouping.{AreByElement}
 use Rattle.sorted.proofs.ElementKeys.{key_ties}
 use Rattle.sorted.proofs.Listing.{listed_at}
 use Rattle.std.proofs.lemmas.List.Elements.{All-contains}

@@ -17,7 +17,6 @@ pub mod Ordered
 pub mod FoldUpdates
 pub mod FoldSteps
 pub mod FoldEnd
-pub mod Grouped
 pub mod AllElements
 pub mod Removed
 pub mod LessEdits

@@ -5,6 +5,5 @@ pub mod Puts
 pub mod Restoring
 pub mod Superseded
 pub mod Folding
-pub mod Grouping
 pub mod Elements
 pub mod Deleting

@@ -12,12 +12,11 @@ ghost use Rattle.terms.specs.Types.{Text};
 ghost use Rattle.change.specs.Elements.{AreElementsAfter, IsInstallOf};
 
 use crate::folding::element_after;
-use crate::grouping::changers_by_element;
 use crate::ordering::sort_by_over;
 use fields::Id;
 use std::alloc::{AllocError, Global};
 use sysmods::Overs;
-use zones::{Element, Zone, ZoneLess};
+use zones::{Element, Zone, ZoneLess, changers_by_element};
 
 /// The elements that these SYSMODs change, rising by type and name, as they are once all of the SYSMODs have taken
 /// effect on the zone less the deletions. Of any two that change one element one is over the other, and what they
@@ -51,7 +50,7 @@ pub(crate) fn elements_after(
     for (element, changers) in &by_element {
         let base = left.element(element.0, element.1);
         let ordered = sort_by_over(alloc, overs, changers)?;
-        let changed = element_after(alloc, vers, base, element.0, element.1, &ordered)?;
+        let changed = element_after(alloc, vers, base, *element, &ordered)?;
         elements.push(changed)?;
     }
     Ok(elements)

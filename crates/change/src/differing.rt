@@ -10,7 +10,7 @@ use fields::{Id, Name};
 use sorted::Edit;
 use std::alloc::AllocError;
 use terms::ElemType;
-use zones::{Element, Entry, Zone, ZoneEdits, is_same_as_existing, is_same_entry};
+use zones::{Element, Entry, Zone, ZoneEdits, are_same_entries, is_same_as_existing};
 
 /// Puts an element, or removes the element of a type and a name.
 pub(crate) type ElementEdit = Edit<Element, (ElemType, Name)>;
@@ -26,7 +26,7 @@ pub(crate) fn put_differing_entry(
     ensures { OnOk result (AddsEntryEdit zone.now (Put entry) zone_edits.old zone_edits.new) }
 {
     if let Some(old) = zone.entry(entry.id)
-        && is_same_entry(old, &entry)
+        && are_same_entries(old, &entry)
     {
         return Ok(());
     }
@@ -58,13 +58,13 @@ pub(crate) fn add_differing_edits(
     ensures { OnOk result (HasEditedElements zone.now edits.items zone_edits.old zone_edits.new) }
 {
     for edit in edits {
-        edit_element(zone, edit, zone_edits)?;
+        add_differing_edit(zone, edit, zone_edits)?;
     }
     Ok(())
 }
 
 // Puts the element, unless the zone already has the same one, or removes it, if the zone has it.
-fn edit_element(
+fn add_differing_edit(
     zone: &Zone,
     edit: ElementEdit,
     zone_edits: &mut ZoneEdits,

@@ -14,7 +14,6 @@ mod differing;
 mod effective;
 mod entries;
 mod folding;
-mod grouping;
 mod installing;
 mod ordering;
 mod pairs;

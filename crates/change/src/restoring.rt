@@ -1,12 +1,12 @@
 //! What RESTORE makes of a target zone.
-ghost use Rattle.std.specs.Prelude.{◌≡◌, ◌++◌, [], All, IsPermutation, IsTrue, IfOk, OnOk, fold};
+ghost use Rattle.std.specs.Prelude.{◌≡◌, [], All, IsPermutation, IsTrue, IfOk, OnOk, fold};
 ghost use Rattle.std.specs.List.{list_any};
 ghost use Rattle.terms.specs.Types.{Zone as AZone};
 ghost use Rattle.terms.specs.Lookups.{is_in, waives_applied};
 ghost use Rattle.terms.specs.Restore.{Restoring, Restores};
 ghost use Rattle.zones_maps.specs.Delta.{IsChanged, KnowsStood};
 ghost use Rattle.zones_maps.specs.Differing.{EachChanges};
-ghost use Rattle.change.specs.Restoring.{IsRestoringOf, ArePutBack, PutsBack, all_changed, changed_keys, loses};
+ghost use Rattle.change.specs.Restoring.{IsRestoringOf, ArePutBack, PutsBack, all_changed, loses};
 ghost use Rattle.change.specs.Restoring.{take_off};
 
 use fields::{Id, IdList, Name};
@@ -47,39 +47,24 @@ fn changed_keys_in_order(
 {
     let mut changed = Vec::new(alloc);
     for id in ids.as_slice() {
-        push_changed_keys(global, *id, &mut changed)?;
+        let changes = global.changes_of(*id);
+        for change in changes {
+            changed.push((change.elem_type, change.name))?;
+        }
     }
     changed.sort_unstable();
     Ok(changed)
-}
-
-// Adds the types and names of the elements that the SYSMOD changes.
-fn push_changed_keys(
-    global: &GlobalZone,
-    id: Id,
-    keys: &mut Vec<(ElemType, Name)>,
-) -> Result<(), AllocError>
-    ensures { OnOk result (keys.new.items ≡ keys.old.items ++ changed_keys global.now id) }
-{
-    let Some(sysmod) = global.get(id) else {
-        return Ok(());
-    };
-    for change in sysmod.changes.as_slice() {
-        keys.push((change.elem_type, change.name))?;
-    }
-    Ok(())
 }
 
 // Whether the entry loses something: its SYSMOD is applied and taken off, or one of those that supersede it is.
 fn loses_kept(kept: &IdList, entry: &Entry) -> bool
     ensures { result ≡ loses (is_in kept.now) entry.now }
 {
-    (kept.contains(entry.id) && entry.applied.is_some())
-        || is_any_kept(kept, entry.supby.as_slice())
+    (kept.contains(entry.id) && entry.applied.is_some()) || any_kept(kept, entry.supby.as_slice())
 }
 
 // Whether one of the ids is kept.
-fn is_any_kept(kept: &IdList, ids: &[Id]) -> bool
+fn any_kept(kept: &IdList, ids: &[Id]) -> bool
     ensures { result ≡ list_any (is_in kept.now) ids.now }
 {
     ids.iter().any(|id| kept.contains(*id))

@@ -8,11 +8,11 @@ use Rattle.terms.specs.Statement.{BeginsNoWord}
 use Rattle.terms.specs.Commands.{runs_from}
 use Rattle.terms.proofs.OperandWords.{count, count_other}
 use Rattle.terms.proofs.BypassMembers.{run_goes_on, run_ends}
-use Rattle.cntl.specs.declared.at.At.{At}
+use Rattle.cntl.specs.declared.run_state.RunState.{RunState}
 use Rattle.cntl.specs.Walks.{IsAt, is_inner, WalksOn}
 
 -- A character of a word comes to the run.
-pub run_more : (name : Text) (at next : At) (run : Text) (byte : ℕ) → is_inner at ≡ false → is_inner next ≡ false
+pub run_more : (name : Text) (at next : RunState) (run : Text) (byte : ℕ) → is_inner at ≡ false → is_inner next ≡ false
     → is_word_byte byte ≡ true → IsAt name next (run ++ byte ∷ []) → WalksOn name at run byte next
 run_more name at next run byte outer outer' part is = record {
   goes_on = run ++ byte ∷ [];
@@ -23,14 +23,14 @@ run_more name at next run byte outer outer' part is = record {
 }
 
 -- The name ends here, and counts once.
-pub name_ends : (name : Text) → 0 < length name → (at : At) (run text : Text) → run ≡ name → is_inner at ≡ false
+pub name_ends : (name : Text) → 0 < length name → (at : RunState) (run text : Text) → run ≡ name → is_inner at ≡ false
     → BeginsNoWord text → count name (runs_from (is_inner at) run text) ≡ 1 + count name (runs_from false [] text)
 name_ends name some at run text same outer stops =
     ap (λ i. count name (runs_from i run text)) outer ∙ run_ends name some run text stops
     ∙ ap (λ b. cond b 1 0 + count name (runs_from false [] text)) (ap (bytes_eq name) same ∙ same_itself name)
 
 -- Another run ends the list.
-pub other_ends : (name : Text) (at : At) (run text : Text) → run ≢ name → text ≡ []
+pub other_ends : (name : Text) (at : RunState) (run text : Text) → run ≢ name → text ≡ []
     → count name (runs_from (is_inner at) run text) ≡ 0
 other_ends name at run text other end =
     ap (λ t. count name (runs_from (is_inner at) run t)) end

@@ -19,7 +19,7 @@ use rec80::{BadOperand, OperandError, Text, Word, are_members, flag, named_membe
 use std::alloc::Global;
 use terms::{CommandWord, HoldKind};
 
-// Whether there is a member of that name, which has no list.
+// Whether there is a member of that name. The error is that it has a list.
 fn member_flag(list: &Text<'_>, name: &[u8]) -> Result<bool, BadOperand>
     ensures ok { (ms : List grammar.Word) → HasMembers (text_of list.now) ms
         → IfOk result (λ flag. HasFlag (operand name.now ms) flag) }
@@ -29,7 +29,7 @@ fn member_flag(list: &Text<'_>, name: &[u8]) -> Result<bool, BadOperand>
     flag(&named_member(list, name))
 }
 
-// The reasons in the list of a member, which are those of holds of this kind.
+// The reasons in the list of a member, all of which have to suit holds of this kind.
 fn read_reason_list(
     alloc: Global,
     kind: HoldKind,
@@ -67,7 +67,7 @@ fn read_reasons(
     Ok(Reasons::These(read_reason_list(alloc, kind, &member)?))
 }
 
-// The classes of HOLDCLASS, none if it is absent.
+// The classes of HOLDCLASS, or none if it is absent.
 fn read_classes(alloc: Global, list: &Text<'_>) -> Result<ClassList, OperandError>
     ensures ok { (ms : List grammar.Word) → HasMembers (text_of list.now) ms
         → IfOk result (λ classes. HasShort IsClass (operand (codes "HOLDCLASS") ms) classes) }
@@ -80,7 +80,7 @@ fn read_classes(alloc: Global, list: &Text<'_>) -> Result<ClassList, OperandErro
     }
 }
 
-// The values of the members of the list.
+// What the members of the list of BYPASS say.
 fn read_members(alloc: Global, list: &Text<'_>) -> Result<Bypass, OperandError>
     ensures ok { (ms : List grammar.Word) → HasMembers (text_of list.now) ms → IfOk result (λ b. HasBypassed ms b) }
     ensures bad { (ms : List grammar.Word) → HasMembers (text_of list.now) ms
@@ -99,9 +99,9 @@ fn read_members(alloc: Global, list: &Text<'_>) -> Result<Bypass, OperandError>
     })
 }
 
-/// The value of BYPASS, none of whose members occurs twice. Without BYPASS nothing is bypassed. Returns `Memory` if
-/// memory runs out, and `Bad` if BYPASS has no list, or a member that the command's BYPASS may not have, or a member of
-/// another form.
+/// The value of BYPASS. The caller has made sure that no member occurs twice. Without BYPASS nothing is bypassed.
+/// Returns `Memory` if memory runs out, and `Bad` if BYPASS has no list, a member that the command's BYPASS may not
+/// have, or a member of another form.
 pub fn read_bypass(
     alloc: Global,
     word: CommandWord,

@@ -12,14 +12,14 @@ use crate::command::Command;
 use crate::doubles::has_double;
 use crate::error::CommandReadError;
 use crate::forms::read_operands;
-use crate::restore_choice::is_unchosen;
+use crate::restore_choice::lacks_single_list;
 use crate::tables::operands_of;
 use fields::spelling::read_word;
 use rec80::{OperandError, Piece, Words};
 use std::alloc::Global;
 use terms::{CommandCode, CommandWord};
 
-// Takes the word with which a command begins.
+// Takes the first word and returns the command that it names, if it names one.
 fn take_command_word(left: &mut Words<'_>) -> Option<CommandWord>
     ensures word { IfSome result (λ w. (pieces : List AnyPiece) → LeavesPieces left.old pieces
         → (rest : List AnyPiece) × BeginsWith pieces w rest × LeavesPieces left.new rest) }
@@ -33,7 +33,7 @@ fn take_command_word(left: &mut Words<'_>) -> Option<CommandWord>
     read_word(text)
 }
 
-/// The command of these words. Returns `Memory` if memory runs out. `Fault` is the first that applies of
+/// Reads the command of these words. Returns `Memory` if memory runs out. `Fault` is the first that applies of
 /// `UnknownCommand` if they begin with no command, `OperandTwice` if an operand or a member of BYPASS occurs twice,
 /// `NoSingleList` if RESTORE has both SELECT and GROUP or neither, and `BadCommandOperand` if anything else is wrong
 /// with an operand.
@@ -53,7 +53,7 @@ pub fn read_command(alloc: Global, words: &Words<'_>) -> Result<Command, Command
     if has_double(word, &operands) {
         return Err(CommandReadError::Fault(CommandCode::OperandTwice));
     }
-    if is_unchosen(word, &operands) {
+    if lacks_single_list(word, &operands) {
         return Err(CommandReadError::Fault(CommandCode::NoSingleList));
     }
     let Some(named) = operands.words_named(operands_of(word)) else {

@@ -4,7 +4,7 @@ ghost use Rattle.terms.specs.Statement.{Piece};
 ghost use Rattle.terms.specs.Commands.{has_double};
 ghost use Rattle.rec80.specs.Read.{IsRead};
 
-use crate::runs::any_run_twice;
+use crate::runs::any_occurs_twice;
 use crate::tables::{members_of, operands_of};
 use rec80::Operands;
 use terms::CommandWord;
@@ -18,7 +18,7 @@ pub fn has_double(word: CommandWord, operands: &Operands<'_>) -> bool
         return true;
     }
     match operands.list_after(b"BYPASS") {
-        Some(list) => any_run_twice(members_of(word), &list),
+        Some(list) => any_occurs_twice(&list, members_of(word)),
         None => false,
     }
 }

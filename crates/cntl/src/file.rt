@@ -15,7 +15,7 @@ use rec80::{Commands, records};
 use std::alloc::Global;
 use terms::CommandCode;
 
-// Takes the next command, if there is one.
+// Reads the next command, if there is one. The error is the fault of the file at the record of that command.
 fn read_next(alloc: Global, left: &mut Commands<'_>) -> Result<Option<Command>, CntlError>
     ensures command { IfOk result (λ found. IfSome found (λ c. (pieces : List Piece) × (number : ℕ)
         × TakesCommand left.old.number left.old.rest.now pieces number left.new.number left.new.rest.now

@@ -94,9 +94,9 @@ fn read_restore_list(alloc: Global, words: &[Word<'_>]) -> Result<RestoreList, O
     }
 }
 
-/// The command of this word and of the remaining operands, which are known ones. No member of BYPASS occurs twice.
-/// Returns `Memory` if memory runs out, and `Bad` if an operand has a bad form, if one that the command needs is
-/// absent, or if RESTORE has both SELECT and GROUP.
+/// The command of this word and of its operands. The caller has made sure that the command may have each of them, and
+/// that no member of BYPASS occurs twice. Returns `Memory` if memory runs out, and `Bad` if an operand has a bad form,
+/// if one that the command needs is absent, or if RESTORE has both SELECT and GROUP.
 pub fn read_operands(
     alloc: Global,
     word: CommandWord,

@@ -2,7 +2,6 @@
 //! file, or its first fault with the record. No file has both.
 #![tactic(auto)]
 
-mod at;
 mod bypassed;
 mod command;
 mod command_reading;
@@ -12,6 +11,7 @@ mod file;
 mod forms;
 mod operand_values;
 mod restore_choice;
+mod run_state;
 mod runs;
 mod tables;
 

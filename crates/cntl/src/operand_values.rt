@@ -12,9 +12,9 @@ use rec80::{BadOperand, Member, OperandError, Word, flag, operand, rising};
 use std::alloc::Global;
 
 /// The most members that a list may have.
-const MOST_MEMBERS: usize = 1000;
+const MOST_MEMBERS: usize = 1_000;
 
-/// Whether there is an operand of that name, which has no list. Returns an error if it has one.
+/// Whether there is an operand of that name. The error is that it has a list.
 pub fn flag_of(words: &[Word<'_>], name: &[u8]) -> Result<bool, BadOperand>
     ensures ok { IfOk result (λ flag. HasFlag (operand name.now (words_of words.now)) flag) }
     ensures bad { OnErr result ((flag : Bool)

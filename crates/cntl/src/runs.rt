@@ -6,7 +6,7 @@ ghost use Rattle.terms.specs.Operands.{is_often};
 ghost use Rattle.terms.proofs.OperandWords.{count};
 ghost use Rattle.rec80.specs.Cursors.{text_of};
 
-use crate::at::{At, ends_before, is_whole, step};
+use crate::run_state::RunState;
 use rec80::Text;
 
 // The text after the first run that is the name.
@@ -17,19 +17,19 @@ fn skip_past_name<'a>(list: &Text<'a>, name: &[u8]) -> Option<Text<'a>>
         → count name.now (runs_from false [] (text_of list.now)) ≡ 0) }
 {
     let mut rest = *list;
-    let mut at = At::Part(name);
+    let mut state = RunState::Part(name);
     while let Some((byte, next)) = rest.next_byte() {
-        if ends_before(&at, byte) {
+        if state.ends_before(byte) {
             return Some(rest);
         }
-        at = step(&at, byte, name);
+        state = state.after(byte, name);
         rest = next;
     }
-    if is_whole(&at) { Some(rest) } else { None }
+    if state.is_name() { Some(rest) } else { None }
 }
 
-// Whether at least two runs are the name.
-fn runs_twice(list: &Text<'_>, name: &[u8]) -> bool
+// Whether the name occurs at least twice among the runs.
+fn occurs_twice(list: &Text<'_>, name: &[u8]) -> bool
     ensures { 0 < length name.now → result ≡ is_often 2 (runs_from false [] (text_of list.now)) name.now }
 {
     let Some(after) = skip_past_name(list, name) else {
@@ -38,13 +38,13 @@ fn runs_twice(list: &Text<'_>, name: &[u8]) -> bool
     skip_past_name(&after, name).is_some()
 }
 
-/// Whether one of the names, none of which is empty, occurs twice.
-pub fn any_run_twice(names: &[&[u8]], list: &Text<'_>) -> bool
+/// Whether one of the names occurs at least twice among the runs. The names must not be empty.
+pub fn any_occurs_twice(list: &Text<'_>, names: &[&[u8]]) -> bool
     ensures { All (λ name. 0 < length name.now) names.now
         → result ≡ list_any (λ name. is_often 2 (runs_from false [] (text_of list.now)) name.now) names.now }
 {
     for name in names {
-        if runs_twice(list, name) {
+        if occurs_twice(list, name) {
             return true;
         }
     }

@@ -5,7 +5,7 @@ ghost use Rattle.terms.specs.CommandForms.{operands_of, members_of};
 use terms::CommandWord;
 
 /// The operands of APPLY and ACCEPT.
-const INSTALL: &[&[u8]] = &[
+const INSTALL_OPERANDS: &[&[u8]] = &[
     b"FUNCTIONS",
     b"PTFS",
     b"APARS",
@@ -53,7 +53,7 @@ pub fn operands_of(word: CommandWord) -> &'static [&'static [u8]]
         CommandWord::Set => &[b"BDY"],
         CommandWord::Receive => &[b"SYSMODS", b"HOLDDATA", b"SOURCEID"],
         CommandWord::Reject => &[b"SELECT"],
-        CommandWord::Apply | CommandWord::Accept => INSTALL,
+        CommandWord::Apply | CommandWord::Accept => INSTALL_OPERANDS,
         CommandWord::Restore => &[b"SELECT", b"GROUP", b"CHECK"],
         CommandWord::List => &[b"TEXT"],
         CommandWord::Report => &[b"ERRSYSMODS"],

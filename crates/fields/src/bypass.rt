@@ -50,7 +50,7 @@ impl Model for Bypass {
 }
 
 impl Bypass {
-    /// Nothing is bypassed.
+    /// A BYPASS without members, which bypasses nothing.
     pub fn none(alloc: Global) -> Bypass
         ensures { result ≡ no_bypass }
     {
@@ -67,7 +67,7 @@ impl Bypass {
         }
     }
 
-    /// Whether PRE, REQ or IFREQ in it covers needs of the kind.
+    /// Whether its member PRE, REQ or IFREQ bypasses needs of the kind.
     pub fn covers(&self, kind: NeedKind) -> bool
         ensures { result ≡ is_bypassed self.now kind }
     {

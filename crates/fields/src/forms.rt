@@ -50,6 +50,6 @@ fn day_number(text: &[u8]) -> u16
     requires { IsRun is_digit 3 3 text.now }
     ensures { result ≡ digits_value 10 text.now }
 {
-    let value = |place: usize| u16::from(text[place] - b'0');
-    value(0) * 100 + value(1) * 10 + value(2)
+    let digit = |place: usize| u16::from(text[place] - b'0');
+    digit(0) * 100 + digit(1) * 10 + digit(2)
 }

@@ -60,10 +60,10 @@ impl Reason {
     pub fn is_id(&self) -> bool
         ensures { IsTrue result ↔ IsId self.now }
     {
-        is_run_of_id_bytes(self.as_bytes(), 7, 7)
+        self.as_id().is_some()
     }
 
-    /// Whether a hold of the kind may have this reason. Only an ERROR hold asks for an id.
+    /// Whether a hold of the kind may have this reason. The reason of an ERROR hold must be an id.
     pub fn suits(self, kind: HoldKind) -> bool
         ensures { IsTrue result ↔ IsReason kind self }
     {

@@ -39,7 +39,7 @@ impl Name {
         ensures form { IsSome result ↔ IsName text.now }
         ensures same { IfSome result (λ read. read ≡ text.now) }
     {
-        if !(is_run_of_id_bytes(text, 1, 8) && !is_digit(text[0])) {
+        if !is_run_of_id_bytes(text, 1, 8) || is_digit(text[0]) {
             return None;
         }
         Some(Name {
@@ -97,7 +97,7 @@ impl ZoneName {
         ensures form { IsSome result ↔ IsZoneName text.now }
         ensures same { IfSome result (λ read. read ≡ text.now) }
     {
-        if !(is_run_of_id_bytes(text, 1, 7) && is_letter(text[0])) {
+        if !is_run_of_id_bytes(text, 1, 7) || !is_letter(text[0]) {
             return None;
         }
         Some(ZoneName {

@@ -38,7 +38,7 @@ impl<const N: usize> Model for Short<N> {
 }
 
 impl<const N: usize> Short<N> {
-    // The text, in place.
+    // A copy of the text, padded with zeros.
     pub(crate) fn new(text: &[u8]) -> Self
         requires fits { length text.now ≤ N }
         requires short { N < 2 ^ 8 }
@@ -59,7 +59,8 @@ impl<const N: usize> Short<N> {
         &self.bytes[..usize::from(self.len)]
     }
 
-    // The bytes, followed by the length, as one number: two numbers are compared faster than two texts.
+    // The seven bytes with their padding, then the length, as one number. Equality and order of ids and reasons use it,
+    // because comparing two numbers is faster than comparing two texts.
     fn number(&self) -> u64
         requires { N ≡ 7 }
         ensures same { result ≡ number_of self.now }

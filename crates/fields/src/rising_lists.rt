@@ -93,7 +93,7 @@ impl<T: Field> Rising<T> {
         self.items.binary_search(&item).is_ok()
     }
 
-    /// Puts the item into the list, and returns whether it is new.
+    /// Puts the item into the list, unless it is there already, and returns whether it was new.
     pub fn insert(&mut self, item: T) -> Result<bool, AllocError>
         ensures added { IfOk result (λ added. added ≡ not (list_any (T.eq item) self.old)) }
         ensures ok { OnOk result (self.new ≡ with_item T.cmp (λ x. x) self.old item) }
@@ -122,7 +122,7 @@ impl<T: Field> Rising<T> {
         }
     }
 
-    /// Adds an item that comes after all others. Returns whether it does.
+    /// Appends the item if it comes after all others, and returns whether it does.
     pub fn push_last(&mut self, item: T) -> Result<bool, AllocError>
         ensures fits { IfOk result
             (λ fits. IsTrue fits ↔ All (λ x. IsTrue (is_lt (T.cmp x item))) self.old) }

@@ -113,6 +113,7 @@ pub fn read_zone_kind(text: &[u8]) -> Option<ZoneKind>
     ensures found { IfSome result (λ found. zone_kind_text found ≡ text.now) }
     ensures none { IfNone result ((other : ZoneKind) → zone_kind_text other ≢ text.now) }
 {
+    // Not a `match`, because the prover gives up on one over a text as long as `distribution`.
     if text == b"target".as_slice() {
         Some(ZoneKind::Target)
     } else if text == b"distribution".as_slice() {

@@ -1,7 +1,7 @@
 //! A card.
 use crate::place::CardPlace;
 
-/// How many columns of a card come before those of its number.
+/// The columns that statements use. The number of the card is in the columns after them.
 const COLUMNS: usize = 72;
 
 /// A card: 80 columns, with blanks after a shorter line. The bytes are ASCII, whatever the file's code was. A letter
@@ -57,9 +57,8 @@ impl Card {
     pub fn tail(&self) -> Tail {
         let number = self.number_columns();
         if are_blanks(number.as_slice()) {
-            return Tail::Blank;
-        }
-        if number
+            Tail::Blank
+        } else if number
             .iter()
             .all(|byte| *byte == b' ' || byte.is_ascii_digit())
         {
@@ -69,17 +68,22 @@ impl Card {
         }
     }
 
-    /// Whether columns 1 to 72 are blank.
-    pub fn is_blank(&self) -> bool {
+    /// Whether columns 1 to 72 are blank, whatever follows them.
+    pub fn has_blank_columns(&self) -> bool {
         are_blanks(self.columns())
     }
 
-    /// Whether a statement begins in it: `++` in columns 1 and 2.
+    /// Whether all 80 columns are blank.
+    pub fn is_blank(&self) -> bool {
+        are_blanks(self.text.as_slice())
+    }
+
+    /// Whether a statement begins on this card: `++` in columns 1 and 2.
     pub fn begins_statement(&self) -> bool {
         self.text.starts_with(b"++")
     }
 
-    /// Whether it only marks the end of the data in a job: `/*` or `$$` in columns 1 and 2, and blanks after them.
+    /// Whether the card only ends the data in a job: `/*` or `$$` in columns 1 and 2, and blanks after them.
     pub(crate) fn is_delimiter(&self) -> bool {
         (self.text.starts_with(b"/*") || self.text.starts_with(b"$$"))
             && are_blanks(&self.text[2..])

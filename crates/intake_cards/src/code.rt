@@ -23,8 +23,9 @@ pub enum Code {
 }
 
 impl Code {
-    /// The byte in ASCII. What ASCII lacks becomes its byte in ISO 8859-1, and stays as it is in an ASCII file.
-    pub fn ascii(self, byte: u8) -> u8 {
+    /// The byte in ASCII. A character that ASCII lacks becomes its byte in ISO 8859-1. In an ASCII file it stays as it
+    /// is.
+    pub fn to_ascii(self, byte: u8) -> u8 {
         match self {
             Code::Ascii => byte,
             Code::Ibm1047 => IBM1047[byte as usize],
@@ -40,7 +41,7 @@ impl Code {
         }
     }
 
-    /// Whether the byte pads a file after its last line: NUL, and in ASCII the end of file of older systems.
+    /// Whether the byte pads a file after its last line: NUL, and in ASCII also the end of file of older systems (^Z).
     pub(crate) fn is_padding(self, byte: u8) -> bool {
         match self {
             Code::Ascii => byte == 0 || byte == 0x1A,

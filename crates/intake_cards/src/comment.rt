@@ -1,45 +1,45 @@
-//! The text of a COMMENT, and its form on cards.
-//! A card has 71 characters of it, in columns 2 to 72; two blanks are between two cards.
+//! The text of a COMMENT, and its form on cards. A card has up to 71 characters of it, in columns 2 to 72, and two
+//! blanks separate the texts of two cards.
 
 use crate::printed::PrintedCards;
 use std::alloc::{AllocError, Global};
 
-/// How many characters of a COMMENT a card has.
+/// How many characters of a COMMENT fit on a card.
 const ON_CARD: usize = 71;
 
 /// How many characters one card takes of a COMMENT, with the two blanks before the next card.
 const STRIDE: usize = 73;
 
-/// The words of the text with blanks between, as they are on cards: if a word would run over the end of a card,
-/// more blanks move it to the next one, and a word that is longer than a card is cut in pieces. So reading the cards
-/// of `PrintedCards::add_comment` gives the same text again.
+/// The words of the text with the blanks that they have on cards: if a word would run over the end of a card, more
+/// blanks move it to the next one, and a word that is longer than a card is cut into pieces. So the cards that
+/// `PrintedCards::add_comment` prints are read as the same text again.
 pub fn lay_out_comment(alloc: Global, text: &[u8]) -> Result<Vec<u8>, AllocError> {
-    let mut laid = Vec::with_capacity(alloc, text.len())?;
-    for word in text.split(|b| *b == b' ') {
+    let mut layout = Vec::with_capacity(alloc, text.len())?;
+    for word in text.split(|byte| *byte == b' ') {
         for piece in word.chunks(ON_CARD) {
-            append_word(&mut laid, piece)?;
+            append_word(&mut layout, piece)?;
         }
     }
-    Ok(laid)
+    Ok(layout)
 }
 
 // Adds a word that is no longer than a card, after one blank, or after as many blanks as lead to the next card.
-fn append_word(laid: &mut Vec<u8>, word: &[u8]) -> Result<(), AllocError> {
-    if !laid.is_empty() {
-        laid.push(b' ')?;
+fn append_word(layout: &mut Vec<u8>, word: &[u8]) -> Result<(), AllocError> {
+    if !layout.is_empty() {
+        layout.push(b' ')?;
     }
-    let column = laid.len() % STRIDE;
-    if word.len() > ON_CARD || column + word.len() > ON_CARD {
+    let column = layout.len() % STRIDE;
+    if word.len().saturating_add(column) > ON_CARD {
         for _ in column..STRIDE {
-            laid.push(b' ')?;
+            layout.push(b' ')?;
         }
     }
-    laid.extend_from_slice(word)?;
+    layout.extend_from_slice(word)?;
     Ok(())
 }
 
 impl PrintedCards {
-    /// Adds COMMENT with the text, which `lay_out_comment` has laid out: it is on cards of its own, in parentheses.
+    /// Adds COMMENT with a text that `lay_out_comment` has laid out, in parentheses and on cards of its own.
     pub fn add_comment(&mut self, text: &[u8]) -> Result<(), AllocError> {
         self.add_word(b"COMMENT(")?;
         for piece in text.chunks(STRIDE) {

@@ -1,8 +1,8 @@
-//! Why a file is no cards.
+//! Why a file cannot be read as cards.
 use std::alloc::{AllocError, AllocFailed};
 use thiserror::Error;
 
-/// Why a file is no cards: want of memory, or its first fault.
+/// Why a file cannot be read as cards: memory ran out, or the first fault of the file.
 #[derive(Clone, Copy, Debug, PartialEq, Eq, Error)]
 pub enum CardError {
     #[error("out of memory")]
@@ -16,7 +16,7 @@ pub enum CardError {
     RecordLengths,
     #[error("its lines end with carriage returns without line feeds: put line feeds there")]
     CarriageReturns,
-    /// The file was to be records, and so many bytes are left over after the last whole one.
+    /// Records were asked for, and so many bytes follow the last whole one.
     #[error("--records asks for records of 80 bytes, and {bytes} bytes are left over: leave the option out")]
     ShortRecord { bytes: usize },
 }

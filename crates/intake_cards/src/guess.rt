@@ -5,10 +5,10 @@ use crate::errors::CardError;
 /// How many bytes show whether a file has lines: the columns of a card, and the two characters that may end a line.
 const LONGEST_LINE: usize = 82;
 
-/// How many bytes a length has that stands before its record.
+/// How many bytes the length before a record has: two of the number, and two zeros.
 const LENGTH_BYTES: usize = 4;
 
-// The code of three bytes, if they begin a statement: two plus signs and a letter.
+// The code of the bytes, if they begin a statement: two plus signs (X'4E' in EBCDIC) and a letter (from X'80' on).
 fn statement_code(bytes: &[u8]) -> Option<Code> {
     match bytes {
         [b'+', b'+', letter, ..] if letter.is_ascii_alphabetic() => Some(Code::Ascii),
@@ -22,7 +22,7 @@ fn may_end_line(byte: u8) -> bool {
     Code::Ascii.ends_line(byte) || Code::Ibm1047.ends_line(byte)
 }
 
-// The code of the first statement, where a card may begin.
+// The code of the first statement, which begins a line or a record.
 fn first_statement_code(bytes: &[u8]) -> Option<Code> {
     let mut before = b'\n';
     for (i, three) in bytes.windows(3).enumerate() {
@@ -58,8 +58,8 @@ pub(crate) fn guess_code(bytes: &[u8]) -> Code {
     }
 }
 
-/// How the file is laid out: in records, if 80 divides its length, with or without what pads the file, and no line ends
-/// within the first bytes; else in lines.
+/// How the file is laid out: in records, if 80 divides its length, with or without its padding, and no line ends within
+/// the first bytes. Otherwise it is in lines.
 pub(crate) fn guess_layout(bytes: &[u8], code: Code) -> Layout {
     let has_whole_records = bytes.len() % RECORD == 0
         || without_padding(bytes, code).len() % RECORD == 0;
@@ -76,15 +76,9 @@ pub(crate) fn guess_layout(bytes: &[u8], code: Code) -> Layout {
 
 /// The bytes up to the last one that does not pad the file.
 pub(crate) fn without_padding(bytes: &[u8], code: Code) -> &[u8] {
-    let mut length = 0;
-    for (place, byte) in bytes.iter().enumerate() {
-        if !code.is_padding(*byte) {
-            length = place + 1;
-        }
-    }
-    match bytes.split_at_checked(length) {
-        Some((front, _)) => front,
-        None => bytes,
+    match bytes.iter().rposition(|byte| !code.is_padding(*byte)) {
+        Some(last) => &bytes[..last + 1],
+        None => b"",
     }
 }
 
@@ -106,9 +100,8 @@ pub(crate) fn unreadable_format(bytes: &[u8]) -> Option<CardError> {
 fn is_record_length(bytes: &[u8], length: u16) -> bool {
     let length = usize::from(length);
     match bytes.split_at_checked(length) {
-        Some((_, [])) => length > LENGTH_BYTES,
-        Some((_, [_, _, 0, 0, ..])) => length > LENGTH_BYTES,
-        _ => false,
+        Some((_, rest)) => length > LENGTH_BYTES && matches!(rest, [] | [_, _, 0, 0, ..]),
+        None => false,
     }
 }
 

@@ -3,7 +3,7 @@ use crate::card::Card;
 use crate::code::Code;
 use crate::place::CardPlace;
 
-/// The character in place of a letter that ISO 8859-1 lacks.
+/// The byte that replaces a letter that ISO 8859-1 lacks: an inverted question mark.
 pub const NO_LATIN: u8 = 0xBF;
 
 /// The text after column 80.
@@ -37,13 +37,13 @@ impl CutLine {
     /// has a column for each byte.
     pub(crate) fn read(line: &[u8], code: Code) -> CutLine {
         if code == Code::Ascii {
-            let is_ascii = !line.iter().any(|byte| *byte >= 0x80);
+            let is_ascii = line.is_ascii();
             if is_ascii && line.len() <= 80 {
                 return CutLine::of_short_line(line);
             }
             if !is_ascii {
                 if let Ok(text) = str::from_utf8(line) {
-                    return CutLine::of_letters(text);
+                    return CutLine::of_text(text);
                 }
             }
         }
@@ -59,8 +59,8 @@ impl CutLine {
         cut
     }
 
-    // The letters of the text as columns.
-    fn of_letters(text: &str) -> CutLine {
+    // Each character of the text as a column.
+    fn of_text(text: &str) -> CutLine {
         let mut cut = CutLine::blank();
         cut.ends_comment = text.as_bytes().trim_ascii_end().ends_with(b"*/");
         for (column, letter) in text.chars().enumerate() {
@@ -69,31 +69,31 @@ impl CutLine {
         cut
     }
 
-    // Each byte of the line as a column.
+    // Each byte of the line as a column. A `*/` is the last text of the line if only blanks follow it.
     fn of_bytes(line: &[u8], code: Code) -> CutLine {
         let mut cut = CutLine::blank();
         let mut before = b' ';
         for (column, byte) in line.iter().enumerate() {
-            let letter = code.ascii(*byte);
+            let letter = code.to_ascii(*byte);
             cut.set_column(column, letter);
-            let is_end = letter == b'/' && before == b'*';
-            cut.ends_comment = is_end || letter == b' ' && cut.ends_comment;
+            let is_comment_end = letter == b'/' && before == b'*';
+            cut.ends_comment = is_comment_end || (letter == b' ' && cut.ends_comment);
             before = letter;
         }
         cut
     }
 
-    // Sets the column, which counts from 0, to the letter. After column 80 it only notes what kind of text there is.
+    // Sets the column, counted from 0, to the letter. Of the columns after the 80th only the kind of text is kept.
     fn set_column(&mut self, column: usize, letter: u8) {
         match self.text.get_mut(column) {
-            Some(there) => *there = letter,
+            Some(place) => *place = letter,
             None if letter != b' ' => self.past = PastColumns::More,
             None if self.past == PastColumns::Nothing => self.past = PastColumns::Blanks,
             None => {}
         }
     }
 
-    /// The card of the line, which is at this place.
+    /// The line as the card at this place.
     pub(crate) fn card_at(&self, place: CardPlace) -> Card {
         let is_cut = self.past == PastColumns::More;
         Card {

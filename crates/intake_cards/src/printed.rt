@@ -33,7 +33,7 @@ impl PrintedCards {
         self.bytes.len() % CARD
     }
 
-    /// Fills the card that is begun with blanks.
+    /// Fills the rest of the last card with blanks, if a card is begun.
     pub fn end_card(&mut self) -> Result<(), AllocError> {
         let filled = self.filled_columns();
         if filled != 0 {
@@ -52,7 +52,7 @@ impl PrintedCards {
 
     /// Adds a blank and the word, or begins a card with the word if it does not fit into 71 columns.
     pub fn add_word(&mut self, word: &[u8]) -> Result<(), AllocError> {
-        if word.len() < LAST_COLUMN && self.filled_columns() + word.len() < LAST_COLUMN {
+        if word.len().saturating_add(self.filled_columns()) < LAST_COLUMN {
             self.bytes.push(b' ')?;
             self.bytes.extend_from_slice(word)?;
             return Ok(());
@@ -60,16 +60,16 @@ impl PrintedCards {
         self.begin_card(word)
     }
 
-    /// Adds the text directly, or begins a card with it if it does not fit into 71 columns.
+    /// Adds the text without a blank before it, or begins a card with it if it does not fit into 71 columns.
     pub fn add_directly(&mut self, text: &[u8]) -> Result<(), AllocError> {
-        if text.len() <= LAST_COLUMN && self.filled_columns() + text.len() <= LAST_COLUMN {
+        if text.len().saturating_add(self.filled_columns()) <= LAST_COLUMN {
             self.bytes.extend_from_slice(text)?;
             return Ok(());
         }
         self.begin_card(text)
     }
 
-    /// Adds the text directly, even if it runs over column 71.
+    /// Adds the text without a blank before it, even if it runs over column 71.
     pub fn add_across_columns(&mut self, text: &[u8]) -> Result<(), AllocError> {
         self.bytes.extend_from_slice(text)?;
         Ok(())

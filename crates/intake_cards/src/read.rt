@@ -1,5 +1,5 @@
-//! The bytes of a file as its cards, one after the other. A loop over `0..usize::MAX` ends with the cards: as a loop
-//! without bounds it would need a proof that it ends.
+//! Reads the bytes of a file as cards, one after the other. A loop over `0..usize::MAX` ends when the cards end. With
+//! `loop` it would need a proof that it ends.
 use crate::card::{Card, is_printable_byte};
 use crate::code::{Code, Layout, RECORD};
 use crate::errors::CardError;
@@ -10,18 +10,18 @@ use crate::line::{CutLine, PastColumns};
 use crate::place::CardPlace;
 use std::alloc::{AllocError, Global};
 
-/// What was assumed of a card, or is not as a card should be.
+/// What was assumed about a card, or what a card should not have.
 #[derive(Clone, Copy, Debug, PartialEq, Eq)]
 pub enum CardNoteReason {
-    /// UTF-8's mark is before the first card, and is skipped.
+    /// The byte order mark of UTF-8 precedes the first card. It is skipped.
     ByteOrderMark,
-    /// Blanks after column 80 are left away.
+    /// Blanks after column 80 are left out.
     BlanksAfter80,
-    /// There is more than blanks after column 80. It is not read.
+    /// More than blanks follows column 80. It is not read.
     LongLine,
-    /// It has tabs, each as one column.
+    /// The card has tabs, each of which takes one column.
     Tab,
-    /// It has characters that are not printable ASCII.
+    /// The card has characters that are not printable ASCII.
     NotPrintable,
     /// NULs or the end of file of older systems follow the last card. They are skipped.
     Padding,
@@ -29,7 +29,7 @@ pub enum CardNoteReason {
     Delimiter,
 }
 
-/// What was noted of cards, the first of these cards, and how many there are.
+/// What was noted about cards, with the first of these cards and their number.
 #[derive(Clone, Copy, Debug, PartialEq, Eq)]
 pub struct CardNote {
     pub reason: CardNoteReason,
@@ -40,9 +40,9 @@ pub struct CardNote {
 /// A file as cards.
 #[derive(Drop)]
 pub struct Cards {
-    /// How it is laid out, as it was asked for or as the bytes tell.
+    /// How the file is laid out: as the caller asked, or as the bytes show.
     pub layout: Layout,
-    /// Its code, as it was asked for or as the bytes tell.
+    /// The code that the caller asked for, or that the bytes show.
     pub code: Code,
     pub cards: Vec<Card>,
     /// One for each reason.
@@ -52,13 +52,13 @@ pub struct Cards {
 /// Reads the cards of a file, one after the other.
 #[derive(Clone, Copy)]
 pub struct CardReader<'a> {
-    /// How the file is laid out, as it was asked for or as the bytes tell.
+    /// How the file is laid out: as the caller asked, or as the bytes show.
     pub layout: Layout,
-    /// Its code, as it was asked for or as the bytes tell.
+    /// The code that the caller asked for, or that the bytes show.
     pub code: Code,
     /// The number of the file among those that are read.
     file: usize,
-    /// The lines or records that are not read yet.
+    /// The lines or records that have not been read yet.
     rest: &'a [u8],
     /// How many cards were read.
     cards: usize,
@@ -68,7 +68,7 @@ pub struct CardReader<'a> {
     delimiter: Option<CardPlace>,
 }
 
-// Notes the card at that place: counts one more card in the note of this reason, or begins one.
+// Notes the card at that place: counts it in the note of this reason, or begins such a note.
 fn note_card(
     notes: &mut Vec<CardNote>,
     reason: CardNoteReason,
@@ -88,7 +88,7 @@ fn note_card(
     Ok(())
 }
 
-// Notes the characters of the card that are no printable ASCII.
+// Notes whether the card has tabs, and whether it has other characters that are not printable ASCII.
 fn note_characters(notes: &mut Vec<CardNote>, card: &Card) -> Result<(), AllocError> {
     if card.is_printable() {
         return Ok(());
@@ -107,9 +107,9 @@ fn note_characters(notes: &mut Vec<CardNote>, card: &Card) -> Result<(), AllocEr
 }
 
 impl<'a> CardReader<'a> {
-    /// A reader of the cards of a file, which is the one of this number among those that are read. Layout and code are
-    /// those that are asked for, or those that the bytes show. Returns an error if the bytes show that they are no
-    /// cards, or if records are asked for and 80 does not divide the length.
+    /// A reader of the cards of the file that has this number among those that are read. If no layout or no code is
+    /// given, the bytes decide. Returns an error if they cannot be read as cards, or if records are asked for and 80
+    /// does not divide the length.
     pub fn open(
         file: usize,
         bytes: &'a [u8],
@@ -126,7 +126,7 @@ impl<'a> CardReader<'a> {
         if layout == Layout::Text && code == Code::Ascii && has_bare_returns(text) {
             return Err(CardError::CarriageReturns);
         }
-        let content = without_file_padding(text, layout, code);
+        let content = without_padding_after_cards(text, layout, code);
         if layout == Layout::Records && content.len() % RECORD != 0 {
             return Err(CardError::ShortRecord {
                 bytes: content.len() % RECORD,
@@ -166,7 +166,7 @@ impl<'a> CardReader<'a> {
         Some(CutLine::read(line, self.code))
     }
 
-    // The next line or record as a card, with notes of what is not as a card should be.
+    // The next line or record as a card, with notes on what a card should not have.
     fn read_card(&mut self, notes: &mut Vec<CardNote>) -> Result<Option<Card>, AllocError> {
         let Some(line) = self.next_line() else {
             return Ok(None);
@@ -188,15 +188,15 @@ impl<'a> CardReader<'a> {
             let Some(line) = ahead.next_line() else {
                 return true;
             };
-            if !line.card_at(ahead.place()).is_blank() {
+            if !line.card_at(ahead.place()).has_blank_columns() {
                 return false;
             }
         }
         true
     }
 
-    /// The next card, or `None` after the last one. If a delimiter is the last card but for blank ones, the cards end
-    /// before it. Notes say what was assumed of the cards, and what is not as a card should be.
+    /// The next card, or `None` after the last one. If only blank cards follow a delimiter, the cards end before it.
+    /// Notes say what was assumed about the cards, and what a card should not have.
     pub fn next_card(&mut self, notes: &mut Vec<CardNote>) -> Result<Option<Card>, AllocError> {
         if self.has_mark && self.cards == 0 {
             let first = CardPlace {
@@ -233,46 +233,35 @@ impl<'a> CardReader<'a> {
     }
 }
 
-// The first line without its end, and what follows it.
+// The first line without its end, which may have a carriage return, and the bytes after that end.
 fn first_line(bytes: &[u8], code: Code) -> (&[u8], &[u8]) {
-    let end = bytes.iter().position(|byte| code.ends_line(*byte));
-    let Some(place) = end else {
-        return (bytes, b"");
-    };
-    match bytes.split_at_checked(place.saturating_add(1)) {
-        Some((ended, rest)) => (without_end(ended, code), rest),
+    match bytes.iter().position(|byte| code.ends_line(*byte)) {
+        Some(end) => {
+            let line = &bytes[..end];
+            (line.strip_suffix(b"\r").unwrap_or(line), &bytes[end + 1..])
+        }
         None => (bytes, b""),
     }
 }
 
-// The first record, and what follows it.
+// The first record, and the bytes after it.
 fn first_record(bytes: &[u8]) -> (&[u8], &[u8]) {
     match bytes.split_at_checked(RECORD) {
-        Some(both) => both,
+        Some(parts) => parts,
         None => (bytes, b""),
     }
 }
 
-// The line without the byte that ends it, and without a carriage return before that.
-fn without_end(ended: &[u8], code: Code) -> &[u8] {
-    let Some((last, line)) = ended.split_last() else {
-        return ended;
-    };
-    if !code.ends_line(*last) {
-        return ended;
-    }
-    line.strip_suffix(b"\r").unwrap_or(line)
-}
-
-// The bytes without what pads the file. If they are records, padding that belongs to the last record stays.
-fn without_file_padding<'a>(bytes: &'a [u8], layout: Layout, code: Code) -> &'a [u8] {
+// The lines or records of the file, without its padding. If the last record ends with bytes that look like padding, it
+// keeps them.
+fn without_padding_after_cards(bytes: &[u8], layout: Layout, code: Code) -> &[u8] {
     let front = without_padding(bytes, code);
     if layout == Layout::Text {
         return front;
     }
     let missing = (RECORD - front.len() % RECORD) % RECORD;
     match bytes.split_at_checked(front.len().saturating_add(missing)) {
-        Some((whole, _)) => whole,
+        Some((records, _)) => records,
         None => front,
     }
 }

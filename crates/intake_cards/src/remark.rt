@@ -56,7 +56,7 @@ impl Remark<'_> {
         }
     }
 
-    /// Whether both remarks tell the same, of the same operand, about statements of one word.
+    /// Whether both remarks say the same about the same operand, in statements of the same word.
     pub(crate) fn is_like(&self, other: &Remark<'_>) -> bool {
         self.deed == other.deed
             && self.reason == other.reason
@@ -64,7 +64,7 @@ impl Remark<'_> {
             && self.operand == other.operand
     }
 
-    /// The statement with its id and its operand, as far as these are there; empty if it is about none.
+    /// The statement with its id, and the operand, as far as the remark has them; empty if it has none of these.
     pub fn subject_text(&self, alloc: Global) -> Result<Vec<u8>, AllocError> {
         let mut text = Vec::from_slice(alloc, self.statement)?;
         if !self.id.is_empty() {
@@ -81,7 +81,8 @@ impl Remark<'_> {
         Ok(text)
     }
 
-    /// The line that tells it, without an end of line. `file` is the name of its file, `unit` is "record" or "line".
+    /// The line that is printed for the remark, without an end of line. `file` is the name of its file, and `unit` is
+    /// "record" or "line".
     pub fn line(&self, alloc: Global, file: &str, unit: &str) -> Result<Vec<u8>, AllocError> {
         let card = self.place.card;
         let mut line = format!(in alloc; "{file} {unit} {card}: ")?.into_bytes();

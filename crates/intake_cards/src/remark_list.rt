@@ -86,14 +86,14 @@ impl RemarkList {
         Ok(())
     }
 
-    // Adds a word after the others, and returns its length. Of a word of more than 4 GB only the beginning counts.
+    // Adds a word after the others, and returns its length. Of a word of more than 4 GB only the beginning is kept.
     fn add_word(&mut self, word: &[u8]) -> Result<u32, AllocError> {
-        let counted = match word.split_at_checked(u32::MAX as usize) {
+        let kept = match word.split_at_checked(u32::MAX as usize) {
             Some((front, _)) => front,
             None => word,
         };
-        self.words.extend_from_slice(counted)?;
-        Ok(u32::try_from(counted.len()).unwrap_or(u32::MAX))
+        self.words.extend_from_slice(kept)?;
+        Ok(u32::try_from(kept.len()).unwrap_or(u32::MAX))
     }
 
     /// Adds the others after these.
@@ -110,7 +110,7 @@ impl RemarkList {
         self.heads.append(&mut others.heads)
     }
 
-    /// Turns each remark that something is left out into one that it is dropped.
+    /// Turns each remark that says that something is left out into one that says that it is dropped.
     pub fn mark_left_out_as_dropped(&mut self) {
         for head in self.heads.iter_mut() {
             if head.deed == Deed::LeftOut {

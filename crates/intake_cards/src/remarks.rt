@@ -12,7 +12,7 @@ use std::alloc::{AllocError, Global};
 pub struct Subject<'a> {
     /// Where it begins.
     pub place: CardPlace,
-    /// Its word without the plus signs; empty if no statement is meant.
+    /// Its word without the plus signs; empty if the remark is about no statement.
     pub word: &'a [u8],
     /// The id or the name in it, unchanged; empty if it has none.
     pub id: &'a [u8],
@@ -36,9 +36,9 @@ pub struct StandIn {
 /// The remarks so far, and what is counted beside them.
 #[derive(Debug, Drop)]
 pub struct Remarks {
-    /// In the order in which they were told.
+    /// In the order in which they were made.
     pub list: RemarkList,
-    /// How many stand-ins were told.
+    /// How many remarks are about stand-ins.
     pub stand_ins: usize,
     /// Which element each stand-in is for.
     pub named: Vec<StandIn>,
@@ -63,24 +63,24 @@ fn causes_of(alloc: Global, list: &RemarkList) -> Result<Vec<Cause>, AllocError>
         let Some(remark) = list.get(place) else {
             continue;
         };
-        if !count_in_cause(list, causes.as_mut_slice(), &remark) {
-            causes.push(Cause { place, more: 0 })?;
+        match like_cause(list, causes.as_mut_slice(), &remark) {
+            Some(cause) => cause.more = cause.more.saturating_add(1),
+            None => causes.push(Cause { place, more: 0 })?,
         }
     }
     Ok(causes)
 }
 
-// Counts the remark in the cause whose remark is like it. Returns whether there is one.
-fn count_in_cause(list: &RemarkList, causes: &mut [Cause], remark: &Remark<'_>) -> bool {
-    for cause in causes.iter_mut() {
-        if let Some(first) = list.get(cause.place) {
-            if first.is_like(remark) {
-                cause.more = cause.more.saturating_add(1);
-                return true;
-            }
-        }
-    }
-    false
+// The cause whose first remark is like this one, or `None` if there is none.
+fn like_cause<'a>(
+    list: &RemarkList,
+    causes: &'a mut [Cause],
+    remark: &Remark<'_>,
+) -> Option<&'a mut Cause> {
+    causes.iter_mut().find(|cause| {
+        list.get(cause.place)
+            .is_some_and(|first| first.is_like(remark))
+    })
 }
 
 impl Remarks {
@@ -95,7 +95,7 @@ impl Remarks {
         }
     }
 
-    /// Tells what was done with an operand, or with the whole statement if `operand` is empty. `text` is the value or
+    /// Remarks what was done with an operand, or with the whole statement if `operand` is empty. `text` is the value or
     /// the text that is meant, unchanged. A stand-in is counted.
     pub fn tell(
         &mut self,
@@ -125,7 +125,7 @@ impl Remarks {
         })
     }
 
-    /// Tells that the operand, or the whole statement if `operand` is empty, says the same in other words, or has a
+    /// Remarks that the operand, or the whole statement if `operand` is empty, is carried in other words, or with a
     /// shorter text.
     pub fn tell_carried(
         &mut self,
@@ -138,7 +138,8 @@ impl Remarks {
         self.tell(alloc, subject, operand, Deed::Carried, reason, text)
     }
 
-    /// Tells that the operand, or the whole statement if `operand` is empty, is not carried, but what it belongs to is.
+    /// Remarks that the operand, or the whole statement if `operand` is empty, is not carried, although the statement
+    /// or the SYSMOD to which it belongs is.
     pub fn tell_dropped(
         &mut self,
         alloc: Global,
@@ -150,7 +151,8 @@ impl Remarks {
         self.tell(alloc, subject, operand, Deed::Dropped, reason, text)
     }
 
-    /// Tells that a SYSMOD is left out because of this operand, or of the whole statement if `operand` is empty.
+    /// Remarks that a SYSMOD is left out because of the operand, or because of the whole statement if `operand` is
+    /// empty.
     pub fn tell_left_out(
         &mut self,
         alloc: Global,
@@ -170,8 +172,8 @@ impl Remarks {
         self.list.append(others.list)
     }
 
-    /// Adds the remarks of a SYSMOD that is left out after these: of remarks that are alike only the first one, whose
-    /// text is then the number of the others.
+    /// Adds the remarks on a SYSMOD that is left out after these. Of remarks that are alike only the first is added,
+    /// and its text is then the number of the others.
     pub fn append_causes(&mut self, alloc: Global, others: Remarks) -> Result<(), AllocError> {
         let causes = causes_of(alloc, &others.list)?;
         for cause in causes.iter() {

@@ -1,6 +1,6 @@
-//! The words of cards, one after the other: words, what stands in parentheses, periods. Comments separate them, and so
-//! do blanks, commas and the ends of cards; in parentheses a comment is a blank, but in those of a text (COMMENT, DESC)
-//! it belongs to the text.
+//! The pieces of cards, one after the other: words, the texts in parentheses, and periods. Comments separate them, and
+//! so do blanks, commas and the ends of cards. In parentheses a comment counts as a blank, but in those of a text
+//! operand (COMMENT, DESC) it belongs to the text.
 use crate::card::Card;
 use crate::place::CardPlace;
 use std::alloc::{AllocError, Global};
@@ -11,7 +11,7 @@ use std::mem;
 pub enum Token {
     /// Letters, digits, `$`, `#`, `@` and other characters of names, the letters in upper case.
     Word(Vec<u8>),
-    /// What stands in parentheses, as it is, inner parentheses too. Blanks at either end of a card are left away, and
+    /// The text in parentheses, unchanged, inner parentheses included. Blanks at either end of a card are left out, and
     /// one blank stands between two cards.
     List(Vec<u8>),
     Period,
@@ -61,20 +61,20 @@ pub struct CardScanner {
     /// Where the list, or the comment, or both, opened.
     list_place: CardPlace,
     comment_place: CardPlace,
-    /// What there is so far of the word or the list.
+    /// The word or the list so far.
     text: Vec<u8>,
-    /// Blanks of the list that are text if more text follows in the card.
+    /// Blanks of the list that become text if more text follows on the same card.
     blanks: usize,
-    /// Whether the list has nothing but blanks so far in this card.
+    /// Whether the list has only blanks so far on this card.
     at_margin: bool,
-    /// Whether the list belongs to a word whose list is text.
+    /// Whether the list is the value of a text operand.
     is_text: bool,
     has_lower: bool,
     has_period: bool,
     pieces: Vec<CardPiece>,
 }
 
-/// Whether words have the character.
+/// Whether the character may be part of a word.
 pub fn is_word_byte(byte: u8) -> bool {
     byte.is_ascii_alphanumeric() || matches!(byte, b'$' | b'#' | b'@' | b'+' | b'_' | b'-')
 }
@@ -108,13 +108,8 @@ impl CardScanner {
     pub fn open(&self) -> Open {
         match self.state {
             State::Comment | State::Star => Open::Comment(self.comment_place),
-            _ => {
-                if self.depth > 0 {
-                    Open::Parenthesis(self.list_place)
-                } else {
-                    Open::Nothing
-                }
-            }
+            _ if self.depth > 0 => Open::Parenthesis(self.list_place),
+            _ => Open::Nothing,
         }
     }
 
@@ -123,7 +118,7 @@ impl CardScanner {
         self.pieces.as_slice()
     }
 
-    /// Whether a word so far has a letter in lower case, since pieces were taken last.
+    /// Whether one of the words so far has a letter in lower case.
     pub fn has_lower(&self) -> bool {
         self.has_lower
     }
@@ -133,7 +128,7 @@ impl CardScanner {
         self.has_period
     }
 
-    /// Takes the pieces so far out of it. Parentheses that are open are forgotten, and a comment stays open.
+    /// Takes the pieces so far out of the scanner. It forgets parentheses that are open, but a comment stays open.
     pub fn take_pieces(&mut self) -> Vec<CardPiece> {
         self.depth = 0;
         self.has_lower = false;
@@ -145,7 +140,7 @@ impl CardScanner {
         mem::replace(&mut self.pieces, Vec::new(self.alloc))
     }
 
-    /// Scans some columns of a card, of which the last one is column 72.
+    /// Scans the columns of a card up to column 72, or the last ones of these.
     pub fn scan_columns(&mut self, place: CardPlace, columns: &[u8]) -> Result<(), AllocError> {
         for byte in columns {
             self.scan_byte(place, *byte)?;
@@ -189,7 +184,6 @@ impl CardScanner {
         Ok(())
     }
 
-    // Adds a piece.
     fn push_piece(&mut self, place: CardPlace, token: Token) -> Result<(), AllocError> {
         self.pieces.push(CardPiece { place, token })?;
         Ok(())
@@ -225,7 +219,7 @@ impl CardScanner {
         Ok(())
     }
 
-    // Scans a character after one of a word, which goes on or ends before it.
+    // Scans the character after one of a word: it belongs to the word, or the word ends before it.
     fn scan_in_word(&mut self, place: CardPlace, byte: u8) -> Result<(), AllocError> {
         if is_word_byte(byte) {
             return self.push_word_byte(byte);
@@ -241,20 +235,17 @@ impl CardScanner {
         self.push_piece(place, Token::Word(word))
     }
 
-    // Begins a list. It is text if the word before it says so.
+    // Begins a list. If the word before it is a text operand, the list is text.
     fn open_list(&mut self, place: CardPlace) {
         self.state = State::List;
         self.depth = 1;
         self.list_place = place;
         self.blanks = 0;
         self.at_margin = true;
-        self.is_text = match self.pieces.last() {
-            Some(piece) => match &piece.token {
-                Token::Word(word) => is_text_operand(word.as_slice()),
-                _ => false,
-            },
-            None => false,
-        };
+        self.is_text = self.pieces.last().is_some_and(|piece| match &piece.token {
+            Token::Word(word) => is_text_operand(word.as_slice()),
+            _ => false,
+        });
     }
 
     // Scans a character inside parentheses.
@@ -281,14 +272,14 @@ impl CardScanner {
         }
     }
 
-    // Counts a blank of the list that is text if more text follows in the card.
+    // Counts a blank in the list, unless the card has no text of the list before it.
     fn count_list_blank(&mut self) {
         if !self.at_margin {
             self.blanks = self.blanks.saturating_add(1);
         }
     }
 
-    // Adds a character that is no blank to the list, after the blanks that were counted.
+    // Adds a character that is not a blank to the list, after the blanks that were counted.
     fn push_list_byte(&mut self, byte: u8) -> Result<(), AllocError> {
         if !self.text.is_empty() {
             for _ in 0..self.blanks {
@@ -309,7 +300,8 @@ impl CardScanner {
         self.push_piece(self.list_place, Token::List(list))
     }
 
-    // Scans the character after a slash: an asterisk begins a comment, and before any other the slash is by itself.
+    // Scans the character after a slash. The two begin a comment if it is an asterisk. Otherwise the slash stands by
+    // itself.
     fn scan_after_slash(&mut self, place: CardPlace, byte: u8) -> Result<(), AllocError> {
         if byte == b'*' {
             self.state = State::Comment;
@@ -324,7 +316,7 @@ impl CardScanner {
         }
     }
 
-    // Adds the slash by itself: it begins no comment.
+    // Adds a slash that begins no comment: to the list, or as a stray character.
     fn push_slash(&mut self, place: CardPlace) -> Result<(), AllocError> {
         if self.depth > 0 {
             self.state = State::List;
@@ -351,7 +343,7 @@ impl CardScanner {
         }
     }
 
-    /// Goes on after a comment, which is a blank in a list.
+    /// Ends the comment, which counts as a blank in a list.
     pub fn end_comment(&mut self) {
         if self.depth > 0 {
             self.state = State::List;

@@ -57,11 +57,11 @@ IsChangeOf type name updated change =
     (change.elem_type ≡ type) × (change.name ≡ name) × (is_replacement change.action ≡ not updated)
 
 -- an operand that decides whether the SYSMOD goes on
-abbrev pub is_level : Text → Bool
-is_level name = bytes_eq name (codes "RMID") || bytes_eq name (codes "UMID") || bytes_eq name (codes "DELETE")
+abbrev pub is_level_operand : Text → Bool
+is_level_operand name = bytes_eq name (codes "RMID") || bytes_eq name (codes "UMID") || bytes_eq name (codes "DELETE")
 
 abbrev pub HasNoLevel : WideOperand → Type 0
-HasNoLevel operand = is_level operand.name.items ≡ false
+HasNoLevel operand = is_level_operand operand.name.items ≡ false
 
 -- what the statement itself changes; no operand of it decides more
 pub record IsMadeOf (decide : Bool) (kind : Kind) (stated : WideElement) (change : Change) : Type 0 where

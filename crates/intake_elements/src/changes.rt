@@ -4,10 +4,11 @@ ghost use Rattle.intake_elements.specs.Elements.{IsProfileType, IsLacked, IsMade
 
 use crate::element_words::profile_type;
 use crate::elements::{tell_dropped_operand, whole_change};
-use crate::levels::level_operand;
-use crate::modules::{is_module_word, tell_dropped_modules};
+use crate::levels::first_level_operand;
+use crate::modules::{has_faulty_modules, is_module_operand, tell_dropped_modules};
 use crate::options::Options;
 use crate::stand_ins::{one_record_change, stand_in_change, tell_stand_in};
+use crate::subjects::element_subject;
 use fields::Name;
 use intake_cards::{Deed, RemarkReason, Remarks, Subject};
 use intake_read::{WideElement, tell_dropped_operands, tell_faulty_operands};
@@ -15,38 +16,27 @@ use std::alloc::{AllocError, Global};
 use sysmods_values::ElemChange;
 use terms::{ElemType, Kind};
 
-/// The element's statement, as remarks name it.
-pub fn subject_of(element: &WideElement) -> Subject<'_> {
-    Subject {
-        place: element.place,
-        word: element.word.as_slice(),
-        id: element.name.as_slice(),
-    }
-}
-
-// Leaves the SYSMOD out for each DISTMOD and ASSEM, which name modules, that is faulty. Returns whether none is.
-fn check_modules(
+// Remarks, for each faulty DISTMOD and ASSEM, that the SYSMOD is left out, because it is not known which modules are
+// assembled.
+fn tell_faulty_modules(
     alloc: Global,
     remarks: &mut Remarks,
     subject: &Subject<'_>,
     element: &WideElement,
-) -> Result<bool, AllocError> {
-    let mut good = true;
+) -> Result<(), AllocError> {
     for entry in element.faulty.iter() {
         let name = entry.operand.name.as_slice();
-        if is_module_word(name) {
+        if is_module_operand(name) {
             let reason = RemarkReason::from(entry.reason);
             remarks.tell_left_out(alloc, subject, name, reason, entry.operand.text())?;
-            good = false;
         }
     }
-    Ok(good)
+    Ok(())
 }
 
-// If stand-ins are asked for, leaves the SYSMOD out for RMID, UMID or DELETE, which decide whether it goes on, or else
-// for each DISTMOD and ASSEM that is faulty. Returns whether the element passes: it has none of them, or stand-ins
-// are not asked for.
-fn check_levels_and_modules(
+// If stand-ins are asked for, an element may not have RMID, UMID or DELETE, which a stand-in cannot have, nor a faulty
+// DISTMOD or ASSEM. If it has one of them, returns `false`, with remarks that the SYSMOD is left out.
+fn meets_stand_in_rules(
     alloc: Global,
     options: &Options,
     remarks: &mut Remarks,
@@ -59,15 +49,16 @@ fn check_levels_and_modules(
     if !options.decide {
         return Ok(true);
     }
-    if let Some(operand) = level_operand(element.operands.as_slice()) {
+    if let Some(operand) = first_level_operand(element.operands.as_slice()) {
         let name = operand.name.as_slice();
         remarks.tell_left_out(alloc, subject, name, RemarkReason::Level, operand.text())?;
         return Ok(false);
     }
-    check_modules(alloc, remarks, subject, element)
+    tell_faulty_modules(alloc, remarks, subject, element)?;
+    Ok(!has_faulty_modules(element))
 }
 
-// Remarks that each operand of an element is dropped, because its stand-in is carried.
+// Remarks, for each operand of the element, that it is dropped, because a stand-in is carried.
 fn tell_all_operands_dropped(
     alloc: Global,
     options: &Options,
@@ -102,7 +93,7 @@ fn change_by_stand_in(
     requires level_free { IsTrue options.now.decide → All HasNoLevel element.now.operands.items }
     ensures { IfOk result (λ found. IfSome found (IsMadeOf options.now.decide kind element.now)) }
 {
-    let subject = subject_of(element);
+    let subject = element_subject(element);
     if !options.decide {
         remarks.tell_left_out(alloc, &subject, b"", RemarkReason::OutsideProfile, b"")?;
         return Ok(None);
@@ -112,8 +103,9 @@ fn change_by_stand_in(
     Ok(change)
 }
 
-// The whole change of a statement of the profile. If it cannot be carried and stand-ins are asked for, a change with a
-// text of one record stands in for it. Returns `None`, with a remark, if neither can be carried.
+// The change that a statement of the profile states. If it cannot be carried and stand-ins are asked for, a change of
+// the same element with a text of one record stands in for it. Returns `None`, with a remark, if neither can be
+// carried.
 fn whole_or_short_change(
     alloc: Global,
     options: &Options,
@@ -126,7 +118,7 @@ fn whole_or_short_change(
     requires level_free { IsTrue options.now.decide → All HasNoLevel element.now.operands.items }
     ensures { IfOk result (λ found. IfSome found (IsMadeOf options.now.decide kind element.now)) }
 {
-    let subject = subject_of(element);
+    let subject = element_subject(element);
     let Some(name) = Name::read(element.name.as_slice()) else {
         remarks.tell_left_out(alloc, &subject, b"", RemarkReason::BadName, b"")?;
         return Ok(None);
@@ -136,7 +128,6 @@ fn whole_or_short_change(
         alloc,
         options,
         &mut element_remarks,
-        &subject,
         kind,
         element,
         elem_type,
@@ -156,7 +147,8 @@ fn whole_or_short_change(
     Ok(Some(change))
 }
 
-/// The change of an element statement. Returns `None`, with a remark, if it cannot be carried.
+/// The change that an element statement states, or the one that stands in for it if stand-ins are asked for. Returns
+/// `None`, with a remark, if neither can be carried.
 pub fn change_of(
     alloc: Global,
     options: &Options,
@@ -166,8 +158,8 @@ pub fn change_of(
 ) -> Result<Option<ElemChange>, AllocError>
     ensures { IfOk result (λ found. IfSome found (IsMadeOf options.now.decide kind element.now)) }
 {
-    let subject = subject_of(element);
-    if !check_levels_and_modules(alloc, options, remarks, &subject, element)? {
+    let subject = element_subject(element);
+    if !meets_stand_in_rules(alloc, options, remarks, &subject, element)? {
         return Ok(None);
     }
     match profile_type(element.word.as_slice()) {

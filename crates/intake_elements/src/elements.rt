@@ -1,12 +1,13 @@
 //! Statements of the profile that bring or update elements.
 ghost use Rattle.std.specs.Prelude.{◌≡◌, IfOk, IfSome, IsTrue, All, true, false};
 ghost use Rattle.terms.specs.Texts.{IsReplacement, IsUpdate};
-ghost use Rattle.intake_elements.specs.Elements.{is_level, HasNoLevel, is_update, IsChangeOf};
+ghost use Rattle.intake_elements.specs.Elements.{is_level_operand, HasNoLevel, is_update, IsChangeOf};
 
-use crate::element_words::{is_update, is_update_word, profile_type};
-use crate::levels::is_level;
+use crate::element_words::{is_update, is_update_word};
+use crate::levels::is_level_operand;
 use crate::modules::tell_dropped_modules;
 use crate::options::{Libraries, Options};
+use crate::subjects::element_subject;
 use crate::texts::{
     MOST_RECORDS, first_misnumbered, needs_numbers, replacement_text, without_blank_cards_at_end,
     without_blank_end_if_numbered,
@@ -20,20 +21,21 @@ use sysmods_values::{Action, ElemChange};
 use terms::{ElemType, Kind};
 use text80::{Line, TextError, Update};
 
-/// Operands of elements that are dropped.
+/// Operands of elements without which the SYSMOD can be carried.
 const DROPPED: &[&[u8]] = &[
     b"SSI", b"ALIAS", b"MALIAS", b"DISTSRC", b"PREFIX", b"VERSION",
 ];
 
-// Whether the operand of this name may be dropped. `DROPPED` names no level: the first test shows that to the proof.
-fn is_dropped_operand(name: &[u8]) -> bool
-    ensures { IsTrue result → is_level name.now ≡ false }
+// Whether the operand of this name may be dropped. `DROPPED` has no operand that decides whether the SYSMOD goes on:
+// the first test shows that to the proof.
+fn may_drop_operand(name: &[u8]) -> bool
+    ensures { IsTrue result → is_level_operand name.now ≡ false }
 {
-    !is_level(name) && DROPPED.iter().any(|dropped| *dropped == name)
+    !is_level_operand(name) && DROPPED.iter().any(|dropped| *dropped == name)
 }
 
-/// Remarks that an operand is dropped. VERSION lets a SYSMOD take over an element of another function, so without it
-/// more fails, as without VERSION of `++VER`. Any other operand changes no decision.
+/// Remarks that an operand of an element is dropped. VERSION lets a SYSMOD take over an element of another function, so
+/// without it more SYSMODs fail, as without VERSION of `++VER`. Any other operand changes no decision.
 pub(crate) fn tell_dropped_operand(
     alloc: Global,
     remarks: &mut Remarks,
@@ -49,8 +51,9 @@ pub(crate) fn tell_dropped_operand(
     remarks.tell_dropped(alloc, subject, name, reason, operand.text())
 }
 
-// Drops an operand that may be dropped, and leaves the SYSMOD out for any other. Returns whether it is dropped.
-fn drop_or_leave_out(
+// Drops the operand, with a remark, if it may be dropped. Otherwise the SYSMOD is left out, also with a remark. Returns
+// whether the operand is dropped.
+fn drop_operand(
     alloc: Global,
     remarks: &mut Remarks,
     subject: &Subject<'_>,
@@ -59,19 +62,19 @@ fn drop_or_leave_out(
     ensures { IfOk result (λ dropped. IsTrue dropped → HasNoLevel operand.now) }
 {
     let name = operand.name.as_slice();
-    let dropped = is_dropped_operand(name);
-    if dropped {
+    let may_drop = may_drop_operand(name);
+    if may_drop {
         tell_dropped_operand(alloc, remarks, subject, operand)?;
     } else {
         let text = operand.text();
         remarks.tell_left_out(alloc, subject, name, RemarkReason::UnknownOperand, text)?;
     }
-    Ok(dropped)
+    Ok(may_drop)
 }
 
-// Drops the operands that may be dropped, and leaves the SYSMOD out for each of the others. Returns whether all are
-// dropped.
-fn drop_or_leave_out_each(
+// Drops the operands that may be dropped, with remarks. For each of the others the SYSMOD is left out. Returns whether
+// all are dropped.
+fn drop_operands(
     alloc: Global,
     remarks: &mut Remarks,
     subject: &Subject<'_>,
@@ -81,21 +84,21 @@ fn drop_or_leave_out_each(
 {
     let mut all = true;
     for operand in operands {
-        let dropped = drop_or_leave_out(alloc, remarks, subject, operand)?;
+        let dropped = drop_operand(alloc, remarks, subject, operand)?;
         all = are_both(all, dropped);
     }
     Ok(all)
 }
 
-/// Whether both are true. A function, because its contract tells the proofs of its callers what follows.
+/// Whether both are true. It is a function because the proofs of its callers need its contract.
 pub fn are_both(first: bool, second: bool) -> bool
     ensures { IsTrue result → IsTrue first × IsTrue second }
 {
     first && second
 }
 
-// Leaves the SYSMOD out if the text is in another library.
-fn leave_out_for_libraries(
+// Remarks, for each of the libraries, that the SYSMOD is left out because the text of the element is in it.
+fn tell_text_libraries(
     alloc: Global,
     remarks: &mut Remarks,
     subject: &Subject<'_>,
@@ -109,9 +112,9 @@ fn leave_out_for_libraries(
     Ok(())
 }
 
-// Remarks on all operands: on those that are dropped, and on those for which the SYSMOD is left out. Returns whether
-// all are dropped.
-fn drop_or_leave_out_operands(
+// Remarks on all operands of the element: on those that are dropped, and on those for which the SYSMOD is left out.
+// Returns whether it can be carried.
+fn drop_all_operands(
     alloc: Global,
     options: &Options,
     remarks: &mut Remarks,
@@ -123,13 +126,13 @@ fn drop_or_leave_out_operands(
     tell_dropped_modules(alloc, options, remarks, subject, element)?;
     let faulty = element.faulty.as_slice();
     tell_faulty_operands(alloc, remarks, subject, faulty, Deed::LeftOut)?;
-    let dropped = drop_or_leave_out_each(alloc, remarks, subject, element.operands.as_slice())?;
-    leave_out_for_libraries(alloc, remarks, subject, element.libraries.as_slice())?;
-    let is_here = element.faulty.is_empty() && element.libraries.is_empty();
-    Ok(are_both(dropped, is_here))
+    let dropped = drop_operands(alloc, remarks, subject, element.operands.as_slice())?;
+    tell_text_libraries(alloc, remarks, subject, element.libraries.as_slice())?;
+    let others_are_good = element.faulty.is_empty() && element.libraries.is_empty();
+    Ok(are_both(dropped, others_are_good))
 }
 
-// The name of a library that must be stated. Returns `None`, with a remark, if it has not the form of a name.
+// The library that the operand states. Returns `None`, with a remark, if it does not have the form of a name.
 fn read_library(
     alloc: Global,
     remarks: &mut Remarks,
@@ -144,7 +147,8 @@ fn read_library(
     Ok(name)
 }
 
-// The libraries of a replacement. Returns `None`, with a remark, if one is missing or has not the form of a name.
+// The libraries of a replacement: a SYSLIB that is not stated is that of the options. Returns `None`, with a remark, if
+// one is missing or does not have the form of a name.
 fn read_libraries(
     alloc: Global,
     options: &Options,
@@ -184,7 +188,8 @@ fn read_libraries(
     Ok(Some(Libraries { distlib, syslib }))
 }
 
-// The cards of an element's text. Returns `None`, with a remark, if they are elsewhere.
+// The cards of an element's text: those after its statement, or those of its RELFILE. Returns `None`, with a remark, if
+// the RELFILE was not read.
 fn text_cards<'a>(
     alloc: Global,
     options: &'a Options,
@@ -215,8 +220,8 @@ fn text_cards<'a>(
     Ok(Some(member.cards.as_slice()))
 }
 
-// The number of the card in its file, in words, or an empty text if there is no card.
-fn card_number_text(alloc: Global, card: Option<&Card>) -> Result<String, AllocError> {
+// Words that say where the card is in its file, or an empty text if there is no card.
+fn card_place_text(alloc: Global, card: Option<&Card>) -> Result<String, AllocError> {
     match card {
         Some(card) => {
             let number = card.place.card;
@@ -226,7 +231,7 @@ fn card_number_text(alloc: Global, card: Option<&Card>) -> Result<String, AllocE
     }
 }
 
-// Why the cards are no text at all, or `None` if they can be one.
+// Why the cards cannot be the text of any element, or `None` if they can.
 fn text_fault(cards: &[Card]) -> Option<RemarkReason> {
     if cards.is_empty() {
         return Some(RemarkReason::NoText);
@@ -243,22 +248,22 @@ fn text_fault(cards: &[Card]) -> Option<RemarkReason> {
     None
 }
 
-// Remarks that the cards at the end are dropped, if fewer are left.
+// Remarks that the blank cards at the end of the text are dropped, if there are any: if fewer cards are kept.
 fn tell_blank_end(
     alloc: Global,
     remarks: &mut Remarks,
     subject: &Subject<'_>,
     cards: &[Card],
-    left: &[Card],
+    kept: &[Card],
 ) -> Result<(), AllocError> {
-    if left.len() < cards.len() {
-        let text = card_number_text(alloc, cards.last())?;
+    if kept.len() < cards.len() {
+        let text = card_place_text(alloc, cards.last())?;
         remarks.tell_dropped(alloc, subject, b"", RemarkReason::BlankEnd, text.as_bytes())?;
     }
     Ok(())
 }
 
-// The cards as the records of a replacement. Returns `None`, with a remark, if they are no text of the type.
+// The cards as the records of a replacement of the type. Returns `None`, with a remark, if they cannot be its text.
 fn replacement_lines(
     alloc: Global,
     remarks: &mut Remarks,
@@ -269,15 +274,14 @@ fn replacement_lines(
     ensures { IfOk result (λ found. IfSome found (λ lines. IsReplacement elem_type lines.items)) }
 {
     if let Some(reason) = text_fault(cards) {
-        let text = card_number_text(alloc, cards.iter().find(|card| !card.is_printable()))?;
+        let text = card_place_text(alloc, cards.iter().find(|card| !card.is_printable()))?;
         remarks.tell_left_out(alloc, subject, b"", reason, text.as_bytes())?;
         return Ok(None);
     }
-    let whole = cards;
-    let cards = without_blank_end_if_numbered(elem_type, whole);
-    tell_blank_end(alloc, remarks, subject, whole, cards)?;
-    let Some(lines) = replacement_text(alloc, elem_type, cards)? else {
-        let text = card_number_text(alloc, first_misnumbered(cards))?;
+    let text_cards = without_blank_end_if_numbered(elem_type, cards);
+    tell_blank_end(alloc, remarks, subject, cards, text_cards)?;
+    let Some(lines) = replacement_text(alloc, elem_type, text_cards)? else {
+        let text = card_place_text(alloc, first_misnumbered(text_cards))?;
         remarks.tell_left_out(
             alloc,
             subject,
@@ -287,7 +291,7 @@ fn replacement_lines(
         )?;
         return Ok(None);
     };
-    if needs_numbers(elem_type, cards) {
+    if needs_numbers(elem_type, text_cards) {
         remarks.tell_carried(alloc, subject, b"", RemarkReason::Numbered, b"")?;
     }
     Ok(Some(lines))
@@ -354,9 +358,9 @@ fn stated_update(
     ensures { IfOk result (λ found. IfSome found (IsChangeOf elem_type name true)) }
 {
     tell_dropped_libraries(alloc, remarks, subject, element)?;
-    let whole = element.inline.as_slice();
-    let cards = without_blank_cards_at_end(whole);
-    tell_blank_end(alloc, remarks, subject, whole, cards)?;
+    let inline = element.inline.as_slice();
+    let cards = without_blank_cards_at_end(inline);
+    tell_blank_end(alloc, remarks, subject, inline, cards)?;
     let Some(lines) = update_lines(alloc, remarks, subject, cards)? else {
         return Ok(None);
     };
@@ -397,7 +401,6 @@ fn stated_change(
     alloc: Global,
     options: &Options,
     remarks: &mut Remarks,
-    subject: &Subject<'_>,
     kind: Kind,
     element: &WideElement,
     elem_type: ElemType,
@@ -405,24 +408,24 @@ fn stated_change(
 ) -> Result<Option<ElemChange>, AllocError>
     ensures { IfOk result (λ found. IfSome found (IsChangeOf elem_type name (is_update kind element.now.word.items))) }
 {
+    let subject = element_subject(element);
     let word = element.word.as_slice();
     if is_update(kind, word) {
-        return stated_update(alloc, remarks, subject, element, elem_type, name);
+        return stated_update(alloc, remarks, &subject, element, elem_type, name);
     }
     if is_update_word(word) {
-        remarks.tell_left_out(alloc, subject, b"", RemarkReason::UpdateInFunction, b"")?;
+        remarks.tell_left_out(alloc, &subject, b"", RemarkReason::UpdateInFunction, b"")?;
         return Ok(None);
     }
-    stated_replacement(alloc, options, remarks, subject, element, elem_type, name)
+    stated_replacement(alloc, options, remarks, &subject, element, elem_type, name)
 }
 
-/// The change of a statement of the profile, with the whole text that it has. Returns `None`, with a remark, if it
-/// cannot be carried.
+/// The change that a statement of the profile states, with its whole text. Returns `None`, with a remark, if it cannot
+/// be carried.
 pub(crate) fn whole_change(
     alloc: Global,
     options: &Options,
     remarks: &mut Remarks,
-    subject: &Subject<'_>,
     kind: Kind,
     element: &WideElement,
     elem_type: ElemType,
@@ -431,11 +434,10 @@ pub(crate) fn whole_change(
     ensures { IfOk result (λ found. IfSome found (λ c. IsChangeOf elem_type name
         (is_update kind element.now.word.items) c × All HasNoLevel element.now.operands.items)) }
 {
-    if !drop_or_leave_out_operands(alloc, options, remarks, subject, element)? {
+    let subject = element_subject(element);
+    if !drop_all_operands(alloc, options, remarks, &subject, element)? {
         return Ok(None);
     }
-    let change = stated_change(
-        alloc, options, remarks, subject, kind, element, elem_type, name,
-    )?;
+    let change = stated_change(alloc, options, remarks, kind, element, elem_type, name)?;
     Ok(change)
 }

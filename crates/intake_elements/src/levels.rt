@@ -1,22 +1,22 @@
 //! Operands of elements that decide whether a SYSMOD goes on.
 ghost use Rattle.std.specs.Prelude.{◌≡◌, IfNone, IsFalse, All};
-ghost use Rattle.intake_elements.specs.Elements.{is_level, HasNoLevel};
+ghost use Rattle.intake_elements.specs.Elements.{is_level_operand, HasNoLevel};
 
 use intake_read::{WideElement, WideOperand};
 
 /// Whether the operand of this name decides whether a SYSMOD goes on: RMID, UMID and DELETE do.
-pub(crate) fn is_level(name: &[u8]) -> bool
-    ensures { result ≡ is_level name.now }
+pub(crate) fn is_level_operand(name: &[u8]) -> bool
+    ensures { result ≡ is_level_operand name.now }
 {
     name == b"RMID".as_slice() || name == b"UMID".as_slice() || name == b"DELETE".as_slice()
 }
 
 /// The first operand that decides whether a SYSMOD goes on, or `None` if there is none.
-pub(crate) fn level_operand(operands: &[WideOperand]) -> Option<&WideOperand>
+pub(crate) fn first_level_operand(operands: &[WideOperand]) -> Option<&WideOperand>
     ensures { IfNone result (All HasNoLevel operands.now) }
 {
     for operand in operands {
-        if is_level(operand.name.as_slice()) {
+        if is_level_operand(operand.name.as_slice()) {
             return Some(operand);
         }
     }
@@ -24,11 +24,8 @@ pub(crate) fn level_operand(operands: &[WideOperand]) -> Option<&WideOperand>
 }
 
 /// Whether an operand of the element decides whether the SYSMOD goes on.
-pub fn has_level(element: &WideElement) -> bool
+pub fn has_level_operand(element: &WideElement) -> bool
     ensures { IsFalse result → All HasNoLevel element.now.operands.items }
 {
-    match level_operand(element.operands.as_slice()) {
-        Some(_) => true,
-        None => false,
-    }
+    first_level_operand(element.operands.as_slice()).is_some()
 }

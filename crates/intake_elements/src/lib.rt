@@ -10,12 +10,14 @@ mod modules;
 mod options;
 mod stand_in_names;
 mod stand_ins;
+mod subjects;
 mod texts;
 mod updates;
 
-pub use changes::{change_of, subject_of};
+pub use changes::change_of;
 pub use elements::are_both;
-pub use levels::has_level;
+pub use levels::has_level_operand;
 pub use modules::{has_faulty_modules, keys_of, modules_of};
 pub use options::{Options, RelfileMember, Syslib};
 pub use stand_ins::module_change;
+pub use subjects::element_subject;

@@ -11,14 +11,14 @@ use intake_cards::{RemarkReason, Remarks, Subject};
 use intake_read::WideElement;
 use std::alloc::{AllocError, Global};
 
-// Whether it is a source with DISTMOD, of which a module of its own name is assembled.
+// Whether the element is a source with DISTMOD, of which a module of its own name is assembled.
 fn has_own_module(element: &WideElement) -> bool
     ensures { result ≡ has_own_module element.now }
 {
     element.distmod.is_some() && is_source(element.word.as_slice())
 }
 
-// A list of the module that has the name of the source, or an empty list if the element has no such module.
+// The module that has the name of the source, if the element has such a module, as a list.
 fn own_module<'a>(alloc: Global, element: &'a WideElement) -> Result<Vec<&'a [u8]>, AllocError>
     ensures { IfOk result (λ modules. map (λ m. m.now) modules.items ≡ own_modules element.now) }
 {
@@ -43,7 +43,7 @@ pub fn modules_of<'a>(alloc: Global, element: &'a WideElement) -> Result<Vec<&'a
 }
 
 // Adds the key of the stand-in of each module.
-fn push_keys(keys: &mut Vec<u64>, modules: &[&[u8]]) -> Result<(), AllocError>
+fn add_module_keys(keys: &mut Vec<u64>, modules: &[&[u8]]) -> Result<(), AllocError>
     ensures { OnOk result (keys.new.items
         ≡ keys.old.items ++ map (λ m. key_of Mac (module_name m.now)) modules.now) }
 {
@@ -53,15 +53,15 @@ fn push_keys(keys: &mut Vec<u64>, modules: &[&[u8]]) -> Result<(), AllocError>
     Ok(())
 }
 
-/// The keys of the elements that the statement changes if stand-ins are asked for, those of the modules that are
-/// assembled among them. All statements that change an element have its key.
+/// The keys of the elements that the statement changes if stand-ins are asked for, including the modules that are
+/// assembled of its element. All statements that change an element have its key.
 pub fn keys_of(alloc: Global, element: &WideElement) -> Result<Vec<u64>, AllocError>
     ensures { IfOk result (λ keys. AreKeysOf element.now keys.items) }
 {
     let modules = modules_of(alloc, element)?;
     let mut keys = Vec::new(alloc);
     keys.push(element_key(element))?;
-    push_keys(&mut keys, modules.as_slice())?;
+    add_module_keys(&mut keys, modules.as_slice())?;
     Ok(keys)
 }
 
@@ -70,21 +70,21 @@ fn has_modules(element: &WideElement) -> bool {
     has_own_module(element) || !element.assem.is_empty()
 }
 
-/// Whether the operand of this name names modules, or their library.
-pub(crate) fn is_module_word(name: &[u8]) -> bool {
+/// Whether an operand of this name states the modules that are assembled, or their library.
+pub(crate) fn is_module_operand(name: &[u8]) -> bool {
     name == b"DISTMOD".as_slice() || name == b"ASSEM".as_slice()
 }
 
-/// Whether an operand that names modules, or their library, is faulty.
+/// Whether an operand that states the modules that are assembled, or their library, is faulty.
 pub fn has_faulty_modules(element: &WideElement) -> bool {
     element
         .faulty
         .iter()
-        .any(|entry| is_module_word(entry.operand.name.as_slice()))
+        .any(|entry| is_module_operand(entry.operand.name.as_slice()))
 }
 
-/// Remarks that DISTMOD and ASSEM are dropped. If stand-ins are asked for, the stand-ins of the modules
-/// are carried, so then only a DISTMOD that names no module is dropped.
+/// Remarks that DISTMOD and ASSEM are dropped. If stand-ins are asked for, those of the modules are carried, so only a
+/// DISTMOD without modules is dropped.
 pub(crate) fn tell_dropped_modules(
     alloc: Global,
     options: &Options,
@@ -110,7 +110,7 @@ pub(crate) fn tell_dropped_modules(
     Ok(())
 }
 
-// The members with commas between.
+// The members as one text, with commas between.
 fn join_by_commas(alloc: Global, members: &[Vec<u8>]) -> Result<Vec<u8>, AllocError> {
     let mut text = Vec::new(alloc);
     for member in members {

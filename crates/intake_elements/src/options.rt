@@ -4,7 +4,7 @@ ghost use Rattle.std.specs.Prelude.{◌≡◌};
 use fields::Name;
 use intake_read::{Card, CardPlace};
 
-/// The SYSLIB of elements that state this DISTLIB and no SYSLIB.
+/// The SYSLIB of elements that state this DISTLIB but no SYSLIB.
 #[derive(Clone, Copy, Debug)]
 pub struct Syslib {
     pub distlib: Name,
@@ -29,16 +29,16 @@ pub struct RelfileMember {
 /// How statements are carried.
 #[derive(Drop)]
 pub struct Options {
-    /// Elements that cannot be carried have stand-ins.
+    /// Whether elements that cannot be carried have stand-ins, so that what the SYSMODs need can be decided.
     pub decide: bool,
-    /// If several are for one DISTLIB, the first one counts.
+    /// The first one for a DISTLIB counts.
     pub syslibs: Vec<Syslib>,
     /// At most one for each element.
     pub members: Vec<RelfileMember>,
 }
 
 impl Options {
-    /// The SYSLIB that goes with the DISTLIB, or `None` if the caller names none for it.
+    /// The SYSLIB that the caller names for the DISTLIB, or `None` if there is none.
     pub(crate) fn syslib_for(&self, distlib: Name) -> Option<Name> {
         self.syslibs
             .iter()
@@ -46,19 +46,17 @@ impl Options {
             .map(|pair| pair.syslib)
     }
 
-    /// The file with the text of the element whose statement begins at this place, or `None` if there is none. The
-    /// members must be sorted.
+    /// The file with the text of the element whose statement begins at this place, or `None` if there is none. Call
+    /// `sort` first.
     pub(crate) fn relfile_member(&self, element: CardPlace) -> Option<&RelfileMember> {
         let place = self
             .members
-            .binary_search_by(|member| member.element.cmp(&element));
-        match place {
-            Ok(place) => self.members.get(place),
-            Err(_) => None,
-        }
+            .binary_search_by_key(&element, |member| member.element)
+            .ok()?;
+        self.members.get(place)
     }
 
-    /// Sorts the members by the places of their elements, as the search for a member needs.
+    /// Sorts the members by the places of their elements, so that the text of an element is found.
     pub fn sort(&mut self)
         ensures { self.new.decide ≡ self.old.decide }
     {

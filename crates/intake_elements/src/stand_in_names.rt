@@ -17,8 +17,11 @@ use terms::ElemType;
 /// The characters of names, of which the first 29 may stand in front.
 const CHARACTERS: &[u8; 39] = b"ABCDEFGHIJKLMNOPQRSTUVWXYZ$#@0123456789";
 
-/// How many names of eight characters there are, and so how many hashes: 29 times 39 to the seventh.
+/// How many names of eight characters there are, and so how many hashes: 29 times the seventh power of 39.
 const NAMES: u64 = 3979699193691;
+
+/// The factor of the hash, a prime number.
+const FACTOR: u64 = 1000003;
 
 // Continues a hash over these bytes.
 fn continue_hash(start: u64, text: &[u8]) -> u64
@@ -28,12 +31,12 @@ fn continue_hash(start: u64, text: &[u8]) -> u64
 {
     let mut hash = start;
     for byte in text {
-        hash = (hash * 1000003 + *byte as u64) % NAMES;
+        hash = (hash * FACTOR + *byte as u64) % NAMES;
     }
     hash
 }
 
-// The character that stands for a digit of the number to the base 39: the one whose place counts this power of 39.
+// The character for a digit of the number to the base 39: the digit that counts this power of 39.
 fn character(number: u64, power: u64) -> u8
     requires { 0 < power }
     ensures { result ≡ character number power }
@@ -41,7 +44,8 @@ fn character(number: u64, power: u64) -> u8
     CHARACTERS[(number / power % 39) as usize]
 }
 
-/// The word of the statement that brings the element which a statement of this word changes.
+/// The word of the statement that brings the element that a statement of this word changes: `++ZAP` changes a module,
+/// and `++JARUPD` a JAR.
 pub(crate) fn owner_word(word: &[u8]) -> &[u8]
     ensures { result.now ≡ owner_word word.now }
 {
@@ -54,7 +58,7 @@ pub(crate) fn owner_word(word: &[u8]) -> &[u8]
     }
 }
 
-// The hash of a word and a name, with a parenthesis between, which neither has.
+// The hash of a word and a name, with a parenthesis between, so that no two pairs are hashed as the same text.
 #[tactic(auto, using(crate::proofs::Targets::hash_parts))]
 fn hash_of(word: &[u8], name: &[u8]) -> u64
     ensures { result ≡ hash_of (word.now ++ codes "(" ++ name.now) }
@@ -62,7 +66,7 @@ fn hash_of(word: &[u8], name: &[u8]) -> u64
     continue_hash(continue_hash(continue_hash(0, word), b"("), name)
 }
 
-// The name of eight characters that the hash is, as a number to the base 39.
+// The hash as a name: its eight digits to the base 39, from the seventh power of 39 down.
 fn name_of(hash: u64) -> [u8; 8]
     ensures { result ≡ name_of hash }
 {
@@ -78,7 +82,7 @@ fn name_of(hash: u64) -> [u8; 8]
     ]
 }
 
-// The bytes of the name of the stand-in of an element of this name in a statement of this word.
+// The name of the stand-in of an element of this name in a statement of this word, as bytes.
 fn stand_in_text(word: &[u8], name: &[u8]) -> [u8; 8]
     ensures { result ≡ stand_in_name word.now name.now }
 {

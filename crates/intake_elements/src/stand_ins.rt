@@ -1,4 +1,4 @@
-//! What stands for elements that cannot be carried.
+//! Stand-ins for elements that cannot be carried.
 ghost use Rattle.std.specs.Prelude.{◌≡◌, IfOk, IfSome, true, false, not};
 ghost use Rattle.terms.specs.declared.kinds.ElemType.TheVariants.{Mac};
 ghost use Rattle.terms.specs.Changes.{is_replacement};
@@ -8,7 +8,7 @@ use crate::element_words::{is_update, stand_in_type};
 use crate::elements::update_change;
 use crate::options::Libraries;
 use crate::stand_in_names::{owner_word, stand_in_name};
-use crate::texts::replacement_text;
+use crate::texts::{TEXT_COLUMNS, replacement_text};
 use crate::updates::change_record;
 use fields::Name;
 use fields::spelling::type_text;
@@ -19,20 +19,20 @@ use sysmods_values::{Action, ElemChange};
 use terms::{ElemType, Kind};
 use text80::{Line, TextError, Update};
 
-// The byte, or a question mark if no record may have it.
+// The byte, or a question mark if a record may not have it.
 fn printable_or_mark(byte: u8) -> u8 {
     if is_printable_byte(byte) { byte } else { b'?' }
 }
 
-// A card that names the statement, with a number.
+// A numbered card that names the statement, as the whole text of its stand-in.
 fn stand_in_card(place: CardPlace, word: &[u8], name: &[u8]) -> Card {
     let mut text = [b' '; 80];
     let parts = b"* ++".iter().chain(word.iter()).chain(b"(".iter());
     let parts = parts.chain(name.iter()).chain(b")".iter());
-    for (to, from) in text.iter_mut().take(72).zip(parts) {
+    for (to, from) in text.iter_mut().take(TEXT_COLUMNS).zip(parts) {
         *to = printable_or_mark(*from);
     }
-    let (_, number) = text.split_at_mut(72);
+    let (_, number) = text.split_at_mut(TEXT_COLUMNS);
     number.copy_from_slice(b"00000100");
     Card {
         place,
@@ -42,31 +42,34 @@ fn stand_in_card(place: CardPlace, word: &[u8], name: &[u8]) -> Card {
     }
 }
 
-// The library that is stated, or the other one if none is stated or it has not the form of a name.
-fn stated_library_or(stated: &Option<Vec<u8>>, other: Name) -> Name {
+// The library that is stated, or the default if none is stated, or if its text does not have the form of a name.
+fn stated_library_or(stated: &Option<Vec<u8>>, default: Name) -> Name {
     match stated {
-        Some(text) => Name::read(text.as_slice()).unwrap_or(other),
-        None => other,
+        Some(text) => Name::read(text.as_slice()).unwrap_or(default),
+        None => default,
     }
 }
 
-// The libraries of an element. One that is not stated has the name of what stands for the element.
-fn stand_in_libraries(element: &WideElement, name: Name) -> Libraries {
-    let distlib = stated_library_or(&element.distlib, name);
+// The libraries of the stand-in of this name: those of the element. If no DISTLIB is stated, it has the name of the
+// stand-in. If no SYSLIB is stated, it is the DISTLIB.
+fn stand_in_libraries(element: &WideElement, stand_in: Name) -> Libraries {
+    let distlib = stated_library_or(&element.distlib, stand_in);
     let syslib = stated_library_or(&element.syslib, distlib);
     Libraries { distlib, syslib }
 }
 
-// The library of the modules that are assembled of an element.
-fn module_libraries(element: &WideElement, name: Name) -> Libraries {
-    let distlib = stated_library_or(&element.distmod, name);
+// The libraries of a module that is assembled of the element: both are its DISTMOD. If none is stated, both have the
+// name of the stand-in.
+fn module_libraries(element: &WideElement, stand_in: Name) -> Libraries {
+    let distlib = stated_library_or(&element.distmod, stand_in);
     Libraries {
         distlib,
         syslib: distlib,
     }
 }
 
-// The update that stands for one of the element. Returns `None` if the name allows no update.
+// An update of this type and name, with the card as its text, that stands for an update of an element. Returns `None`
+// if there can be no such update.
 fn stand_in_update(
     alloc: Global,
     elem_type: ElemType,
@@ -85,7 +88,8 @@ fn stand_in_update(
     }
 }
 
-// The replacement that stands for one of the element. Returns `None` if the card is no text of this type.
+// A replacement of this type and name, with the card as its text, that stands for a replacement of an element. Returns
+// `None` if the card cannot be the text of this type.
 fn stand_in_replacement(
     alloc: Global,
     elem_type: ElemType,
@@ -112,8 +116,8 @@ fn stand_in_replacement(
     }))
 }
 
-/// The change that stands for the element's under this type and name, with a text of one record. Returns `None` if
-/// nothing can stand for it.
+/// The change of this type and name, with a text of one record, that stands for the change of the element. Returns
+/// `None` if nothing can stand for it.
 pub(crate) fn one_record_change(
     alloc: Global,
     kind: Kind,
@@ -162,11 +166,11 @@ pub(crate) fn stand_in_change(
         return Ok(None);
     };
     tell_stand_in(alloc, remarks, subject, elem_type, name)?;
-    keep_stand_in(alloc, remarks, element, elem_type, name)?;
+    record_stand_in(alloc, remarks, element, elem_type, name)?;
     Ok(Some(change))
 }
 
-/// Remarks that an element has a stand-in, with its type and name.
+/// Remarks that the element of the subject is carried as a stand-in of this type and name.
 pub(crate) fn tell_stand_in(
     alloc: Global,
     remarks: &mut Remarks,
@@ -182,8 +186,9 @@ pub(crate) fn tell_stand_in(
     remarks.tell_carried(alloc, subject, b"", RemarkReason::StandIn, text.as_slice())
 }
 
-// Adds to the remarks which element a stand-in is for, under the word of the statement that brings the element.
-fn keep_stand_in(
+// Records which element the stand-in is for, under the word of the statement that brings the element. An update has its
+// element's stand-in.
+fn record_stand_in(
     alloc: Global,
     remarks: &mut Remarks,
     element: &WideElement,
@@ -209,8 +214,8 @@ fn library_text(alloc: Global, stated: &Option<Vec<u8>>) -> Result<Vec<u8>, Allo
     }
 }
 
-/// The replacement of the stand-in of a module that is assembled of the element, with a remark. Returns `None`, with a
-/// remark, if nothing can stand for it.
+/// The replacement of the stand-in of a module of this name, which is assembled of the element, with a remark. Returns
+/// `None`, with a remark, if nothing can stand for it.
 pub fn module_change(
     alloc: Global,
     remarks: &mut Remarks,

@@ -10,7 +10,10 @@ use text80::{Line, Numbered};
 /// The most records that a text may have.
 pub(crate) const MOST_RECORDS: usize = 99999;
 
-/// How far each number that a text gets is from the one before.
+/// How many columns of a record come before its number.
+pub(crate) const TEXT_COLUMNS: usize = 72;
+
+/// The first number of a text that is numbered here, and the difference between two numbers.
 const STEP: u32 = 100;
 
 // The cards as records.
@@ -27,26 +30,15 @@ fn has_no_number(card: &Card) -> bool {
     card.tail() == Tail::Blank
 }
 
-// Whether all columns are blank.
-fn is_blank_card(card: &Card) -> bool {
-    card.is_blank() && has_no_number(card)
-}
-
 /// The cards without the blank ones at their end.
 pub(crate) fn without_blank_cards_at_end(cards: &[Card]) -> &[Card] {
-    let mut length = 0;
-    for (place, card) in cards.iter().enumerate() {
-        if !is_blank_card(card) {
-            length = place + 1;
-        }
-    }
-    match cards.split_at_checked(length) {
-        Some((front, _)) => front,
-        None => cards,
+    match cards.iter().rposition(|card| !card.is_blank()) {
+        Some(last) => &cards[..last + 1],
+        None => &[],
     }
 }
 
-/// The cards, without blank ones at their end if the type has numbers and a card has one.
+/// The cards, without the blank ones at their end if texts of the type have numbers and one of the cards has one.
 pub(crate) fn without_blank_end_if_numbered(elem_type: ElemType, cards: &[Card]) -> &[Card] {
     if !elem_type.is_numbered() || needs_numbers(elem_type, cards) {
         return cards;
@@ -54,13 +46,13 @@ pub(crate) fn without_blank_end_if_numbered(elem_type: ElemType, cards: &[Card])
     without_blank_cards_at_end(cards)
 }
 
-/// The first card whose columns 73 to 80 are no eight digits, or no number higher than that of the card before. Returns
-/// `None` if all cards are in order.
+/// The first card whose columns 73 to 80 are not eight digits, or not a number that is higher than that of the card
+/// before. Returns `None` if all cards are in order.
 pub(crate) fn first_misnumbered(cards: &[Card]) -> Option<&Card> {
     let mut before = [b' '; 8];
     for card in cards {
         let number = card.number_columns();
-        if !number.iter().all(|b| b.is_ascii_digit()) || number <= before {
+        if !number.iter().all(|byte| byte.is_ascii_digit()) || number <= before {
             return Some(card);
         }
         before = number;
@@ -73,8 +65,8 @@ fn with_number(line: &Line, number: u32) -> Line {
     let mut bytes = [b' '; 80];
     bytes.copy_from_slice(line.bytes());
     let mut rest = number;
-    for place in 0..8 {
-        bytes[79 - place] = b'0' + (rest % 10) as u8;
+    for column in bytes[TEXT_COLUMNS..].iter_mut().rev() {
+        *column = b'0' + (rest % 10) as u8;
         rest /= 10;
     }
     Line::new(bytes)
@@ -91,7 +83,7 @@ fn number_records(alloc: Global, lines: &[Line]) -> Result<Vec<Line>, AllocError
     Ok(numbered)
 }
 
-// The records as a numbered text, or `None` if they are no such text.
+// The records as a numbered text, or `None` if there are none, or if their numbers do not rise.
 fn read_numbered_text(lines: Vec<Line>) -> Option<Vec<Line>>
     ensures { IfSome result (λ text. IsNumbered text.items × (0 < length text.items)) }
 {
@@ -123,7 +115,7 @@ fn numbered_lines(
     }
 }
 
-/// The cards as the text of a replacement of this type, or `None` if they are no such text.
+/// The cards as the text of a replacement of this type, or `None` if there are none, or if their numbers do not rise.
 pub(crate) fn replacement_text(
     alloc: Global,
     elem_type: ElemType,

@@ -4,6 +4,9 @@ use intake_cards::{Card, RemarkReason, Remarks, Subject};
 use std::alloc::{AllocError, Global};
 use text80::Line;
 
+/// LIST of a CHANGE, which follows NAME.
+const LIST_OPERAND: &[u8] = b",LIST=";
+
 /// A `./` record of an update.
 enum Control<'a> {
     /// CHANGE of the element of this name. Its other operands change nothing.
@@ -14,21 +17,21 @@ enum Control<'a> {
     Other,
 }
 
-/// A number of a record, in eight digits.
+/// The number of a record, in eight digits.
 type Number = [u8; 8];
 
 // The word before the first blank, and the text that follows the blanks after it.
 fn split_word(text: &[u8]) -> (&[u8], &[u8]) {
-    let length = text.iter().take_while(|b| **b != b' ').count();
+    let length = text.iter().take_while(|byte| **byte != b' ').count();
     let (word, rest) = text.split_at(length);
-    let blanks = rest.iter().take_while(|b| **b == b' ').count();
+    let blanks = rest.iter().take_while(|byte| **byte == b' ').count();
     let (_, rest) = rest.split_at(blanks);
     (word, rest)
 }
 
-// The number in eight digits, or `None` if the text is not one to eight digits.
+// The number, with leading zeros, or `None` if the text is not one to eight digits.
 fn read_number(text: &[u8]) -> Option<Number> {
-    if text.is_empty() || text.len() > 8 || !text.iter().all(|b| b.is_ascii_digit()) {
+    if text.is_empty() || text.len() > 8 || !text.iter().all(|byte| byte.is_ascii_digit()) {
         return None;
     }
     let mut number = [b'0'; 8];
@@ -36,20 +39,16 @@ fn read_number(text: &[u8]) -> Option<Number> {
     Some(number)
 }
 
-// The value of the first operand of this name in the list, or `None` if there is none.
-fn operand_value<'a>(list: &'a [u8], name: &[u8]) -> Option<&'a [u8]> {
-    for member in list.split(|b| *b == b',') {
-        if let Some(value) = member.strip_prefix(name) {
-            return Some(value);
-        }
-    }
-    None
+// The value of the first operand with this keyword, as `NAME=`, in the list, or `None` if there is none.
+fn operand_value<'a>(list: &'a [u8], keyword: &[u8]) -> Option<&'a [u8]> {
+    list.split(|byte| *byte == b',')
+        .find_map(|operand| operand.strip_prefix(keyword))
 }
 
-// Whether the list has these operands and no others.
-fn has_only_operands(list: &[u8], names: &[&[u8]]) -> bool {
-    for member in list.split(|b| *b == b',') {
-        if !names.iter().any(|name| member.starts_with(name)) {
+// Whether each operand of the list has one of the keywords.
+fn has_only_operands(list: &[u8], keywords: &[&[u8]]) -> bool {
+    for operand in list.split(|byte| *byte == b',') {
+        if !keywords.iter().any(|keyword| operand.starts_with(keyword)) {
             return false;
         }
     }
@@ -69,7 +68,7 @@ fn read_control(card: &Card) -> Control<'_> {
     }
 }
 
-// The CHANGE with this list of operands, or `Other` if the list has a fault.
+// The CHANGE that has this list of operands, or `Other` if the list is faulty.
 fn read_change(list: &[u8]) -> Control<'_> {
     match operand_value(list, b"NAME=") {
         Some(name) if has_only_operands(list, &[b"NAME=", b"LIST="]) => Control::Change(name),
@@ -77,7 +76,7 @@ fn read_change(list: &[u8]) -> Control<'_> {
     }
 }
 
-// The DELETE with this list of operands, or `Other` if the list has a fault.
+// The DELETE that has this list of operands, or `Other` if the list is faulty.
 fn read_delete(list: &[u8]) -> Control<'_> {
     if !has_only_operands(list, &[b"SEQ1=", b"SEQ2="]) {
         return Control::Other;
@@ -92,7 +91,7 @@ fn read_delete(list: &[u8]) -> Control<'_> {
     }
 }
 
-// A record of these texts, one after the other, cut at 80.
+// The record that these parts make, one after the other. It is cut at column 80.
 fn record_of_parts(alloc: Global, parts: &[&[u8]]) -> Result<Line, AllocError> {
     let mut text = Vec::with_capacity(alloc, 80)?;
     for part in parts {
@@ -115,28 +114,28 @@ fn has_same_columns(card: &Card, line: &Line) -> bool {
     line.bytes().starts_with(card.columns())
 }
 
-// Whether a CHANGE has LIST.
-fn has_list(card: &Card) -> bool {
+// Whether the CHANGE on the card has the operand LIST.
+fn has_list_operand(card: &Card) -> bool {
     card.columns()
-        .windows(6)
-        .any(|part| part == b",LIST=".as_slice())
+        .windows(LIST_OPERAND.len())
+        .any(|part| part == LIST_OPERAND)
 }
 
-// Remarks that the LIST of a CHANGE is dropped, if it has one.
+// Remarks that LIST is dropped, if the CHANGE on the card has it.
 fn tell_dropped_list(
     alloc: Global,
     remarks: &mut Remarks,
     subject: &Subject<'_>,
     card: &Card,
 ) -> Result<(), AllocError> {
-    if !has_list(card) {
+    if !has_list_operand(card) {
         return Ok(());
     }
     let text = card.text.as_slice().trim_ascii_end();
     remarks.tell_dropped(alloc, subject, b"LIST", RemarkReason::NoDecision, text)
 }
 
-// The DELETE record of these numbers, with a remark if the card spells them otherwise.
+// The DELETE record of these numbers, with a remark if the card does not have eight digits of each.
 fn delete_record(
     alloc: Global,
     remarks: &mut Remarks,
@@ -167,8 +166,9 @@ fn delete_record(
     Ok(line)
 }
 
-// Appends the record for a `./` card, with a remark on what becomes of it. Returns whether it can be carried.
-fn push_control(
+// Adds the record that a `./` card becomes, with a remark if it is changed or dropped. Returns `false`, with a remark,
+// if it cannot be carried.
+fn add_control_record(
     alloc: Global,
     remarks: &mut Remarks,
     subject: &Subject<'_>,
@@ -195,7 +195,7 @@ fn push_control(
     Ok(true)
 }
 
-/// The records of an update as the profile has them. Returns `None`, with a remark, if one cannot be carried.
+/// The records of an update in the form of the profile. Returns `None`, with a remark, if one cannot be carried.
 pub(crate) fn update_lines(
     alloc: Global,
     remarks: &mut Remarks,
@@ -210,7 +210,7 @@ pub(crate) fn update_lines(
     for card in cards {
         if !card.text.starts_with(b"./") {
             lines.push(Line::new(card.text))?;
-        } else if !push_control(alloc, remarks, subject, card, &mut lines)? {
+        } else if !add_control_record(alloc, remarks, subject, card, &mut lines)? {
             return Ok(None);
         }
     }

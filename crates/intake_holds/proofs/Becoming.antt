@@ -1,7 +1,7 @@
 -- What a list becomes, as a loop goes over it.
 use Rattle.std.proofs.Common.{◌≡◌, ◌<◌, ◌≤◌, ◌+◌, ℕ, Bool, true, false, List, [], ◌++◌, ◌∷◌, Option, Some, length, take}
 use Rattle.std.proofs.Common.{get_or, subst, subst₂, sym, ap, ◌∙◌, refl, append-nil, append_assoc}
-use Rattle.std.specs.Prelude.{◌↔◌, None, IsTrue, IsFalse}
+use Rattle.std.specs.Prelude.{◌↔◌, None, IsTrue, IsFalse, Result, Ok, Err, OnOk}
 use Rattle.std.proofs.lemmas.Bool.{true≢false}
 use Rattle.std.proofs.lemmas.List.{take_more, take_all}
 use Rattle.terms.specs.declared.kinds.HoldKind.{HoldKind}
@@ -121,3 +121,8 @@ pub held_more : (stated : List WideHold) (hold : WideHold) (placed after other :
 held_more stated hold placed after other refused becomes e carried f =
     subst (Become (HoldBecomes None) (stated ++ hold ∷ []) []) (sym e)
     (become_more (HoldBecomes None) stated [] placed hold [] other (carried f) becomes)
+
+-- what is so whatever a call returns
+pub whatever_returns : {T E P : Type 0} (r : Result T E) → P → OnOk r P
+whatever_returns (Ok x) p = p
+whatever_returns (Err e) p = tt

@@ -1,5 +1,5 @@
 //! COMMENT of a hold. Some shops draw a box around its text: rows of asterisks above and below, and an asterisk at
-//! either end of each line, as in `**** * SEE APAR * * UA00001 * ****`. The asterisks are left away here.
+//! either end of each line, as in `**** * SEE APAR * * UA00001 * ****`. The asterisks are left out here.
 
 use intake_cards::{RemarkReason, Remarks, Subject, is_printable_byte, lay_out_comment};
 use std::alloc::{AllocError, Global};
@@ -7,8 +7,8 @@ use std::alloc::{AllocError, Global};
 /// The most characters that a COMMENT may have.
 const MOST_CHARACTERS: usize = 200;
 
-// The character that stands for one of a COMMENT: brackets for parentheses, and `?` for what no record may have.
-fn replacement(byte: u8) -> u8 {
+// The character as a COMMENT may have it: a bracket for a parenthesis, and `?` for a character that no record may have.
+fn allowed_character(byte: u8) -> u8 {
     match byte {
         b'(' => b'[',
         b')' => b']',
@@ -17,7 +17,7 @@ fn replacement(byte: u8) -> u8 {
     }
 }
 
-// The text, or its first 200 characters without blanks at their end if it is longer.
+// The text, or, if it is longer than 200 characters, these without the blanks at their end.
 fn cut_at_limit(text: &[u8]) -> &[u8] {
     match text.split_at_checked(MOST_CHARACTERS) {
         Some((front, _)) => front.trim_ascii_end(),
@@ -27,7 +27,7 @@ fn cut_at_limit(text: &[u8]) -> &[u8] {
 
 // Whether the word is an edge of a box: an asterisk, or a row of them.
 fn is_box_edge(word: &[u8]) -> bool {
-    !word.is_empty() && word.iter().all(|b| *b == b'*')
+    !word.is_empty() && word.iter().all(|byte| *byte == b'*')
 }
 
 // The text without the edges of boxes, and without blanks at its beginning.
@@ -45,8 +45,8 @@ fn without_box_edges(alloc: Global, text: &[u8]) -> Result<Vec<u8>, AllocError> 
     Ok(kept)
 }
 
-/// The text of a COMMENT as it is carried, with a remark on how it differs. Returns `None` if none is stated, or, with
-/// a remark, if nothing is left of it.
+/// The text of a COMMENT as it is carried, with a remark on how it differs. Returns `None` if no COMMENT is stated. If
+/// nothing is left of its text, returns `None` with a remark.
 pub(crate) fn read_comment(
     alloc: Global,
     remarks: &mut Remarks,
@@ -59,7 +59,7 @@ pub(crate) fn read_comment(
     let text = stated.as_slice();
     let mut replaced = Vec::with_capacity(alloc, text.len())?;
     for byte in &without_box_edges(alloc, text)? {
-        replaced.push(replacement(*byte))?;
+        replaced.push(allowed_character(*byte))?;
     }
     let layout = lay_out_comment(alloc, replaced.as_slice())?;
     let comment = cut_at_limit(layout.as_slice());
@@ -73,18 +73,19 @@ pub(crate) fn read_comment(
     Ok(Some(String::from_utf8_lossy(alloc, comment)?))
 }
 
-// The first way in which the COMMENT as it is laid out differs from the stated one, or `None` if it does not differ.
+// The most important way in which the COMMENT, as it is laid out, differs from the stated one, or `None` if it is the
+// same.
 fn comment_difference(stated: &[u8], layout: &[u8]) -> Option<RemarkReason> {
     if layout.len() > MOST_CHARACTERS {
         return Some(RemarkReason::CutComment);
     }
-    if stated.split(|b| *b == b' ').any(is_box_edge) {
+    if stated.split(|byte| *byte == b' ').any(is_box_edge) {
         return Some(RemarkReason::Box);
     }
-    if stated.iter().any(|b| matches!(*b, b'(' | b')')) {
+    if stated.iter().any(|byte| matches!(*byte, b'(' | b')')) {
         return Some(RemarkReason::Brackets);
     }
-    if !stated.iter().all(|b| is_printable_byte(*b)) {
+    if !stated.iter().all(|byte| is_printable_byte(*byte)) {
         return Some(RemarkReason::Unprintable);
     }
     if layout != stated {

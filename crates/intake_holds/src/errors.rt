@@ -1,14 +1,14 @@
-//! What keeps a hold or a release from being carried.
+//! Why a hold or a release cannot be carried.
 
 use std::alloc::{AllocError, AllocFailed};
 use thiserror::Error;
 
-/// What keeps a hold or a release from being carried.
+/// Why a hold or a release cannot be carried.
 #[derive(Debug, Drop, Error)]
 pub enum HoldError {
     #[error("out of memory")]
     Memory,
-    /// It has no key: its id, kind, reason or FMID cannot be read. `OutsideHolds::refuse_all` remarks on it.
+    /// Its id, kind, reason or FMID cannot be read. The remark on it comes from `OutsideHolds::refuse_all`.
     #[error("a hold can't be carried")]
     BadHold,
 }

@@ -1,12 +1,12 @@
-//! Faulty operands: those that could not be read as what their names say.
+//! Faulty operands: those that cannot be read as their names demand.
 
 use intake_cards::{RemarkReason, Remarks, Subject};
 use intake_read::{FaultyOperand, OperandFault};
 use std::alloc::{AllocError, Global};
 
-/// What is wrong with the operand. Unlike `tell_faulty_operands`, this counts an operand without the value that it
-/// should have as missing, because the statement cannot be carried without that value.
-pub(crate) fn reason_or_missing(faulty: &FaultyOperand) -> RemarkReason {
+/// What is wrong with an operand without which its statement cannot be carried. If the operand lacks its value, it is
+/// missing (`tell_faulty_operands` says that its value is bad).
+pub(crate) fn fault_of_needed_operand(faulty: &FaultyOperand) -> RemarkReason {
     if faulty.reason == OperandFault::BadValue && faulty.operand.text().is_empty() {
         RemarkReason::Missing
     } else {
@@ -21,8 +21,8 @@ pub fn has_faulty_operand(faulty: &[FaultyOperand], name: &[u8]) -> bool {
         .any(|entry| entry.operand.name.as_slice() == name)
 }
 
-/// Remarks that the statement is left out because of each of the faulty operands. One without the value that it should
-/// have counts as missing.
+/// Remarks, for each of the faulty operands, that the statement is left out because of it. An operand without the value
+/// that it should have counts as missing.
 pub fn tell_left_out_for_faulty_operands(
     alloc: Global,
     remarks: &mut Remarks,
@@ -36,7 +36,7 @@ pub fn tell_left_out_for_faulty_operands(
             alloc,
             subject,
             name,
-            reason_or_missing(entry),
+            fault_of_needed_operand(entry),
             operand.text(),
         )?;
     }

@@ -18,7 +18,7 @@ use std::alloc::{AllocError, Global};
 use sysmods_values::Hold;
 use terms::HoldKind;
 
-/// Why a hold or a release has no key, by which it is told from others.
+/// Why a hold or a release has no key: what is wrong with its id, kind, reason or FMID.
 #[derive(Clone, Copy, Debug, PartialEq, Eq)]
 pub(crate) enum HoldFault {
     BadId,
@@ -30,7 +30,7 @@ pub(crate) enum HoldFault {
 }
 
 impl HoldFault {
-    /// The operand that is at fault, or nothing for the id, which is no operand.
+    /// The operand that is at fault, or an empty text for the id, which is not an operand.
     pub(crate) fn operand(self) -> &'static [u8] {
         match self {
             HoldFault::BadId => b"",
@@ -50,7 +50,7 @@ impl HoldFault {
     }
 }
 
-// The kind of RECEIVE's holds that a kind of SMP/E's holds is, or `None` for FIXCAT.
+// The kind of the profile, or `None` for FIXCAT, which the profile lacks.
 fn profile_kind(kind: WideHoldKind) -> Option<HoldKind>
     ensures some { IfSome result (λ found. kind ≡ wide_kind found) }
     ensures none { IfNone result (kind ≡ Fixcat) }
@@ -63,8 +63,8 @@ fn profile_kind(kind: WideHoldKind) -> Option<HoldKind>
     }
 }
 
-// The reason of a hold of the kind. Returns `NoReason` if none is stated, `BadReason` if it has not the form of a
-// reason of the kind: for an ERROR hold it must be an id.
+// The reason of a hold of the kind. Returns `NoReason` if none is stated, and `BadReason` if it does not have the form
+// of a reason of that kind. The reason of an ERROR hold must be an id.
 fn read_reason(kind: HoldKind, stated: &Option<Vec<u8>>) -> Result<HoldReason, HoldFault>
     ensures { IfOk result (λ reason. (text_in stated.now ≡ Some reason) × IsReason kind reason) }
 {
@@ -80,7 +80,7 @@ fn read_reason(kind: HoldKind, stated: &Option<Vec<u8>>) -> Result<HoldReason, H
     Ok(reason)
 }
 
-// The FMID of a hold. Returns `NoFmid` if none is stated, `BadFmid` if it has not the form of an id.
+// The FMID of a hold. Returns `NoFmid` if none is stated, and `BadFmid` if it does not have the form of an id.
 fn read_fmid(stated: &Option<Vec<u8>>) -> Result<Id, HoldFault>
     ensures { IfOk result (λ fmid. text_in stated.now ≡ Some fmid) }
 {
@@ -93,8 +93,8 @@ fn read_fmid(stated: &Option<Vec<u8>>) -> Result<Id, HoldFault>
     }
 }
 
-// The id, kind and reason, which tell a hold from others, and the FMID, or `None` for FIXCAT. Returns the first fault:
-// the kind is looked at first, then the id, the reason and the FMID.
+// The key of a hold, which is its id, kind and reason, with the FMID. Returns `None` for FIXCAT. Returns the first
+// fault, in the order of kind, id, reason and FMID.
 fn read_key(
     id: &[u8],
     kind: Option<WideHoldKind>,
@@ -123,7 +123,7 @@ fn read_key(
     }))
 }
 
-/// The key of a hold and its FMID, or `None` for FIXCAT. Returns the fault if they cannot be read.
+/// The key of the hold with its FMID, or `None` for FIXCAT. Returns the first fault if they cannot be read.
 pub(crate) fn hold_key(stated: &WideHold) -> Result<Option<Release>, HoldFault>
     ensures some { IfOk result (λ found. IfSome found (IsHoldKey stated.now)) }
     ensures none { IfOk result (λ found. IfNone found (stated.now.kind ≡ Some Fixcat)) }
@@ -136,8 +136,8 @@ pub(crate) fn hold_key(stated: &WideHold) -> Result<Option<Release>, HoldFault>
     )
 }
 
-/// The key of the hold that a release ends and its FMID, or `None` for FIXCAT. Returns the fault if they cannot be
-/// read.
+/// The key of the hold that the release ends, with its FMID, or `None` for FIXCAT. Returns the first fault if they
+/// cannot be read.
 pub(crate) fn release_key(stated: &WideRelease) -> Result<Option<Release>, HoldFault>
     ensures some { IfOk result (λ found. IfSome found (IsRelease stated.now)) }
     ensures none { IfOk result (λ found. IfNone found (stated.now.kind ≡ Some Fixcat)) }
@@ -150,7 +150,7 @@ pub(crate) fn release_key(stated: &WideRelease) -> Result<Option<Release>, HoldF
     )
 }
 
-// The CLASS. Returns `None` if it is not stated, or, with a remark, if it has not the form of a class.
+// The CLASS. Returns `None` if it is not stated, or, with a remark, if it does not have the form of a class.
 fn read_class(
     alloc: Global,
     remarks: &mut Remarks,
@@ -175,7 +175,7 @@ fn read_class(
     Ok(class)
 }
 
-// The DATE. Returns `None` if it is not stated, or, with a remark, if it has not the form of a date.
+// The DATE. Returns `None` if it is not stated, or, with a remark, if it does not have the form of a date.
 fn read_date(
     alloc: Global,
     remarks: &mut Remarks,
@@ -200,7 +200,7 @@ fn read_date(
     Ok(date)
 }
 
-// The hold with this key, and with the CLASS, DATE and COMMENT that are stated. Remarks say which of these differ.
+// The hold with this key and with the CLASS, DATE and COMMENT that are stated. Remarks say which of these differ.
 fn hold_with_key(
     alloc: Global,
     remarks: &mut Remarks,
@@ -228,14 +228,14 @@ fn hold_with_key(
     })
 }
 
-/// Whether the hold is internal in the SYSMOD of this id: it is a SYSTEM hold on that SYSMOD.
+/// Whether the hold is internal if it is stated in the SYSMOD of this id: it is a SYSTEM hold on that SYSMOD.
 pub fn is_internal_in(id: &[u8], stated: &WideHold) -> bool
     ensures { IsTrue result ↔ IsInternal (Some id.now) stated.now }
 {
     stated.kind == Some(WideHoldKind::System) && id == stated.id.as_slice()
 }
 
-// Whether the hold is internal in the SYSMOD `own`. Outside of SYSMODs none is.
+// Whether the hold is internal. `own` is the SYSMOD in which it is stated. Outside SYSMODs no hold is internal.
 fn is_internal(own: Option<Id>, stated: &WideHold) -> bool
     ensures { IsTrue result ↔ IsInternal own stated.now }
 {
@@ -263,7 +263,7 @@ pub(crate) fn release_subject(stated: &WideRelease) -> Subject<'_> {
     }
 }
 
-// Remarks that a hold or a release is left out because it is of FIXCAT.
+// Remarks that a hold or a release is left out because its kind is FIXCAT.
 fn tell_fixcat_left_out(
     alloc: Global,
     remarks: &mut Remarks,
@@ -272,7 +272,7 @@ fn tell_fixcat_left_out(
     remarks.tell_left_out(alloc, subject, b"FIXCAT", RemarkReason::Fixcat, b"")
 }
 
-// Remarks on the operands that are dropped: those that change no decision, and the faulty ones.
+// Remarks on the operands that are dropped: those that change no decision, and those that are faulty.
 fn tell_all_dropped_operands(
     alloc: Global,
     remarks: &mut Remarks,
@@ -284,9 +284,9 @@ fn tell_all_dropped_operands(
     tell_faulty_operands(alloc, remarks, subject, faulty, Deed::Dropped)
 }
 
-/// Carries the hold: returns it, or `None` for FIXCAT. `own` is the SYSMOD in which it is stated: the hold is internal
-/// if it is a SYSTEM hold on that SYSMOD. Remarks say what differs. Returns `BadHold` if it has no key, `Memory` if
-/// memory runs out.
+/// The hold as it is carried, or `None` for FIXCAT. `own` is the SYSMOD in which it is stated: the hold is internal if
+/// it is a SYSTEM hold on that SYSMOD. Remarks say what differs. Returns `BadHold` if its key cannot be read, and
+/// `Memory` if memory runs out.
 pub fn carry_hold(
     alloc: Global,
     remarks: &mut Remarks,
@@ -317,8 +317,8 @@ pub fn carry_hold(
     Ok(Some(hold_with_key(alloc, remarks, &subject, stated, key, internal)?))
 }
 
-/// Carries the release: returns it, or `None` for FIXCAT. Remarks say what differs. Returns `BadHold` if it has no key,
-/// `Memory` if memory runs out.
+/// The release as it is carried, or `None` for FIXCAT. Remarks say what differs. Returns `BadHold` if its key cannot be
+/// read, and `Memory` if memory runs out.
 pub(crate) fn carry_release(
     alloc: Global,
     remarks: &mut Remarks,

@@ -1,6 +1,6 @@
 //! HOLDDATA: from the holds and releases that a shop's files state to those that RECEIVE takes. Each one is carried
-//! with its id, kind, reason, FMID, CLASS and DATE, is left out because it is of FIXCAT, or is refused with a remark,
-//! so that none is lost. Every call that allocates fails with `AllocError` if memory runs out.
+//! with its id, kind, reason, FMID, CLASS and DATE, or is left out because its kind is FIXCAT, or is refused with a
+//! remark, so that none is lost. Every call that allocates fails with `AllocError` if memory runs out.
 #![tactic(auto)]
 
 mod comment;

@@ -7,15 +7,15 @@ ghost use Rattle.intake_holds.specs.Outside.{AreCarried, CarriesHolds};
 use crate::errors::HoldError;
 use crate::holds::carry_hold;
 use crate::placed::PlacedItem;
-use crate::refusals::{refuse_hold, refuse_statements};
+use crate::refusals::{refuse_if_bad_hold, refuse_statements};
 use intake_cards::{CardNote, CardReader, Remarks};
 use intake_read::{WideError, WideFile, WideHold, WideReader};
 use mcs::HoldItem;
 use std::alloc::{AllocError, Global};
 use std::mem;
 
-/// The remarks on the holds outside SYSMODs, file by file. They are made as the files are read, and taken out later,
-/// in the same order, so that they stand among the other remarks on their files.
+/// The remarks on the holds outside SYSMODs, file by file. They are made while the files are read, and are taken out
+/// later, in the same order, so that they stand among the other remarks on their files.
 #[derive(Drop)]
 pub struct FileRemarks {
     /// On the file that is being read.
@@ -26,14 +26,14 @@ pub struct FileRemarks {
     taken: usize,
 }
 
-/// The holds of the files that are in no SYSMOD, as they are carried, in the order in which they are read.
+/// The holds of the files that are stated outside SYSMODs, as they are carried, in the order in which they are read.
 #[derive(Drop)]
 pub struct OutsideHolds {
     pub placed: Vec<PlacedItem>,
-    /// One of them cannot be carried.
+    /// Whether one of them cannot be carried.
     pub is_refused: bool,
-    /// How many holds were read, those included that are not carried.
-    count: usize,
+    /// Whether a hold was read, even if it is not carried.
+    has_read_any: bool,
     /// The remarks on those that are carried or left out.
     pub remarks: FileRemarks,
     /// The remarks on those that cannot be carried.
@@ -70,8 +70,8 @@ impl FileRemarks {
     }
 }
 
-// Carries a hold outside SYSMODs: returns it with its place, or `None` for FIXCAT. Remarks say what is left out and
-// what differs. Returns `BadHold` if it has no key, `Memory` if memory runs out.
+// A hold outside SYSMODs as it is carried, with its place, or `None` for FIXCAT. Remarks say what is left out and what
+// differs. Returns `BadHold` if its key cannot be read, and `Memory` if memory runs out.
 fn carry_outside_hold(
     alloc: Global,
     remarks: &mut Remarks,
@@ -97,7 +97,7 @@ impl OutsideHolds {
         OutsideHolds {
             placed: Vec::new(alloc),
             is_refused: false,
-            count: 0,
+            has_read_any: false,
             remarks: FileRemarks::new(alloc),
             refusals: FileRemarks::new(alloc),
         }
@@ -105,17 +105,17 @@ impl OutsideHolds {
 
     /// Whether no hold was read.
     pub fn is_empty(&self) -> bool {
-        self.count == 0
+        !self.has_read_any
     }
 
-    // Carries the next hold of the file that is being read, and adds it. One that cannot be carried is refused, with a
-    // remark, and then nothing is carried at all.
-    fn add(&mut self, alloc: Global, hold: &WideHold) -> Result<(), AllocError>
+    // Adds the next hold of the file that is being read, as it is carried. If it cannot be carried, it is refused, with
+    // a remark, and then nothing is carried at all.
+    fn carry(&mut self, alloc: Global, hold: &WideHold) -> Result<(), AllocError>
         ensures { OnOk result ((stated : List WideHold) → AreCarried stated self.old
             → AreCarried (stated ++ hold.now ∷ []) self.new) }
     {
-        self.count = self.count.saturating_add(1);
-        if refuse_hold(alloc, &mut self.refusals.current, hold)? {
+        self.has_read_any = true;
+        if refuse_if_bad_hold(alloc, &mut self.refusals.current, hold)? {
             self.is_refused = true;
             return Ok(());
         }
@@ -133,13 +133,13 @@ impl OutsideHolds {
         }
     }
 
-    // Carries and adds the hold, if there is one.
-    fn add_if_hold(&mut self, alloc: Global, hold: Option<WideHold>) -> Result<(), AllocError>
+    // Adds the hold, if there is one, as it is carried.
+    fn carry_if_any(&mut self, alloc: Global, hold: Option<WideHold>) -> Result<(), AllocError>
         ensures { OnOk result ((stated : List WideHold) → AreCarried stated self.old
             → AreCarried (stated ++ option_to_list hold) self.new) }
     {
         match hold {
-            Some(hold) => self.add(alloc, &hold),
+            Some(hold) => self.carry(alloc, &hold),
             None => Ok(()),
         }
     }
@@ -152,9 +152,9 @@ impl OutsideHolds {
         self.refusals.end_file(alloc)
     }
 
-    /// Refuses, with remarks, all holds and releases of the files that cannot be carried, and returns whether there are
-    /// any. Among them are the holds outside SYSMODs that were refused as the files were read: the remarks on these
-    /// come first, file by file.
+    /// Refuses, with remarks, all holds and releases of the files that cannot be carried. Returns whether there are
+    /// any. The holds outside SYSMODs were refused while the files were read: for each file, the remarks on these come
+    /// first.
     pub fn refuse_all(
         &mut self,
         alloc: Global,
@@ -169,8 +169,8 @@ impl OutsideHolds {
     }
 }
 
-// Refuses, with remarks, the holds and releases of the files that cannot be carried, and returns whether there are any.
-// The holds outside SYSMODs do not count: of these only the remarks are added, which were made as the files were read.
+// Refuses, with remarks, the releases and the holds in SYSMODs that cannot be carried, and adds the remarks on holds
+// outside SYSMODs, which were refused before. Returns whether there are any of the former.
 fn refuse_files(
     alloc: Global,
     remarks: &mut Remarks,
@@ -187,9 +187,9 @@ fn refuse_files(
     Ok(any)
 }
 
-/// The statements of a file of these cards. Its holds outside SYSMODs are carried as they are read, and added to
-/// `held`. Returns `Memory` if memory runs out, or else the first fault for which no SYSMOD can be left out:
-/// `NoStatement`, `OpenComment` or `Statement`.
+/// The statements of a file of these cards. Its holds outside SYSMODs are added to `held` while they are read. Returns
+/// `NoStatement`, `OpenComment` or `Statement` if the file has a fault that leaving out a SYSMOD does not mend, and
+/// `Memory` if memory runs out.
 pub fn read_statements(
     alloc: Global,
     cards: &mut CardReader<'_>,
@@ -203,11 +203,10 @@ pub fn read_statements(
         let Some(card) = cards.next_card(notes)? else {
             break;
         };
-        held.add_if_hold(alloc, reader.read_card(&card)?)?;
+        held.carry_if_any(alloc, reader.read_card(&card)?)?;
     }
     cards.note_end(notes)?;
-    held.add_if_hold(alloc, reader.read_end()?)?;
+    held.carry_if_any(alloc, reader.read_end()?)?;
     held.end_file(alloc)?;
-    let file = reader.into_file()?;
-    Ok(file)
+    reader.into_file()
 }

@@ -1,4 +1,4 @@
-//! Holds and releases of the hold file, in the order of the files.
+//! The holds and releases of the hold file, in the order in which the files state them.
 ghost use Rattle.std.specs.Prelude.{◌≡◌, ◌∷◌, ◌++◌, [], IfOk, OnOk, map, IsPermutation};
 ghost use Rattle.std.specs.List.Sorted.{IsSortedByKey};
 ghost use Rattle.intake_holds.specs.Become.{Become};
@@ -11,12 +11,12 @@ use intake_read::{CardPlace, WideRelease};
 use mcs::HoldItem;
 use std::alloc::{AllocError, Global};
 
-/// A hold or a release of the hold file, and where it stood.
+/// A hold or a release of the hold file, and the place of its statement.
 #[derive(Drop)]
 pub struct PlacedItem {
     pub place: CardPlace,
     pub item: HoldItem,
-    /// It was an internal hold of a SYSMOD that is left out.
+    /// Whether it was an internal hold of a SYSMOD that is left out.
     pub was_internal: bool,
 }
 
@@ -36,8 +36,8 @@ pub fn push_item(
     Ok(())
 }
 
-/// Carries the releases: returns each with its place, but none of FIXCAT. Remarks say what is left out and what
-/// differs. Returns `BadHold` if one has no key, `Memory` if memory runs out.
+/// The releases as they are carried, each with its place, without those of FIXCAT. Remarks say what is left out and
+/// what differs. Returns `BadHold` if the key of one cannot be read, and `Memory` if memory runs out.
 pub fn carry_releases(
     alloc: Global,
     remarks: &mut Remarks,
@@ -58,19 +58,19 @@ pub fn carry_releases(
 // Sorts the items by their places.
 fn sort_by_place(mut placed: Vec<PlacedItem>) -> Vec<PlacedItem>
     ensures same { IsPermutation placed.items result.items }
-    ensures rising { IsSortedByKey (λ one. one.place) place_cmp result.items }
+    ensures rising { IsSortedByKey (λ placed_item. placed_item.place) place_cmp result.items }
 {
-    placed.sort_unstable_by_key(|one| one.place);
+    placed.sort_unstable_by_key(|placed_item| placed_item.place);
     placed
 }
 
 // The items without their places.
 fn without_places(alloc: Global, placed: Vec<PlacedItem>) -> Result<Vec<HoldItem>, AllocError>
-    ensures { IfOk result (λ items. items.items ≡ map (λ one. one.item) placed.items) }
+    ensures { IfOk result (λ items. items.items ≡ map (λ placed_item. placed_item.item) placed.items) }
 {
     let mut items = Vec::with_capacity(alloc, placed.len())?;
-    for one in placed {
-        items.push(one.item)?;
+    for placed_item in placed {
+        items.push(placed_item.item)?;
     }
     Ok(items)
 }
@@ -79,6 +79,5 @@ fn without_places(alloc: Global, placed: Vec<PlacedItem>) -> Result<Vec<HoldItem
 pub fn items_in_order(alloc: Global, placed: Vec<PlacedItem>) -> Result<Vec<HoldItem>, AllocError>
     ensures { IfOk result (λ items. AreInOrder placed.items items.items) }
 {
-    let items = without_places(alloc, sort_by_place(placed))?;
-    Ok(items)
+    without_places(alloc, sort_by_place(placed))
 }

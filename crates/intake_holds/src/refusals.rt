@@ -1,6 +1,6 @@
-//! Holds and releases that cannot be carried. With one of them nothing is carried at all.
+//! Holds and releases that cannot be carried. If there is one, nothing is carried at all, so that no hold is lost.
 
-use crate::faulty_operands::reason_or_missing;
+use crate::faulty_operands::fault_of_needed_operand;
 use crate::holds::{HoldFault, hold_key, hold_subject, release_key, release_subject};
 use intake_cards::{Deed, RemarkReason, Remarks, Subject};
 use intake_read::{
@@ -8,7 +8,7 @@ use intake_read::{
 };
 use std::alloc::{AllocError, Global};
 
-// Whether an operand of this name is part of the key of a hold. A second one leaves open which is meant.
+// Whether an operand of this name is part of the key of a hold. If it is stated twice, it is not known which counts.
 fn is_key_operand(name: &[u8]) -> bool {
     WideHoldKind::read(name).is_some() || matches!(name, b"REASON" | b"FMID")
 }
@@ -20,8 +20,8 @@ fn faulty_key_operand(faulty: &[FaultyOperand]) -> Option<&FaultyOperand> {
         .find(|entry| is_key_operand(entry.operand.name.as_slice()))
 }
 
-// Refuses a hold or a release, with a remark, if an operand of its key is faulty or its key has the fault, and returns
-// whether that is so.
+// Refuses a hold or a release, with a remark, if an operand of its key is faulty, or if its key has a fault. Returns
+// whether it is refused.
 fn refuse_if_faulty(
     alloc: Global,
     remarks: &mut Remarks,
@@ -37,7 +37,7 @@ fn refuse_if_faulty(
             subject,
             name,
             Deed::Refused,
-            reason_or_missing(entry),
+            fault_of_needed_operand(entry),
             operand.text(),
         )?;
         return Ok(true);
@@ -58,8 +58,8 @@ fn refuse_if_faulty(
     }
 }
 
-/// Refuses the hold, with a remark, if it cannot be carried, and returns whether that is so.
-pub(crate) fn refuse_hold(
+/// Refuses the hold, with a remark, if it cannot be carried. Returns whether it is refused.
+pub(crate) fn refuse_if_bad_hold(
     alloc: Global,
     remarks: &mut Remarks,
     stated: &WideHold,
@@ -69,8 +69,8 @@ pub(crate) fn refuse_hold(
     refuse_if_faulty(alloc, remarks, &subject, stated.faulty.as_slice(), fault)
 }
 
-// Refuses the release, with a remark, if it cannot be carried, and returns whether that is so.
-fn refuse_release(
+// Refuses the release, with a remark, if it cannot be carried. Returns whether it is refused.
+fn refuse_if_bad_release(
     alloc: Global,
     remarks: &mut Remarks,
     stated: &WideRelease,
@@ -80,28 +80,28 @@ fn refuse_release(
     refuse_if_faulty(alloc, remarks, &subject, stated.faulty.as_slice(), fault)
 }
 
-// Refuses, with remarks, those of the holds that cannot be carried, and returns whether there are any.
-fn refuse_holds(
+// Refuses, with remarks, those of the holds that cannot be carried. Returns whether there are any.
+fn refuse_bad_holds(
     alloc: Global,
     remarks: &mut Remarks,
     stated: &[WideHold],
 ) -> Result<bool, AllocError> {
     let mut any = false;
     for hold in stated {
-        if refuse_hold(alloc, remarks, hold)? {
+        if refuse_if_bad_hold(alloc, remarks, hold)? {
             any = true;
         }
     }
     Ok(any)
 }
 
-// Whether the statement is a hold or a release that is too broken to be read as one, and is not of FIXCAT.
+// Whether the statement is a broken hold or release: one that is too faulty to be read. FIXCAT does not count.
 fn is_broken_hold(other: &WideOther) -> bool {
-    matches!(other.word.as_slice(), b"HOLD" | b"RELEASE") && !is_fixcat(other)
+    matches!(other.word.as_slice(), b"HOLD" | b"RELEASE") && !is_broken_fixcat(other)
 }
 
-// Whether a broken hold or release names FIXCAT as its kind, and no other kind.
-fn is_fixcat(other: &WideOther) -> bool {
+// Whether a broken hold or release names FIXCAT, and no other kind.
+fn is_broken_fixcat(other: &WideOther) -> bool {
     let mut has_fixcat = false;
     for operand in other.operands.iter() {
         match WideHoldKind::read(operand.name.as_slice()) {
@@ -135,7 +135,7 @@ fn refuse_broken_hold(
     )
 }
 
-// Refuses, with remarks, the broken holds and releases among the statements, and returns whether there are any.
+// Refuses, with remarks, the broken holds and releases among the statements. Returns whether there are any.
 fn refuse_broken_holds(
     alloc: Global,
     remarks: &mut Remarks,
@@ -151,8 +151,8 @@ fn refuse_broken_holds(
     Ok(any)
 }
 
-/// Refuses, with remarks, the releases of a file and the holds in its SYSMODs that cannot be carried. Such a statement
-/// lacks something that tells a hold from others, or says it twice, or is broken. Returns whether there are any.
+/// Refuses, with remarks, the releases of a file and the holds in its SYSMODs that cannot be carried: a part of the key
+/// is missing or is stated twice, or the statement is broken. Returns whether there are any.
 pub(crate) fn refuse_statements(
     alloc: Global,
     remarks: &mut Remarks,
@@ -160,7 +160,7 @@ pub(crate) fn refuse_statements(
 ) -> Result<bool, AllocError> {
     let mut any = false;
     for release in file.releases.iter() {
-        if refuse_release(alloc, remarks, release)? {
+        if refuse_if_bad_release(alloc, remarks, release)? {
             any = true;
         }
     }
@@ -168,9 +168,9 @@ pub(crate) fn refuse_statements(
         any = true;
     }
     for sysmod in file.sysmods.iter() {
-        let holds = refuse_holds(alloc, remarks, sysmod.holds.as_slice())?;
-        let broken = refuse_broken_holds(alloc, remarks, sysmod.others.as_slice())?;
-        any = any || holds || broken;
+        let has_bad = refuse_bad_holds(alloc, remarks, sysmod.holds.as_slice())?;
+        let has_broken = refuse_broken_holds(alloc, remarks, sysmod.others.as_slice())?;
+        any = any || has_bad || has_broken;
     }
     Ok(any)
 }

@@ -4,29 +4,29 @@ use intake_cards::CardPlace;
 use std::alloc::{AllocError, AllocFailed};
 use thiserror::Error;
 
-/// Why a file of statements is not read: want of memory, or its first fault of those that no SYSMOD can be left out
-/// for.
+/// Why a file of statements is not read: memory ran out, or it has a fault that leaving out a SYSMOD does not mend. The
+/// first such fault counts.
 #[derive(Debug, Drop, Error)]
 pub enum WideError {
     #[error("out of memory")]
     Memory,
-    /// Before the first statement stands more than blanks and comments.
+    /// More than blanks and comments precedes the first statement.
     #[error("{hint}")]
     NoStatement {
         place: CardPlace,
         /// What to do about it.
         hint: &'static str,
     },
-    /// A comment is open where the file ends.
+    /// A comment is open at the end of the file.
     #[error("the comment is not closed")]
     OpenComment {
         place: CardPlace,
     },
-    /// No SYSMOD is begun that the statement could belong to, for that reason.
+    /// The statement makes no item, for this reason, and there is no SYSMOD before it that could be left out.
     #[error("{reason}")]
     Statement {
         place: CardPlace,
-        /// Its word without `++`, and what stands in parentheses behind it, both in upper case.
+        /// Its word without `++`, and the text in parentheses after the word, both in upper case.
         word: Vec<u8>,
         name: Vec<u8>,
         reason: OtherReason,

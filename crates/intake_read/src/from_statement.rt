@@ -1,19 +1,19 @@
-//! Items of statements. A statement with a fault makes a `WideOther`, and a header with one a SYSMOD with that fault.
+//! Makes items of statements. A faulty statement makes a `WideOther`, and a faulty header a SYSMOD that has it as one.
 use crate::items::{
     FaultyOperand, OperandFault, OtherReason, WideAssign, WideElement, WideHold, WideHoldKind,
     WideIf, WideOperand, WideOther, WideRelease, WideSysmod, WideVer,
 };
-use crate::meaning::is_word_of;
-use crate::operands::{fill_flag, fill_list, fill_text, fill_value, keep_faulty};
+use crate::meaning::is_listed;
+use crate::operands::{bare_word_fault, fill_flag, fill_list, fill_text, fill_value, keep_faulty};
 use crate::statement::WideStatement;
 use std::alloc::{AllocError, Global};
 use terms::Kind;
 
-/// Operands of headers that change no decision.
+/// Operands of headers that change no decision, with blanks between.
 const DROPPED: &[u8] = b"REWORK DESC DESCRIPTION FILES RFDSNPFX RFDSNTYPE RFDSNTYP FESN";
 
 impl WideSysmod {
-    /// The SYSMOD that the header begins.
+    /// Reads a header as the beginning of a SYSMOD.
     pub(crate) fn from_header(
         alloc: Global,
         kind: Kind,
@@ -39,7 +39,7 @@ impl WideSysmod {
         }
         sysmod.id = statement.name;
         for operand in statement.operands {
-            if is_word_of(DROPPED, operand.name.as_slice()) {
+            if is_listed(operand.name.as_slice(), DROPPED) {
                 sysmod.dropped.push(operand)?;
             } else {
                 keep_faulty(&mut sysmod.faulty, operand, OperandFault::Unknown)?;
@@ -50,7 +50,7 @@ impl WideSysmod {
 }
 
 impl WideVer {
-    /// The `++VER`. The SRELs are those of its list.
+    /// Reads the statement as a `++VER` with these SRELs, which its list names.
     pub(crate) fn from_statement(
         alloc: Global,
         srels: Vec<Vec<u8>>,
@@ -75,7 +75,6 @@ impl WideVer {
         Ok(ver)
     }
 
-    // Adds an operand.
     fn add_operand(&mut self, alloc: Global, operand: WideOperand) -> Result<(), AllocError> {
         let faulty = &mut self.faulty;
         match operand.name.as_slice() {
@@ -92,7 +91,7 @@ impl WideVer {
 }
 
 impl WideIf {
-    /// The `++IF`.
+    /// Reads the statement as an `++IF`.
     pub(crate) fn from_statement(
         alloc: Global,
         statement: WideStatement,
@@ -117,26 +116,25 @@ impl WideIf {
     }
 }
 
-// Puts the kind that the operand names into the slot of its statement. The operand is faulty if the slot is filled, or
-// if it has parentheses.
+// Puts the kind that the operand's name means into the slot of its statement. The operand is faulty if the slot is
+// filled, or if it has parentheses.
 fn fill_kind(
     slot: &mut Option<WideHoldKind>,
     kind: WideHoldKind,
     operand: WideOperand,
     faulty: &mut Vec<FaultyOperand>,
 ) -> Result<(), AllocError> {
-    if slot.is_some() {
-        return keep_faulty(faulty, operand, OperandFault::Repeated);
+    match bare_word_fault(slot.is_some(), &operand) {
+        Some(fault) => keep_faulty(faulty, operand, fault),
+        None => {
+            *slot = Some(kind);
+            Ok(())
+        }
     }
-    if operand.value.is_some() {
-        return keep_faulty(faulty, operand, OperandFault::BadValue);
-    }
-    *slot = Some(kind);
-    Ok(())
 }
 
 impl WideHold {
-    /// The `++HOLD`.
+    /// Reads the statement as a `++HOLD`.
     pub(crate) fn from_statement(
         alloc: Global,
         statement: WideStatement,
@@ -159,7 +157,6 @@ impl WideHold {
         Ok(hold)
     }
 
-    // Adds an operand.
     fn add_operand(&mut self, alloc: Global, operand: WideOperand) -> Result<(), AllocError> {
         let faulty = &mut self.faulty;
         if let Some(kind) = WideHoldKind::read(operand.name.as_slice()) {
@@ -181,7 +178,7 @@ impl WideHold {
 }
 
 impl WideRelease {
-    /// The `++RELEASE`.
+    /// Reads the statement as a `++RELEASE`.
     pub(crate) fn from_statement(
         alloc: Global,
         statement: WideStatement,
@@ -201,7 +198,6 @@ impl WideRelease {
         Ok(release)
     }
 
-    // Adds an operand.
     fn add_operand(&mut self, alloc: Global, operand: WideOperand) -> Result<(), AllocError> {
         let faulty = &mut self.faulty;
         if let Some(kind) = WideHoldKind::read(operand.name.as_slice()) {
@@ -220,7 +216,7 @@ impl WideRelease {
 }
 
 impl WideAssign {
-    /// The `++ASSIGN`.
+    /// Reads the statement as an `++ASSIGN`.
     pub(crate) fn from_statement(
         alloc: Global,
         statement: WideStatement,
@@ -244,7 +240,7 @@ impl WideAssign {
 }
 
 impl WideElement {
-    /// The statement for an element.
+    /// Reads an element statement.
     pub(crate) fn from_statement(
         alloc: Global,
         statement: WideStatement,
@@ -269,7 +265,6 @@ impl WideElement {
         Ok(element)
     }
 
-    // Adds an operand.
     fn add_operand(&mut self, alloc: Global, operand: WideOperand) -> Result<(), AllocError> {
         let faulty = &mut self.faulty;
         match operand.name.as_slice() {
@@ -291,7 +286,7 @@ impl WideElement {
 }
 
 impl WideOther {
-    /// The statement as it stands: for this reason it makes no SYSMOD, `++VER`, hold or element.
+    /// Keeps a statement that makes no SYSMOD, `++VER`, hold or element, for this reason.
     pub(crate) fn from_statement(reason: OtherReason, statement: WideStatement) -> WideOther {
         WideOther {
             place: statement.place,

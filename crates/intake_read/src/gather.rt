@@ -1,4 +1,4 @@
-//! Statements one after the other, gathered as SYSMODs and what stands beside them.
+//! Gathers the statements of a file, one after the other, as SYSMODs and the items outside SYSMODs.
 use crate::errors::WideError;
 use crate::items::{
     Note, NoteReason, OtherReason, SwallowedStatement, WideAssign, WideElement, WideFile, WideHold,
@@ -10,7 +10,7 @@ use crate::statement::WideStatement;
 use intake_cards::{Card, CardPlace};
 use std::alloc::{AllocError, Global};
 
-/// The statements so far: a file's items, the SYSMOD that is begun, and a hold that is to be handed out.
+/// The statements so far: the items of the file, the SYSMOD that is begun, and a hold that is to be handed out.
 #[derive(Drop)]
 pub(crate) struct FileSoFar {
     alloc: Global,
@@ -37,7 +37,7 @@ impl FileSoFar {
         }
     }
 
-    /// Ends the SYSMOD that is begun, and returns all statements but the holds that `take_hold` hands out.
+    /// Ends the SYSMOD that is begun, and returns all statements except the holds that `take_hold` handed out.
     pub fn into_file(self) -> Result<WideFile, WideError> {
         let FileSoFar {
             alloc: _,
@@ -62,7 +62,8 @@ impl FileSoFar {
         Ok(())
     }
 
-    // Notes that the statement at that place has words in lower case: counts one more, or begins the note.
+    // Notes that the statement at that place has words in lower case: counts it in the note on these, or begins that
+    // note.
     fn note_lower_case(&mut self, place: CardPlace) -> Result<(), AllocError> {
         for note in self.file.notes.iter_mut() {
             if note.reason == NoteReason::LowerCase {
@@ -79,7 +80,7 @@ impl FileSoFar {
         Ok(())
     }
 
-    /// Notes what columns 73 to 80 of the card hold.
+    /// Notes the text in columns 73 to 80 of the card.
     pub fn note_tail(&mut self, card: &Card) -> Result<(), AllocError> {
         self.file.notes.push(Note {
             place: card.place,
@@ -100,12 +101,16 @@ impl FileSoFar {
                 let sysmod = WideSysmod::from_header(self.alloc, kind, statement)?;
                 self.begin_sysmod(sysmod)
             }
-            WideWord::Item(word) => self.add_item(word, statement),
+            WideWord::Item(word) => self.add_below_header(word, statement),
         }
     }
 
-    // Adds a statement that is no header: as an item, or as a statement that makes none if it has a fault.
-    fn add_item(&mut self, word: ItemWord, statement: WideStatement) -> Result<(), WideError> {
+    // Adds a statement that is not a header: as an item, or, if it is faulty, as a statement that makes none.
+    fn add_below_header(
+        &mut self,
+        word: ItemWord,
+        statement: WideStatement,
+    ) -> Result<(), WideError> {
         if let Some(reason) = statement.fault {
             if word.stands_alone() {
                 self.file
@@ -113,9 +118,9 @@ impl FileSoFar {
                     .push(WideOther::from_statement(reason, statement))?;
                 return Ok(());
             }
-            return self.add_other(reason, statement);
+            return self.add_other_to_sysmod(reason, statement);
         }
-        self.add_by_word(word, statement)
+        self.add_item(word, statement)
     }
 
     // Ends the SYSMOD that is begun, if there is one, and begins this one.
@@ -128,7 +133,7 @@ impl FileSoFar {
 
     // Adds a statement that makes no item, for this reason, to the SYSMOD that is begun. Returns `Statement` if no
     // SYSMOD is begun.
-    fn add_other(
+    fn add_other_to_sysmod(
         &mut self,
         reason: OtherReason,
         statement: WideStatement,
@@ -149,9 +154,9 @@ impl FileSoFar {
         }
     }
 
-    // Adds a statement without a fault, as the item that its word means. Returns `Statement` if it belongs to a SYSMOD
+    // Adds a statement without a fault as the item that its word means. Returns `Statement` if it belongs to a SYSMOD
     // and none is begun.
-    fn add_by_word(&mut self, word: ItemWord, statement: WideStatement) -> Result<(), WideError> {
+    fn add_item(&mut self, word: ItemWord, statement: WideStatement) -> Result<(), WideError> {
         match word {
             ItemWord::Hold => self.add_hold(statement)?,
             ItemWord::Release => self
@@ -169,8 +174,8 @@ impl FileSoFar {
             ItemWord::Ver => self.add_ver(statement)?,
             ItemWord::If => self.add_if(statement)?,
             ItemWord::Element => self.add_element(statement)?,
-            ItemWord::LoadModules => self.add_other(OtherReason::LoadModules, statement)?,
-            ItemWord::Unknown => self.add_other(OtherReason::UnknownWord, statement)?,
+            ItemWord::LoadModules => self.add_other_to_sysmod(OtherReason::LoadModules, statement)?,
+            ItemWord::Unknown => self.add_other_to_sysmod(OtherReason::UnknownWord, statement)?,
         }
         Ok(())
     }
@@ -185,13 +190,14 @@ impl FileSoFar {
         Ok(())
     }
 
-    // Adds a `++VER` to the SYSMOD that is begun, or as a statement that makes no item if no SYSMOD is begun.
+    // Adds a `++VER` to the SYSMOD that is begun. One without SRELs makes no item. Returns `Statement` if no SYSMOD is
+    // begun.
     fn add_ver(&mut self, statement: WideStatement) -> Result<(), WideError> {
         let Some(srels) = upper_case_members(self.alloc, statement.name.as_slice())? else {
-            return self.add_other(OtherReason::NoName, statement);
+            return self.add_other_to_sysmod(OtherReason::NoName, statement);
         };
         let Some(sysmod) = &mut self.begun else {
-            return self.add_other(OtherReason::Misplaced, statement);
+            return self.add_other_to_sysmod(OtherReason::Misplaced, statement);
         };
         sysmod
             .vers
@@ -199,7 +205,8 @@ impl FileSoFar {
         Ok(())
     }
 
-    // Adds an `++IF` to the last `++VER`, or as a statement that makes no item if there is none.
+    // Adds an `++IF` to the last `++VER` of the SYSMOD that is begun. If there is no `++VER`, it makes no item. Returns
+    // `Statement` if no SYSMOD is begun.
     fn add_if(&mut self, statement: WideStatement) -> Result<(), WideError> {
         if let Some(sysmod) = &mut self.begun {
             if let Some(last) = sysmod.vers.last_mut() {
@@ -208,13 +215,13 @@ impl FileSoFar {
                 return Ok(());
             }
         }
-        self.add_other(OtherReason::Misplaced, statement)
+        self.add_other_to_sysmod(OtherReason::Misplaced, statement)
     }
 
-    // Adds an element to the SYSMOD that is begun, or as a statement that makes no item if no SYSMOD is begun.
+    // Adds an element to the SYSMOD that is begun. Returns `Statement` if no SYSMOD is begun.
     fn add_element(&mut self, statement: WideStatement) -> Result<(), WideError> {
         let Some(sysmod) = &mut self.begun else {
-            return self.add_other(OtherReason::Misplaced, statement);
+            return self.add_other_to_sysmod(OtherReason::Misplaced, statement);
         };
         sysmod
             .elements

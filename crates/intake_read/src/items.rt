@@ -6,8 +6,8 @@ use intake_cards::{Card, CardPlace};
 use terms::Kind;
 use thiserror::Error;
 
-/// An operand as it stands: its name in upper case, and what its parentheses hold. The text is as the file has it, but
-/// for blanks at either end of a card and of the whole, and one blank stands between two cards.
+/// An operand as the file has it: its name in upper case, and the text in its parentheses. This text lacks the blanks
+/// at either end of a card, and has one blank between two cards.
 #[derive(Drop)]
 pub struct WideOperand {
     pub place: CardPlace,
@@ -16,7 +16,7 @@ pub struct WideOperand {
 }
 
 impl WideOperand {
-    /// What its parentheses hold; empty if it has none.
+    /// The text in its parentheses; empty if it has none.
     pub fn text(&self) -> &[u8]
         ensures { result.now ≡ value_text self.now.value }
     {
@@ -27,18 +27,18 @@ impl WideOperand {
     }
 }
 
-/// Why an operand cannot be read as what its name says.
+/// Why an operand cannot be read as its name demands.
 #[derive(Clone, Copy, Debug, PartialEq, Eq)]
 pub enum OperandFault {
     /// The statement has no operand of this name.
     Unknown,
     /// It is the second one of its name in the statement.
     Repeated,
-    /// What stands in its parentheses is no value of it, or it lacks them, or has some that it should not have.
+    /// The text in its parentheses is not a value of it, or it lacks parentheses, or may not have any.
     BadValue,
 }
 
-/// An operand that cannot be read as what its name says.
+/// An operand that cannot be read as its name demands.
 #[derive(Drop)]
 pub struct FaultyOperand {
     pub operand: WideOperand,
@@ -50,7 +50,7 @@ pub struct FaultyOperand {
 pub struct WideSysmod {
     pub place: CardPlace,
     pub kind: Kind,
-    /// What stands in the header's parentheses, in upper case; empty if there are none.
+    /// The text in the header's parentheses, in upper case; empty if there are none.
     pub id: Vec<u8>,
     /// REWORK, DESC, FILES, RFDSNPFX, RFDSNTYPE (RFDSNTYP), FESN, as they stand.
     pub dropped: Vec<WideOperand>,
@@ -58,7 +58,7 @@ pub struct WideSysmod {
     pub vers: Vec<WideVer>,
     pub holds: Vec<WideHold>,
     pub elements: Vec<WideElement>,
-    /// Its other statements, and those that are none of these because something is wrong with them.
+    /// Its other statements, and those that are faulty.
     pub others: Vec<WideOther>,
 }
 
@@ -217,8 +217,7 @@ pub enum OtherReason {
     Misplaced,
 }
 
-/// A statement that makes no SYSMOD, `++VER`, hold, element or other item: one that is only known by name, or one that
-/// has something wrong with it.
+/// A statement that makes no SYSMOD, `++VER`, hold, element or other item: only its name is known, or it is faulty.
 #[derive(Drop)]
 pub struct WideOther {
     pub place: CardPlace,
@@ -231,16 +230,17 @@ pub struct WideOther {
     pub inline: Vec<Card>,
 }
 
-/// What was read otherwise than it stands, and lost nothing by it.
+/// What was read differently from what the file has, although nothing was lost by it.
 #[derive(Clone, Copy, Debug, PartialEq, Eq)]
 pub enum NoteReason {
     /// Words in lower case are read in upper case.
     LowerCase,
-    /// Columns 73 to 80 hold something that is no number; they are not read. Each card has a note of its own.
+    /// Columns 73 to 80 hold more than a number. They are not read. Each card has a note of its own.
     TextInNumbers,
 }
 
-/// Something that was read otherwise than it stands: the first statement or card with it, and how many there are.
+/// Something that was read differently from what the file has: the first statement or card with it, and how many there
+/// are.
 #[derive(Clone, Copy, Debug, PartialEq, Eq)]
 pub struct Note {
     pub place: CardPlace,
@@ -272,8 +272,8 @@ pub struct WideFile {
     /// `++FEATURE`, `++PRODUCT` and `++NULL`, wherever they stand, and each `++HOLD`, `++RELEASE` and `++ASSIGN` that
     /// has a fault.
     pub others: Vec<WideOther>,
-    /// Those that stand in comments.
+    /// Statements inside comments.
     pub swallowed: Vec<SwallowedStatement>,
-    /// One for each reason, but for columns 73 to 80, of which each card has a note of its own.
+    /// One for lower case, and one for each card with a text in columns 73 to 80.
     pub notes: Vec<Note>,
 }

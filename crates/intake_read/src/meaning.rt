@@ -1,7 +1,7 @@
 //! The meanings of the words of statements.
 use terms::Kind;
 
-/// What a statement's word says that it is.
+/// The meaning of a statement's word.
 #[derive(Clone, Copy, Debug, PartialEq, Eq)]
 pub(crate) enum WideWord {
     /// The beginning of a SYSMOD.
@@ -9,7 +9,7 @@ pub(crate) enum WideWord {
     Item(ItemWord),
 }
 
-/// What the word of a statement that is no header says that it is.
+/// The meaning of the word of a statement that is not a header.
 #[derive(Clone, Copy, Debug, PartialEq, Eq)]
 pub(crate) enum ItemWord {
     Ver,
@@ -37,7 +37,7 @@ impl WideWord {
         }
     }
 
-    /// Whether a statement of this word needs what stands in parentheses after the word.
+    /// Whether a statement of this word needs a text in parentheses after the word.
     pub(crate) fn needs_name(self) -> bool {
         match self {
             WideWord::Header(_) => true,
@@ -50,7 +50,7 @@ impl WideWord {
 }
 
 impl ItemWord {
-    // The meaning of a word that is no header's, which is given without its `++`.
+    // The meaning of a word that is not a header's, which is given without its `++`.
     fn read(word: &[u8]) -> ItemWord {
         match word {
             b"VER" => ItemWord::Ver,
@@ -65,8 +65,7 @@ impl ItemWord {
         }
     }
 
-    /// Whether no SYSMOD is left out if a statement of this word is at fault, because such a statement is kept beside
-    /// the SYSMODs.
+    /// Whether a statement of this word is kept outside the SYSMODs, so that its fault leaves no SYSMOD out.
     pub(crate) fn stands_alone(self) -> bool {
         matches!(
             self,
@@ -75,47 +74,50 @@ impl ItemWord {
     }
 }
 
-/// Elements whose names go without a language.
+/// Words of element statements that no language follows.
 static PLAIN_ELEMENTS: &[u8] = b"MAC SRC MACUPD SRCUPD MOD ZAP PROGRAM JAR JARUPD PRODXML SHELLSCR";
 
-/// Data elements, which a language may follow.
+/// Words of data elements, which a language may follow.
 static DATA_ELEMENTS: &[u8] =
     b"BOOK BSIND CGM CLIST DATA DATA1 DATA2 DATA3 DATA4 DATA5 DATA6 EXEC FONT GDF HELP IMG \
     MSG PARM PNL PROBJ PROC PRSRC PSEG PUBLB SAMP SKL TBL TEXT USER1 USER2 USER3 USER4 USER5 UTIN UTOUT";
 
-/// Elements of file systems, which a language may follow.
+/// Words of elements of file systems, which a language may follow.
 static FILE_ELEMENTS: &[u8] =
     b"HFS AIX1 AIX2 AIX3 AIX4 AIX5 CLIENT1 CLIENT2 CLIENT3 CLIENT4 CLIENT5 OS21 OS22 OS23 \
     OS24 OS25 UNIX1 UNIX2 UNIX3 UNIX4 UNIX5 WIN1 WIN2 WIN3 WIN4 WIN5";
 
-/// The languages.
+/// The codes of languages.
 static LANGUAGES: &[u8] =
     b"ARA CHS CHT DAN DES DEU ELL ENG ENP ENU ESP FIN FRA FRB FRC FRS HEB ISL ITA ITS JPN KOR NLB \
     NLD NOR PTB PTG RMS RUS SVE THA TRK";
 
-/// Whether the list, whose words blanks separate, has the word.
-pub(crate) fn is_word_of(list: &[u8], word: &[u8]) -> bool {
+/// How many letters the code of a language has.
+const LANGUAGE_LENGTH: usize = 3;
+
+/// Whether the word is one of the list, in which blanks separate words.
+pub(crate) fn is_listed(word: &[u8], list: &[u8]) -> bool {
     list.split(|byte| *byte == b' ')
         .any(|listed| *listed == *word)
 }
 
-// Whether the word is one that a language may follow.
+// Whether a language may follow the word.
 fn may_have_language(word: &[u8]) -> bool {
-    is_word_of(DATA_ELEMENTS, word) || is_word_of(FILE_ELEMENTS, word)
+    is_listed(word, DATA_ELEMENTS) || is_listed(word, FILE_ELEMENTS)
 }
 
-// Whether the word has a language at its end.
+// Whether the word ends with a language, as PNLENU does.
 fn has_language(word: &[u8]) -> bool {
-    if word.len() < 3 {
+    if word.len() < LANGUAGE_LENGTH {
         return false;
     }
-    let (element, language) = word.split_at(word.len() - 3);
-    is_word_of(LANGUAGES, language) && may_have_language(element)
+    let (element, language) = word.split_at(word.len() - LANGUAGE_LENGTH);
+    is_listed(language, LANGUAGES) && may_have_language(element)
 }
 
-// Whether the word, without its `++`, is that of a statement for an element.
+// Whether the word, without its `++`, is that of an element statement.
 fn is_element(word: &[u8]) -> bool {
-    is_word_of(PLAIN_ELEMENTS, word) || may_have_language(word) || has_language(word)
+    is_listed(word, PLAIN_ELEMENTS) || may_have_language(word) || has_language(word)
 }
 
 /// Whether cards after a statement of this word may be its text.
@@ -127,15 +129,15 @@ pub(crate) fn may_have_inline_text(word: &[u8]) -> bool {
     }
 }
 
-/// Whether the operand says that the text is elsewhere, or that there is none.
-pub(crate) fn is_text_elsewhere(operand: &[u8]) -> bool {
+/// Whether an operand of this name says that no text follows the statement: the text is elsewhere, or there is none.
+pub(crate) fn excludes_inline_text(operand: &[u8]) -> bool {
     matches!(
         operand,
         b"RELFILE" | b"TXLIB" | b"LKLIB" | b"FROMDS" | b"DELETE"
     )
 }
 
-/// Whether the operand's value is read in upper case.
+/// Whether the value of an operand of this name is read in upper case.
 pub(crate) fn is_read_in_upper_case(operand: &[u8]) -> bool {
     matches!(
         operand,

@@ -1,73 +1,38 @@
 //! The values of operands.
-ghost use Rattle.std.specs.Prelude.{◌≡◌, ◌==◌, ◌||◌, IfOk, map, filter, nat_lt, length};
-ghost use Rattle.std.specs.List.{slice_split};
+ghost use Rattle.std.specs.Prelude.{◌≡◌, IfOk, map};
 ghost use Rattle.intake_read.specs.Stated.{members};
 
 use crate::items::{FaultyOperand, OperandFault, WideOperand};
 use std::alloc::{AllocError, Global};
 
-// The parts of a list between its blanks and commas, empty ones too.
-fn split_list(alloc: Global, list: &[u8]) -> Result<Vec<&[u8]>, AllocError>
-    ensures { IfOk result (λ found. map (λ part. part.now) found.items
-        ≡ slice_split (λ b. b == 32 || b == 44) list.now) }
-{
-    list.split(|b| *b == b' ' || *b == b',').collect(alloc)
-}
-
-// Whether the part is not empty. A function, because its contract tells its caller's proof which parts stay.
-fn is_nonempty(part: &[u8]) -> bool
-    ensures { result ≡ nat_lt 0 (length part.now) }
-{
-    !part.is_empty()
-}
-
-// The parts without the empty ones.
-fn without_empty_parts<'a>(alloc: Global, parts: &[&'a [u8]]) -> Result<Vec<&'a [u8]>, AllocError>
-    ensures { IfOk result (λ found. map (λ part. part.now) found.items
-        ≡ filter (λ part. nat_lt 0 (length part)) (map (λ part. part.now) parts.now)) }
-{
-    let mut found = Vec::new(alloc);
-    for part in parts {
-        if !is_nonempty(*part) {
-            continue;
-        }
-        found.push(*part)?;
-    }
-    Ok(found)
-}
-
 /// The members of a list, which blanks and commas separate.
 pub fn list_members(alloc: Global, list: &[u8]) -> Result<Vec<&[u8]>, AllocError>
     ensures { IfOk result (λ found. map (λ member. member.now) found.items ≡ members list.now) }
 {
-    without_empty_parts(alloc, &split_list(alloc, list)?)
+    list.split(|byte| *byte == b' ' || *byte == b',')
+        .filter(|part| !part.is_empty())
+        .collect(alloc)
 }
 
-/// The members of a list in upper case. Returns `None` if there are none, or if one has a list of its own.
+/// The members of a list in upper case. Returns `None` if there are none, or if the list has inner parentheses.
 pub(crate) fn upper_case_members(
     alloc: Global,
     list: &[u8],
 ) -> Result<Option<Vec<Vec<u8>>>, AllocError> {
+    if list.iter().any(|byte| matches!(*byte, b'(' | b')')) {
+        return Ok(None);
+    }
     let mut members = Vec::new(alloc);
     for member in list_members(alloc, list)? {
-        members.push(upper_case(alloc, member)?)?;
+        members.push(member.to_ascii_uppercase(alloc)?)?;
     }
-    if members.is_empty() || list.iter().any(|byte| matches!(*byte, b'(' | b')')) {
+    if members.is_empty() {
         return Ok(None);
     }
     Ok(Some(members))
 }
 
-// The text in upper case.
-fn upper_case(alloc: Global, text: &[u8]) -> Result<Vec<u8>, AllocError> {
-    let mut upper = Vec::with_capacity(alloc, text.len())?;
-    for byte in text {
-        upper.push(byte.to_ascii_uppercase())?;
-    }
-    Ok(upper)
-}
-
-// The only member of a list in upper case. Returns `None` if the list has not just one member.
+// The only member of a list, in upper case. Returns `None` unless the list has exactly one member.
 fn only_member(alloc: Global, list: &[u8]) -> Result<Option<Vec<u8>>, AllocError> {
     let Some(mut members) = upper_case_members(alloc, list)? else {
         return Ok(None);
@@ -78,7 +43,7 @@ fn only_member(alloc: Global, list: &[u8]) -> Result<Option<Vec<u8>>, AllocError
     Ok(members.pop())
 }
 
-/// Keeps an operand that cannot be read as what its name says.
+/// Adds an operand that cannot be read as its name demands to the faulty ones.
 pub(crate) fn keep_faulty(
     faulty: &mut Vec<FaultyOperand>,
     operand: WideOperand,
@@ -88,8 +53,8 @@ pub(crate) fn keep_faulty(
     Ok(())
 }
 
-/// Puts the operand's list into the slot of its statement. The operand is faulty if the slot is filled, or if it has no
-/// list.
+/// Puts the members of the operand's list into the slot of its statement. The operand is faulty if the slot is filled,
+/// or if it has no list.
 pub(crate) fn fill_list(
     alloc: Global,
     slot: &mut Vec<Vec<u8>>,
@@ -112,8 +77,8 @@ pub(crate) fn fill_list(
     }
 }
 
-/// Puts the operand's one value into the slot of its statement. The operand is faulty if the slot is filled, or if it
-/// has not just one value.
+/// Puts the operand's only value into the slot of its statement. The operand is faulty if the slot is filled, or unless
+/// it has exactly one value.
 pub(crate) fn fill_value(
     alloc: Global,
     slot: &mut Option<Vec<u8>>,
@@ -136,7 +101,7 @@ pub(crate) fn fill_value(
     }
 }
 
-/// Puts what the operand's parentheses hold into the slot of its statement, unchanged. The operand is faulty if the
+/// Puts the text in the operand's parentheses into the slot of its statement, unchanged. The operand is faulty if the
 /// slot is filled, or if it has no parentheses.
 pub(crate) fn fill_text(
     slot: &mut Option<Vec<u8>>,
@@ -149,12 +114,7 @@ pub(crate) fn fill_text(
     if operand.value.is_none() {
         return keep_faulty(faulty, operand, OperandFault::BadValue);
     }
-    let WideOperand {
-        place: _,
-        name: _,
-        value,
-    } = operand;
-    *slot = value;
+    *slot = operand.value;
     Ok(())
 }
 
@@ -164,12 +124,23 @@ pub(crate) fn fill_flag(
     operand: WideOperand,
     faulty: &mut Vec<FaultyOperand>,
 ) -> Result<(), AllocError> {
-    if *slot {
-        return keep_faulty(faulty, operand, OperandFault::Repeated);
+    match bare_word_fault(*slot, &operand) {
+        Some(fault) => keep_faulty(faulty, operand, fault),
+        None => {
+            *slot = true;
+            Ok(())
+        }
     }
-    if operand.value.is_some() {
-        return keep_faulty(faulty, operand, OperandFault::BadValue);
+}
+
+/// What is wrong with an operand that may not have parentheses, or `None` if it is good. `is_filled` says whether an
+/// earlier operand filled its slot.
+pub(crate) fn bare_word_fault(is_filled: bool, operand: &WideOperand) -> Option<OperandFault> {
+    if is_filled {
+        Some(OperandFault::Repeated)
+    } else if operand.value.is_some() {
+        Some(OperandFault::BadValue)
+    } else {
+        None
     }
-    *slot = true;
-    Ok(())
 }

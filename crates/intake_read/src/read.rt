@@ -2,7 +2,7 @@
 use crate::errors::WideError;
 use crate::gather::FileSoFar;
 use crate::items::{OtherReason, SwallowedStatement, WideFile, WideHold};
-use crate::meaning::{is_text_elsewhere, may_have_inline_text};
+use crate::meaning::{excludes_inline_text, may_have_inline_text};
 use crate::statement::WideStatement;
 use intake_cards::{Card, CardPiece, CardPlace, CardScanner, Open, Tail, Token, is_word_byte};
 use std::alloc::{AllocError, Global};
@@ -10,7 +10,7 @@ use std::alloc::{AllocError, Global};
 /// What a card belongs to.
 #[derive(Clone, Copy, Debug, PartialEq, Eq)]
 enum CardPart {
-    /// The first statement comes after it.
+    /// It precedes the first statement.
     Before,
     /// The statement's own text.
     Own,
@@ -28,26 +28,21 @@ pub struct WideReader {
     part: CardPart,
     /// Where the statement that is being read begins.
     place: CardPlace,
-    /// A card of the statement's own text is cut at column 80 outside comments.
+    /// Whether a card of the statement's own text is cut at column 80, outside comments.
     is_cut: bool,
-    /// The statement, once its own text is whole.
+    /// The statement, once its period has been read.
     whole: Option<WideStatement>,
     gathered: FileSoFar,
 }
 
 // The word at the beginning of the text, in upper case; empty if none begins there.
 fn first_word(alloc: Global, text: &[u8]) -> Result<Vec<u8>, AllocError> {
-    let mut word = Vec::new(alloc);
-    for byte in text {
-        if !is_word_byte(*byte) {
-            return Ok(word);
-        }
-        word.push(byte.to_ascii_uppercase())?;
-    }
-    Ok(word)
+    let length = text.iter().take_while(|byte| is_word_byte(**byte)).count();
+    let (word, _) = text.split_at(length);
+    word.to_ascii_uppercase(alloc)
 }
 
-// What follows the first opening parenthesis; empty if there is none.
+// The text after the first opening parenthesis; empty if there is none.
 fn after_parenthesis(text: &[u8]) -> &[u8] {
     match text.iter().position(|byte| *byte == b'(') {
         Some(place) => &text[place + 1..],
@@ -55,7 +50,7 @@ fn after_parenthesis(text: &[u8]) -> &[u8] {
     }
 }
 
-// The statement that a card would begin, if no comment were open.
+// The statement that the card would begin if the comment were not open.
 fn swallowed_statement(
     alloc: Global,
     comment: CardPlace,
@@ -70,7 +65,7 @@ fn swallowed_statement(
     })
 }
 
-// What to do about a card that stands before the first statement.
+// What to do about a card before the first statement that is neither blank nor a comment.
 fn missing_statement_hint(card: &Card) -> &'static str {
     if card.text.starts_with(b"//") {
         "JCL stands there: give the cards after its DD * without it"
@@ -81,22 +76,18 @@ fn missing_statement_hint(card: &Card) -> &'static str {
     }
 }
 
-// Whether cards after the statement of these pieces may be its text: its word may have one, and no operand says that
-// the text is elsewhere.
-fn may_have_inline(pieces: &[CardPiece]) -> bool {
-    let mut has_word = false;
-    for piece in pieces {
-        if let Token::Word(word) = &piece.token {
-            if has_word && is_text_elsewhere(word.as_slice()) {
-                return false;
-            }
-            if !has_word && !may_have_inline_text(word.as_slice()) {
-                return false;
-            }
-            has_word = true;
-        }
+// The word that the piece is, or `None` if it is another one.
+fn word_of(piece: &CardPiece) -> Option<&[u8]> {
+    match &piece.token {
+        Token::Word(word) => Some(word.as_slice()),
+        _ => None,
     }
-    has_word
+}
+
+// Whether cards after the statement of these pieces may be its text: its word allows one, and no operand excludes it.
+fn may_be_followed_by_text(pieces: &[CardPiece]) -> bool {
+    let mut words = pieces.iter().filter_map(word_of);
+    words.next().is_some_and(may_have_inline_text) && !words.any(excludes_inline_text)
 }
 
 impl WideReader {
@@ -113,7 +104,7 @@ impl WideReader {
         }
     }
 
-    // Adds the next card: it begins a statement, or belongs to the one before.
+    // Adds the next card: it begins a statement, or belongs to the last one.
     fn add_card(&mut self, card: &Card) -> Result<(), WideError> {
         if card.begins_statement() {
             let Open::Comment(comment) = self.scanner.open() else {
@@ -146,7 +137,7 @@ impl WideReader {
         }
     }
 
-    // Ends the statement before the card, and begins that of the card.
+    // Ends the last statement, and begins that of the card.
     fn begin_statement(&mut self, card: &Card) -> Result<(), WideError> {
         self.end_statement()?;
         self.part = CardPart::Own;
@@ -159,8 +150,8 @@ impl WideReader {
         self.end_own_text()
     }
 
-    // Ends a card that was scanned: notes that its line is cut at column 80, unless it is cut inside a comment, where
-    // nothing is lost. A `*/` after column 80 ends the comment.
+    // Ends a card that was scanned. A `*/` after column 80 ends a comment that is open. A line that is cut at column 80
+    // is noted, but not inside a comment, where nothing is lost.
     fn end_card(&mut self, card: &Card) {
         let is_open = matches!(self.scanner.open(), Open::Comment(_));
         if is_open && card.ends_comment {
@@ -170,7 +161,7 @@ impl WideReader {
         }
     }
 
-    // Notes columns 73 to 80, if they hold more than digits and blanks.
+    // Notes columns 73 to 80 if they hold more than digits and blanks.
     fn note_tail(&mut self, card: &Card) -> Result<(), WideError> {
         if card.tail() == Tail::Other {
             self.gathered.note_tail(card)?;
@@ -187,12 +178,12 @@ impl WideReader {
         Ok(statement)
     }
 
-    // Makes the statement and goes on to what follows it, if its period was read and no comment is open.
+    // Makes the statement, and goes on to the cards after it, if its period was read and no comment is open.
     fn end_own_text(&mut self) -> Result<(), WideError> {
         if !self.scanner.has_period() || matches!(self.scanner.open(), Open::Comment(_)) {
             return Ok(());
         }
-        self.part = if may_have_inline(self.scanner.pieces()) {
+        self.part = if may_be_followed_by_text(self.scanner.pieces()) {
             CardPart::Inline
         } else {
             CardPart::After
@@ -201,8 +192,8 @@ impl WideReader {
         Ok(())
     }
 
-    // Notes a fault of the statement before, if the card has more than comments and blanks. Returns `NoStatement` if there is
-    // no statement before.
+    // Notes a fault of the last statement if the card has more than comments and blanks. Returns `NoStatement` if there
+    // is no statement yet.
     fn note_text_after(&mut self, card: &Card) -> Result<(), WideError> {
         let is_open = matches!(self.scanner.open(), Open::Parenthesis(_));
         let pieces = self.scanner.take_pieces();
@@ -221,7 +212,7 @@ impl WideReader {
         Ok(())
     }
 
-    // Adds the statement that is being read, if there is one, to those that were gathered.
+    // Gathers the statement that is being read, if there is one.
     fn end_statement(&mut self) -> Result<(), WideError> {
         if let Some(statement) = self.whole.take() {
             return self.gathered.add(statement);
@@ -233,9 +224,9 @@ impl WideReader {
         Ok(())
     }
 
-    /// Reads the next card. If it ends a hold outside SYSMODs, it hands out that hold. Returns `NoStatement` if more
-    /// than blanks and comments stands before the first statement, and `Statement` if a statement that belongs to a
-    /// SYSMOD, or that is not known, stands before the first SYSMOD.
+    /// Reads the next card. If this ends a hold outside SYSMODs, hands out that hold. Returns `NoStatement` if more
+    /// than blanks and comments precedes the first statement, and `Statement` if a statement that belongs to a SYSMOD,
+    /// or that is not known, precedes the first SYSMOD.
     pub fn read_card(&mut self, card: &Card) -> Result<Option<WideHold>, WideError> {
         self.add_card(card)?;
         Ok(self.gathered.take_hold())
@@ -253,15 +244,6 @@ impl WideReader {
 
     /// All statements but the holds that `read_card` and `read_end` handed out. Call it after `read_end`.
     pub fn into_file(self) -> Result<WideFile, WideError> {
-        let WideReader {
-            alloc: _,
-            scanner: _,
-            part: _,
-            place: _,
-            is_cut: _,
-            whole: _,
-            gathered,
-        } = self;
-        gathered.into_file()
+        self.gathered.into_file()
     }
 }

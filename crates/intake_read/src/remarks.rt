@@ -1,9 +1,9 @@
-//! Remarks on operands and statements that are dropped, or cannot be read as what they say.
+//! Remarks on operands and statements that are dropped or faulty.
 use crate::items::{FaultyOperand, OperandFault, OtherReason, WideOperand, WideOther};
 use intake_cards::{Deed, RemarkReason, Remarks, Subject};
 use std::alloc::{AllocError, Global};
 
-/// Remarks on each of the operands that it is dropped because it changes no decision.
+/// Remarks, for each of the operands, that it is dropped because it changes no decision.
 pub fn tell_dropped_operands(
     alloc: Global,
     remarks: &mut Remarks,
@@ -23,7 +23,7 @@ pub fn tell_dropped_operands(
     Ok(())
 }
 
-/// Remarks on each of the faulty operands: what is done with it, and why.
+/// Remarks what is done with each of the faulty operands, and why.
 pub fn tell_faulty_operands(
     alloc: Global,
     remarks: &mut Remarks,
@@ -46,7 +46,7 @@ pub fn tell_faulty_operands(
     Ok(())
 }
 
-/// What a statement that is carried nowhere lacks, or an empty text if its reason is another one.
+/// What the statement lacks, as remarks name it, or an empty text if it lacks nothing and has another fault.
 pub fn missing_word(other: &WideOther) -> &'static [u8] {
     if other.reason != OtherReason::NoName {
         return b"";

@@ -1,10 +1,10 @@
-//! A statement as it stands: its word, its name and its operands.
+//! A statement as the file has it: its word, its name and its operands.
 use crate::items::{OtherReason, WideOperand};
 use crate::meaning::{WideWord, is_read_in_upper_case};
 use intake_cards::{Card, CardPiece, CardPlace, CardScanner, Open, Token};
 use std::alloc::{AllocError, Global};
 
-/// A statement as it stands.
+/// A statement as the file has it.
 #[derive(Drop)]
 pub(crate) struct WideStatement {
     pub place: CardPlace,
@@ -13,14 +13,14 @@ pub(crate) struct WideStatement {
     /// What stands in its parentheses, in upper case.
     pub name: Vec<u8>,
     pub operands: Vec<WideOperand>,
-    /// The first thing that is wrong with it.
+    /// Its first fault.
     pub fault: Option<OtherReason>,
     pub inline: Vec<Card>,
-    /// Whether words, or values that are read in upper case, have letters in lower case.
+    /// Whether a word, or a value that is read in upper case, has a letter in lower case.
     pub has_lower: bool,
 }
 
-/// A statement that is begun, and how far.
+/// A statement that is begun, and the parts that it has already.
 #[derive(Drop)]
 struct BegunStatement {
     statement: WideStatement,
@@ -29,23 +29,12 @@ struct BegunStatement {
     is_ended: bool,
 }
 
-// Makes the letters upper case. Returns whether one was in lower case.
-fn make_upper(text: &mut Vec<u8>) -> bool {
-    let mut has_lower = false;
-    for byte in text.iter_mut() {
-        has_lower = has_lower || byte.is_ascii_lowercase();
-        *byte = byte.to_ascii_uppercase();
-    }
-    has_lower
-}
-
-// Whether the text has a letter in lower case.
-fn has_lower(text: &[u8]) -> bool {
+fn has_lower_case_letter(text: &[u8]) -> bool {
     text.iter().any(|byte| byte.is_ascii_lowercase())
 }
 
 impl WideStatement {
-    /// The statement of the cards that were scanned, which begins at this place. Takes their pieces out of the scanner.
+    /// The statement that was scanned, which begins at this place. Takes its pieces out of the scanner.
     pub(crate) fn take_scanned(
         alloc: Global,
         place: CardPlace,
@@ -69,12 +58,8 @@ impl WideStatement {
         for piece in scanner.take_pieces() {
             begun.add_piece(piece)?;
         }
-        let BegunStatement {
-            mut statement,
-            has_word: _,
-            has_name: _,
-            is_ended,
-        } = begun;
+        let is_ended = begun.is_ended;
+        let mut statement = begun.statement;
         match (is_ended, is_open) {
             (true, true) => statement.note_fault(OtherReason::TextAfterPeriod),
             (false, true) => statement.note_fault(OtherReason::OpenParenthesis),
@@ -87,7 +72,7 @@ impl WideStatement {
         Ok(statement)
     }
 
-    /// Notes what is wrong with it. Only the first fault counts.
+    /// Notes a fault of the statement, unless one was noted before.
     pub(crate) fn note_fault(&mut self, fault: OtherReason) {
         if self.fault.is_none() {
             self.fault = Some(fault);
@@ -96,7 +81,7 @@ impl WideStatement {
 }
 
 impl BegunStatement {
-    // Adds the next piece: a word, a list or the period. Any other piece, and any after the period, is a fault.
+    // Adds the next piece: a word, a list or the period. Any other piece is a fault, and so is any after the period.
     fn add_piece(&mut self, piece: CardPiece) -> Result<(), AllocError> {
         let CardPiece { place, token } = piece;
         if self.is_ended {
@@ -128,12 +113,14 @@ impl BegunStatement {
         Ok(())
     }
 
-    // Adds a list: it is the value of the last operand, or the name if there is no operand yet. A second list after one
-    // word is a fault.
+    // Adds a list: the value of the last operand, or the statement's name if there is no operand yet. A second list
+    // after the same word is a fault.
     fn add_list(&mut self, list: Vec<u8>) {
         if let Some(operand) = self.statement.operands.last_mut() {
             if operand.value.is_none() {
-                if is_read_in_upper_case(operand.name.as_slice()) && has_lower(list.as_slice()) {
+                if is_read_in_upper_case(operand.name.as_slice())
+                    && has_lower_case_letter(list.as_slice())
+                {
                     self.statement.has_lower = true;
                 }
                 operand.value = Some(list);
@@ -146,12 +133,12 @@ impl BegunStatement {
         self.statement.note_fault(OtherReason::StrayParenthesis);
     }
 
-    // Makes the list after the statement's word its name, in upper case.
-    fn set_name(&mut self, list: Vec<u8>) {
-        let mut name = list;
-        if make_upper(&mut name) {
+    // Sets the name, which is the list after the statement's word, in upper case.
+    fn set_name(&mut self, mut name: Vec<u8>) {
+        if has_lower_case_letter(name.as_slice()) {
             self.statement.has_lower = true;
         }
+        name.as_mut_slice().make_ascii_uppercase();
         self.has_name = true;
         self.statement.name = name;
     }

@@ -1,4 +1,4 @@
-//! SYSMODs, but for their holds.
+//! SYSMODs as they are carried, except for their holds.
 ghost use Rattle.std.specs.Prelude.{◌≡◌, [], IfOk, IfSome};
 ghost use Rattle.intake_sysmod.specs.NoLooser.{IsNoLooser};
 
@@ -16,7 +16,7 @@ use std::alloc::{AllocError, Global};
 use sysmods_values::{Sysmod, Ver};
 
 // The header, as remarks name it.
-fn subject_of(stated: &WideSysmod) -> Subject<'_> {
+fn header_subject(stated: &WideSysmod) -> Subject<'_> {
     Subject {
         place: stated.place,
         word: kind_text(stated.kind),
@@ -24,15 +24,15 @@ fn subject_of(stated: &WideSysmod) -> Subject<'_> {
     }
 }
 
-// Remarks on the operands of the header, and on the statements that are carried nowhere. Returns whether the SYSMOD can
-// be carried without them.
-fn tell_header_and_others(
+// Remarks on the operands of the header, on the statements that are carried nowhere, and on too many elements. Returns
+// whether all of that lets the SYSMOD be carried.
+fn check_header_and_others(
     alloc: Global,
     options: &Options,
     remarks: &mut Remarks,
     stated: &WideSysmod,
 ) -> Result<bool, AllocError> {
-    let subject = subject_of(stated);
+    let subject = header_subject(stated);
     tell_dropped_operands(alloc, remarks, &subject, stated.dropped.as_slice())?;
     tell_faulty_operands(
         alloc,
@@ -41,12 +41,12 @@ fn tell_header_and_others(
         stated.faulty.as_slice(),
         Deed::LeftOut,
     )?;
-    let is_whole = tell_other_statements(alloc, options, remarks, stated.others.as_slice())?;
+    let may_lack_others = tell_other_statements(alloc, options, remarks, stated.others.as_slice())?;
     if stated.elements.len() > MOST_ELEMENTS && !options.decide {
         remarks.tell_left_out(alloc, &subject, b"", RemarkReason::TooMany, b"")?;
         return Ok(false);
     }
-    Ok(is_whole && stated.faulty.is_empty())
+    Ok(may_lack_others && stated.faulty.is_empty())
 }
 
 // The SYSMOD with these `++VER`s.
@@ -63,7 +63,7 @@ fn with_vers(sysmod: Sysmod, vers: Vec<Ver>) -> Sysmod
     }
 }
 
-// The SYSMOD without its holds. Returns `None`, with a remark, if it cannot be carried.
+// The SYSMOD without its holds. Returns `None`, with remarks on all reasons, if it cannot be carried.
 fn try_to_carry(
     alloc: Global,
     options: &Options,
@@ -74,18 +74,18 @@ fn try_to_carry(
     ensures { IfOk result (λ found. IfSome found (λ sysmod.
         IsNoLooser options.now.decide users.now stated.now sysmod × (sysmod.holds ≡ []))) }
 {
-    let subject = subject_of(stated);
-    let good = tell_header_and_others(alloc, options, remarks, stated)?;
+    let subject = header_subject(stated);
+    let is_carriable = check_header_and_others(alloc, options, remarks, stated)?;
     let vers = read_vers(alloc, remarks, &subject, stated)?;
     let Some(id) = read_id_or_remark(alloc, remarks, &subject, b"", stated.id.as_slice())? else {
         return Ok(None);
     };
     let mut sysmod = Sysmod::new(alloc, stated.kind, id);
-    let all = add_elements(alloc, options, users, remarks, stated, &mut sysmod)?;
+    let has_all = add_elements(alloc, options, users, remarks, stated, &mut sysmod)?;
     let Some(vers) = vers else {
         return Ok(None);
     };
-    if !all || !good {
+    if !has_all || !is_carriable {
         return Ok(None);
     }
     tell_passed_over(alloc, options, users, remarks, &subject, stated)?;
@@ -96,13 +96,14 @@ fn try_to_carry(
     Ok(Some(with_vers(sysmod, vers)))
 }
 
-// Remarks that a SYSMOD is left out, and counts it if it has elements, NPRE or DELETE: these would forbid others.
+// Remarks that a SYSMOD is left out, and counts it if it has elements, NPRE or DELETE, with which it would forbid
+// others.
 fn tell_sysmod_left_out(
     alloc: Global,
     remarks: &mut Remarks,
     stated: &WideSysmod,
 ) -> Result<(), AllocError> {
-    let subject = subject_of(stated);
+    let subject = header_subject(stated);
     remarks.tell_left_out(alloc, &subject, b"", RemarkReason::WholeSysmod, b"")?;
     let forbids = !stated.elements.is_empty()
         || stated
@@ -115,8 +116,8 @@ fn tell_sysmod_left_out(
     Ok(())
 }
 
-/// The SYSMOD without its holds, with remarks on what differs. Returns `None`, with remarks, if it is left out. The
-/// options must be in order (`Options::sort`).
+/// The SYSMOD without its holds. Remarks say what differs. Returns `None`, with remarks on all reasons, if it is left
+/// out. Call `Options::sort` first.
 pub fn carry_sysmod(
     alloc: Global,
     options: &Options,

@@ -1,4 +1,4 @@
-//! What a SYSMOD changes.
+//! The changes of a SYSMOD: what its element statements change.
 ghost use Rattle.std.specs.Prelude.{◌≡◌, map, Contains, IfOk, OnOk, IsTrue, All, true, false};
 ghost use Rattle.terms.specs.declared.kinds.Kind.{Kind as AnyKind};
 ghost use Rattle.terms.specs.declared.kinds.ElemType.TheVariants.{Mac};
@@ -9,13 +9,14 @@ ghost use Rattle.intake_sysmod.specs.NoLooser.{IsElementDone};
 use crate::passing::is_passed_over;
 use crate::users::Users;
 use intake_cards::{RemarkReason, Remarks, Subject};
-use intake_elements::{Options, are_both, change_of, module_change, modules_of, subject_of};
+use intake_elements::{Options, are_both, change_of, element_subject, module_change, modules_of};
 use intake_read::{WideElement, WideSysmod};
 use std::alloc::{AllocError, Global};
 use sysmods_values::{ElemChange, Sysmod};
 
-// Adds the change to those of the SYSMOD. If the SYSMOD has a change of the same element, a remark says so. Without
-// stand-ins it may not have two: returns `false`. With them one stays, a replacement before an update.
+// Adds the change to those of the SYSMOD. If the SYSMOD already changes the element, a remark says so, and without
+// stand-ins the change is not added: returns `false`. With stand-ins a replacement takes the place of the other change,
+// and an update is not added, since the other change stands for both.
 fn add_change(
     alloc: Global,
     options: &Options,
@@ -42,7 +43,8 @@ fn add_change(
     Ok(true)
 }
 
-// Adds a replacement of the module's stand-in to the SYSMOD. Returns `false`, with a remark, if it cannot.
+// Adds a replacement of the module's stand-in to the SYSMOD. Returns `false`, with a remark, if nothing can stand for
+// the module.
 fn add_module(
     alloc: Global,
     options: &Options,
@@ -54,15 +56,14 @@ fn add_module(
     requires asked { IsTrue options.now.decide }
     requires is_one { Contains (modules_of element.now) assembled.now }
     ensures grows { OnOk result ((kind : AnyKind) → Grows options.now.decide kind element.now sysmod.old sysmod.new) }
-    ensures there { IfOk result (λ put. IsTrue put
+    ensures there { IfOk result (λ added. IsTrue added
         → IsChanged options.now.decide sysmod.new.changes Mac (module_name assembled.now) false) }
 {
-    let subject = subject_of(element);
+    let subject = element_subject(element);
     let Some(change) = module_change(alloc, remarks, &subject, element, assembled)? else {
         return Ok(false);
     };
-    let joined = add_change(alloc, options, remarks, &subject, sysmod, change)?;
-    Ok(joined)
+    add_change(alloc, options, remarks, &subject, sysmod, change)
 }
 
 // Adds replacements of the stand-ins of these modules to the SYSMOD. Returns `false`, with remarks, if one cannot be
@@ -78,16 +79,16 @@ fn add_modules(
     requires asked { IsTrue options.now.decide }
     requires are { map (λ m. m.now) modules.now ≡ modules_of element.now }
     ensures grows { OnOk result ((kind : AnyKind) → Grows options.now.decide kind element.now sysmod.old sysmod.new) }
-    ensures there { IfOk result (λ put. IsTrue put
+    ensures there { IfOk result (λ added. IsTrue added
         → All (λ m. IsChanged options.now.decide sysmod.new.changes Mac (module_name m) false)
         (modules_of element.now)) }
 {
-    let mut all = true;
+    let mut added_all = true;
     for module in modules {
-        let put = add_module(alloc, options, remarks, element, sysmod, module)?;
-        all = are_both(all, put);
+        let added = add_module(alloc, options, remarks, element, sysmod, module)?;
+        added_all = are_both(added_all, added);
     }
-    Ok(all)
+    Ok(added_all)
 }
 
 // Adds the change of the statement, and those of the modules that are assembled of its element, to a SYSMOD with
@@ -102,20 +103,21 @@ fn add_with_modules(
 ) -> Result<bool, AllocError>
     requires { IsTrue options.now.decide }
     ensures grows { OnOk result (Grows options.now.decide stated.now.kind element.now sysmod.old sysmod.new) }
-    ensures changed { IfOk result (λ put. IsTrue put
+    ensures changed { IfOk result (λ added. IsTrue added
         → IsElementChanged options.now.decide stated.now.kind sysmod.new.changes element.now) }
 {
     let Some(change) = change_of(alloc, options, remarks, stated.kind, element)? else {
         return Ok(false);
     };
     let modules = modules_of(alloc, element)?;
-    let subject = subject_of(element);
-    let joined = add_change(alloc, options, remarks, &subject, sysmod, change)?;
-    let put = add_modules(alloc, options, remarks, element, sysmod, modules.as_slice())?;
-    Ok(are_both(joined, put))
+    let subject = element_subject(element);
+    let added = add_change(alloc, options, remarks, &subject, sysmod, change)?;
+    let added_modules = add_modules(alloc, options, remarks, element, sysmod, modules.as_slice())?;
+    Ok(are_both(added, added_modules))
 }
 
-// Adds the change of the statement to a SYSMOD without stand-ins. Returns `false`, with a remark, if it cannot.
+// Adds the change of the statement to a SYSMOD without stand-ins. Returns `false`, with a remark, if it cannot be
+// added.
 fn add_without_modules(
     alloc: Global,
     options: &Options,
@@ -126,19 +128,18 @@ fn add_without_modules(
 ) -> Result<bool, AllocError>
     requires { options.now.decide ≡ false }
     ensures grows { OnOk result (Grows options.now.decide stated.now.kind element.now sysmod.old sysmod.new) }
-    ensures changed { IfOk result (λ put. IsTrue put
+    ensures changed { IfOk result (λ added. IsTrue added
         → IsElementChanged options.now.decide stated.now.kind sysmod.new.changes element.now) }
 {
     let Some(change) = change_of(alloc, options, remarks, stated.kind, element)? else {
         return Ok(false);
     };
-    let subject = subject_of(element);
-    let joined = add_change(alloc, options, remarks, &subject, sysmod, change)?;
-    Ok(joined)
+    let subject = element_subject(element);
+    add_change(alloc, options, remarks, &subject, sysmod, change)
 }
 
-// Adds what the element statement changes to the SYSMOD: with stand-ins the modules too. Returns `false` if it cannot.
-// Remarks say why it cannot, and what differs.
+// Adds what the element statement changes to the SYSMOD: with stand-ins also the modules. Remarks say what differs.
+// Returns `false`, with remarks, if something cannot be added.
 fn add_element(
     alloc: Global,
     options: &Options,
@@ -148,7 +149,7 @@ fn add_element(
     sysmod: &mut Sysmod,
 ) -> Result<bool, AllocError>
     ensures grows { OnOk result (Grows options.now.decide stated.now.kind element.now sysmod.old sysmod.new) }
-    ensures changed { IfOk result (λ put. IsTrue put
+    ensures changed { IfOk result (λ added. IsTrue added
         → IsElementChanged options.now.decide stated.now.kind sysmod.new.changes element.now) }
 {
     if options.decide {
@@ -158,30 +159,9 @@ fn add_element(
     }
 }
 
-// Adds what the element statement changes to the SYSMOD, unless the element is passed over. Returns `false`, with
-// remarks, if it cannot.
-fn add_or_pass(
-    alloc: Global,
-    options: &Options,
-    users: &Users<'_>,
-    remarks: &mut Remarks,
-    stated: &WideSysmod,
-    element: &WideElement,
-    sysmod: &mut Sysmod,
-) -> Result<bool, AllocError>
-    ensures grows { OnOk result (Grows options.now.decide stated.now.kind element.now sysmod.old sysmod.new) }
-    ensures done { IfOk result (λ put. IsTrue put
-        → IsElementDone options.now.decide users.now stated.now sysmod.new.changes element.now) }
-{
-    if is_passed_over(alloc, options, users, stated, element)? {
-        return Ok(true);
-    }
-    let put = add_element(alloc, options, remarks, stated, element, sysmod)?;
-    Ok(put)
-}
-
-/// Adds what all elements change to the SYSMOD, but for those that are passed over. Returns `false` if one cannot be
-/// added. Remarks say why it cannot, and what differs. If memory runs out, the SYSMOD has some of the changes.
+/// Adds what the element statements change to the SYSMOD, except elements that are passed over. Remarks say what
+/// differs. Returns `false`, with remarks, if something cannot be added. If memory runs out, the SYSMOD has some of the
+/// changes.
 pub(crate) fn add_elements(
     alloc: Global,
     options: &Options,
@@ -191,16 +171,19 @@ pub(crate) fn add_elements(
     sysmod: &mut Sysmod,
 ) -> Result<bool, AllocError>
     ensures rest { OnOk result (sysmod.new ≡ record sysmod.old { changes = sysmod.new.changes }) }
-    ensures done { IfOk result (λ all. IsTrue all
+    ensures done { IfOk result (λ added_all. IsTrue added_all
         → All (IsElementDone options.now.decide users.now stated.now sysmod.new.changes) stated.now.elements.items) }
     ensures said { OnOk result (All (IsSaid options.now.decide stated.now.kind stated.now.elements.items)
         sysmod.old.changes → All (IsSaid options.now.decide stated.now.kind stated.now.elements.items)
         sysmod.new.changes) }
 {
-    let mut all = true;
+    let mut added_all = true;
     for element in stated.elements.iter() {
-        let put = add_or_pass(alloc, options, users, remarks, stated, element, sysmod)?;
-        all = are_both(all, put);
+        if is_passed_over(alloc, options, users, stated, element)? {
+            continue;
+        }
+        let added = add_element(alloc, options, remarks, stated, element, sysmod)?;
+        added_all = are_both(added_all, added);
     }
-    Ok(all)
+    Ok(added_all)
 }

@@ -1,4 +1,4 @@
-//! Which SYSMODs of the files change an element, by the keys of elements.
+//! The users of elements: the SYSMODs of the files that change an element, by its key.
 ghost use Rattle.std.specs.Prelude.{◌≡◌, IfOk, IfSome, OnOk, IsTrue, All, Some};
 ghost use Rattle.std.specs.Ordering.{nat_cmp};
 ghost use Rattle.std.specs.BTreeMap.{get};
@@ -12,14 +12,14 @@ use intake_read::{WideFile, WideSysmod};
 use std::alloc::{AllocError, Global};
 use std::collections::BTreeMap;
 
-/// The SYSMODs that change an element: the one of this id, or several.
+/// The SYSMODs that change an element: only the one of this id, or several.
 #[derive(Clone, Copy, PartialEq, Eq)]
 pub(crate) enum ElementUser {
     Only(Id),
     Several,
 }
 
-// The SYSMOD of this id as a user. A text that is no id counts as several SYSMODs.
+// The SYSMOD of this id as a user. A text that is not an id counts as several SYSMODs.
 fn user_for_id(id: &[u8]) -> ElementUser
     ensures { Covers result (IsOnly id.now) }
 {
@@ -29,7 +29,7 @@ fn user_for_id(id: &[u8]) -> ElementUser
     }
 }
 
-// The users of an element, after one more was found.
+// The users of an element, when this one is added to those before.
 fn with_user(before: Option<ElementUser>, user: ElementUser) -> ElementUser
     ensures new { Covers result user }
     ensures old { IfSome before (Covers result) }
@@ -117,8 +117,8 @@ fn users_of_files(
     Ok(users)
 }
 
-/// The users of each element among the SYSMODs of all files, if elements of a SYSMOD may be passed over. Otherwise they
-/// are not gathered, and the map is empty.
+/// The users of each element among the SYSMODs of all files. If no element may be passed over, they are not gathered,
+/// and the map is empty.
 pub(crate) fn known_users(
     alloc: Global,
     options: &Options,
@@ -129,12 +129,11 @@ pub(crate) fn known_users(
     if !options.decide || !files.iter().any(has_large_sysmod) {
         return Ok(BTreeMap::new(alloc));
     }
-    let users = users_of_files(alloc, files)?;
-    Ok(users)
+    users_of_files(alloc, files)
 }
 
-// Whether the SYSMOD of the id is the only user.
-fn is_only_of(user: ElementUser, id: &[u8]) -> bool
+// Whether the users are only the SYSMOD of the id.
+fn is_only(user: ElementUser, id: &[u8]) -> bool
     ensures { IsTrue result → user ≡ IsOnly id.now }
 {
     match user {
@@ -148,7 +147,7 @@ fn is_only_user(users: &BTreeMap<u64, ElementUser>, key: u64, id: &[u8]) -> bool
     ensures { IsTrue result → get nat_cmp users.now key ≡ Some (IsOnly id.now) }
 {
     match users.get(&key) {
-        Some(user) => is_only_of(*user, id),
+        Some(user) => is_only(*user, id),
         None => false,
     }
 }

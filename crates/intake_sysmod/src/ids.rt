@@ -9,7 +9,7 @@ use std::alloc::{AllocError, Global};
 /// The most ids that a list may have.
 pub(crate) const MOST_IDS: usize = 1000;
 
-// The texts as ids, or `None` if one has not the form of an id.
+// The texts as ids, or `None` if one does not have the form of an id.
 fn read_ids(alloc: Global, stated: &[Vec<u8>]) -> Result<Option<Vec<Id>>, AllocError>
     ensures { IfOk result (λ found. IfSome found (λ ids. ids.items ≡ texts stated.now)) }
 {
@@ -23,8 +23,8 @@ fn read_ids(alloc: Global, stated: &[Vec<u8>]) -> Result<Option<Vec<Id>>, AllocE
     Ok(Some(ids))
 }
 
-// The texts as a list of ids, or `None` if one has not the form of an id.
-fn read_list(alloc: Global, stated: &[Vec<u8>]) -> Result<Option<IdList>, AllocError>
+// The texts as a list of ids, or `None` if one does not have the form of an id.
+fn read_id_list(alloc: Global, stated: &[Vec<u8>]) -> Result<Option<IdList>, AllocError>
     ensures { IfOk result (λ found. IfSome found (λ ids. AreSame stated.now ids)) }
 {
     match read_ids(alloc, stated)? {
@@ -33,18 +33,19 @@ fn read_list(alloc: Global, stated: &[Vec<u8>]) -> Result<Option<IdList>, AllocE
     }
 }
 
-// The first of the texts that is no id, or an empty text.
+// The first of the texts that does not have the form of an id, or an empty text if all have it.
 fn first_bad_id(stated: &[Vec<u8>]) -> &[u8] {
-    for text in stated {
-        if Id::read(text.as_slice()).is_none() {
-            return text.as_slice();
-        }
+    match stated
+        .iter()
+        .find(|text| Id::read(text.as_slice()).is_none())
+    {
+        Some(text) => text.as_slice(),
+        None => b"",
     }
-    b""
 }
 
-/// The ids of an operand. Returns `None`, with a remark, if one has not the form of an id, or if there are more than
-/// `MOST_IDS`. An id that stands twice has a remark too.
+/// The ids of an operand. Returns `None`, with a remark, if one does not have the form of an id, or if there are more
+/// than `MOST_IDS`. Another remark says that the operand names an id twice.
 pub(crate) fn read_ids_or_remark(
     alloc: Global,
     remarks: &mut Remarks,
@@ -54,7 +55,7 @@ pub(crate) fn read_ids_or_remark(
 ) -> Result<Option<IdList>, AllocError>
     ensures { IfOk result (λ found. IfSome found (λ ids. AreSame stated.now ids)) }
 {
-    let Some(ids) = read_list(alloc, stated)? else {
+    let Some(ids) = read_id_list(alloc, stated)? else {
         remarks.tell_left_out(
             alloc,
             subject,
@@ -74,7 +75,7 @@ pub(crate) fn read_ids_or_remark(
     Ok(Some(ids))
 }
 
-/// The id of an operand. Returns `None`, with a remark, if it has not the form of one.
+/// The id of an operand. Returns `None`, with a remark, if it does not have the form of an id.
 pub(crate) fn read_id_or_remark(
     alloc: Global,
     remarks: &mut Remarks,

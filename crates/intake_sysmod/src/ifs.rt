@@ -12,7 +12,7 @@ use sysmods_values::IfReq;
 /// The most `++IF`s that a `++VER` may have.
 const MOST_IFS: usize = 100;
 
-// The `++IF` as a value. Returns `None`, with a remark, if it cannot be carried.
+// The `++IF` as it is carried. `own` is the id of its SYSMOD. Returns `None`, with a remark, if it cannot be carried.
 fn read_if(
     alloc: Global,
     remarks: &mut Remarks,
@@ -59,7 +59,8 @@ fn read_if(
     Ok(Some(IfReq { function, req }))
 }
 
-/// The `++IF`s of a `++VER`. Returns `None`, with a remark, if one cannot be carried, or if there are too many.
+/// The `++IF`s of a `++VER`, which is the subject. `own` is the id of its SYSMOD. Returns `None`, with a remark, if one
+/// cannot be carried, or if there are too many.
 pub(crate) fn read_ifs(
     alloc: Global,
     remarks: &mut Remarks,

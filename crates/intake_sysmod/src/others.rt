@@ -5,15 +5,15 @@ use intake_elements::Options;
 use intake_read::{OtherReason, WideOther, missing_word};
 use std::alloc::{AllocError, Global};
 
-/// Remarks on the statements of a SYSMOD or of a file that are carried nowhere. Returns whether a SYSMOD can be carried
-/// without them.
+/// Remarks on the statements of a SYSMOD or of a file that are carried nowhere. Returns whether their SYSMOD can be
+/// carried without them.
 pub fn tell_other_statements(
     alloc: Global,
     options: &Options,
     remarks: &mut Remarks,
     others: &[WideOther],
 ) -> Result<bool, AllocError> {
-    let mut is_whole = true;
+    let mut may_lack_all = true;
     for other in others {
         let subject = Subject {
             place: other.place,
@@ -27,8 +27,8 @@ pub fn tell_other_statements(
         } else {
             let reason = RemarkReason::from(other.reason);
             remarks.tell_left_out(alloc, &subject, missing_word(other), reason, b"")?;
-            is_whole = false;
+            may_lack_all = false;
         }
     }
-    Ok(is_whole)
+    Ok(may_lack_all)
 }

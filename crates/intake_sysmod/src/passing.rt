@@ -1,4 +1,5 @@
-//! Elements that are passed over: of a SYSMOD with more than one may have those that no other one changes.
+//! Elements that are passed over: if a SYSMOD has more elements than a SYSMOD may have, those that no other SYSMOD
+//! changes.
 ghost use Rattle.std.specs.Prelude.{◌<◌, IfOk, IsTrue, length};
 ghost use Rattle.intake_sysmod.specs.Users.{IsPassedOver};
 
@@ -11,7 +12,7 @@ use std::alloc::{AllocError, Global};
 /// The most elements that a SYSMOD may have.
 pub(crate) const MOST_ELEMENTS: usize = 999;
 
-/// Whether a SYSMOD of the file has more elements than one may have.
+/// Whether a SYSMOD of the file has more elements than a SYSMOD may have.
 pub(crate) fn has_large_sysmod(file: &WideFile) -> bool {
     file.sysmods
         .iter()
@@ -26,7 +27,7 @@ pub(crate) fn may_pass_over(options: &Options, stated: &WideSysmod) -> bool
     options.decide && stated.elements.len() > MOST_ELEMENTS
 }
 
-/// Whether the element is passed over: its SYSMOD has too many, and no other SYSMOD changes this one.
+/// Whether the element is passed over: its SYSMOD has too many elements, and no other SYSMOD changes this one.
 pub(crate) fn is_passed_over(
     alloc: Global,
     options: &Options,
@@ -40,8 +41,7 @@ pub(crate) fn is_passed_over(
     if !may_pass_over(options, stated) {
         return Ok(false);
     }
-    let passed = users.is_alone(alloc, stated, element)?;
-    Ok(passed)
+    users.is_alone(alloc, stated, element)
 }
 
 /// Remarks how many elements of the SYSMOD are passed over, if any are.

@@ -1,10 +1,10 @@
-//! Which SYSMODs of the files change an element.
+//! The users of elements, as a value: the SYSMODs of the files that change an element.
 ghost use Rattle.std.specs.Prelude.{◌≡◌, IfOk, IsTrue, All};
 ghost use Rattle.intake_elements.specs.Elements.{HasNoLevel};
 ghost use Rattle.intake_sysmod.specs.Users.{run_of, IsAlone};
 
 use crate::element_users::{ElementUser, is_only_user_of_all, known_users};
-use intake_elements::{Options, has_faulty_modules, has_level, keys_of};
+use intake_elements::{Options, has_faulty_modules, has_level_operand, keys_of};
 use intake_read::{WideElement, WideFile, WideSysmod};
 use std::alloc::{AllocError, Global};
 use std::collections::BTreeMap;
@@ -54,7 +54,7 @@ impl<'a> Users<'a> {
         ensures { IfOk result (λ alone. IsTrue alone → All HasNoLevel element.now.operands.items
             × IsAlone self.now stated.now.id.items element.now) }
     {
-        if has_level(element) || has_faulty_modules(element) {
+        if has_level_operand(element) || has_faulty_modules(element) {
             return Ok(false);
         }
         let keys = keys_of(alloc, element)?;

@@ -74,7 +74,7 @@ fn read_lists(
     }))
 }
 
-// The FMID, or `Some(None)` if none is stated. Returns `None`, with a remark, if it has not the form of an id.
+// The FMID, or `Some(None)` if none is stated. Returns `None`, with a remark, if it does not have the form of an id.
 fn read_fmid(
     alloc: Global,
     remarks: &mut Remarks,
@@ -92,7 +92,8 @@ fn read_fmid(
     }
 }
 
-/// The operands. Returns `None`, with a remark, if one cannot be carried, or if the SYSMOD may not have it.
+/// The operands of a `++VER` of the SYSMOD. Returns `None`, with a remark, if one cannot be carried, or if the SYSMOD
+/// may not have it or must not lack it.
 pub(crate) fn read_operands(
     alloc: Global,
     remarks: &mut Remarks,
@@ -121,7 +122,7 @@ pub(crate) fn read_operands(
     let Some(lists) = read_lists(alloc, remarks, &subject, stated)? else {
         return Ok(None);
     };
-    if !check_operands(alloc, remarks, &subject, sysmod.kind, &fmid, &lists)? {
+    if !may_have_operands(alloc, remarks, &subject, sysmod.kind, &fmid, &lists)? {
         return Ok(None);
     }
     let Some(ifs) = read_ifs(alloc, remarks, own, &subject, stated.ifs.as_slice())? else {
@@ -130,9 +131,9 @@ pub(crate) fn read_operands(
     Ok(Some(VerOperands { fmid, lists, ifs }))
 }
 
-// Checks whether a SYSMOD of the kind may have these operands. Returns whether it may: a remark names the first that it
-// may not have, or FMID if service lacks it.
-fn check_operands(
+// Whether a SYSMOD of the kind may have these operands. If not, a remark names the first that it may not have, or FMID
+// if it is service without one.
+fn may_have_operands(
     alloc: Global,
     remarks: &mut Remarks,
     subject: &Subject<'_>,
@@ -194,8 +195,5 @@ fn operand_with_own_id(
 
 // Whether the list has the id of this text.
 fn has_id(ids: &IdList, text: &[u8]) -> bool {
-    match Id::read(text) {
-        Some(id) => ids.contains(id),
-        None => false,
-    }
+    Id::read(text).is_some_and(|id| ids.contains(id))
 }

@@ -14,8 +14,8 @@ use terms::Kind;
 /// The most `++VER`s that a SYSMOD may have.
 const MOST_VERS: usize = 8;
 
-// Copies of the conditions, for one more `++VER`.
-fn clone_conditions(alloc: Global, ifs: &[IfReq]) -> Result<Vec<IfReq>, AllocError>
+// Copies of the `++IF`s, for one more `++VER`.
+fn clone_ifs(alloc: Global, ifs: &[IfReq]) -> Result<Vec<IfReq>, AllocError>
     ensures { IfOk result (λ copies. copies.items ≡ ifs.now) }
 {
     let mut copies = Vec::new(alloc);
@@ -44,11 +44,12 @@ fn ver_for_srel(alloc: Global, srel: Srel, operands: &VerOperands) -> Result<Ver
         sup: lists.sup.try_clone(alloc)?,
         npre: lists.npre.try_clone(alloc)?,
         del: lists.delete.try_clone(alloc)?,
-        ifs: clone_conditions(alloc, operands.ifs.as_slice())?,
+        ifs: clone_ifs(alloc, operands.ifs.as_slice())?,
     })
 }
 
-// The `++VER`s for the SRELs. Returns `None`, with a remark, if one of these has not the form of an SREL.
+// The `++VER`s for the SRELs of the statement. Returns `None`, with a remark, if one of these does not have the form of
+// an SREL.
 fn vers_for_srels(
     alloc: Global,
     remarks: &mut Remarks,
@@ -102,8 +103,8 @@ fn vers_of_statement(
     }
 }
 
-// The `++VER`s of all statements, as they stand. Returns `None`, with a remark on each of these, if one cannot be
-// carried.
+// The `++VER`s of all statements, in their order. Returns `None` if a statement cannot be carried, with a remark on
+// each of these.
 fn vers_of_statements(
     alloc: Global,
     remarks: &mut Remarks,
@@ -112,18 +113,18 @@ fn vers_of_statements(
     ensures { IfOk result (λ found. IfSome found (λ vers. AreVers sysmod.now.vers.items vers.items)) }
 {
     let mut vers = Vec::new(alloc);
-    let mut all = true;
+    let mut has_all = true;
     for stated in sysmod.vers.iter() {
         let Some(mut more) = vers_of_statement(alloc, remarks, sysmod, stated)? else {
-            all = false;
+            has_all = false;
             continue;
         };
         vers.append(&mut more)?;
     }
-    if all { Ok(Some(vers)) } else { Ok(None) }
+    if has_all { Ok(Some(vers)) } else { Ok(None) }
 }
 
-// The `++VER`s by their SRELs, those of one SREL as they stand.
+// The `++VER`s by their SRELs. Those of the same SREL keep their order.
 fn sort_by_srel(mut vers: Vec<Ver>) -> Result<Vec<Ver>, AllocError>
     ensures { IfOk result (λ sorted. IsPermutation vers.items sorted.items) }
 {
@@ -131,16 +132,16 @@ fn sort_by_srel(mut vers: Vec<Ver>) -> Result<Vec<Ver>, AllocError>
     Ok(vers)
 }
 
-// Whether a SYSMOD of the kind may have both: they differ in their SRELs, or it is service and they differ in FMIDs.
-fn may_both_stand(kind: Kind, first: &Ver, second: &Ver) -> bool {
+// Whether a SYSMOD of the kind may have both: their SRELs differ, or it is service and their FMIDs differ.
+fn may_have_both(kind: Kind, first: &Ver, second: &Ver) -> bool {
     first.srel != second.srel || (kind != Kind::Function && first.fmid != second.fmid)
 }
 
-// The first `++VER` that may not stand beside an earlier one, or `None` if all may stand together.
+// The first `++VER` that a SYSMOD of the kind may not have beside an earlier one, or `None` if it may have all.
 fn first_conflicting_ver(kind: Kind, vers: &[Ver]) -> Option<&Ver> {
     for (place, ver) in vers.iter().enumerate() {
         for earlier in &vers[..place] {
-            if !may_both_stand(kind, earlier, ver) {
+            if !may_have_both(kind, earlier, ver) {
                 return Some(ver);
             }
         }
@@ -148,7 +149,7 @@ fn first_conflicting_ver(kind: Kind, vers: &[Ver]) -> Option<&Ver> {
     None
 }
 
-// Whether a `++VER` of the SYSMOD cannot be read. Such a statement has a remark of its own.
+// Whether a `++VER` of the SYSMOD cannot be read. Such a statement has a remark of its own (`tell_other_statements`).
 fn has_faulty_ver(sysmod: &WideSysmod) -> bool {
     sysmod
         .others
@@ -157,7 +158,7 @@ fn has_faulty_ver(sysmod: &WideSysmod) -> bool {
 }
 
 /// The `++VER`s of a SYSMOD by their SRELs. Returns `None`, with a remark, if one cannot be carried, if there is none,
-/// if there are too many, or if two may not stand together.
+/// if there are too many, or if the SYSMOD may not have two of them together.
 pub(crate) fn read_vers(
     alloc: Global,
     remarks: &mut Remarks,

@@ -196,7 +196,7 @@ fn columns_73_to_80_are_told_apart(rt: HostRuntime) -> Result<(), Fail> {
     let cards = read_cards(rt.alloc(), 0, numbered.as_slice(), None, None)?;
     let mut found = Vec::new(rt.alloc());
     for card in cards.cards.as_slice() {
-        found.push((card.tail(), card.is_blank()))?;
+        found.push((card.tail(), card.has_blank_columns()))?;
     }
     let wanted = [
         (Tail::Number, true),

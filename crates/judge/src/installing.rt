@@ -42,6 +42,5 @@ pub fn install_system<'a>(
         bypass,
     };
     let Assessed { assessment, overs } = assess(alloc, &scope, related)?;
-    let judged = Judged::new(alloc, ids, assessment, vers, overs)?;
-    Ok(judged)
+    Judged::new(alloc, ids, assessment, vers, overs)
 }

@@ -36,7 +36,7 @@ use Rattle.terms.proofs.ChangedElements.{change_there, change_found, change_has,
 use Rattle.terms.proofs.Booleans.{false_from_not}
 use Rattle.terms.proofs.Options.{None_from_is_some}
 use Rattle.judge_faults.specs.declared.own.OwnFaults.{OwnFaults}
-use Rattle.judge_faults.specs.Own.{is_foreign_at, is_bare_at, HasFaults, passes_alone, passes}
+use Rattle.judge_faults.specs.Own.{is_owned_by_another, updates_nothing, HasFaults, passes_alone, passes}
 use Rattle.judge_faults.specs.Rows.{fails_test}
 
 off : (b : Bool) → ¬ IsTrue b → not b ≡ true
@@ -120,13 +120,13 @@ module _ (s : Setting) (is_global : IsGlobal s.global) where
     in_view h e of at = (h.elem_type, h.name, change_has g x h of, at)
 
     module _ (a : OwnFaults) (own : HasFaults s x a) where
-      one : IsTrue a.system_held ↔ IsHeldBySystem s x
-      one = rw own.system_held (any_left (λ h. not (is_bypassed_hold s.bypass h)) (holds_of g System x))
+      one : IsTrue a.held_by_system ↔ IsHeldBySystem s x
+      one = rw own.held_by_system (any_left (λ h. not (is_bypassed_hold s.bypass h)) (holds_of g System x))
 
-      two : IsTrue a.user_held ↔ IsHeldByUser s x
-      two = rw own.user_held (any_left (λ h. not (is_bypassed_hold s.bypass h)) (holds_of g User x))
+      two : IsTrue a.held_by_user ↔ IsHeldByUser s x
+      two = rw own.held_by_user (any_left (λ h. not (is_bypassed_hold s.bypass h)) (holds_of g User x))
 
-      foreign_at : (h : Change) → is_foreign_at seen (owner_of s x) h ≡ true
+      foreign_at : (h : Change) → is_owned_by_another seen (owner_of s x) h ≡ true
           → (e : Element) × (element_of seen h.elem_type h.name ≡ Some e) × (e.fmid ≢ owner_of s x)
       foreign_at h foreign = by (element_of seen h.elem_type h.name) refl
         where
@@ -141,16 +141,16 @@ module _ (s : Setting) (is_global : IsGlobal s.global) where
                 (owner_of s x))) o false) e) ∙ foreign),
           )
 
-      four : IsTrue a.foreign ↔ ChangesOwnedByAnother s x
+      four : IsTrue a.owned_by_another ↔ ChangesOwnedByAnother s x
       four = (
         λ foreign.
-            let any = Any-from_list_any (is_foreign_at seen (owner_of s x)) (changes_of g x)
-            (sym own.foreign ∙ foreign) in
+            let any = Any-from_list_any (is_owned_by_another seen (owner_of s x)) (changes_of g x)
+            (sym own.owned_by_another ∙ foreign) in
             let found = foreign_at any.1 any.4 in
             (found.0, in_view any.1 found.0 (any.0, any.2, any.3) found.1, found.2),
         λ fails.
             let t = from_view fails.0 fails.1 in
-            own.foreign ∙ list_any-from_Any (is_foreign_at seen (owner_of s x)) (changes_of g x) (
+            own.owned_by_another ∙ list_any-from_Any (is_owned_by_another seen (owner_of s x)) (changes_of g x) (
               t.1.0,
               t.0,
               t.1.1,
@@ -160,10 +160,10 @@ module _ (s : Setting) (is_global : IsGlobal s.global) where
             ),
       )
 
-      five : IsTrue a.lower ↔ Regresses s x
+      five : IsTrue a.regression ↔ Regresses s x
       five = (
         λ lower.
-            let both = own.lower.0 lower in
+            let both = own.regression.0 lower in
             let any = both.1 in
             let e = any.4.0 in
             let z = any.4.2 in
@@ -172,15 +172,15 @@ module _ (s : Setting) (is_global : IsGlobal s.global) where
             let e = fails.1.0 in
             let t = from_view e fails.1.2 in
             let z = fails.1.3 in
-            own.lower.1
+            own.regression.1
             (fails.0, (t.1.0, t.0, t.1.1, t.1.2, (e, t.2, (z.0, fails.1.1, z.1, z.2, fails.1.4)))),
       )
 
-      six : IsTrue a.bare ↔ HasNothingToUpdate s x
+      six : IsTrue a.nothing_to_update ↔ HasNothingToUpdate s x
       six = (
         λ bare.
-            let any = Any-from_list_any (is_bare_at g seen s.cands (fmid_of s.choice x)) (changes_of g x)
-            (sym own.bare ∙ bare) in
+            let any = Any-from_list_any (updates_nothing g seen s.cands (fmid_of s.choice x)) (changes_of g x)
+            (sym own.nothing_to_update ∙ bare) in
             let h = any.1 in
             let p = and_parts (not (is_replacement h.action) && not (is_some (element_of seen h.elem_type h.name)))
             (not (has_candidate_base s x h.elem_type h.name)) any.4 in
@@ -202,8 +202,8 @@ module _ (s : Setting) (is_global : IsGlobal s.global) where
             ∙ lacks in
             let no_base : has_candidate_base s x h.elem_type h.name ≡ false =
             ap (λ t. has_candidate_base s x t h.name) u.2 ∙ ap (λ n. has_candidate_base s x type n) u.3 ∙ base in
-            own.bare
-            ∙ list_any-from_Any (is_bare_at g seen s.cands (fmid_of s.choice x)) (changes_of g x) (
+            own.nothing_to_update
+            ∙ list_any-from_Any (updates_nothing g seen s.cands (fmid_of s.choice x)) (changes_of g x) (
               u.1.0,
               h,
               u.1.1,
@@ -215,18 +215,18 @@ module _ (s : Setting) (is_global : IsGlobal s.global) where
             ),
       )
 
-      seven : IsTrue a.unapplied ↔ IsNotInTarget s x
+      seven : IsTrue a.not_in_target ↔ IsNotInTarget s x
       seven = (
         λ unapplied.
             let p = and_parts (is_distribution s.zone.kind && not s.bypass.applycheck)
-            (not (has_applied s.related x)) (sym own.unapplied ∙ unapplied) in
+            (not (has_applied s.related x)) (sym own.not_in_target ∙ unapplied) in
             let q = and_parts (is_distribution s.zone.kind) (not s.bypass.applycheck) p.0 in (
               distribution_from s.zone.kind q.0,
               not-true s.bypass.applycheck q.1,
               not-true (has_applied s.related x) p.1,
             ),
         λ fails.
-            own.unapplied
+            own.not_in_target
             ∙ ap (λ k. is_distribution k && not s.bypass.applycheck && not (has_applied s.related x)) fails.0
             ∙ ap (λ b. not b && not (has_applied s.related x)) fails.1
             ∙ ap not fails.2,
@@ -236,39 +236,42 @@ module _ (s : Setting) (is_global : IsGlobal s.global) where
       pub alone_if : IsTrue (passes_alone a) ↔ PassesAlone s x
       alone_if = (
         λ on.
-            let w = and_parts (not a.system_held && not a.user_held && not a.forbidden && not a.foreign && not a.lower
-            && not a.bare && not a.unapplied) (not a.ambiguous) on in
-            let p = and_parts (not a.system_held && not a.user_held && not a.forbidden && not a.foreign && not a.lower
-            && not a.bare) (not a.unapplied) w.0 in
-            let q = and_parts (not a.system_held && not a.user_held && not a.forbidden && not a.foreign && not a.lower)
-            (not a.bare) p.0 in
-            let r = and_parts (not a.system_held && not a.user_held && not a.forbidden && not a.foreign)
-            (not a.lower) q.0 in
-            let t = and_parts (not a.system_held && not a.user_held && not a.forbidden) (not a.foreign) r.0 in
-            let v = and_parts (not a.system_held && not a.user_held) (not a.forbidden) t.0 in
-            let u = and_parts (not a.system_held) (not a.user_held) v.0 in (
+            let w = and_parts (not a.held_by_system && not a.held_by_user && not a.forbidden_by_npre
+            && not a.owned_by_another && not a.regression && not a.nothing_to_update && not a.not_in_target)
+            (not a.several_fit) on in
+            let p = and_parts (not a.held_by_system && not a.held_by_user && not a.forbidden_by_npre
+            && not a.owned_by_another && not a.regression && not a.nothing_to_update) (not a.not_in_target) w.0 in
+            let q = and_parts (not a.held_by_system && not a.held_by_user && not a.forbidden_by_npre
+            && not a.owned_by_another && not a.regression) (not a.nothing_to_update) p.0 in
+            let r = and_parts (not a.held_by_system && not a.held_by_user && not a.forbidden_by_npre
+            && not a.owned_by_another) (not a.regression) q.0 in
+            let t = and_parts (not a.held_by_system && not a.held_by_user && not a.forbidden_by_npre)
+            (not a.owned_by_another) r.0 in
+            let v = and_parts (not a.held_by_system && not a.held_by_user) (not a.forbidden_by_npre) t.0 in
+            let u = and_parts (not a.held_by_system) (not a.held_by_user) v.0 in (
               in_ids,
-              λ test. by test (not-true a.system_held u.0) (not-true a.user_held u.1) (not-true a.forbidden v.1)
-                  (not-true a.foreign t.1) (not-true a.lower r.1) (not-true a.bare q.1) (not-true a.unapplied p.1)
-                  (not-true a.ambiguous w.1),
+              λ test. by test (not-true a.held_by_system u.0) (not-true a.held_by_user u.1)
+                  (not-true a.forbidden_by_npre v.1) (not-true a.owned_by_another t.1) (not-true a.regression r.1)
+                  (not-true a.nothing_to_update q.1) (not-true a.not_in_target p.1) (not-true a.several_fit w.1),
             ),
         λ alone.
-            let no_one = off a.system_held (λ on. alone.1 HeldBySystem (one.0 on)) in
-            let no_two = off a.user_held (λ on. alone.1 HeldByUser (two.0 on)) in
-            let no_three = off a.forbidden (λ on. alone.1 ForbiddenByNpre (own.forbidden.0 on)) in
-            let no_four = off a.foreign (λ on. alone.1 OwnedByAnother (four.0 on)) in
-            let no_five = off a.lower (λ on. alone.1 Regression (five.0 on)) in
-            let no_six = off a.bare (λ on. alone.1 NothingToUpdate (six.0 on)) in
-            let no_seven = off a.unapplied (λ on. alone.1 NotInTarget (seven.0 on)) in
-            let no_thirteen = off a.ambiguous (λ on. alone.1 SeveralFit (own.ambiguous.0 on)) in
+            let no_one = off a.held_by_system (λ on. alone.1 HeldBySystem (one.0 on)) in
+            let no_two = off a.held_by_user (λ on. alone.1 HeldByUser (two.0 on)) in
+            let no_three = off a.forbidden_by_npre (λ on. alone.1 ForbiddenByNpre (own.forbidden_by_npre.0 on)) in
+            let no_four = off a.owned_by_another (λ on. alone.1 OwnedByAnother (four.0 on)) in
+            let no_five = off a.regression (λ on. alone.1 Regression (five.0 on)) in
+            let no_six = off a.nothing_to_update (λ on. alone.1 NothingToUpdate (six.0 on)) in
+            let no_seven = off a.not_in_target (λ on. alone.1 NotInTarget (seven.0 on)) in
+            let no_thirteen = off a.several_fit (λ on. alone.1 SeveralFit (own.several_fit.0 on)) in
             rw (no_one, no_two, no_three, no_four, no_five, no_six, no_seven, no_thirteen) refl,
       )
         where
-          by : (test : Test) → a.system_held ≡ false → a.user_held ≡ false → a.forbidden ≡ false → a.foreign ≡ false
-              → a.lower ≡ false → a.bare ≡ false → a.unapplied ≡ false → a.ambiguous ≡ false → ¬ FailsAlone s x test
+          by : (test : Test) → a.held_by_system ≡ false → a.held_by_user ≡ false → a.forbidden_by_npre ≡ false
+              → a.owned_by_another ≡ false → a.regression ≡ false → a.nothing_to_update ≡ false
+              → a.not_in_target ≡ false → a.several_fit ≡ false → ¬ FailsAlone s x test
           by HeldBySystem e1 e2 e3 e4 e5 e6 e7 e8 fails = true≢false (sym (one.1 fails) ∙ e1)
           by HeldByUser e1 e2 e3 e4 e5 e6 e7 e8 fails = true≢false (sym (two.1 fails) ∙ e2)
-          by ForbiddenByNpre e1 e2 e3 e4 e5 e6 e7 e8 fails = true≢false (sym (own.forbidden.1 fails) ∙ e3)
+          by ForbiddenByNpre e1 e2 e3 e4 e5 e6 e7 e8 fails = true≢false (sym (own.forbidden_by_npre.1 fails) ∙ e3)
           by OwnedByAnother e1 e2 e3 e4 e5 e6 e7 e8 fails = true≢false (sym (four.1 fails) ∙ e4)
           by Regression e1 e2 e3 e4 e5 e6 e7 e8 fails = true≢false (sym (five.1 fails) ∙ e5)
           by NothingToUpdate e1 e2 e3 e4 e5 e6 e7 e8 fails = true≢false (sym (six.1 fails) ∙ e6)
@@ -278,22 +281,22 @@ module _ (s : Setting) (is_global : IsGlobal s.global) where
           by AlreadyAccepted e1 e2 e3 e4 e5 e6 e7 e8 fails = fails
           by HasDelete e1 e2 e3 e4 e5 e6 e7 e8 fails = fails
           by OtherLevel e1 e2 e3 e4 e5 e6 e7 e8 fails = fails
-          by SeveralFit e1 e2 e3 e4 e5 e6 e7 e8 fails = true≢false (sym (own.ambiguous.1 fails) ∙ e8)
+          by SeveralFit e1 e2 e3 e4 e5 e6 e7 e8 fails = true≢false (sym (own.several_fit.1 fails) ∙ e8)
 
       never : (T : Type 0) → ¬ T → IsTrue false ↔ T
       never T lacks = (λ e. absurd (true≢false (sym e)), λ t. absurd (lacks t))
 
-      module _ (eight : IsTrue a.deleted ↔ IsChainDeleted s x) where
+      module _ (eight : IsTrue a.chain_deleted ↔ IsChainDeleted s x) where
         -- it has no faults where it survives
         pub survives_if : IsTrue (passes a) ↔ Survives s x
         survives_if = (
           λ on.
-              let p = and_parts (passes_alone a) (not a.deleted) on in
-              (alone_if.0 p.0, λ fails. true≢false (sym (eight.1 fails) ∙ not-true a.deleted p.1)),
+              let p = and_parts (passes_alone a) (not a.chain_deleted) on in
+              (alone_if.0 p.0, λ fails. true≢false (sym (eight.1 fails) ∙ not-true a.chain_deleted p.1)),
           λ survives.
               let alone = alone_if.1 survives.0 in
-              let no_eight = off a.deleted (λ on. survives.1 (eight.0 on)) in
-              ap (λ b. b && not a.deleted) alone ∙ no_eight,
+              let no_eight = off a.chain_deleted (λ on. survives.1 (eight.0 on)) in
+              ap (λ b. b && not a.chain_deleted) alone ∙ no_eight,
         )
 
         -- the tests that it fails, given whether it clashes
@@ -301,7 +304,7 @@ module _ (s : Setting) (is_global : IsGlobal s.global) where
             → IsTrue (fails_test a clashes t) ↔ Fails s x t
         test_fails clashes nine HeldBySystem = one
         test_fails clashes nine HeldByUser = two
-        test_fails clashes nine ForbiddenByNpre = own.forbidden
+        test_fails clashes nine ForbiddenByNpre = own.forbidden_by_npre
         test_fails clashes nine OwnedByAnother = four
         test_fails clashes nine Regression = five
         test_fails clashes nine NothingToUpdate = six
@@ -311,4 +314,4 @@ module _ (s : Setting) (is_global : IsGlobal s.global) where
         test_fails clashes nine AlreadyAccepted = never (Fails s x AlreadyAccepted) (λ no. no)
         test_fails clashes nine HasDelete = never (Fails s x HasDelete) (λ no. no)
         test_fails clashes nine OtherLevel = never (Fails s x OtherLevel) (λ no. no)
-        test_fails clashes nine SeveralFit = own.ambiguous
+        test_fails clashes nine SeveralFit = own.several_fit

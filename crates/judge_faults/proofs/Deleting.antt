@@ -108,14 +108,14 @@ module _ (s : Setting) (is_global : IsGlobal s.global) (alone faults : List OwnF
     (marked : Beside (λ n x a. IsMarkedDeleted s.global s.choice dels alone n x a) s.cands faults) where
   keeps : (x : Id) (b : Bool) (a : OwnFaults) → HasFaults s x a → HasFaults s x (with_deleted b a)
   keeps x b a h = record {
-    system_held = h.system_held;
-    user_held = h.user_held;
-    forbidden = h.forbidden;
-    foreign = h.foreign;
-    lower = h.lower;
-    bare = h.bare;
-    unapplied = h.unapplied;
-    ambiguous = h.ambiguous;
+    held_by_system = h.held_by_system;
+    held_by_user = h.held_by_user;
+    forbidden_by_npre = h.forbidden_by_npre;
+    owned_by_another = h.owned_by_another;
+    regression = h.regression;
+    nothing_to_update = h.nothing_to_update;
+    not_in_target = h.not_in_target;
+    several_fit = h.several_fit;
   }
 
   -- what the tests that look at it by itself found stays
@@ -169,11 +169,11 @@ module _ (s : Setting) (is_global : IsGlobal s.global) (alone faults : List OwnF
       list_any-from_Any (is_in dels) (chain_of x) (a.0, a.1, a.2, a.3, is_in_from_Contains dels a.1 named)
 
   pub eight : (n : ℕ) (x : Id) (a : OwnFaults) → slice_get s.cands n ≡ Some x → slice_get faults n ≡ Some a
-      → IsTrue a.deleted ↔ IsChainDeleted s x
+      → IsTrue a.chain_deleted ↔ IsChainDeleted s x
   eight n x a at at_own =
       let m = marked.each n x a at at_own in
       let deleted : Bool = is_deleted s.global s.choice dels x in
-      let is = ap (λ (v : OwnFaults). v.deleted) m.is in
+      let is = ap (λ (v : OwnFaults). v.chain_deleted) m.is in
       let both = alone_if s is_global x (contains_at s.cands n x at) m.own (own.each n x m.own at m.own_at) in (
         λ on.
             let p = and_parts (passes_alone m.own) deleted (sym is ∙ on) in

@@ -11,20 +11,22 @@ use Rattle.terms.specs.Deleted.{deletions, zone_less}
 use Rattle.terms.specs.Tests.{Setting, HasSeveralFit}
 use Rattle.judge_faults.specs.declared.own.OwnFaults.{OwnFaults}
 use Rattle.judge_faults.specs.Forbidders.{IsForbidden}
-use Rattle.judge_faults.specs.Own.{has_standing_hold, is_foreign_at, IsLowerAt, is_bare_at, is_unapplied, HasFaults}
+use Rattle.judge_faults.specs.Own.{has_standing_hold, is_owned_by_another, IsLowerAt, updates_nothing}
+use Rattle.judge_faults.specs.Own.{fails_applycheck, HasFaults}
 
 -- the answers, with the deletions of its view, its owner, FMID and element statements
 pub record Answered (s : Setting) (x : Id) (a : OwnFaults) (g : Global) (c : Choice) (dels : List Id) (own : Id)
     (fmid : Option Id) (changes : List Change) : Type 0 where
-  pub system_held : a.system_held ≡ has_standing_hold s System x
-  pub user_held : a.user_held ≡ has_standing_hold s User x
-  pub forbidden : IsTrue a.forbidden ↔ IsForbidden g c (zone_less g c dels s.zone) x
-  pub foreign : a.foreign ≡ list_any (is_foreign_at (zone_less g c dels s.zone) own) changes
-  pub lower : IsTrue a.lower
+  pub held_by_system : a.held_by_system ≡ has_standing_hold s System x
+  pub held_by_user : a.held_by_user ≡ has_standing_hold s User x
+  pub forbidden_by_npre : IsTrue a.forbidden_by_npre ↔ IsForbidden g c (zone_less g c dels s.zone) x
+  pub owned_by_another : a.owned_by_another ≡ list_any (is_owned_by_another (zone_less g c dels s.zone) own) changes
+  pub regression : IsTrue a.regression
       ↔ (IsFalse s.bypass.same_id × Any (IsLowerAt c (zone_less g c dels s.zone) x) changes)
-  pub bare : a.bare ≡ list_any (is_bare_at s.global (zone_less g c dels s.zone) s.cands fmid) changes
-  pub unapplied : a.unapplied ≡ is_unapplied s x
-  pub ambiguous : IsTrue a.ambiguous ↔ HasSeveralFit s x
+  pub nothing_to_update : a.nothing_to_update
+      ≡ list_any (updates_nothing s.global (zone_less g c dels s.zone) s.cands fmid) changes
+  pub not_in_target : a.not_in_target ≡ fails_applycheck s x
+  pub several_fit : IsTrue a.several_fit ↔ HasSeveralFit s x
 
 module _ (s : Setting) (x : Id) (a : OwnFaults) where
   abbrev view_dels : Global → Choice → List Id
@@ -43,12 +45,12 @@ module _ (s : Setting) (x : Id) (a : OwnFaults) where
       let t6 = subst (λ w. Answered s x a w s.choice (view_dels w s.choice) (owner w s.choice x) (fmid_of s.choice x)
       all) eg t5 in
       record {
-        system_held = t6.system_held;
-        user_held = t6.user_held;
-        forbidden = t6.forbidden;
-        foreign = t6.foreign;
-        lower = t6.lower;
-        bare = t6.bare;
-        unapplied = t6.unapplied;
-        ambiguous = t6.ambiguous;
+        held_by_system = t6.held_by_system;
+        held_by_user = t6.held_by_user;
+        forbidden_by_npre = t6.forbidden_by_npre;
+        owned_by_another = t6.owned_by_another;
+        regression = t6.regression;
+        nothing_to_update = t6.nothing_to_update;
+        not_in_target = t6.not_in_target;
+        several_fit = t6.several_fit;
       }

@@ -57,7 +57,7 @@ own_at_holds (y ∷ ys) (b ∷ faults) k rising (suc n) m x a at own place =
 module _ (s : Setting) (is_global : IsGlobal s.global) (rising : IsRising s.cands) (faults : List OwnFaults)
     (own : Beside (λ n x a. HasFaults s x a) s.cands faults)
     (eight : (n : ℕ) (x : Id) (a : OwnFaults) → slice_get s.cands n ≡ Some x → slice_get faults n ≡ Some a
-    → IsTrue a.deleted ↔ IsChainDeleted s x) where
+    → IsTrue a.chain_deleted ↔ IsChainDeleted s x) where
   abbrev ids : List Id
   ids = s.cands
 

@@ -25,7 +25,7 @@ AreDeletions c ids faults dels =
 
 -- the faults with ChainDeleted, given whether the chain contains one of the deletions
 abbrev pub with_deleted : Bool → OwnFaults → OwnFaults
-with_deleted is_deleted own = record own { deleted = passes_alone own && is_deleted }
+with_deleted is_deleted own = record own { chain_deleted = passes_alone own && is_deleted }
 
 -- the faults of x, at a place, with ChainDeleted
 pub record IsMarkedDeleted (g : Global) (c : Choice) (dels : List Id) (faults : List OwnFaults) (n : ℕ) (x : Id)

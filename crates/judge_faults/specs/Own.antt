@@ -20,8 +20,8 @@ abbrev pub has_standing_hold : Setting → HoldKind → Id → Bool
 has_standing_hold s kind x = list_any (λ h. not (is_bypassed_hold s.bypass h)) (holds_of s.global kind x)
 
 -- whether the statement is about an element of the view that has another owner
-abbrev pub is_foreign_at : Zone → Id → Change → Bool
-is_foreign_at zone owner h =
+abbrev pub is_owned_by_another : Zone → Id → Change → Bool
+is_owned_by_another zone owner h =
     option_map_or (λ e. not (bytes_eq e.fmid owner)) (element_of zone h.elem_type h.name) false
 
 -- x is not over one of the SYSMODs that made the element
@@ -33,41 +33,42 @@ abbrev pub IsLowerAt : Choice → Zone → Id → Change → Type 0
 IsLowerAt c zone x h = (e : Element) × (element_of zone h.elem_type h.name ≡ Some e) × IsLower c x e
 
 -- whether the function is a candidate that replaces the element of the statement
-abbrev pub has_base : Global → List Id → Option Id → Change → Bool
-has_base g cands fmid h =
+abbrev pub is_brought_along : Global → List Id → Option Id → Change → Bool
+is_brought_along g cands fmid h =
     option_map_or (λ f. is_in cands f && has_replacement g f h.elem_type h.name) fmid false
 
 -- whether the statement updates an element that the view lacks, and no base comes with it
-abbrev pub is_bare_at : Global → Zone → List Id → Option Id → Change → Bool
-is_bare_at g zone cands fmid h =
+abbrev pub updates_nothing : Global → Zone → List Id → Option Id → Change → Bool
+updates_nothing g zone cands fmid h =
     not (is_replacement h.action) && not (is_some (element_of zone h.elem_type h.name))
-    && not (has_base g cands fmid h)
+    && not (is_brought_along g cands fmid h)
 
 -- whether x is accepted, and no related target zone has applied it
-abbrev pub is_unapplied : Setting → Id → Bool
-is_unapplied s x =
+abbrev pub fails_applycheck : Setting → Id → Bool
+fails_applycheck s x =
     is_distribution s.zone.kind && not s.bypass.applycheck
     && not (option_map_or (λ target. is_applied target x) s.related false)
 
 -- the tests of its own, each as the code tests it
 pub record HasFaults (s : Setting) (x : Id) (a : OwnFaults) : Type 0 where
-  pub system_held : a.system_held ≡ has_standing_hold s System x
-  pub user_held : a.user_held ≡ has_standing_hold s User x
-  pub forbidden : IsTrue a.forbidden ↔ IsForbidden s.global s.choice (view_of s x) x
-  pub foreign : a.foreign ≡ list_any (is_foreign_at (view_of s x) (owner_of s x)) (changes_of s.global x)
-  pub lower : IsTrue a.lower
+  pub held_by_system : a.held_by_system ≡ has_standing_hold s System x
+  pub held_by_user : a.held_by_user ≡ has_standing_hold s User x
+  pub forbidden_by_npre : IsTrue a.forbidden_by_npre ↔ IsForbidden s.global s.choice (view_of s x) x
+  pub owned_by_another : a.owned_by_another
+      ≡ list_any (is_owned_by_another (view_of s x) (owner_of s x)) (changes_of s.global x)
+  pub regression : IsTrue a.regression
       ↔ (IsFalse s.bypass.same_id × Any (IsLowerAt s.choice (view_of s x) x) (changes_of s.global x))
-  pub bare : a.bare
-      ≡ list_any (is_bare_at s.global (view_of s x) s.cands (fmid_of s.choice x)) (changes_of s.global x)
-  pub unapplied : a.unapplied ≡ is_unapplied s x
-  pub ambiguous : IsTrue a.ambiguous ↔ HasSeveralFit s x
+  pub nothing_to_update : a.nothing_to_update
+      ≡ list_any (updates_nothing s.global (view_of s x) s.cands (fmid_of s.choice x)) (changes_of s.global x)
+  pub not_in_target : a.not_in_target ≡ fails_applycheck s x
+  pub several_fit : IsTrue a.several_fit ↔ HasSeveralFit s x
 
 -- whether it passes all tests of its own
 abbrev pub passes_alone : OwnFaults → Bool
 passes_alone a =
-    not a.system_held && not a.user_held && not a.forbidden && not a.foreign && not a.lower && not a.bare
-    && not a.unapplied && not a.ambiguous
+    not a.held_by_system && not a.held_by_user && not a.forbidden_by_npre && not a.owned_by_another
+    && not a.regression && not a.nothing_to_update && not a.not_in_target && not a.several_fit
 
 -- whether it has none of its faults
 abbrev pub passes : OwnFaults → Bool
-passes a = passes_alone a && not a.deleted
+passes a = passes_alone a && not a.chain_deleted

@@ -11,16 +11,16 @@ use Rattle.judge_faults.specs.declared.own.OwnFaults.{OwnFaults}
 
 -- the tests, given what the candidate fails by itself and whether it clashes with another one
 abbrev pub fails_test : OwnFaults → Bool → Test → Bool
-fails_test a clashes HeldBySystem = a.system_held
-fails_test a clashes HeldByUser = a.user_held
-fails_test a clashes ForbiddenByNpre = a.forbidden
-fails_test a clashes OwnedByAnother = a.foreign
-fails_test a clashes Regression = a.lower
-fails_test a clashes NothingToUpdate = a.bare
-fails_test a clashes NotInTarget = a.unapplied
-fails_test a clashes ChainDeleted = a.deleted
+fails_test a clashes HeldBySystem = a.held_by_system
+fails_test a clashes HeldByUser = a.held_by_user
+fails_test a clashes ForbiddenByNpre = a.forbidden_by_npre
+fails_test a clashes OwnedByAnother = a.owned_by_another
+fails_test a clashes Regression = a.regression
+fails_test a clashes NothingToUpdate = a.nothing_to_update
+fails_test a clashes NotInTarget = a.not_in_target
+fails_test a clashes ChainDeleted = a.chain_deleted
 fails_test a clashes InClash = clashes
-fails_test a clashes SeveralFit = a.ambiguous
+fails_test a clashes SeveralFit = a.several_fit
 fails_test a clashes _ = false
 
 abbrev pub is_among : List ℕ → ℕ → Bool

@@ -53,7 +53,7 @@ fn is_below(
     overs.over(alloc, second.id, first.id)
 }
 
-// Whether the claim is over all of the chain. It is if it is over the last one.
+// Whether the claim is over all of the chain. Each one in it is over those before it, so the last one decides.
 fn is_over_chain(
     alloc: Global,
     overs: &mut Overs<'_, '_>,
@@ -70,8 +70,8 @@ fn is_over_chain(
     }
 }
 
-// A place of the chain such that the claim is over all before it, found by halving. If the claim fits into the chain,
-// it is over none from that place on.
+// A place in the chain, found by halving: the claim is over all claims before it. If the claim fits into the chain, it
+// is over none from that place on.
 fn search_place(
     alloc: Global,
     overs: &mut Overs<'_, '_>,

@@ -2,8 +2,9 @@
 ghost use Rattle.std.specs.Prelude.{◌≡◌, ◌↔◌, length, IsTrue, IfOk};
 ghost use Rattle.judge_faults.specs.Claims.{AreClaims, AreGrouped};
 
-use crate::own::{OwnFaults, own_faults_at};
+use crate::own::OwnFaults;
 use fields::{Id, Name};
+use judge_system::item_at;
 use std::alloc::{AllocError, Global};
 use sysmods::GlobalZone;
 use terms::ElemType;
@@ -38,7 +39,7 @@ pub(crate) fn claims_of(
 {
     let mut claims = Vec::new(alloc);
     for i in 0..ids.len() {
-        if !own_faults_at(faults, i).passes() {
+        if !item_at(faults, i).passes() {
             continue;
         }
         let id = ids[i];

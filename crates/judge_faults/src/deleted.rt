@@ -6,8 +6,9 @@ ghost use Rattle.sysmods.specs.Choices.{choice};
 ghost use Rattle.judge_faults.specs.Deletes.{AreDeletions, with_deleted, IsMarkedDeleted};
 ghost use Rattle.terms.specs.Beside.{Beside};
 
-use crate::own::{OwnFaults, own_faults_at};
+use crate::own::OwnFaults;
 use fields::{Id, IdList};
+use judge_system::item_at;
 use std::alloc::{AllocError, Global};
 use sysmods::VerChoice;
 use zones::deletions;
@@ -22,19 +23,19 @@ fn is_deleted(vers: &VerChoice<'_>, dels: &IdList, id: Id) -> bool
     vers.chain(id).any(|above| dels.contains(above))
 }
 
-// The faults of a candidate, with `deleted` if a DELETE takes out its chain and it passes the earlier tests.
+// The faults of a candidate, with `chain_deleted` if it passes the other tests and a DELETE takes out its chain.
 fn with_deleted(vers: &VerChoice<'_>, dels: &IdList, own: OwnFaults, id: Id) -> OwnFaults
     ensures { result ≡ with_deleted (is_deleted vers.now.global.now (choice vers.now) dels.now id) own }
 {
     OwnFaults {
-        deleted: own.passes_alone() && is_deleted(vers, dels, id),
+        chain_deleted: own.passes_alone() && is_deleted(vers, dels, id),
         ..own
     }
 }
 
-// The faults of all candidates. `deleted` is set for those that pass the earlier tests and that these deletions take
-// out.
-fn mark_deleted_by(
+// The faults of all candidates. `chain_deleted` is set for those that pass the other tests and that these deletions
+// take out.
+fn faults_under_deletions(
     alloc: Global,
     vers: &VerChoice<'_>,
     dels: &IdList,
@@ -48,14 +49,14 @@ fn mark_deleted_by(
 {
     let mut all = Vec::new(alloc);
     for i in 0..ids.len() {
-        all.push(with_deleted(vers, dels, own_faults_at(faults, i), ids[i]))?;
+        all.push(with_deleted(vers, dels, item_at(faults, i), ids[i]))?;
     }
     Ok(all)
 }
 
-/// The faults of all candidates, given those of the tests of their own. `deleted` is set for those that pass these
-/// tests and that the DELETE of one that passes them takes out.
-pub(crate) fn mark_deleted(
+/// The faults of all candidates, given those of the tests of their own. `chain_deleted` is set for those that pass
+/// these tests and that the DELETE of one that passes them takes out.
+pub(crate) fn faults_with_deletes(
     alloc: Global,
     vers: &VerChoice<'_>,
     ids: &[Id],
@@ -68,11 +69,11 @@ pub(crate) fn mark_deleted(
 {
     let mut passing = Vec::new(alloc);
     for i in 0..ids.len() {
-        if !own_faults_at(faults, i).passes_alone() {
+        if !item_at(faults, i).passes_alone() {
             continue;
         }
         passing.push(ids[i])?;
     }
     let dels = IdList::from_vec(deletions(alloc, vers, passing.as_slice())?);
-    mark_deleted_by(alloc, vers, &dels, ids, faults)
+    faults_under_deletions(alloc, vers, &dels, ids, faults)
 }

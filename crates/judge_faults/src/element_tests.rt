@@ -4,7 +4,7 @@ ghost use Rattle.std.specs.List.{list_any};
 ghost use Rattle.terms.specs.Over.{IsOver};
 ghost use Rattle.sysmods.specs.Choices.{choice};
 ghost use Rattle.zones.specs.Gone.{left_of};
-ghost use Rattle.judge_faults.specs.Own.{is_foreign_at, IsLower, IsLowerAt, has_base, is_bare_at};
+ghost use Rattle.judge_faults.specs.Own.{is_owned_by_another, IsLower, IsLowerAt, is_brought_along, updates_nothing};
 
 use fields::{Id, IdList};
 use std::alloc::{AllocError, Global};
@@ -13,8 +13,8 @@ use sysmods_values::ElemChange;
 use zones::{Element, ZoneLess};
 
 // Whether the view has the element of the statement under another owner.
-fn is_foreign_at(view: &ZoneLess<'_, '_>, owner: Id, change: &ElemChange) -> bool
-    ensures { result ≡ is_foreign_at (left_of view.now) owner change.now }
+fn is_owned_by_another(view: &ZoneLess<'_, '_>, owner: Id, change: &ElemChange) -> bool
+    ensures { result ≡ is_owned_by_another (left_of view.now) owner change.now }
 {
     match view.element(change.elem_type, change.name) {
         Some(element) => element.fmid != owner,
@@ -23,16 +23,20 @@ fn is_foreign_at(view: &ZoneLess<'_, '_>, owner: Id, change: &ElemChange) -> boo
 }
 
 /// Whether the view has an element of these statements under another owner.
-pub(crate) fn is_foreign(view: &ZoneLess<'_, '_>, owner: Id, changes: &[ElemChange]) -> bool
-    ensures { result ≡ list_any (is_foreign_at (left_of view.now) owner) changes.now }
+pub(crate) fn any_owned_by_another(
+    view: &ZoneLess<'_, '_>,
+    owner: Id,
+    changes: &[ElemChange],
+) -> bool
+    ensures { result ≡ list_any (is_owned_by_another (left_of view.now) owner) changes.now }
 {
     changes
         .iter()
-        .any(|change| is_foreign_at(view, owner, change))
+        .any(|change| is_owned_by_another(view, owner, change))
 }
 
-// Whether the candidate is not over all of these SYSMODs.
-fn is_not_over_all(
+// Whether there is one of these SYSMODs that the candidate is not over.
+fn is_not_over_one_of(
     alloc: Global,
     overs: &mut Overs<'_, '_>,
     id: Id,
@@ -62,7 +66,7 @@ fn regresses_element(
     if !overs.over(alloc, id, element.rmid)? {
         return Ok(true);
     }
-    is_not_over_all(alloc, overs, id, element.umids.as_slice())
+    is_not_over_one_of(alloc, overs, id, element.umids.as_slice())
 }
 
 // Whether the candidate would regress the element of the statement. An element that the view lacks cannot be regressed.
@@ -103,9 +107,14 @@ pub(crate) fn regresses_any_element(
     Ok(false)
 }
 
-// Whether the function `fmid` is a candidate that brings the element: it has a replacement of it.
-fn has_base(global: &GlobalZone, ids: &IdList, fmid: Option<Id>, change: &ElemChange) -> bool
-    ensures { result ≡ has_base global.now ids.now fmid change.now }
+// Whether the function `fmid` is a candidate and has a replacement of the element.
+fn is_brought_along(
+    global: &GlobalZone,
+    ids: &IdList,
+    fmid: Option<Id>,
+    change: &ElemChange,
+) -> bool
+    ensures { result ≡ is_brought_along global.now ids.now fmid change.now }
 {
     match fmid {
         Some(fmid) => {
@@ -115,33 +124,33 @@ fn has_base(global: &GlobalZone, ids: &IdList, fmid: Option<Id>, change: &ElemCh
     }
 }
 
-// Whether the statement updates an element that the view lacks, and the function that it updates is no candidate that
-// brings the element.
-fn is_bare_at(
+// Whether the statement is an update of an element that the view lacks and that the function does not bring along.
+fn updates_nothing(
     global: &GlobalZone,
     view: &ZoneLess<'_, '_>,
     ids: &IdList,
     fmid: Option<Id>,
     change: &ElemChange,
 ) -> bool
-    ensures { result ≡ is_bare_at global.now (left_of view.now) ids.now fmid change.now }
+    ensures { result ≡ updates_nothing global.now (left_of view.now) ids.now fmid change.now }
 {
     !change.is_replacement()
         && view.element(change.elem_type, change.name).is_none()
-        && !has_base(global, ids, fmid, change)
+        && !is_brought_along(global, ids, fmid, change)
 }
 
-/// Whether one of these statements updates an element that the view lacks and that the function does not bring along.
-pub(crate) fn has_bare_update(
+/// Whether one of these statements is an update of an element that the view lacks and that the function does not bring
+/// along.
+pub(crate) fn any_updates_nothing(
     global: &GlobalZone,
     view: &ZoneLess<'_, '_>,
     ids: &IdList,
     fmid: Option<Id>,
     changes: &[ElemChange],
 ) -> bool
-    ensures { result ≡ list_any (is_bare_at global.now (left_of view.now) ids.now fmid) changes.now }
+    ensures { result ≡ list_any (updates_nothing global.now (left_of view.now) ids.now fmid) changes.now }
 {
     changes
         .iter()
-        .any(|change| is_bare_at(global, view, ids, fmid, change))
+        .any(|change| updates_nothing(global, view, ids, fmid, change))
 }

@@ -5,9 +5,9 @@ ghost use Rattle.terms.specs.Failures.{all_tests};
 ghost use Rattle.judge_system.specs.TestSets.{tests_of};
 ghost use Rattle.judge_faults.specs.Rows.{fails_test, row_of};
 
-use crate::own::{OwnFaults, own_faults_at};
+use crate::own::OwnFaults;
 use indexmap::IndexSet;
-use judge_system::TestSet;
+use judge_system::{TestSet, item_at};
 use std::alloc::{AllocError, Global};
 
 // The tests that a candidate fails, given what it fails by itself and whether it clashes with another one.
@@ -15,16 +15,16 @@ fn failed_test_set(own: OwnFaults, clashes: bool) -> TestSet
     ensures { tests_of result ≡ filter (fails_test own clashes) all_tests }
 {
     TestSet {
-        held_by_system: own.system_held,
-        held_by_user: own.user_held,
-        forbidden_by_npre: own.forbidden,
-        owned_by_another: own.foreign,
-        regression: own.lower,
-        nothing_to_update: own.bare,
-        not_in_target: own.unapplied,
-        chain_deleted: own.deleted,
+        held_by_system: own.held_by_system,
+        held_by_user: own.held_by_user,
+        forbidden_by_npre: own.forbidden_by_npre,
+        owned_by_another: own.owned_by_another,
+        regression: own.regression,
+        nothing_to_update: own.nothing_to_update,
+        not_in_target: own.not_in_target,
+        chain_deleted: own.chain_deleted,
         in_clash: clashes,
-        several_fit: own.ambiguous,
+        several_fit: own.several_fit,
         ..TestSet::none()
     }
 }
@@ -41,7 +41,7 @@ pub(crate) fn all_failed_tests(
     let mut sets = Vec::new(alloc);
     for i in 0..faults.len() {
         let clashes = clashing.contains(&i);
-        let tests = failed_test_set(own_faults_at(faults, i), clashes);
+        let tests = failed_test_set(item_at(faults, i), clashes);
         sets.push(tests)?;
     }
     Ok(sets)

@@ -51,7 +51,7 @@ pub(crate) fn forbidders(
 }
 
 // Whether one of the ids is applied in the view.
-fn is_any_applied(view: &ZoneLess<'_, '_>, ids: &[Id]) -> bool
+fn any_applied(view: &ZoneLess<'_, '_>, ids: &[Id]) -> bool
     ensures { result ≡ list_any (is_applied (left_of view.now)) ids.now }
 {
     ids.iter().any(|id| view.is_applied(*id))
@@ -66,5 +66,5 @@ pub(crate) fn is_forbidden(view: &ZoneLess<'_, '_>, forbidders: &Forbidders, id:
         ↔ IsForbidden view.now.vers.now.global.now (choice view.now.vers.now) (left_of view.now) id }
 {
     view.zone.attest();
-    is_any_applied(view, view.vers.npre(id)) || is_any_applied(view, listed(forbidders, id))
+    any_applied(view, view.vers.npre(id)) || any_applied(view, listed(forbidders, id))
 }

@@ -5,10 +5,11 @@ ghost use Rattle.judge_faults.specs.Claims.{PassesAt};
 ghost use Rattle.judge_faults.specs.Forbidding.{AreCandidates, IsOfNamed, IsByNpre, AreClashing};
 ghost use Rattle.judge_faults.specs.Sharing.{Marks};
 
-use crate::own::{OwnFaults, own_faults_at};
+use crate::own::OwnFaults;
 use crate::sharing::element_clash_places;
 use fields::Id;
 use indexmap::IndexSet;
+use judge_system::item_at;
 use std::alloc::{AllocError, Global};
 use sysmods::{Overs, VerChoice};
 
@@ -20,7 +21,7 @@ fn passing_place(ids: &[Id], faults: &[OwnFaults], id: Id) -> Option<usize>
     let Ok(place) = ids.binary_search(&id) else {
         return None;
     };
-    if !own_faults_at(faults, place).passes() {
+    if !item_at(faults, place).passes() {
         return None;
     }
     Some(place)
@@ -64,7 +65,7 @@ fn mark_by_npre(
     ensures { OnOk result (Marks (IsByNpre (choice vers.now) ids.now faults.now place) marked.old.keys
         marked.new.keys) }
 {
-    if !own_faults_at(faults, place).passes() {
+    if !item_at(faults, place).passes() {
         return Ok(());
     }
     let id = ids[place];

@@ -1,6 +1,6 @@
 //! The tests that look at one candidate by itself.
-ghost use Rattle.std.specs.Prelude.{◌≡◌, ◌==◌, ◌<◌, ◌&&◌, ◌↔◌, Some, Any, not, IsTrue, IsFalse, IfOk};
-ghost use Rattle.std.specs.Prelude.{filter, length, slice_get, option_copied, false};
+ghost use Rattle.std.specs.Prelude.{◌≡◌, ◌==◌, ◌&&◌, ◌↔◌, Any, not, IsTrue, IsFalse, IfOk};
+ghost use Rattle.std.specs.Prelude.{filter, length, option_copied, false};
 ghost use Rattle.std.specs.Str.{bytes_eq};
 ghost use Rattle.std.specs.List.{list_any};
 ghost use Rattle.std.specs.Option.{option_map_or};
@@ -15,7 +15,7 @@ ghost use Rattle.judge_faults.specs.Own.{IsLowerAt, HasFaults, passes_alone, pas
 ghost use Rattle.terms.specs.Beside.{Beside};
 ghost use Rattle.zones.specs.Gone.{left_of};
 
-use crate::element_tests::{has_bare_update, is_foreign, regresses_any_element};
+use crate::element_tests::{any_owned_by_another, any_updates_nothing, regresses_any_element};
 use crate::forbidden::{Forbidders, forbidders, is_forbidden};
 use fields::{Bypass, Id, IdList};
 use std::alloc::{AllocError, Global};
@@ -28,23 +28,23 @@ use zones::{Scope, Zone, ZoneLess, fits, is_bypassed_hold};
 #[derive(Clone, Copy)]
 pub(crate) struct OwnFaults {
     /// BYPASS does not cover a SYSTEM hold on it.
-    pub(crate) system_held: bool,
+    pub(crate) held_by_system: bool,
     /// BYPASS does not cover a USER hold on it.
-    pub(crate) user_held: bool,
+    pub(crate) held_by_user: bool,
     /// Its NPRE names an applied SYSMOD, or the NPRE of an applied function names it.
-    pub(crate) forbidden: bool,
+    pub(crate) forbidden_by_npre: bool,
     /// It changes an element that another function owns.
-    pub(crate) foreign: bool,
+    pub(crate) owned_by_another: bool,
     /// It would regress an element: the element was made by a SYSMOD that it is not over.
-    pub(crate) lower: bool,
+    pub(crate) regression: bool,
     /// It updates an element that does not exist.
-    pub(crate) bare: bool,
-    /// ACCEPT takes it although the related target zone has not applied it.
-    pub(crate) unapplied: bool,
+    pub(crate) nothing_to_update: bool,
+    /// It is to be accepted, and the related target zone has not applied it.
+    pub(crate) not_in_target: bool,
     /// Several of its `++VER`s fit.
-    pub(crate) ambiguous: bool,
+    pub(crate) several_fit: bool,
     /// It has none of the other faults, and a DELETE takes out its chain.
-    pub(crate) deleted: bool,
+    pub(crate) chain_deleted: bool,
 }
 
 impl OwnFaults {
@@ -52,21 +52,21 @@ impl OwnFaults {
     pub(crate) fn passes_alone(self) -> bool
         ensures { result ≡ passes_alone self }
     {
-        !self.system_held
-            && !self.user_held
-            && !self.forbidden
-            && !self.foreign
-            && !self.lower
-            && !self.bare
-            && !self.unapplied
-            && !self.ambiguous
+        !self.held_by_system
+            && !self.held_by_user
+            && !self.forbidden_by_npre
+            && !self.owned_by_another
+            && !self.regression
+            && !self.nothing_to_update
+            && !self.not_in_target
+            && !self.several_fit
     }
 
     /// Whether it has none of the faults.
     pub(crate) fn passes(self) -> bool
         ensures { result ≡ passes self }
     {
-        self.passes_alone() && !self.deleted
+        self.passes_alone() && !self.chain_deleted
     }
 }
 
@@ -108,9 +108,9 @@ fn is_applied_in_target(related: Option<&Zone>, id: Id) -> bool
     }
 }
 
-// Whether ACCEPT takes the candidate although the related target zone has not applied it. BYPASS(APPLYCHECK) skips
-// this test.
-fn is_unapplied(zone: &Zone, related: Option<&Zone>, bypass: &Bypass, id: Id) -> bool
+// Whether ACCEPT has to refuse the candidate because the related target zone has not applied it. BYPASS(APPLYCHECK)
+// skips this test.
+fn fails_applycheck(zone: &Zone, related: Option<&Zone>, bypass: &Bypass, id: Id) -> bool
     ensures { result ≡ (is_distribution zone.now.kind && not bypass.now.applycheck && not
         (option_map_or (λ target. is_applied target id) (option_copied related.entry) false)) }
 {
@@ -133,7 +133,7 @@ fn fitting_count(zone: &Zone, candidates: &IdList, vers: &[Ver]) -> usize
 }
 
 // Whether two or more of the `++VER`s of the SYSMOD fit.
-fn is_ambiguous(scope: &Scope<'_, '_>, id: Id) -> bool
+fn several_vers_fit(scope: &Scope<'_, '_>, id: Id) -> bool
     ensures { IsTrue result ↔ HasSeveralFit (setting_of scope.now) id }
 {
     fitting_count(scope.zone, scope.ids, scope.global().vers_of(id)) >= 2
@@ -163,17 +163,17 @@ fn own_faults(
     };
     let global = scope.global();
     let changes = global.changes_of(id);
-    let lower = has_regression(alloc, &view, overs, scope.bypass, id, changes)?;
+    let regression = has_regression(alloc, &view, overs, scope.bypass, id, changes)?;
     Ok(OwnFaults {
-        system_held: has_standing_hold(global, scope.bypass, HoldKind::System, id),
-        user_held: has_standing_hold(global, scope.bypass, HoldKind::User, id),
-        forbidden: is_forbidden(&view, forbidders, id),
-        foreign: is_foreign(&view, vers.owner(id), changes),
-        lower,
-        bare: has_bare_update(global, &view, scope.ids, vers.fmid(id), changes),
-        unapplied: is_unapplied(scope.zone, related, scope.bypass, id),
-        ambiguous: is_ambiguous(scope, id),
-        deleted: false,
+        held_by_system: has_standing_hold(global, scope.bypass, HoldKind::System, id),
+        held_by_user: has_standing_hold(global, scope.bypass, HoldKind::User, id),
+        forbidden_by_npre: is_forbidden(&view, forbidders, id),
+        owned_by_another: any_owned_by_another(&view, vers.owner(id), changes),
+        regression,
+        nothing_to_update: any_updates_nothing(global, &view, scope.ids, vers.fmid(id), changes),
+        not_in_target: fails_applycheck(scope.zone, related, scope.bypass, id),
+        several_fit: several_vers_fit(scope, id),
+        chain_deleted: false,
     })
 }
 
@@ -195,12 +195,4 @@ pub(crate) fn all_own_faults(
         faults.push(own_faults(alloc, scope, related, &forbidders, overs, *id)?)?;
     }
     Ok(faults)
-}
-
-/// What the candidate at the place fails by itself, with a contract that names it as an item of the list.
-pub(crate) fn own_faults_at(faults: &[OwnFaults], place: usize) -> OwnFaults
-    requires { place < length faults.now }
-    ensures { slice_get faults.now place ≡ Some result }
-{
-    faults[place]
 }

@@ -11,7 +11,7 @@ use std::alloc::{AllocError, Global};
 use terms::NeedKind;
 use zones::Scope;
 
-/// For each of the others, adds the pair of the id and that one.
+/// Adds a pair of the id with each of the others.
 pub(crate) fn add_pairs(pairs: &mut Vec<(Id, Id)>, id: Id, others: &[Id]) -> Result<(), AllocError>
     ensures { OnOk result (AddsPairs id others.now pairs.old.items pairs.new.items) }
 {

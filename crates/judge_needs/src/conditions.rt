@@ -9,7 +9,7 @@ ghost use Rattle.judge_needs.specs.Conditions.{AreStated, is_there, requisites_o
 ghost use Rattle.zones.specs.Gone.{left_of};
 ghost use Rattle.zones.specs.Scopes.{global_of, choice_of, setting_of};
 
-use crate::stated::{Stated, all_stated};
+use crate::stated::{Stated, all_stated_requisites};
 use fields::{Id, IdList};
 use sorted::lists::listed;
 use std::alloc::{AllocError, Global};
@@ -32,7 +32,7 @@ impl<'a, 'b> Conditions<'a, 'b> {
     {
         Ok(Conditions {
             scope: *scope,
-            stated: all_stated(alloc, scope)?,
+            stated: all_stated_requisites(alloc, scope)?,
         })
     }
 
@@ -84,8 +84,8 @@ impl<'a, 'b> Conditions<'a, 'b> {
             ↔ Contains (asked (setting_of self.now.scope) [] id Ifreq) z) }
     {
         let scope = &self.scope;
-        let deleted = scope.view_deletions(alloc, id)?;
-        let dels = deleted.as_slice();
+        let dels = scope.view_deletions(alloc, id)?;
+        let dels = dels.as_slice();
         let left = ZoneLess {
             vers: scope.vers,
             dels,

@@ -102,8 +102,8 @@ pub fn needs_of(
     ensures { IfOk result (λ needs. AreNeeds (setting_of conditions.now.scope) survivors.now needs.items) }
 {
     let scope = &conditions.scope;
-    let deleted = deletions(alloc, scope.vers, survivors.as_slice())?;
-    let dels = deleted.as_slice();
+    let dels = deletions(alloc, scope.vers, survivors.as_slice())?;
+    let dels = dels.as_slice();
     let left = ZoneLess {
         vers: scope.vers,
         dels,

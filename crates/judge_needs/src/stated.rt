@@ -63,7 +63,10 @@ fn add_conditions(
 }
 
 /// The requisites that all applied SYSMODs state, by the functions for which they state them.
-pub(crate) fn all_stated(alloc: Global, scope: &Scope<'_, '_>) -> Result<Stated, AllocError>
+pub(crate) fn all_stated_requisites(
+    alloc: Global,
+    scope: &Scope<'_, '_>,
+) -> Result<Stated, AllocError>
     ensures form { IsZone scope.now.zone.now }
     ensures stated { IfOk result (AreStated (choice_of scope.now) scope.now.zone.now) }
 {

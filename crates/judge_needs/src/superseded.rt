@@ -75,7 +75,7 @@ fn sufficient_ids(alloc: Global, vers: &VerChoice<'_>, named: &[Id]) -> Result<V
 }
 
 // Appends the needed ids that this SYSMOD supersedes. It searches for them only if they are not in `known`.
-fn append_needed_below(
+fn append_needed_superseded(
     alloc: Global,
     vers: &VerChoice<'_>,
     needed: &IdList,
@@ -111,7 +111,7 @@ fn needed_superseded(
     let mut found = needed_among(alloc, needed, named)?;
     let enough = sufficient_ids(alloc, vers, named)?;
     for other in enough.as_slice() {
-        append_needed_below(alloc, vers, needed, known, *other, &mut found)?;
+        append_needed_superseded(alloc, vers, needed, known, *other, &mut found)?;
     }
     Ok(IdList::from_vec(found))
 }
@@ -133,11 +133,11 @@ pub fn superseded_pairs(
     let mut known = Table::new(alloc);
     let mut pairs = Vec::new(alloc);
     for id in ids.as_slice() {
-        let below = needed_superseded(alloc, vers, &needed, &known, *id)?;
-        add_pairs(&mut pairs, *id, below.as_slice())?;
+        let superseded = needed_superseded(alloc, vers, &needed, &known, *id)?;
+        add_pairs(&mut pairs, *id, superseded.as_slice())?;
         known.push_last(Closure {
             id: *id,
-            ids: below,
+            ids: superseded,
         })?;
     }
     Ok(pairs)

@@ -37,12 +37,12 @@ impl Judged<'_> {
         let ids = self.ids.as_slice();
         let unserved = open_needs(alloc, &self.system, self.needs.as_slice(), kept)?;
         let kept = kept_ids(alloc, ids, kept.flags())?;
-        let found = Findings {
+        let findings = Findings {
             tests: self.tests.as_slice(),
             unserved: unserved.as_slice(),
             causers,
         };
-        let failed = failures(alloc, ids, &kept, &found)?;
+        let failed = failures(alloc, ids, &kept, &findings)?;
         Ok(Decided { kept, failed })
     }
 }

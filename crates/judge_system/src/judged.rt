@@ -32,8 +32,7 @@ pub struct Judged<'a> {
 }
 
 impl<'a> Judged<'a> {
-    /// Numbers the candidates and their assessment. It also returns an error if there are more candidates than numbers
-    /// of 32 bits.
+    /// Numbers the candidates and their assessment. It also returns an error if a `u32` cannot count the candidates.
     pub fn new(
         alloc: Global,
         ids: &IdList,

@@ -1,21 +1,11 @@
 //! The ids of the kept candidates.
-ghost use Rattle.std.specs.Prelude.{◌≡◌, ◌↔◌, ◌<◌, ◌++◌, [], ◌∷◌, ℕ, Some, All, Contains, IsTrue, IfOk, OnOk, length};
-ghost use Rattle.std.specs.Prelude.{map, slice_get, slice_index_or, if◌then◌else◌};
+ghost use Rattle.std.specs.Prelude.{◌≡◌, ◌↔◌, ◌<◌, [], ℕ, Some, All, Contains, IsTrue, IfOk, length};
+ghost use Rattle.std.specs.Prelude.{map, slice_get, slice_index_or};
 ghost use Rattle.terms.specs.Types.{Id as AnId};
 ghost use Rattle.solve.specs.System.{holds};
 
 use fields::{Id, IdList};
 use std::alloc::{AllocError, Global};
-
-// Adds the id if its flag says that it is kept.
-fn add_if_kept(ids: &mut Vec<Id>, is_kept: bool, id: Id) -> Result<(), AllocError>
-    ensures { OnOk result (ids.new.items ≡ ids.old.items ++ (if is_kept then id ∷ [] else [])) }
-{
-    if is_kept {
-        ids.push(id)?;
-    }
-    Ok(())
-}
 
 /// The ids of the kept candidates. `flags` says of each candidate, by its place, whether it is kept.
 pub(crate) fn kept_ids(alloc: Global, ids: &[Id], flags: &[bool]) -> Result<IdList, AllocError>
@@ -25,7 +15,10 @@ pub(crate) fn kept_ids(alloc: Global, ids: &[Id], flags: &[bool]) -> Result<IdLi
 {
     let mut kept = Vec::new(alloc);
     for i in 0..ids.len() {
-        add_if_kept(&mut kept, flags[i], ids[i])?;
+        if !flags[i] {
+            continue;
+        }
+        kept.push(ids[i])?;
     }
     Ok(IdList::from_vec(kept))
 }

@@ -10,6 +10,7 @@
 mod decided;
 mod failure;
 mod failures;
+mod items;
 mod judged;
 mod kept;
 mod needs;
@@ -20,6 +21,7 @@ mod test_set;
 
 pub use decided::Decided;
 pub use failure::{Failure, OpenNeed};
+pub use items::item_at;
 pub use judged::Judged;
 pub use stated::{Assessment, RequisiteOf};
 pub use test_set::{TestSet, Tests};

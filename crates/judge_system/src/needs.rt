@@ -7,25 +7,26 @@ ghost use Rattle.judge_system.specs.Numbered.{need_of};
 ghost use Rattle.judge_system.specs.Open.{open_of, AreEachOnce, HaveOpen, AreNeedsOf};
 
 use crate::failure::OpenNeed;
-use crate::stated::{RequisiteOf, need_at};
+use crate::items::item_at;
+use crate::stated::RequisiteOf;
 use fields::Id;
 use solve::{Kept, Need, System, empty_rows};
 use std::alloc::{AllocError, Global};
 use terms::NeedKind;
 
-// Adds the need, of the kind and id in `meant`, to the row of its candidate, unless it is served.
-fn add_if_open(
+// Adds the need's kind and id to the row of its candidate, unless a kept candidate serves the need.
+fn push_unless_served(
     rows: &mut [Vec<(NeedKind, Id)>],
     kept: &Kept,
     need: &Need,
-    meant: (NeedKind, Id),
+    kind_and_id: (NeedKind, Id),
 ) -> Result<(), AllocError>
     requires { need.now.of < length rows.old }
     ensures { OnOk result ((x : ℕ) → row_at rows.new x
-        ≡ row_at rows.old x ++ open_of kept.now (numbered need.now) (meant.0, meant.1) x) }
+        ≡ row_at rows.old x ++ open_of kept.now (numbered need.now) (kind_and_id.0, kind_and_id.1) x) }
 {
     if !kept.serves(need) {
-        rows[need.of as usize].push(meant)?;
+        rows[need.of as usize].push(kind_and_id)?;
     }
     Ok(())
 }
@@ -46,8 +47,8 @@ pub(crate) fn open_needs(
     let mut rows = empty_rows(alloc, system.size())?;
     let needs = system.needs();
     for i in 0..needs.len() {
-        let need = need_at(stated, i);
-        add_if_open(&mut rows, kept, &needs[i], (need.kind, need.id))?;
+        let need = item_at(stated, i);
+        push_unless_served(&mut rows, kept, &needs[i], (need.kind, need.id))?;
     }
     Ok(rows)
 }

@@ -1,11 +1,12 @@
 //! The numbered system: which candidates are eligible, and what each one needs.
 ghost use Rattle.std.specs.Prelude.{◌≡◌, ◌<◌, ◌^◌, length, map, All, Contains, OnOk, IfOk};
 ghost use Rattle.terms.specs.Lookups.{IsRising, is_nil};
-ghost use Rattle.judge_system.specs.Numbered.{AddsNeed, HasNeeds, HasSystem};
+ghost use Rattle.judge_system.specs.Numbered.{AddsNeed, HasSystem};
 ghost use Rattle.judge_system.specs.TestSets.{tests_of};
 
+use crate::items::item_at;
 use crate::serving::{own_place, served_pairs, serving_places};
-use crate::stated::{RequisiteOf, need_at};
+use crate::stated::RequisiteOf;
 use crate::test_set::TestSet;
 use fields::{Id, IdList};
 use indexmap::IndexSet;
@@ -16,7 +17,7 @@ use std::collections::BTreeSet;
 /// The greatest number of candidates whose count fits into 32 bits.
 const MOST_CANDIDATES: usize = u32::MAX as usize;
 
-/// The ids, numbered in their order. It returns an error if there are more than numbers of 32 bits.
+/// The ids, numbered in their order. It returns an error if a `u32` cannot count them.
 pub(crate) fn number_ids(alloc: Global, ids: &IdList) -> Result<IndexSet<Id>, AllocError>
     ensures ids { IfOk result (λ numbered. numbered.keys ≡ ids.now) }
     ensures rising { IfOk result (λ numbered. IsRising numbered.keys) }
@@ -33,10 +34,10 @@ pub(crate) fn number_ids(alloc: Global, ids: &IdList) -> Result<IndexSet<Id>, Al
 }
 
 /// For each candidate, whether it fails no test.
-pub(crate) fn eligible_flags(alloc: Global, sets: &[TestSet]) -> Result<Vec<bool>, AllocError>
-    ensures { IfOk result (λ flags. flags.items ≡ map (λ tests. is_nil (tests_of tests)) sets.now) }
+pub(crate) fn eligible_flags(alloc: Global, tests: &[TestSet]) -> Result<Vec<bool>, AllocError>
+    ensures { IfOk result (λ flags. flags.items ≡ map (λ set. is_nil (tests_of set)) tests.now) }
 {
-    sets.iter().map(|tests| tests.is_empty()).collect(alloc)
+    tests.iter().map(|set| set.is_empty()).collect(alloc)
 }
 
 // Adds one need to the system, by the numbers of its candidate and of those that serve it.
@@ -59,29 +60,6 @@ fn add_numbered_need(
     Ok(())
 }
 
-// The system of candidates with these eligibility flags and these needs. `served` says who serves the need for an id.
-fn system_with_needs(
-    alloc: Global,
-    ids: &IndexSet<Id>,
-    served: &BTreeSet<(Id, u32)>,
-    stated: &[RequisiteOf],
-    eligible: Vec<bool>,
-) -> Result<System, AllocError>
-    requires few { length ids.now.keys < 2 ^ 32 }
-    requires rising { IsRising ids.now.keys }
-    requires within { All (λ w. Contains ids.now.keys w.of) stated.now }
-    requires flags { length eligible.items ≡ length ids.now.keys }
-    ensures { IfOk result (λ system. HasNeeds ids.now.keys served.now.keys eligible.items stated.now
-        system) }
-{
-    let mut system = System::new(alloc, eligible)?;
-    for i in 0..stated.len() {
-        let need = need_at(stated, i);
-        add_numbered_need(alloc, ids, served, need, &mut system)?;
-    }
-    Ok(system)
-}
-
 /// The system of candidates, which are eligible by these flags, and of these needs. `superseded` has the candidates
 /// with the ids that they supersede, because they may serve needs for these.
 pub(crate) fn numbered_system(
@@ -99,6 +77,10 @@ pub(crate) fn numbered_system(
     ensures { IfOk result (λ system. HasSystem ids.now.keys superseded.now eligible.items stated.now system) }
 {
     let served = served_pairs(alloc, ids, superseded)?;
-    let system = system_with_needs(alloc, ids, &served, stated, eligible)?;
+    let mut system = System::new(alloc, eligible)?;
+    for i in 0..stated.len() {
+        let need = item_at(stated, i);
+        add_numbered_need(alloc, ids, &served, need, &mut system)?;
+    }
     Ok(system)
 }

@@ -1,6 +1,7 @@
 //! The candidates that serve a need: the id itself, and a candidate that supersedes it if that serves the need.
 ghost use Rattle.std.specs.Prelude.{◌≡◌, ◌<◌, ◌^◌, ℕ, List, Some, length, slice_get, All, AllPairs};
 ghost use Rattle.std.specs.Prelude.{Contains, IsTrue, IsFalse, IsNone, IfSome, OnOk, IfOk};
+ghost use Rattle.terms.specs.declared.codes.NeedKind.{NeedKind as AKind};
 ghost use Rattle.terms.specs.Types.{Id as AnId};
 ghost use Rattle.terms.specs.Lookups.{IsRising, is_in};
 ghost use Rattle.terms.specs.Needs.{takes_superseder};
@@ -80,17 +81,16 @@ pub(crate) fn served_pairs(
 }
 
 // The places of the id and of its superseders, as far as they are candidates. They serve a need that a superseder may
-// serve. `kind` is here for the contract only.
+// serve.
 fn own_and_superseding_places(
     alloc: Global,
     ids: &IndexSet<Id>,
     served: &BTreeSet<(Id, u32)>,
-    kind: NeedKind,
     id: Id,
 ) -> Result<Vec<u32>, AllocError>
     requires few { length ids.now.keys < 2 ^ 32 }
-    requires takes { IsTrue (takes_superseder kind) }
-    ensures places { IfOk result (λ any. IsServedIn ids.now.keys kind id served.now.keys any.items) }
+    ensures places { IfOk result (λ any. (kind : AKind) → IsTrue (takes_superseder kind)
+        → IsServedIn ids.now.keys kind id served.now.keys any.items) }
     ensures below { IfOk result (λ any. All (λ n. n < length ids.now.keys) any.items) }
     ensures rising { IfOk result (λ any. AllPairs (λ a b. a < b) any.items) }
 {
@@ -132,7 +132,7 @@ pub(crate) fn serving_places(
     ensures rising { IfOk result (λ any. AllPairs (λ a b. a < b) any.items) }
 {
     if kind.takes_superseder() {
-        own_and_superseding_places(alloc, ids, served, kind, id)
+        own_and_superseding_places(alloc, ids, served, id)
     } else {
         own_places(alloc, ids, id)
     }

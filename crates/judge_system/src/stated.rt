@@ -1,5 +1,4 @@
 //! The assessment of candidates.
-ghost use Rattle.std.specs.Prelude.{◌≡◌, ◌<◌, Some, length, slice_get};
 
 use crate::test_set::TestSet;
 use fields::Id;
@@ -24,12 +23,4 @@ pub struct Assessment {
     pub superseded: Vec<(Id, Id)>,
     /// The candidates with each of their requisites that BYPASS covers.
     pub bypassed: Vec<(Id, Id)>,
-}
-
-/// The need at a place, with a contract that names it as an item of the list.
-pub(crate) fn need_at(needs: &[RequisiteOf], place: usize) -> RequisiteOf
-    requires { place < length needs.now }
-    ensures { slice_get needs.now place ≡ Some result }
-{
-    needs[place]
 }

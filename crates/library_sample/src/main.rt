@@ -26,7 +26,7 @@ fn received(alloc: Global, ptfin: &[u8]) -> Result<GlobalZone> {
     Ok(global)
 }
 
-// FUNCTIONS PTFS, without any other operand.
+// What the operands FUNCTIONS and PTFS choose: all functions and PTFs.
 fn functions_and_ptfs(alloc: Global) -> Selection {
     Selection {
         functions: true,
@@ -42,8 +42,8 @@ fn functions_and_ptfs(alloc: Global) -> Selection {
     }
 }
 
-// A line for each candidate: that it is kept, or which failures cause its own.
-fn print<W: Write>(decided: &Decided, out: &mut W) -> Result<()> {
+// Writes a line for each candidate, which says that it is kept, or which SYSMODs cause its failure.
+fn write_decided<W: Write>(decided: &Decided, out: &mut W) -> Result<()> {
     for id in decided.kept.as_slice() {
         out.write_all(id.as_bytes())?;
         out.write_all(b" is kept\n")?;
@@ -77,5 +77,5 @@ fn main(rt: HostRuntime) -> Result<()> {
     let srel = Srel::read(b"Z038").context("an SREL")?;
     let related = ZoneName::read(b"DLB1").context("a zone's name")?;
     let zone = Zone::new(alloc, ZoneKind::Target, srel, Some(related));
-    print(&decide(alloc, &global, &zone)?, &mut rt.stdout())
+    write_decided(&decide(alloc, &global, &zone)?, &mut rt.stdout())
 }

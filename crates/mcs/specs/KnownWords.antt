@@ -5,14 +5,14 @@ use Rattle.terms.specs.declared.statement_words.StatementWord.TheVariants.{Heade
 use Rattle.terms.specs.Statement.{Piece}
 use Rattle.terms.specs.Ptfin.{Parts, these_parts}
 use Rattle.rec80.specs.Views.{word_of}
-use Rattle.mcs.specs.declared.begin.Known.{Known}
+use Rattle.mcs.specs.declared.begin.KnownStatement.{KnownStatement}
 
 -- the list of the statement's word
-abbrev pub own_list : Known → Option (List ℕ)
+abbrev pub own_list : KnownStatement → Option (List ℕ)
 own_list b = (word_of b.first).list
 
 -- its parts, given the pieces that its operands are read from
-abbrev pub parts_of : Known → List Piece → Parts
+abbrev pub parts_of : KnownStatement → List Piece → Parts
 parts_of b rest = these_parts b.word (own_list b) rest b.inline.now
 
 -- The word names neither a kind nor a type.

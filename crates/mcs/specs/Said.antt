@@ -7,7 +7,7 @@ use Rattle.terms.specs.Statement.{Piece}
 use Rattle.terms.specs.Statements.{Statement}
 use Rattle.terms.specs.Ptfin.{Begun, Parts, sysmod_in, HasValue, IsWithin, HasGoodText, IsStatementFault}
 use Rattle.rec80.specs.Read.{IsRead}
-use Rattle.mcs.specs.declared.begin.Known.{Known}
+use Rattle.mcs.specs.declared.begin.KnownStatement.{KnownStatement}
 use Rattle.mcs.specs.KnownWords.{parts_of}
 use Rattle.mcs.specs.Holds.{ArePrintable}
 use Rattle.mcs.specs.declared.file.Begun as file
@@ -41,19 +41,19 @@ IsStatementError current later records Memory = Unit {0}
 IsStatementError current later records (Fault code) = IsStatementFault current later records code
 
 -- A statement of a known word says what the call returns.
-abbrev pub Says : Option file.Begun → Known → Result Said StatementError → Type 0
+abbrev pub Says : Option file.Begun → KnownStatement → Result Said StatementError → Type 0
 Says current known result =
     (rest : List Piece) → IsRead rest known.operands
     → IfOk result (λ s. IsStatementSaid (begun_in current) (parts_of known rest) (statement_of s))
 
 -- It says nothing, and the error is its first fault, or that memory ran out.
-abbrev pub Fails : Option file.Begun → Known → Result Said StatementError → Type 0
+abbrev pub Fails : Option file.Begun → KnownStatement → Result Said StatementError → Type 0
 Fails current known result =
     (rest : List Piece) → IsRead rest known.operands
     → IfErr result (IsSaidError (begun_in current) (parts_of known rest))
 
 -- The same, if its lists have only bytes that a record may have.
-abbrev pub FailsPrintable : Option file.Begun → Known → Result Said StatementError → Type 0
+abbrev pub FailsPrintable : Option file.Begun → KnownStatement → Result Said StatementError → Type 0
 FailsPrintable current known result =
     (rest : List Piece) → IsRead rest known.operands → ArePrintable rest
     → IfErr result (IsSaidError (begun_in current) (parts_of known rest))

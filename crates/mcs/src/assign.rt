@@ -14,7 +14,7 @@ ghost use Rattle.mcs.specs.declared.file.Begun.{Begun};
 ghost use Rattle.mcs.specs.KnownWords.{own_list};
 ghost use Rattle.mcs.specs.Said.{Says, Fails};
 
-use crate::begin::Known;
+use crate::begin::KnownStatement;
 use crate::fault::StatementError;
 use crate::file::Assign;
 use crate::limits::MOST_IDS;
@@ -40,8 +40,8 @@ fn required_ids(alloc: Global, words: &[Word<'_>], name: &[u8]) -> Result<Vec<Id
     ids_in_file_order(alloc, &word)
 }
 
-// The `++ASSIGN`.
-fn read_assign(alloc: Global, known: &Known<'_>) -> Result<Assign, OperandError>
+// What the operands of an `++ASSIGN` say.
+fn read_assign(alloc: Global, known: &KnownStatement<'_>) -> Result<Assign, OperandError>
     ensures ok { (rest : List Piece) → IsRead rest known.now.operands
         → IfOk result (λ a. (ws : List grammar.Word) × grammar.HasWords rest ws
         × IsAssignOf (own_list known.now) ws a) }
@@ -62,22 +62,25 @@ fn read_assign(alloc: Global, known: &Known<'_>) -> Result<Assign, OperandError>
     Ok(Assign { source, to })
 }
 
-// Whether the list is no longer than the limit.
-fn is_within(assign: &Assign) -> bool
+// Whether TO has no more ids than the limit.
+fn is_within_limits(assign: &Assign) -> bool
     ensures { IsTrue result ↔ grammar.IsShort assign.now.to }
 {
     assign.to.len() <= MOST_IDS
 }
 
-/// What an `++ASSIGN` says. Returns `Memory` if memory runs out. `Fault` is `BadStatementOperand` if it has anything
+/// Reads an `++ASSIGN`. Returns `Memory` if memory runs out. `Fault` is `BadStatementOperand` if it has anything
 /// but SOURCEID and TO, each in its form, and `OverLimit` if TO has more than 1,000 ids.
-pub fn assign_statement(alloc: Global, known: &Known<'_>) -> Result<Statement, StatementError>
+pub fn assign_statement(
+    alloc: Global,
+    known: &KnownStatement<'_>,
+) -> Result<Statement, StatementError>
     requires { known.now.word ≡ word.Assign }
     ensures said { (current : Option Begun) → Says current known.now result }
     ensures fault { (current : Option Begun) → Fails current known.now result }
 {
     let assign = read_assign(alloc, known)?;
-    if !is_within(&assign) {
+    if !is_within_limits(&assign) {
         return Err(StatementError::Fault(StatementCode::OverLimit));
     }
     Ok(Statement::Assign(assign))

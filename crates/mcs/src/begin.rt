@@ -12,18 +12,22 @@ use rec80::{Group, Operands, Record, Word, statement};
 use std::alloc::Global;
 use terms::{StatementCode, StatementWord};
 
-/// A statement of a known word: its operands after the word, and its inline records.
+/// A statement that begins with a known word: the operands after this word, and the inline records.
 #[derive(Drop)]
-pub struct Known<'a> {
+pub struct KnownStatement<'a> {
     pub word: StatementWord,
     pub first: Word<'a>,
     pub operands: Operands<'a>,
     pub inline: &'a [Record],
 }
 
-/// Reads the statement's word and its operands. Returns `Memory` if memory runs out. `Fault` is `BadStatementForm` if
-/// the statement's form is bad, and `UnknownStatementWord` if it does not begin with a known word.
-pub fn begin_statement<'a>(alloc: Global, group: &Group<'a>) -> Result<Known<'a>, StatementError>
+/// Reads the first word of the statement and its operands. Returns `Memory` if memory runs out. `Fault` is
+/// `BadStatementForm` if the statement's form is bad, and `UnknownStatementWord` if it does not begin with a known
+/// word.
+pub fn begin_statement<'a>(
+    alloc: Global,
+    group: &Group<'a>,
+) -> Result<KnownStatement<'a>, StatementError>
     ensures ok { IfOk result (λ b. (rest : List Piece)
         × HasParts group.now.records.now (parts_of b rest) × IsRead rest b.operands) }
     ensures fault { IfErr result (IsFormError group.now.records.now) }
@@ -39,7 +43,7 @@ pub fn begin_statement<'a>(alloc: Global, group: &Group<'a>) -> Result<Known<'a>
     let Some(word) = statement_word(first.word) else {
         return Err(StatementError::Fault(StatementCode::UnknownStatementWord));
     };
-    Ok(Known {
+    Ok(KnownStatement {
         word,
         first,
         operands: words.operands(alloc)?,

@@ -1,4 +1,4 @@
-//! The changes of elements: replacements and updates, with their texts.
+//! The element statements: replacements and updates, with their texts.
 ghost use Rattle.std.specs.Prelude.{◌≡◌, ◌↔◌, Some, ◌≤◌, ◌<◌, ℕ, List, length, IsTrue, IfOk, IfErr, IfSome, IfNone};
 ghost use Rattle.terms.specs.declared.statement_words.StatementWord.TheVariants as word;
 ghost use Rattle.terms.specs.Statements.{changed_type};
@@ -11,7 +11,7 @@ ghost use Rattle.mcs.specs.KnownWords.{own_list};
 ghost use Rattle.mcs.specs.Elements.{HasNames, IsTextError, IsUpdateTextError};
 ghost use Rattle.mcs.specs.Said.{Says, Fails};
 
-use crate::begin::Known;
+use crate::begin::KnownStatement;
 use crate::fault::StatementError;
 use crate::file::Begun;
 use crate::limits::{MOST_ELEMENTS, MOST_RECORDS};
@@ -34,8 +34,9 @@ struct ElementNames {
     syslib: Name,
 }
 
-// The names of the element, DISTLIB and SYSLIB, or `None` if one is missing or bad, or there are other operands.
-fn read_names(known: &Known<'_>) -> Option<ElementNames>
+// The names that a replacement states: the element's, DISTLIB and SYSLIB. Returns `None` if one is missing or bad, or
+// if there are other operands.
+fn read_names(known: &KnownStatement<'_>) -> Option<ElementNames>
     ensures some { (rest : List Piece) → IsRead rest known.now.operands
         → IfSome result (λ n. (ws : List grammar.Word) × grammar.HasWords rest ws
         × HasNames (own_list known.now) ws n.name n.distlib n.syslib) }
@@ -54,19 +55,19 @@ fn read_names(known: &Known<'_>) -> Option<ElementNames>
     })
 }
 
-// The inline records as lines.
-fn lines(alloc: Global, inline: &[Record]) -> Result<Vec<Line>, AllocError>
+// The lines of the inline records.
+fn lines_of(alloc: Global, inline: &[Record]) -> Result<Vec<Line>, AllocError>
     ensures { IfOk result (λ lines. lines.items ≡ inline.now) }
 {
     let mut lines = Vec::with_capacity(alloc, inline.len())?;
-    for card in inline {
-        lines.push(Line::new(*card))?;
+    for record in inline {
+        lines.push(Line::new(*record))?;
     }
     Ok(lines)
 }
 
-// The records as the text of a replacement. The error is `BadText` if there are none, or a macro or source has bad
-// numbers.
+// The inline records as the text of a replacement. The error is `BadText` if there are none, or if a macro or source is
+// not numbered as it must be.
 fn read_replacement_text(
     alloc: Global,
     elem_type: ElemType,
@@ -79,7 +80,7 @@ fn read_replacement_text(
     if inline.is_empty() {
         return Err(StatementError::Fault(StatementCode::BadText));
     }
-    let lines = lines(alloc, inline)?;
+    let lines = lines_of(alloc, inline)?;
     if !elem_type.is_numbered() {
         return Ok(lines);
     }
@@ -89,14 +90,14 @@ fn read_replacement_text(
     }
 }
 
-/// What a replacement says. Returns `Memory` if memory runs out. `Fault` is `BadStatementOperand` if it has anything
+/// Reads a replacement. Returns `Memory` if memory runs out. `Fault` is `BadStatementOperand` if it has anything
 /// but a name, DISTLIB and SYSLIB, each in its form; `OverLimit` if the SYSMOD has 999 elements already, or the text
 /// has more than 99,999 records; and `BadText` if there is no text, or the text of a macro or source is not numbered.
-pub fn change_statement(
+pub fn replacement_statement(
     alloc: Global,
     begun: &Begun,
     elem_type: ElemType,
-    known: &Known<'_>,
+    known: &KnownStatement<'_>,
 ) -> Result<Statement, StatementError>
     requires { known.now.word ≡ word.Replace elem_type }
     ensures said { Says (Some begun.now) known.now result }
@@ -106,7 +107,7 @@ pub fn change_statement(
         return Err(StatementError::Fault(StatementCode::BadStatementOperand));
     };
     let inline = known.inline;
-    if !is_within(begun, inline) {
+    if !is_within_limits(begun, inline) {
         return Err(StatementError::Fault(StatementCode::OverLimit));
     }
     let lines = read_replacement_text(alloc, elem_type, inline)?;
@@ -127,28 +128,28 @@ pub fn change_statement(
     }))
 }
 
-// The records as an update of the element of this name. The error is `BadText` if they are none.
+// The inline records as an update of the element of this name. The error is `BadText` if they do not form one.
 fn read_update(alloc: Global, name: Name, inline: &[Record]) -> Result<Update, StatementError>
     ensures text { IfOk result (λ update. update ≡ inline.now) }
     ensures good { IfOk result (λ update. IsUpdate name inline.now) }
     ensures bad { IfErr result (IsUpdateTextError name inline.now) }
 {
-    let read = lines(alloc, inline)?;
-    match Update::read(alloc, read, name.as_bytes()) {
+    let lines = lines_of(alloc, inline)?;
+    match Update::read(alloc, lines, name.as_bytes()) {
         Ok(update) => Ok(update),
         Err(TextError::Memory) => Err(StatementError::Memory),
         Err(TextError::Fault(_)) => Err(StatementError::Fault(StatementCode::BadText)),
     }
 }
 
-/// What an update says. Returns `Memory` if memory runs out. `Fault` is `BadStatementOperand` if it has anything but
+/// Reads an update. Returns `Memory` if memory runs out. `Fault` is `BadStatementOperand` if it has anything but
 /// one name; `OverLimit` if the SYSMOD has 999 elements already, or the text has more than 99,999 records; and
 /// `BadText` if the text is not an update of the element.
 pub fn update_statement(
     alloc: Global,
     begun: &Begun,
     elem_type: ElemType,
-    known: &Known<'_>,
+    known: &KnownStatement<'_>,
 ) -> Result<Statement, StatementError>
     requires { (changed_type known.now.word ≡ Some elem_type) × IsUpdateWord known.now.word }
     ensures said { Says (Some begun.now) known.now result }
@@ -161,7 +162,7 @@ pub fn update_statement(
         return Err(StatementError::Fault(StatementCode::BadStatementOperand));
     };
     let inline = known.inline;
-    if !is_within(begun, inline) {
+    if !is_within_limits(begun, inline) {
         return Err(StatementError::Fault(StatementCode::OverLimit));
     }
     let update = read_update(alloc, name, inline)?;
@@ -172,8 +173,8 @@ pub fn update_statement(
     }))
 }
 
-// Whether the SYSMOD may have one more element, and the text is no longer than the limit.
-fn is_within(begun: &Begun, inline: &[Record]) -> bool
+// Whether the SYSMOD may change one more element, and the text is no longer than the limit.
+fn is_within_limits(begun: &Begun, inline: &[Record]) -> bool
     ensures { IsTrue result ↔ ((length begun.now.sysmod.changes < 999) × (length inline.now ≤ 99999)) }
 {
     begun.sysmod.changes.len() < MOST_ELEMENTS && inline.len() <= MOST_RECORDS

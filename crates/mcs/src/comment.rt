@@ -85,7 +85,7 @@ fn read_comment(alloc: Global, text: &Text<'_>) -> Result<String, OperandError>
     Ok(String::from_str(alloc, comment)?)
 }
 
-/// The comment of an operand that may be absent. Returns `Memory` if memory runs out, and `Bad` if the operand is
+/// The text of a comment operand that may be absent. Returns `Memory` if memory runs out, and `Bad` if the operand is
 /// present and its list is absent, blank or not UTF-8.
 pub fn optional_comment(
     alloc: Global,

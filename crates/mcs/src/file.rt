@@ -40,14 +40,14 @@ pub(crate) struct Begun {
     pub last: Option<usize>,
 }
 
-/// What the statements so far make: whole items, and the SYSMOD that has begun.
+/// What the statements so far make: the whole items, and the SYSMOD that has begun, if one has.
 #[derive(Drop)]
 pub(crate) struct SoFar {
     pub whole: Vec<Item>,
     pub current: Option<Begun>,
 }
 
-// The items, followed by the SYSMOD that has begun.
+// The whole items, with the SYSMOD that has begun after them, if one has.
 fn with_current(mut whole: Vec<Item>, current: Option<Begun>) -> Result<Vec<Item>, AllocError>
     ensures { IfOk result (λ found. items found.items ≡ items_of (record {
       whole = items whole.items;
@@ -106,7 +106,7 @@ fn with_change(begun: Begun, change: ElemChange) -> Result<Begun, AllocError>
 }
 
 impl SoFar {
-    /// What no statement makes: no item, and no SYSMOD that has begun.
+    /// The state before the first statement: no item, and no SYSMOD that has begun.
     pub fn new(alloc: Global) -> SoFar
         ensures { so_far result ≡ nothing }
     {
@@ -116,7 +116,7 @@ impl SoFar {
         }
     }
 
-    /// What the statements so far make with one more, which is in its place.
+    /// The state after one more statement, which has to be one that may come next.
     pub fn add_statement(self, alloc: Global, statement: Statement) -> Result<SoFar, AllocError>
         requires { Suits self.current (statement_of statement) }
         ensures { IfOk result (λ next. so_far next ≡ after (so_far self) (statement_of statement)) }
@@ -157,7 +157,7 @@ impl SoFar {
         }
     }
 
-    /// The items of the file, if no statement follows.
+    /// The items of the file, once its last statement is added.
     pub fn into_items(self) -> Result<Vec<Item>, AllocError>
         ensures { IfOk result (λ found. items found.items ≡ items_of (so_far self)) }
     {

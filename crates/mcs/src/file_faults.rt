@@ -8,7 +8,7 @@ use crate::fault::StatementError;
 use rec80::{Groups, records};
 use terms::StatementCode;
 
-/// The error of a file whose statement at the record of this number has this error.
+/// The error of a file in which the statement that begins at this record has this error.
 pub fn error_at(number: usize, error: StatementError) -> McsError
     ensures { result ≡ error_at number error }
 {

@@ -4,15 +4,15 @@ ghost use Rattle.terms.specs.declared.statement_words.StatementWord.TheVariants 
 ghost use Rattle.mcs.specs.declared.file.Begun.{Begun};
 ghost use Rattle.mcs.specs.Said.{Says, Fails};
 
-use crate::begin::Known;
+use crate::begin::KnownStatement;
 use crate::fault::StatementError;
 use crate::said::Statement;
 use fields::Id;
 use rec80::one;
 use terms::{Kind, StatementCode};
 
-/// What a header says. `Fault` is `BadStatementOperand` if it has anything but one id. It never returns `Memory`.
-pub fn header_statement(kind: Kind, known: &Known<'_>) -> Result<Statement, StatementError>
+/// Reads a header. `Fault` is `BadStatementOperand` if it has anything but one id. It never returns `Memory`.
+pub fn header_statement(kind: Kind, known: &KnownStatement<'_>) -> Result<Statement, StatementError>
     requires { known.now.word ≡ word.Header kind }
     ensures said { (current : Option Begun) → Says current known.now result }
     ensures fault { (current : Option Begun) → Fails current known.now result }

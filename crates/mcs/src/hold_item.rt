@@ -9,7 +9,7 @@ ghost use Rattle.mcs.specs.KnownWords.{own_list};
 ghost use Rattle.mcs.specs.Holds.{ArePrintable};
 ghost use Rattle.mcs.specs.HoldItems.{item_of, IsItemSaid, IsSaidError, IsItemError};
 
-use crate::begin::{Known, begin_statement};
+use crate::begin::{KnownStatement, begin_statement};
 use crate::fault::StatementError;
 use crate::hold_operands::{Release, has_short_comment, hold_of_operands, release_of_operands};
 use rec80::Group;
@@ -24,8 +24,8 @@ pub enum HoldItem {
     Release(Release),
 }
 
-// What a `++HOLD` says. Its hold is external.
-fn hold_item(alloc: Global, known: &Known<'_>) -> Result<HoldItem, StatementError>
+// Reads a `++HOLD` of a hold file. Its hold is external.
+fn hold_item(alloc: Global, known: &KnownStatement<'_>) -> Result<HoldItem, StatementError>
     requires { known.now.word ≡ word.Hold }
     ensures said { (rest : List Piece) → IsRead rest known.now.operands
         → IfOk result (λ item. IsItemSaid known.now.word (own_list known.now) rest (item_of item)) }
@@ -39,8 +39,8 @@ fn hold_item(alloc: Global, known: &Known<'_>) -> Result<HoldItem, StatementErro
     Ok(HoldItem::Hold(hold))
 }
 
-// What a `++RELEASE` says.
-fn release_item(known: &Known<'_>) -> Result<HoldItem, StatementError>
+// Reads a `++RELEASE`.
+fn release_item(known: &KnownStatement<'_>) -> Result<HoldItem, StatementError>
     requires { known.now.word ≡ word.Release }
     ensures said { (rest : List Piece) → IsRead rest known.now.operands
         → IfOk result (λ item. IsItemSaid known.now.word (own_list known.now) rest (item_of item)) }
@@ -53,7 +53,7 @@ fn release_item(known: &Known<'_>) -> Result<HoldItem, StatementError>
     }
 }
 
-/// What a statement of a hold file says. Returns `Memory` if memory runs out. `Fault` is the first that applies of
+/// Reads a statement of a hold file. Returns `Memory` if memory runs out. `Fault` is the first that applies of
 /// `BadStatementForm` for its form, `UnknownStatementWord` for its word, `WrongPlace` for text after it and for any
 /// word but `++HOLD` and `++RELEASE`, `BadStatementOperand` for an operand, and `OverLimit` for a comment of more than
 /// 200 characters.

@@ -10,7 +10,7 @@ ghost use Rattle.rec80.specs.Failing.{Excludes};
 ghost use Rattle.mcs.specs.KnownWords.{own_list};
 ghost use Rattle.mcs.specs.Holds.{HasKey, ArePrintable};
 
-use crate::begin::Known;
+use crate::begin::KnownStatement;
 use crate::comment::optional_comment;
 use crate::kind::read_hold_kind;
 use crate::limits::LONGEST_COMMENT;
@@ -30,7 +30,7 @@ const HOLD_OPERANDS: &[&[u8]] = &[
 /// The operands of `++RELEASE`.
 const RELEASE_OPERANDS: &[&[u8]] = &[b"ERROR", b"SYSTEM", b"USER", b"FMID", b"REASON"];
 
-/// What `++RELEASE` says: the key of a hold, and an FMID that is not compared.
+/// What `++RELEASE` states: the key of the hold, and an FMID that is not compared with the hold's.
 #[derive(Clone, Copy, Debug)]
 pub struct Release {
     pub id: Id,
@@ -52,8 +52,8 @@ impl Model for Release {
     ghost inverse = { λ r. record { id = r.id; kind = r.kind; reason = r.reason; fmid = r.fmid } };
 }
 
-// The key of a hold and its FMID.
-fn read_key(known: &Known<'_>, words: &[Word<'_>]) -> Option<Release>
+// What `++HOLD` and `++RELEASE` both state: the key of a hold, and an FMID.
+fn read_key(known: &KnownStatement<'_>, words: &[Word<'_>]) -> Option<Release>
     ensures some { IfSome result (λ r. HasKey (own_list known.now) (words_of words.now) r) }
     ensures none { IfNone result ((r : AnyRelease) → HasKey (own_list known.now) (words_of words.now) r → ⊥) }
 {
@@ -69,9 +69,9 @@ fn read_key(known: &Known<'_>, words: &[Word<'_>]) -> Option<Release>
     })
 }
 
-/// What a `++RELEASE` says: an id, one of ERROR, SYSTEM and USER, FMID and REASON. Returns an error if an operand is
-/// unknown, repeated, missing or of a bad form.
-pub fn release_of_operands(known: &Known<'_>) -> Result<Release, BadOperand>
+/// Reads the operands of a `++RELEASE`: an id, one of ERROR, SYSTEM and USER, FMID and REASON. Returns an error if an
+/// operand is unknown, repeated, missing or of a bad form.
+pub fn release_of_operands(known: &KnownStatement<'_>) -> Result<Release, BadOperand>
     ensures ok { (rest : List Piece) → IsRead rest known.now.operands
         → IfOk result (λ r. (ws : List grammar.Word) × grammar.HasWords rest ws
         × IsReleaseOf (own_list known.now) ws r) }
@@ -88,12 +88,12 @@ pub fn release_of_operands(known: &Known<'_>) -> Result<Release, BadOperand>
     }
 }
 
-/// What a `++HOLD` says, in a SYSMOD or in a hold file: an id, one of ERROR, SYSTEM and USER, FMID and REASON, and
-/// perhaps more. It reads a long comment too. Returns `Memory` if memory runs out, and `Bad` if an operand is unknown,
-/// repeated, missing or of a bad form.
+/// Reads the operands of a `++HOLD`, in a SYSMOD or in a hold file: an id, one of ERROR, SYSTEM and USER, FMID and
+/// REASON, and perhaps more. It does not limit the comment. Returns `Memory` if memory runs out, and `Bad` if an
+/// operand is unknown, repeated, missing or of a bad form.
 pub fn hold_of_operands(
     alloc: Global,
-    known: &Known<'_>,
+    known: &KnownStatement<'_>,
     internal: bool,
 ) -> Result<Hold, OperandError>
     ensures ok { (rest : List Piece) → IsRead rest known.now.operands
@@ -124,7 +124,7 @@ pub fn hold_of_operands(
     })
 }
 
-/// Whether the comment is no longer than the limit.
+/// Whether the comment of the hold, if it has one, is no longer than the limit.
 pub fn has_short_comment(hold: &Hold) -> bool
     ensures { IsTrue result ↔ HasShortComment hold.now }
 {

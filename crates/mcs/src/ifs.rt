@@ -12,7 +12,7 @@ ghost use Rattle.mcs.specs.KnownWords.{own_list};
 ghost use Rattle.mcs.specs.Files.{begun_of};
 ghost use Rattle.mcs.specs.Said.{Says, Fails};
 
-use crate::begin::Known;
+use crate::begin::KnownStatement;
 use crate::fault::StatementError;
 use crate::file::Begun;
 use crate::limits::{MOST_IDS, MOST_IFS};
@@ -23,14 +23,14 @@ use std::alloc::Global;
 use sysmods_values::{IfReq, Sysmod, Ver};
 use terms::StatementCode;
 
-// Whether the word is spelled so.
+// Whether the word has this spelling, whatever list it has.
 fn is_spelled(word: &Word<'_>, name: &[u8]) -> bool
     ensures { IsTrue result ↔ ((word_of word.now).word ≡ name.now) }
 {
     word.word == name
 }
 
-/// The words of an `++IF` that have a list.
+/// The words of an `++IF` that have lists.
 #[derive(Clone, Copy, Debug)]
 struct IfLists<'a> {
     fmid: Word<'a>,
@@ -60,11 +60,11 @@ fn read_lists<'a>(words: &[Word<'a>]) -> Option<IfLists<'a>>
     })
 }
 
-// The `++IF` of these words.
+// What the words of an `++IF` say.
 fn read_if(
     alloc: Global,
     sysmod: &Sysmod,
-    known: &Known<'_>,
+    known: &KnownStatement<'_>,
     words: &[Word<'_>],
 ) -> Result<IfReq, OperandError>
     ensures ok { IfOk result (λ i. IsIfOf sysmod.now (own_list known.now) (words_of words.now) i) }
@@ -96,7 +96,7 @@ fn last_ver(begun: &Begun) -> Option<&Ver>
 }
 
 // Whether the last `++VER` may have one more `++IF`, and REQ of this one is not too long.
-fn is_within(begun: &Begun, condition: &IfReq) -> bool
+fn is_within_limits(begun: &Begun, condition: &IfReq) -> bool
     ensures { IsTrue result ↔ (IfSome (last_of (begun_of begun.now)) (λ v. length v.ifs < 100)
         × grammar.IsShort condition.now.req) }
 {
@@ -107,13 +107,13 @@ fn is_within(begun: &Begun, condition: &IfReq) -> bool
     has_place && condition.req.len() <= MOST_IDS
 }
 
-/// What an `++IF` says. Returns `Memory` if memory runs out. `Fault` is `BadStatementOperand` if it lacks FMID, THEN
+/// Reads an `++IF`. Returns `Memory` if memory runs out. `Fault` is `BadStatementOperand` if it lacks FMID, THEN
 /// and REQ in this order, each in its form, or if REQ names the SYSMOD itself. It is `OverLimit` if the last `++VER`
 /// has 100 `++IF`s already, or REQ has more than 1,000 ids.
 pub fn if_statement(
     alloc: Global,
     begun: &Begun,
-    known: &Known<'_>,
+    known: &KnownStatement<'_>,
 ) -> Result<Statement, StatementError>
     requires { known.now.word ≡ word.If }
     ensures said { Says (Some begun.now) known.now result }
@@ -123,7 +123,7 @@ pub fn if_statement(
         return Err(StatementError::Fault(StatementCode::BadStatementOperand));
     };
     let condition = read_if(alloc, &begun.sysmod, known, words)?;
-    if !is_within(begun, &condition) {
+    if !is_within_limits(begun, &condition) {
         return Err(StatementError::Fault(StatementCode::OverLimit));
     }
     Ok(Statement::If(condition))

@@ -12,7 +12,7 @@ ghost use Rattle.mcs.specs.KnownWords.{own_list};
 ghost use Rattle.mcs.specs.Holds.{ArePrintable};
 ghost use Rattle.mcs.specs.Said.{Says, FailsPrintable};
 
-use crate::begin::Known;
+use crate::begin::KnownStatement;
 use crate::fault::StatementError;
 use crate::file::Begun;
 use crate::hold_operands::{has_short_comment, hold_of_operands};
@@ -22,7 +22,7 @@ use std::alloc::Global;
 use sysmods_values::{Hold, Sysmod};
 use terms::{HoldKind, StatementCode};
 
-// Whether it is a SYSTEM hold on this SYSMOD.
+// Whether the hold is a SYSTEM hold on this SYSMOD.
 fn is_own_system_hold(sysmod: &Sysmod, hold: &Hold) -> bool
     ensures { IsTrue result ↔ ((hold.now.kind ≡ System) × (hold.now.id ≡ sysmod.now.id)) }
 {
@@ -30,7 +30,11 @@ fn is_own_system_hold(sysmod: &Sysmod, hold: &Hold) -> bool
 }
 
 // The SYSTEM hold on the SYSMOD that a `++HOLD` inside it states.
-fn read_inner_hold(alloc: Global, sysmod: &Sysmod, known: &Known<'_>) -> Result<Hold, OperandError>
+fn read_inner_hold(
+    alloc: Global,
+    sysmod: &Sysmod,
+    known: &KnownStatement<'_>,
+) -> Result<Hold, OperandError>
     ensures ok { (rest : List Piece) → IsRead rest known.now.operands
         → IfOk result (λ h. (ws : List grammar.Word) × grammar.HasWords rest ws
         × IsOwnHoldOf sysmod.now (own_list known.now) ws h) }
@@ -45,13 +49,13 @@ fn read_inner_hold(alloc: Global, sysmod: &Sysmod, known: &Known<'_>) -> Result<
     Ok(hold)
 }
 
-/// What a `++HOLD` in a SYSMOD says. Returns `Memory` if memory runs out. `Fault` is `BadStatementOperand` if an
+/// Reads a `++HOLD` in a SYSMOD. Returns `Memory` if memory runs out. `Fault` is `BadStatementOperand` if an
 /// operand is unknown, repeated, missing or of a bad form, or if the hold is not a SYSTEM hold on this SYSMOD. It is
 /// `OverLimit` if its comment has more than 200 characters.
 pub fn hold_statement(
     alloc: Global,
     begun: &Begun,
-    known: &Known<'_>,
+    known: &KnownStatement<'_>,
 ) -> Result<Statement, StatementError>
     requires { known.now.word ≡ word.Hold }
     ensures said { Says (Some begun.now) known.now result }

@@ -8,7 +8,7 @@ ghost use Rattle.mcs.specs.Holds.{kind_from};
 use rec80::{Word, flag, operand};
 use terms::HoldKind;
 
-// The kind of the only flag that is set, if just one is.
+// The kind whose flag is set, if just one flag is.
 fn kind_from(error: bool, system: bool, user: bool) -> Option<HoldKind>
     ensures { result ≡ kind_from error system user }
 {
@@ -20,7 +20,7 @@ fn kind_from(error: bool, system: bool, user: bool) -> Option<HoldKind>
     }
 }
 
-/// The kind of a hold, whose word is one of the operands.
+/// The kind of the hold, if just one of ERROR, SYSTEM and USER is among the operands and has no list.
 pub fn read_hold_kind(words: &[Word<'_>]) -> Option<HoldKind>
     ensures some { IfSome result (λ kind. HasKind (words_of words.now) kind) }
     ensures none { IfNone result ((kind : AnyKind)

@@ -6,14 +6,14 @@ pub const MOST_VERS: usize = 8;
 /// The most `++IF`s of a `++VER`.
 pub const MOST_IFS: usize = 100;
 
-/// The most elements that a SYSMOD changes.
+/// The most elements that a SYSMOD may change.
 pub const MOST_ELEMENTS: usize = 999;
 
-/// The most ids in a list of a statement.
-pub const MOST_IDS: usize = 1000;
+/// The most ids in a list of an operand.
+pub const MOST_IDS: usize = 1_000;
 
-/// The most records of a text.
-pub const MOST_RECORDS: usize = 99999;
+/// The most records in the text of an element statement.
+pub const MOST_RECORDS: usize = 99_999;
 
-/// The most characters of a comment.
+/// The most characters in the comment of a hold.
 pub const LONGEST_COMMENT: usize = 200;

@@ -10,7 +10,7 @@ use rec80::{OperandError, Word, ids, operand, required};
 use std::alloc::Global;
 use terms::HoldKind;
 
-/// The reason, which must be present, of a hold of the kind.
+/// The reason of an operand that must be present and suit a hold of the kind.
 pub fn required_reason(kind: HoldKind, words: &[Word<'_>], name: &[u8]) -> Option<Reason>
     ensures some { IfSome result (λ v. HasRequired (IsReason kind) (operand name.now (words_of words.now)) v) }
     ensures form { IfSome result (λ v. IsReason kind v) }
@@ -24,8 +24,8 @@ pub fn required_reason(kind: HoldKind, words: &[Word<'_>], name: &[u8]) -> Optio
     Some(reason)
 }
 
-/// The ids of an operand in rising order, none if it is absent. Returns `Memory` if memory runs out, and `Bad` if the
-/// operand is present and has no list of ids, or has an id twice.
+/// The ids of an operand in rising order, or none if it is absent. Returns `Memory` if memory runs out, and `Bad` if
+/// the operand is present and has no list of ids, or has an id twice.
 pub fn rising_ids(alloc: Global, words: &[Word<'_>], name: &[u8]) -> Result<IdList, OperandError>
     ensures ok { IfOk result (λ ids. HasTexts IsId (operand name.now (words_of words.now)) ids) }
     ensures bad { IfErr result (λ e. Excludes e ((ids : List (List ℕ))

@@ -9,7 +9,7 @@ ghost use Rattle.rec80.specs.Read.{IsRead};
 ghost use Rattle.mcs.specs.KnownWords.{own_list, parts_of};
 ghost use Rattle.mcs.specs.Files.{begun_in};
 
-use crate::begin::Known;
+use crate::begin::KnownStatement;
 use crate::file::Begun;
 use fields::{Id, Name, Srel};
 use rec80::{Operands, Record, Word, one};
@@ -33,7 +33,7 @@ fn changed_type(word: StatementWord) -> Option<ElemType>
     }
 }
 
-// Whether a statement of the word may come after those of the SYSMOD that has begun, or first if none has.
+// Whether a statement of the word may come next in the SYSMOD that has begun, or outside of SYSMODs if none has.
 fn may_stand(current: &Option<Begun>, word: StatementWord) -> bool
     ensures { IsTrue result ↔ MayStand (sysmod_in (begun_in current.now)) word }
 {
@@ -56,10 +56,10 @@ fn may_stand(current: &Option<Begun>, word: StatementWord) -> bool
     }
 }
 
-/// The operand that names an FMID if it occurs once.
+/// The operand FMID, which names an id only if it occurs once.
 const FMID: &[&[u8]] = &[b"FMID"];
 
-// The id that FMID names, whatever other operands there are.
+// The id that FMID names, even if other operands are bad.
 fn named_fmid(operands: &Operands<'_>) -> Option<Id>
     ensures some { (rest : List Piece) → IsRead rest operands.now → IfSome result (NamesFmid rest) }
     ensures none { (rest : List Piece) → IsRead rest operands.now
@@ -75,8 +75,8 @@ fn named_fmid(operands: &Operands<'_>) -> Option<Id>
     })
 }
 
-// Whether the `++VER` is for the FMID that is named.
-fn has_fmid(ver: &Ver, named: Option<Id>) -> bool
+// Whether the `++VER` has the FMID that is named, if one is.
+fn has_named_fmid(ver: &Ver, named: Option<Id>) -> bool
     ensures { IsTrue result ↔ IsSomeAnd ver.now.fmid (λ f. named ≡ Some f) }
 {
     match (ver.fmid, named) {
@@ -85,31 +85,31 @@ fn has_fmid(ver: &Ver, named: Option<Id>) -> bool
     }
 }
 
-// Whether the `++VER`, in a SYSMOD of the kind, excludes another one of the SREL and FMID.
-fn excludes_second(kind: Kind, ver: &Ver, srel: Srel, named: Option<Id>) -> bool
+// Whether a SYSMOD of the kind that has the `++VER` may have no other one of the SREL and FMID.
+fn excludes_another(kind: Kind, ver: &Ver, srel: Srel, named: Option<Id>) -> bool
     ensures { IsTrue result ↔ ((ver.now.srel ≡ srel) × ((kind ≡ Function) ⊎ IsSomeAnd ver.now.fmid
         (λ f. named ≡ Some f))) }
 {
-    ver.srel == srel && (matches!(kind, Kind::Function) || has_fmid(ver, named))
+    ver.srel == srel && (matches!(kind, Kind::Function) || has_named_fmid(ver, named))
 }
 
-// Whether one of the `++VER`s, in a SYSMOD of the kind, excludes another one of the SREL and FMID.
-fn any_excludes_second(kind: Kind, vers: &[Ver], srel: Srel, named: Option<Id>) -> bool
+// Whether a SYSMOD of the kind that has the `++VER`s may have no other one of the SREL and FMID.
+fn any_excludes_another(kind: Kind, vers: &[Ver], srel: Srel, named: Option<Id>) -> bool
     ensures { IsTrue result ↔ Any (λ v. (v.srel ≡ srel) × ((kind ≡ Function) ⊎ IsSomeAnd v.fmid
         (λ f. named ≡ Some f))) vers.now }
 {
     vers.iter()
-        .any(|ver| excludes_second(kind, ver, srel, named))
+        .any(|ver| excludes_another(kind, ver, srel, named))
 }
 
-// Whether it is a second `++VER` of one SREL in a function, or of one SREL and FMID in another SYSMOD.
-fn is_second_ver(sysmod: &Sysmod, known: &Known<'_>) -> bool
+// Whether the statement is a second `++VER` of one SREL in a function, or of one SREL and FMID in another SYSMOD.
+fn is_duplicate_ver(sysmod: &Sysmod, known: &KnownStatement<'_>) -> bool
     requires { known.now.word ≡ word.Ver }
     ensures { (rest : List Piece) → IsRead rest known.now.operands
         → IsTrue result ↔ IsSecond sysmod.now known.now.word (own_list known.now) rest }
 {
     match one::<Srel>(&known.first) {
-        Some(srel) => any_excludes_second(
+        Some(srel) => any_excludes_another(
             sysmod.kind,
             &sysmod.vers,
             srel,
@@ -119,13 +119,13 @@ fn is_second_ver(sysmod: &Sysmod, known: &Known<'_>) -> bool
     }
 }
 
-// Whether it is a second `++VER`, or a second change of one element.
-fn is_second(sysmod: &Sysmod, known: &Known<'_>) -> bool
+// Whether the statement is a second `++VER` that its SYSMOD may not have, or a second change of one element.
+fn is_duplicate(sysmod: &Sysmod, known: &KnownStatement<'_>) -> bool
     ensures { (rest : List Piece) → IsRead rest known.now.operands
         → IsTrue result ↔ IsSecond sysmod.now known.now.word (own_list known.now) rest }
 {
     if matches!(known.word, StatementWord::Ver) {
-        return is_second_ver(sysmod, known);
+        return is_duplicate_ver(sysmod, known);
     }
     let Some(elem_type) = changed_type(known.word) else {
         return false;
@@ -136,8 +136,8 @@ fn is_second(sysmod: &Sysmod, known: &Known<'_>) -> bool
     }
 }
 
-/// Whether the statement is out of order after the statements so far.
-pub fn is_misplaced(current: &Option<Begun>, later: &[Record], known: &Known<'_>) -> bool
+/// Whether the statement may not come next. `later` has the records after it: a header must not be the last statement.
+pub fn is_misplaced(current: &Option<Begun>, later: &[Record], known: &KnownStatement<'_>) -> bool
     ensures { (rest : List Piece) → IsRead rest known.now.operands → IsTrue result ↔ ((why : Disorder)
         × IsMisplaced (sysmod_in (begun_in current.now)) later.now (parts_of known.now rest) why) }
 {
@@ -157,7 +157,7 @@ pub fn is_misplaced(current: &Option<Begun>, later: &[Record], known: &Known<'_>
                 known.word,
                 StatementWord::UpdateMac | StatementWord::UpdateSrc
             );
-            is_second(&begun.sysmod, known)
+            is_duplicate(&begun.sysmod, known)
                 || (is_update && matches!(begun.sysmod.kind, Kind::Function))
         }
         None => false,

@@ -8,8 +8,8 @@ ghost use Rattle.mcs.specs.Said.{Says, Fails, FailsPrintable, IsStatementError};
 ghost use Rattle.mcs.specs.Statements.{statement_of};
 
 use crate::assign::assign_statement;
-use crate::begin::{Known, begin_statement};
-use crate::change::{change_statement, update_statement};
+use crate::begin::{KnownStatement, begin_statement};
+use crate::change::{replacement_statement, update_statement};
 use crate::fault::StatementError;
 use crate::file::Begun;
 use crate::header::header_statement;
@@ -22,8 +22,11 @@ use rec80::{Group, Record};
 use std::alloc::Global;
 use terms::{ElemType, StatementCode, StatementWord};
 
-// What a statement says if no SYSMOD has begun. Only a header and an `++ASSIGN` may come then.
-fn read_outside_sysmod(alloc: Global, known: &Known<'_>) -> Result<Statement, StatementError>
+// Reads a statement while no SYSMOD has begun. Only a header and an `++ASSIGN` may come then.
+fn read_outside_sysmod(
+    alloc: Global,
+    known: &KnownStatement<'_>,
+) -> Result<Statement, StatementError>
     requires { MayStand None known.now.word }
     ensures said { Says None known.now result }
     ensures fault { Fails None known.now result }
@@ -41,11 +44,11 @@ fn read_outside_sysmod(alloc: Global, known: &Known<'_>) -> Result<Statement, St
     }
 }
 
-// What a statement says after those of the SYSMOD that has begun.
+// Reads a statement after those of the SYSMOD that has begun.
 fn read_inside_sysmod(
     alloc: Global,
     begun: &Begun,
-    known: &Known<'_>,
+    known: &KnownStatement<'_>,
 ) -> Result<Statement, StatementError>
     requires { known.now.word ≢ word.Release }
     ensures said { Says (Some begun.now) known.now result }
@@ -58,15 +61,16 @@ fn read_inside_sysmod(
         StatementWord::Hold => hold_statement(alloc, begun, known),
         StatementWord::Release => Err(StatementError::Fault(StatementCode::WrongPlace)),
         StatementWord::Assign => assign_statement(alloc, known),
-        StatementWord::Replace(elem_type) => change_statement(alloc, begun, elem_type, known),
+        StatementWord::Replace(elem_type) => replacement_statement(alloc, begun, elem_type, known),
         StatementWord::UpdateMac => update_statement(alloc, begun, ElemType::Mac, known),
         StatementWord::UpdateSrc => update_statement(alloc, begun, ElemType::Src, known),
     }
 }
 
-/// What a statement says after those so far. Returns `Memory` if memory runs out. `Fault` is the first that applies of
-/// `BadStatementForm` for its form, `UnknownStatementWord` for its word, `WrongPlace` for its place,
-/// `BadStatementOperand` for an operand, `OverLimit` for a limit and `BadText` for its text.
+/// Reads a statement of a PTFIN after those so far. `later` has the records after it. Returns `Memory` if memory runs
+/// out. `Fault` is the first that applies of `BadStatementForm` for its form, `UnknownStatementWord` for its word,
+/// `WrongPlace` for its place, `BadStatementOperand` for an operand, `OverLimit` for a limit and `BadText` for its
+/// text.
 pub fn read_statement(
     alloc: Global,
     current: &Option<Begun>,

@@ -7,7 +7,7 @@ ghost use Rattle.mcs.specs.KnownWords.{IsFixed};
 use fields::spelling::{read_kind, read_type};
 use terms::StatementWord;
 
-// The word, without a kind or a type, that is spelled so after `++`.
+// The word, other than those of SYSMOD kinds and element types, that has this spelling after `++`.
 fn fixed_word(rest: &[u8]) -> Option<StatementWord>
     ensures found { IfSome result (λ w. statement_text w ≡ codes "++" ++ rest.now) }
     ensures none { IfNone result ((w : AnyWord) → IsFixed w → statement_text w ≢ codes "++" ++ rest.now) }
@@ -24,7 +24,7 @@ fn fixed_word(rest: &[u8]) -> Option<StatementWord>
     }
 }
 
-/// The word of a statement that is spelled so.
+/// The word of a statement that has this spelling.
 pub fn statement_word(word: &[u8]) -> Option<StatementWord>
     ensures found { IfSome result (λ w. statement_text w ≡ word.now) }
     ensures none { IfNone result ((w : AnyWord) → statement_text w ≢ word.now) }

@@ -13,7 +13,7 @@ ghost use Rattle.mcs.specs.KnownWords.{own_list};
 ghost use Rattle.mcs.specs.VerOperands.{HasLists};
 ghost use Rattle.mcs.specs.Said.{Says, Fails};
 
-use crate::begin::Known;
+use crate::begin::KnownStatement;
 use crate::fault::StatementError;
 use crate::file::Begun;
 use crate::limits::{MOST_IDS, MOST_VERS};
@@ -53,9 +53,9 @@ fn no_list_names(own: Id, ver: &Ver) -> bool
         && !ver.del.contains(own)
 }
 
-/// The lists of a `++VER`.
+/// The ids that PRE, REQ, SUP, NPRE and DELETE of a `++VER` list.
 #[derive(Drop)]
-struct VerLists {
+struct VerIdLists {
     pre: IdList,
     req: IdList,
     sup: IdList,
@@ -63,7 +63,7 @@ struct VerLists {
     del: IdList,
 }
 
-// Whether its FMID is this id.
+// Whether FMID of the `++VER` is this id.
 fn has_fmid(ver: &Ver, id: Id) -> bool
     ensures { IsTrue result ↔ (ver.now.fmid ≡ Some id) }
 {
@@ -73,8 +73,8 @@ fn has_fmid(ver: &Ver, id: Id) -> bool
     }
 }
 
-// The lists of PRE, REQ, SUP, NPRE and DELETE, each empty if the operand is absent.
-fn read_lists(alloc: Global, words: &[Word<'_>]) -> Result<VerLists, OperandError>
+// Reads the lists of PRE, REQ, SUP, NPRE and DELETE. Each is empty if the operand is absent.
+fn read_lists(alloc: Global, words: &[Word<'_>]) -> Result<VerIdLists, OperandError>
     ensures ok { IfOk result (λ lists. HasLists (words_of words.now) lists.pre lists.req lists.sup lists.npre
         lists.del) }
     ensures bad { IfErr result (λ e. Excludes e ((pre req sup npre del : List (List ℕ))
@@ -85,7 +85,7 @@ fn read_lists(alloc: Global, words: &[Word<'_>]) -> Result<VerLists, OperandErro
     let sup = rising_ids(alloc, words, b"SUP")?;
     let npre = rising_ids(alloc, words, b"NPRE")?;
     let del = rising_ids(alloc, words, b"DELETE")?;
-    Ok(VerLists {
+    Ok(VerIdLists {
         pre,
         req,
         sup,
@@ -95,7 +95,7 @@ fn read_lists(alloc: Global, words: &[Word<'_>]) -> Result<VerLists, OperandErro
 }
 
 // The `++VER` of this SREL, FMID and lists, without `++IF`s.
-fn ver_of_lists(alloc: Global, srel: Srel, fmid: Option<Id>, lists: VerLists) -> Ver
+fn ver_of_lists(alloc: Global, srel: Srel, fmid: Option<Id>, lists: VerIdLists) -> Ver
     ensures { result ≡ record {
       srel = srel;
       fmid = fmid;
@@ -107,7 +107,7 @@ fn ver_of_lists(alloc: Global, srel: Srel, fmid: Option<Id>, lists: VerLists) ->
       ifs = [];
     } }
 {
-    let VerLists {
+    let VerIdLists {
         pre,
         req,
         sup,
@@ -126,11 +126,11 @@ fn ver_of_lists(alloc: Global, srel: Srel, fmid: Option<Id>, lists: VerLists) ->
     }
 }
 
-// The `++VER` of these operands, all of which are known.
+// The `++VER` that these operands state. The caller has made sure that a `++VER` may have each of them.
 fn read_ver(
     alloc: Global,
     sysmod: &Sysmod,
-    known: &Known<'_>,
+    known: &KnownStatement<'_>,
     words: &[Word<'_>],
 ) -> Result<Ver, OperandError>
     requires { AreOperands ver_operands (words_of words.now) }
@@ -157,7 +157,7 @@ fn read_ver(
 }
 
 // Whether the SYSMOD may have one more `++VER`, and no list of this one is too long.
-fn is_within(sysmod: &Sysmod, ver: &Ver) -> bool
+fn is_within_limits(sysmod: &Sysmod, ver: &Ver) -> bool
     ensures { IsTrue result ↔ ((length sysmod.now.vers < 8) × All IsShort (lists_of ver.now)) }
 {
     sysmod.vers.len() < MOST_VERS
@@ -168,13 +168,13 @@ fn is_within(sysmod: &Sysmod, ver: &Ver) -> bool
         && ver.del.len() <= MOST_IDS
 }
 
-/// What a `++VER` says. Returns `Memory` if memory runs out. `Fault` is `BadStatementOperand` if an operand is unknown,
+/// Reads a `++VER`. Returns `Memory` if memory runs out. `Fault` is `BadStatementOperand` if an operand is unknown,
 /// repeated or of a bad form, if service has no FMID or has NPRE or DELETE, or if an operand names the SYSMOD itself.
 /// It is `OverLimit` if the SYSMOD has 8 `++VER`s already, or a list has more than 1,000 ids.
 pub fn ver_statement(
     alloc: Global,
     begun: &Begun,
-    known: &Known<'_>,
+    known: &KnownStatement<'_>,
 ) -> Result<Statement, StatementError>
     requires { known.now.word ≡ word.Ver }
     ensures said { Says (Some begun.now) known.now result }
@@ -184,7 +184,7 @@ pub fn ver_statement(
         return Err(StatementError::Fault(StatementCode::BadStatementOperand));
     };
     let ver = read_ver(alloc, &begun.sysmod, known, words)?;
-    if !is_within(&begun.sysmod, &ver) {
+    if !is_within_limits(&begun.sysmod, &ver) {
         return Err(StatementError::Fault(StatementCode::OverLimit));
     }
     Ok(Statement::Ver(ver))

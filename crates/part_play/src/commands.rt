@@ -1,104 +1,104 @@
 //! Command files, as text.
 
-use crate::spelled::RowText;
+use crate::row_text::RowText;
 use cntl::{CntlError, Command, Install, read_cntl};
 use fields::spelling::command_code_text;
 use fields::{Bypass, Reasons, ReceiveWhat, RestoreList};
 use std::alloc::Global;
 
-fn put_receive(spelled: &mut RowText, what: &ReceiveWhat) {
-    spelled.put(b"RECEIVE");
-    spelled.put_if(what.sysmods, b" SYSMODS");
-    spelled.put_if(what.holddata, b" HOLDDATA");
+fn put_receive(out: &mut RowText, what: &ReceiveWhat) {
+    out.put(b"RECEIVE");
+    out.put_if(what.sysmods, b" SYSMODS");
+    out.put_if(what.holddata, b" HOLDDATA");
     if let Some(source) = what.source {
-        spelled.put_words(&[source.as_bytes()]);
+        out.put_words(&[source.as_bytes()]);
     }
 }
 
-fn put_reasons(spelled: &mut RowText, reasons: &Reasons, name: &[u8]) {
-    spelled.put_if(!matches!(reasons, Reasons::None), name);
+fn put_reasons(out: &mut RowText, reasons: &Reasons, name: &[u8]) {
+    out.put_if(!matches!(reasons, Reasons::None), name);
     if let Reasons::These(list) = reasons {
-        spelled.put(b"(");
+        out.put(b"(");
         for reason in list.iter() {
-            spelled.put(reason.as_bytes());
-            spelled.put(b" ");
+            out.put(reason.as_bytes());
+            out.put(b" ");
         }
-        spelled.put(b")");
+        out.put(b")");
     }
 }
 
-fn put_bypass(spelled: &mut RowText, bypass: &Bypass) {
-    spelled.put_if(bypass.pre, b" PRE");
-    spelled.put_if(bypass.req, b" REQ");
-    spelled.put_if(bypass.ifreq, b" IFREQ");
-    spelled.put_if(bypass.same_id, b" ID");
-    spelled.put_if(bypass.applycheck, b" APPLYCHECK");
-    put_reasons(spelled, &bypass.holderror, b" HOLDERROR");
-    put_reasons(spelled, &bypass.holdsystem, b" HOLDSYSTEM");
-    put_reasons(spelled, &bypass.holduser, b" HOLDUSER");
+fn put_bypass(out: &mut RowText, bypass: &Bypass) {
+    out.put_if(bypass.pre, b" PRE");
+    out.put_if(bypass.req, b" REQ");
+    out.put_if(bypass.ifreq, b" IFREQ");
+    out.put_if(bypass.same_id, b" ID");
+    out.put_if(bypass.applycheck, b" APPLYCHECK");
+    put_reasons(out, &bypass.holderror, b" HOLDERROR");
+    put_reasons(out, &bypass.holdsystem, b" HOLDSYSTEM");
+    put_reasons(out, &bypass.holduser, b" HOLDUSER");
     if !bypass.holdclass.is_empty() {
-        spelled.put(b" HOLDCLASS(");
+        out.put(b" HOLDCLASS(");
         for class in bypass.holdclass.iter() {
-            spelled.put(class.as_bytes());
-            spelled.put(b" ");
+            out.put(class.as_bytes());
+            out.put(b" ");
         }
-        spelled.put(b")");
+        out.put(b")");
     }
 }
 
-fn put_install(spelled: &mut RowText, name: &[u8], install: &Install) {
-    spelled.put(name);
-    spelled.put_if(install.selection.ptfs, b" PTFS");
-    spelled.put_if(install.selection.groupextend, b" EXTEND");
-    spelled.put_if(install.check, b" CHECK");
-    spelled.put_ids(b" SELECT", &install.selection.select);
-    put_bypass(spelled, &install.bypass);
+fn put_install(out: &mut RowText, name: &[u8], install: &Install) {
+    out.put(name);
+    out.put_if(install.selection.ptfs, b" PTFS");
+    out.put_if(install.selection.groupextend, b" EXTEND");
+    out.put_if(install.check, b" CHECK");
+    out.put_id_list(b" SELECT", &install.selection.select);
+    put_bypass(out, &install.bypass);
 }
 
-fn put_command(spelled: &mut RowText, command: &Command) {
+fn put_command(out: &mut RowText, command: &Command) {
     match command {
         Command::Set(zone) => {
-            spelled.put(b"SET");
-            spelled.put_words(&[zone.as_bytes()]);
-            spelled.put_if(zone.is_global(), b" all");
+            out.put(b"SET");
+            out.put_words(&[zone.as_bytes()]);
+            out.put_if(zone.is_global(), b" all");
         }
-        Command::Receive(what) => put_receive(spelled, what),
-        Command::Reject(ids) => spelled.put_ids(b"REJECT SELECT", ids),
-        Command::Apply(install) => put_install(spelled, b"APPLY", install),
-        Command::Accept(install) => put_install(spelled, b"ACCEPT", install),
+        Command::Receive(what) => put_receive(out, what),
+        Command::Reject(ids) => out.put_id_list(b"REJECT SELECT", ids),
+        Command::Apply(install) => put_install(out, b"APPLY", install),
+        Command::Accept(install) => put_install(out, b"ACCEPT", install),
         Command::Restore { list, check } => {
-            spelled.put(b"RESTORE");
-            spelled.put_if(*check, b" CHECK");
+            out.put(b"RESTORE");
+            out.put_if(*check, b" CHECK");
             match list {
-                RestoreList::Select(ids) => spelled.put_ids(b" SELECT", ids),
-                RestoreList::Group(ids) => spelled.put_ids(b" GROUP", ids),
+                RestoreList::Select(ids) => out.put_id_list(b" SELECT", ids),
+                RestoreList::Group(ids) => out.put_id_list(b" GROUP", ids),
             }
         }
         Command::List { text } => {
-            spelled.put(b"LIST");
-            spelled.put_if(*text, b" TEXT");
+            out.put(b"LIST");
+            out.put_if(*text, b" TEXT");
         }
-        Command::Report => spelled.put(b"REPORT ERRSYSMODS"),
+        Command::Report => out.put(b"REPORT ERRSYSMODS"),
     }
-    spelled.put(b";");
+    out.put(b";");
 }
 
-fn put_commands(spelled: &mut RowText, commands: &[Command]) {
+fn put_commands(out: &mut RowText, commands: &[Command]) {
     for command in commands {
-        put_command(spelled, command);
+        put_command(out, command);
     }
 }
 
 /// The commands of the file, or the record and the code of its first fault.
 pub(crate) fn commands_text(alloc: Global, bytes: &[u8]) -> RowText {
-    let mut spelled = RowText::new();
+    let mut out = RowText::new();
     match read_cntl(alloc, bytes) {
-        Ok(commands) => put_commands(&mut spelled, commands.as_slice()),
-        Err(CntlError::Memory) => spelled.put(b"memory"),
+        Ok(commands) => put_commands(&mut out, commands.as_slice()),
+        Err(CntlError::Memory) => out.put(b"memory"),
         Err(CntlError::Fault { number, code }) => {
-            spelled.put_number(number);
-            spelled.put_words(&[command_code_text(code)]);
+            out.put_number(number);
+            out.put_words(&[command_code_text(code)]);
         }
     }
-    spelled
+    out
 }

@@ -3,7 +3,7 @@
 use crate::commands::commands_text;
 use crate::holds::hold_file_text;
 use crate::ptfin::ptfin_text;
-use crate::spelled::RowText;
+use crate::row_text::RowText;
 use crate::texts::{copy_sizes, text_size, update_size};
 use crate::words::{group_sizes, lines_of_list, pieces_of, statement_text, words_of_commands};
 use rec80::records;
@@ -36,7 +36,8 @@ fn read_records(name: &str, file: &[u8]) -> Result<RowText, Fail> {
     }
 }
 
-/// Reads the file cut after each number of bytes, and appends a line for each at which another answer begins.
+/// Reads the file as often as it has bytes, each time one byte more of it, and appends a line each time that it is read
+/// otherwise than before.
 pub(crate) fn read_cuts(
     alloc: Global,
     name: &str,
@@ -48,15 +49,16 @@ pub(crate) fn read_cuts(
     for len in 0..=file.len() {
         let now = read_file(alloc, name, &file[..len])?;
         if now.text() != before.text() {
-            put_change(alloc, len, now.text(), printed)?;
+            put_cut(alloc, len, now.text(), printed)?;
         }
         before = now;
     }
     Ok(())
 }
 
-// Appends the number of bytes, with the number of items that are read, or the fault.
-fn put_change(alloc: Global, len: usize, text: &str, printed: &mut Vec<u8>) -> Result<(), Fail> {
+// Appends the number of bytes, and how many items are read from them, or the fault.
+fn put_cut(alloc: Global, len: usize, text: &str, printed: &mut Vec<u8>) -> Result<(), Fail> {
+    // A semicolon ends each item, and a fault has none.
     let line = match text.split(';').count() {
         1 => format!(in alloc; "{len}: {text}\n")?,
         parts => {

@@ -1,6 +1,6 @@
 //! A global zone: holds, sources, REJECT, the SYSMODs that name an id, and which SYSMOD is over which.
 
-use crate::spelled::RowText;
+use crate::row_text::RowText;
 use crate::values::read_id;
 use fields::{Id, Reason, Source, Srel};
 use mcs::{Item, read_ptfin};
@@ -11,16 +11,16 @@ use sysmods::{GlobalZone, Overs, Placed, RejectError, ReleaseError, VerChoice};
 use sysmods_values::Hold;
 use terms::HoldKind;
 
-/// What each of the actions, with a comma between two, answers in the global zone that has received the file.
+/// What each of the actions, with a comma between two, returns in the global zone that has received the file.
 pub(crate) fn read_global(alloc: Global, file: &[u8], actions: &str) -> Result<RowText, Fail> {
     let mut global = zone_that_received(alloc, file)?;
-    let mut spelled = RowText::new();
+    let mut out = RowText::new();
     for action in actions.split(',') {
         let (word, ids) = action.split_once(' ').ok_or("an action has an id")?;
-        spelled.put(b" ");
-        act(alloc, &mut global, word, ids, &mut spelled)?;
+        out.put(b" ");
+        perform_action(alloc, &mut global, word, ids, &mut out)?;
     }
-    Ok(spelled)
+    Ok(out)
 }
 
 // The global zone that has received the file.
@@ -34,20 +34,20 @@ fn zone_that_received(alloc: Global, file: &[u8]) -> Result<GlobalZone, Fail> {
     Ok(global)
 }
 
-// Performs an action and spells what became of it, or answers a question.
-fn act(
+// Performs an action and appends what became of it, or answers a question.
+fn perform_action(
     alloc: Global,
     global: &mut GlobalZone,
     word: &str,
     ids: &str,
-    spelled: &mut RowText,
+    out: &mut RowText,
 ) -> Result<(), Fail> {
     match word.as_bytes() {
-        b"HOLD" => spelled.put(add_test_hold(global, read_id(ids)?)?),
-        b"RELEASE" => spelled.put(remove_test_hold(global, read_id(ids)?)?),
-        b"ASSIGN" => spelled.put(assign_test_source(global, read_id(ids)?)?),
-        b"REJECT" => spelled.put(reject_sysmod(global, read_id(ids)?)),
-        _ => return ask(alloc, global, word, ids, spelled),
+        b"HOLD" => out.put(add_test_hold(global, read_id(ids)?)?),
+        b"RELEASE" => out.put(remove_test_hold(global, read_id(ids)?)?),
+        b"ASSIGN" => out.put(assign_test_source(global, read_id(ids)?)?),
+        b"REJECT" => out.put(reject_sysmod(global, read_id(ids)?)),
+        _ => return answer_question(alloc, global, word, ids, out),
     }
     Ok(())
 }
@@ -98,29 +98,29 @@ fn reject_sysmod(global: &mut GlobalZone, id: Id) -> &'static [u8] {
     }
 }
 
-// Answers how many SYSMODs or sources there are, which SYSMODs name an id, or which SYSMOD is over which.
-fn ask(
+// Appends how many SYSMODs or sources there are, which SYSMODs name an id, or which SYSMOD is over which.
+fn answer_question(
     alloc: Global,
     global: &GlobalZone,
     word: &str,
     ids: &str,
-    spelled: &mut RowText,
+    out: &mut RowText,
 ) -> Result<(), Fail> {
     let srel = Srel::read(b"Z038").ok_or("no SREL")?;
     let mut found = Vec::new(alloc);
     match word.as_bytes() {
-        b"SIZE" => spelled.put_number(global.len()),
+        b"SIZE" => out.put_number(global.len()),
         b"SOURCES" => {
             let sysmod = global.get(read_id(ids)?).ok_or("no SYSMOD")?;
-            spelled.put_number(sysmod.sources.len());
+            out.put_number(sysmod.sources.len());
         }
         b"NAMERS" => global.append_namers(srel, read_id(ids)?, &mut found)?,
         b"SERVICE" => global.append_function_namers(read_id(ids)?, &mut found)?,
-        b"OVER" => return put_over(alloc, global, srel, ids, spelled),
-        b"SUPERSEDED" => return put_superseded(alloc, global, srel, ids, spelled),
+        b"OVER" => return put_over(alloc, global, srel, ids, out),
+        b"SUPERSEDED" => return put_superseded(alloc, global, srel, ids, out),
         _ => return Err(Fail::from("no action has this name")),
     }
-    spelled.put_each(found.as_slice());
+    out.put_ids(found.as_slice());
     Ok(())
 }
 
@@ -130,25 +130,26 @@ fn put_superseded(
     global: &GlobalZone,
     srel: Srel,
     id: &str,
-    spelled: &mut RowText,
+    out: &mut RowText,
 ) -> Result<(), Fail> {
     let vers = VerChoice::new(global, srel, Table::new(alloc), Table::new(alloc));
     let superseded = vers.sup_all(alloc, read_id(id)?)?;
-    spelled.put_each(superseded.as_slice());
+    out.put_ids(superseded.as_slice());
     Ok(())
 }
 
-// Whether x is over z: as `VerChoice` says, as `Overs` says if it is asked first, and as it says from its memory.
+// Whether the SYSMOD `above` is over `below`: as `VerChoice` says, as `Overs` says when it is asked first, and as it
+// says from its memory.
 fn over_answers(
     alloc: Global,
     vers: &VerChoice<'_>,
-    x: Id,
-    z: Id,
+    above: Id,
+    below: Id,
 ) -> Result<[bool; 3], AllocError> {
     let mut overs = Overs::new(alloc, vers);
-    let first = overs.over(alloc, x, z)?;
-    let second = overs.over(alloc, x, z)?;
-    Ok([vers.over(alloc, x, z)?, first, second])
+    let first = overs.over(alloc, above, below)?;
+    let second = overs.over(alloc, above, below)?;
+    Ok([vers.over(alloc, above, below)?, first, second])
 }
 
 // Appends a letter for each answer to whether the first SYSMOD is over the second one.
@@ -157,12 +158,12 @@ fn put_over(
     global: &GlobalZone,
     srel: Srel,
     ids: &str,
-    spelled: &mut RowText,
+    out: &mut RowText,
 ) -> Result<(), Fail> {
-    let (x, z) = ids.split_once(' ').ok_or("two ids")?;
+    let (above, below) = ids.split_once(' ').ok_or("two ids")?;
     let vers = VerChoice::new(global, srel, Table::new(alloc), Table::new(alloc));
-    for flag in over_answers(alloc, &vers, read_id(x)?, read_id(z)?)? {
-        spelled.put(if flag { b"T" } else { b"F" });
+    for answer in over_answers(alloc, &vers, read_id(above)?, read_id(below)?)? {
+        out.put_flag(answer);
     }
     Ok(())
 }

@@ -1,6 +1,6 @@
 //! Operands of a command, as text.
 
-use crate::spelled::RowText;
+use crate::row_text::RowText;
 use fields::{Source, ZoneName};
 use rec80::{Record, Records, Word, flag, ids, ids_in_file_order, one, operand, records, rising};
 use std::alloc::Global;
@@ -14,40 +14,42 @@ fn operand_in<'a>(alloc: Global, cards: &'a [Record], name: &[u8]) -> Option<Wor
     operand(operands.only()?, name)
 }
 
-/// Whether the file's first command has such an operand, and its list as ids, as so many ids in any order, as sources
-/// and as the name of a zone, if it is that.
+/// Whether the file's first command has the operand, and what its list is read as: ids in rising order, the number of
+/// ids in the order of the file, sources, and the name of a zone. What the list cannot be read as is left out.
 pub(crate) fn operand_text(alloc: Global, file: &[u8], name: &[u8]) -> Result<RowText, Fail> {
-    let mut spelled = RowText::new();
+    let mut out = RowText::new();
     let found = operand_in(alloc, records(file)?.all, name);
-    spelled.put(match flag(&found) {
+    out.put(match flag(&found) {
         Ok(true) => b"there",
         Ok(false) => b"none ",
         Err(_) => b"list ",
     });
     if let Some(word) = found {
-        put_ids(alloc, &mut spelled, &word);
-        put_sources(alloc, &mut spelled, &word);
+        put_ids(alloc, &mut out, &word);
+        put_sources(alloc, &mut out, &word);
         if let Some(zone) = one::<ZoneName>(&word) {
-            spelled.put_words(&[b"zone", zone.as_bytes()]);
+            out.put_words(&[b"zone", zone.as_bytes()]);
         }
     }
-    Ok(spelled)
+    Ok(out)
 }
 
-fn put_ids(alloc: Global, spelled: &mut RowText, word: &Word<'_>) {
+// Appends the operand's ids in rising order, and how many ids it has in the order of the file.
+fn put_ids(alloc: Global, out: &mut RowText, word: &Word<'_>) {
     if let Ok(list) = ids(alloc, word) {
-        spelled.put_ids(b"ids", &list);
+        out.put_id_list(b"ids", &list);
     }
     if let Ok(list) = ids_in_file_order(alloc, word) {
-        spelled.put(b" listed ");
-        spelled.put_number(list.len());
+        out.put(b" listed ");
+        out.put_number(list.len());
     }
 }
 
-fn put_sources(alloc: Global, spelled: &mut RowText, word: &Word<'_>) {
+// Appends the operand's sources.
+fn put_sources(alloc: Global, out: &mut RowText, word: &Word<'_>) {
     if let Ok(list) = rising::<Source>(alloc, word) {
         for source in list.iter() {
-            spelled.put_words(&[source.as_bytes()]);
+            out.put_words(&[source.as_bytes()]);
         }
     }
 }

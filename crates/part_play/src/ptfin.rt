@@ -1,84 +1,84 @@
 //! Files of SYSMODs, as text.
 
 use crate::holds::{put_error, put_hold};
-use crate::spelled::RowText;
+use crate::row_text::RowText;
 use fields::spelling::{kind_text, type_text};
 use mcs::{Assign, Item, read_ptfin};
 use std::alloc::Global;
 use sysmods_values::{Action, ElemChange, Sysmod, Ver};
 
-fn put_ver(spelled: &mut RowText, ver: &Ver) {
-    spelled.put_words(&[ver.srel.as_bytes()]);
+fn put_ver(out: &mut RowText, ver: &Ver) {
+    out.put_words(&[ver.srel.as_bytes()]);
     if let Some(fmid) = ver.fmid {
-        spelled.put_words(&[fmid.as_bytes()]);
+        out.put_words(&[fmid.as_bytes()]);
     }
-    spelled.put_ids(b" PRE", &ver.pre);
-    spelled.put_ids(b" SUP", &ver.sup);
-    spelled.put_ids(b" DELETE", &ver.del);
+    out.put_id_list(b" PRE", &ver.pre);
+    out.put_id_list(b" SUP", &ver.sup);
+    out.put_id_list(b" DELETE", &ver.del);
     for condition in ver.ifs.iter() {
-        spelled.put_words(&[b"IF", condition.function.as_bytes()]);
-        spelled.put_ids(b" REQ", &condition.req);
+        out.put_words(&[b"IF", condition.function.as_bytes()]);
+        out.put_id_list(b" REQ", &condition.req);
     }
 }
 
-fn put_change(spelled: &mut RowText, change: &ElemChange) {
-    spelled.put_words(&[type_text(change.elem_type)]);
-    spelled.put_words(&[change.name.as_bytes()]);
+fn put_change(out: &mut RowText, change: &ElemChange) {
+    out.put_words(&[type_text(change.elem_type)]);
+    out.put_words(&[change.name.as_bytes()]);
     let records = match &change.action {
         Action::Replaces {
             distlib,
             syslib,
             lines,
         } => {
-            spelled.put_words(&[distlib.as_bytes(), syslib.as_bytes()]);
+            out.put_words(&[distlib.as_bytes(), syslib.as_bytes()]);
             lines.len()
         }
         Action::Updates { update } => {
-            spelled.put(b" by");
+            out.put(b" by");
             update.records().len()
         }
     };
-    spelled.put(b" ");
-    spelled.put_number(records);
+    out.put(b" ");
+    out.put_number(records);
 }
 
 /// Appends the SYSMOD with its `++VER`s, holds and element statements.
-pub(crate) fn put_sysmod(spelled: &mut RowText, sysmod: &Sysmod) {
-    spelled.put(kind_text(sysmod.kind));
-    spelled.put_words(&[sysmod.id.as_bytes()]);
+pub(crate) fn put_sysmod(out: &mut RowText, sysmod: &Sysmod) {
+    out.put(kind_text(sysmod.kind));
+    out.put_words(&[sysmod.id.as_bytes()]);
     for ver in sysmod.vers.iter() {
-        put_ver(spelled, ver);
+        put_ver(out, ver);
     }
     for hold in sysmod.holds.iter() {
-        put_hold(spelled, hold);
+        put_hold(out, hold);
     }
     for change in sysmod.changes.iter() {
-        put_change(spelled, change);
+        put_change(out, change);
     }
 }
 
-fn put_assign(spelled: &mut RowText, assign: &Assign) {
-    spelled.put(b"ASSIGN");
-    spelled.put_words(&[assign.source.as_bytes()]);
-    spelled.put_each(assign.to.as_slice());
+fn put_assign(out: &mut RowText, assign: &Assign) {
+    out.put(b"ASSIGN");
+    out.put_words(&[assign.source.as_bytes()]);
+    out.put_ids(assign.to.as_slice());
 }
 
-fn put_items(spelled: &mut RowText, items: &[Item]) {
+fn put_items(out: &mut RowText, items: &[Item]) {
     for item in items {
         match item {
-            Item::Sysmod(sysmod) => put_sysmod(spelled, sysmod),
-            Item::Assign(assign) => put_assign(spelled, assign),
+            Item::Sysmod(sysmod) => put_sysmod(out, sysmod),
+            Item::Assign(assign) => put_assign(out, assign),
         }
-        spelled.put(b";");
+        out.put(b";");
     }
 }
 
 /// The items of the file, or the record and the code of its fault.
 pub(crate) fn ptfin_text(alloc: Global, bytes: &[u8]) -> RowText {
-    let mut spelled = RowText::new();
+    let mut out = RowText::new();
     match read_ptfin(alloc, bytes) {
-        Ok(items) => put_items(&mut spelled, items.as_slice()),
-        Err(error) => put_error(&mut spelled, error),
+        Ok(items) => put_items(&mut out, items.as_slice()),
+        Err(error) => put_error(&mut out, error),
     }
-    spelled
+    out
 }

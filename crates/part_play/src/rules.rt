@@ -1,16 +1,16 @@
 //! Sets of numbers that grow by rules.
 
-use crate::spelled::RowText;
-use crate::systems::{flags_of, numbers_of, put_flags};
+use crate::row_text::RowText;
+use crate::systems::{parse_flags, parse_numbers, put_flags};
 use solve::{Rule, Rules, least};
 use std::alloc::Global;
 use std::test::Fail;
 
-// The rule, as `1,2>3`.
-fn rule_of(alloc: Global, word: &str) -> Result<Rule, Fail> {
+// The rule that the word spells, as `1,2>3`.
+fn parse_rule(alloc: Global, word: &str) -> Result<Rule, Fail> {
     let (these, that) = word.split_once('>').ok_or("no rule")?;
     let that: u32 = that.parse()?;
-    let these = numbers_of(alloc, these)?;
+    let these = parse_numbers(alloc, these)?;
     Ok(Rule { these, that })
 }
 
@@ -22,18 +22,18 @@ fn add_rule(rules: &mut Rules, rule: Rule) -> Result<(), Fail> {
     Ok(rules.add_rule(rule)?)
 }
 
-/// How many numbers there are, and the least set that has those of the start (`T`) and what its rules give. One number
-/// that is not in the start is added after the others.
+/// How many numbers there are, and a letter for whether each is in the least set that has the numbers of the start
+/// (`T`) and what the rules give. One number that is not in the start is added after the others.
 pub(crate) fn least_set(alloc: Global, text: &str) -> Result<RowText, Fail> {
     let (letters, words) = text.split_once(' ').ok_or("no rules")?;
-    let mut rules = Rules::new(alloc, flags_of(alloc, letters)?.as_slice())?;
+    let mut rules = Rules::new(alloc, parse_flags(alloc, letters)?.as_slice())?;
     rules.add_number(false)?;
     for word in words.split_whitespace() {
-        add_rule(&mut rules, rule_of(alloc, word)?)?;
+        add_rule(&mut rules, parse_rule(alloc, word)?)?;
     }
-    let mut spelled = RowText::new();
-    spelled.put_number(rules.size() as usize);
-    spelled.put(b" ");
-    put_flags(&mut spelled, least(alloc, &rules)?.as_slice());
-    Ok(spelled)
+    let mut out = RowText::new();
+    out.put_number(rules.size() as usize);
+    out.put(b" ");
+    put_flags(&mut out, least(alloc, &rules)?.as_slice());
+    Ok(out)
 }

@@ -1,8 +1,8 @@
 //! Systems of numbers: the greatest set that supports itself, and the causers of failures. A system is a letter for
 //! each candidate, which tells whether it is eligible (`T` or `F`), and its needs, as `0<1,2` if 0 needs 1 or 2.
 
+use crate::row_text::RowText;
 use crate::rules::least_set;
-use crate::spelled::RowText;
 use itoa::Buffer;
 use scripts::split_at_first;
 use solve::{Kept, Need, Solver, Sweep, System, SystemError, Worklist, causers};
@@ -22,7 +22,7 @@ pub(crate) fn read_system(alloc: Global, name: &str, text: &str) -> Result<RowTe
 }
 
 /// A flag for each letter, which is set for a `T`.
-pub(crate) fn flags_of(alloc: Global, letters: &str) -> Result<Vec<bool>, Fail> {
+pub(crate) fn parse_flags(alloc: Global, letters: &str) -> Result<Vec<bool>, Fail> {
     let mut flags = Vec::new(alloc);
     for letter in letters.as_bytes() {
         flags.push(*letter == b'T')?;
@@ -31,14 +31,14 @@ pub(crate) fn flags_of(alloc: Global, letters: &str) -> Result<Vec<bool>, Fail> 
 }
 
 /// Appends a letter for each flag.
-pub(crate) fn put_flags(spelled: &mut RowText, flags: &[bool]) {
+pub(crate) fn put_flags(out: &mut RowText, flags: &[bool]) {
     for flag in flags {
-        spelled.put(if *flag { b"T" } else { b"F" });
+        out.put_flag(*flag);
     }
 }
 
 /// Numbers with a comma between two, if there are any.
-pub(crate) fn numbers_of(alloc: Global, text: &str) -> Result<Vec<u32>, Fail> {
+pub(crate) fn parse_numbers(alloc: Global, text: &str) -> Result<Vec<u32>, Fail> {
     let mut numbers = Vec::new(alloc);
     for word in text.split(',') {
         if !word.is_empty() {
@@ -48,11 +48,11 @@ pub(crate) fn numbers_of(alloc: Global, text: &str) -> Result<Vec<u32>, Fail> {
     Ok(numbers)
 }
 
-// The need, as `0<1,2`.
-fn need_of(alloc: Global, word: &str) -> Result<Need, Fail> {
+// The need that the word spells, as `0<1,2`.
+fn parse_need(alloc: Global, word: &str) -> Result<Need, Fail> {
     let (of, any) = word.split_once('<').ok_or("no need")?;
     let of: u32 = of.parse()?;
-    let any = numbers_of(alloc, any)?;
+    let any = parse_numbers(alloc, any)?;
     Ok(Need { of, any })
 }
 
@@ -64,82 +64,73 @@ fn add_need(system: &mut System, need: Need) -> Result<(), Fail> {
     Ok(system.add_need(need)?)
 }
 
-// The system, to which candidates and needs are added one by one.
-fn system_of(alloc: Global, text: &str) -> Result<System, Fail> {
+// The system that the text spells. Candidates and needs are added to it one by one.
+fn parse_system(alloc: Global, text: &str) -> Result<System, Fail> {
     let (letters, needs) = split_at_first(text, " ");
     let mut system = System::new(alloc, Vec::new(alloc))?;
     for letter in letters.as_bytes() {
         system.add_candidate(*letter == b'T')?;
     }
     for word in needs.split_whitespace() {
-        add_need(&mut system, need_of(alloc, word)?)?;
+        add_need(&mut system, parse_need(alloc, word)?)?;
     }
     Ok(system)
 }
 
-// Which candidates stay, how many strikes that takes, and the causers of each.
+// Which candidates are kept, how many strikes that takes, and the causers of each.
 fn solve_text(alloc: Global, text: &str) -> Result<RowText, Fail> {
-    let system = system_of(alloc, text)?;
-    let mut spelled = RowText::new();
-    let (kept, strikes) = solve_twice(alloc, &system, &mut spelled)?;
-    put_flags(&mut spelled, kept.flags());
-    put_strikes(&mut spelled, strikes);
-    put_causers(alloc, &system, &kept, &mut spelled)?;
-    Ok(spelled)
+    let system = parse_system(alloc, text)?;
+    let mut out = RowText::new();
+    let (kept, strikes) = solve_twice(alloc, &system, &mut out)?;
+    put_flags(&mut out, kept.flags());
+    put_strikes(&mut out, strikes);
+    put_causers(alloc, &system, &kept, &mut out)?;
+    Ok(out)
 }
 
-// Which candidates the work list keeps, and its strikes. If the sweep keeps others, the text says so.
-fn solve_twice(
-    alloc: Global,
-    system: &System,
-    spelled: &mut RowText,
-) -> Result<(Kept, u128), Fail> {
+// Which candidates the work list keeps, and its strikes. Appends a remark if the sweep keeps others.
+fn solve_twice(alloc: Global, system: &System, out: &mut RowText) -> Result<(Kept, u128), Fail> {
     let swept = Sweep.greatest(alloc, system)?;
     let (kept, count) = Worklist::count(alloc, system)?;
-    spelled.put_if(swept.flags() != kept.flags(), b"SWEEP DIFFERS ");
+    out.put_if(swept.flags() != kept.flags(), b"SWEEP DIFFERS ");
     Ok((kept, count.strikes))
 }
 
-fn put_strikes(spelled: &mut RowText, strikes: u128) {
-    spelled.put(b" ");
-    spelled.put(Buffer::new().format(strikes).as_bytes());
+fn put_strikes(out: &mut RowText, strikes: u128) {
+    out.put(b" ");
+    out.put(Buffer::new().format(strikes).as_bytes());
 }
 
 // Appends the causers of each candidate, between a blank and a slash.
-fn put_causers(
-    alloc: Global,
-    system: &System,
-    kept: &Kept,
-    spelled: &mut RowText,
-) -> Result<(), Fail> {
+fn put_causers(alloc: Global, system: &System, kept: &Kept, out: &mut RowText) -> Result<(), Fail> {
     for row in causers(alloc, system, kept)? {
-        spelled.put(b" ");
+        out.put(b" ");
         for causer in row.iter() {
-            spelled.put_number(*causer as usize);
-            spelled.put(b",");
+            out.put_number(*causer as usize);
+            out.put(b",");
         }
-        spelled.put(b"/");
+        out.put(b"/");
     }
     Ok(())
 }
 
-// The causers in the first system for what the second one keeps, after the size of that, its members and whether a
-// number past its end is one.
+// How many candidates the second system has, a letter for whether it keeps each of them and the number after them, and
+// the causers in the first system for what the second one keeps.
 fn causers_for_other(alloc: Global, text: &str) -> Result<RowText, Fail> {
     let (first, second) = text.split_once('/').ok_or("two systems")?;
-    let kept = Sweep.greatest(alloc, &system_of(alloc, second.trim())?)?;
-    let mut spelled = RowText::new();
-    spelled.put_number(kept.size() as usize);
-    spelled.put(b" ");
+    let kept = Sweep.greatest(alloc, &parse_system(alloc, second.trim())?)?;
+    let mut out = RowText::new();
+    out.put_number(kept.size() as usize);
+    out.put(b" ");
     for number in 0..=kept.size() {
-        spelled.put(if kept.contains(number) { b"T" } else { b"F" });
+        out.put_flag(kept.contains(number));
     }
-    let system = system_of(alloc, first.trim())?;
-    put_causers(alloc, &system, &kept, &mut spelled)?;
-    Ok(spelled)
+    let system = parse_system(alloc, first.trim())?;
+    put_causers(alloc, &system, &kept, &mut out)?;
+    Ok(out)
 }
 
-// The needs of a chain: each candidate needs the next one, up to the last one, which has this number.
+// The needs of a chain: each candidate needs the next one, up to the candidate with the number `last`.
 fn chain(alloc: Global, last: u32) -> Result<Vec<Need>, Fail> {
     let mut needs = Vec::new(alloc);
     for of in 0..last {
@@ -149,16 +140,16 @@ fn chain(alloc: Global, last: u32) -> Result<Vec<Need>, Fail> {
     Ok(needs)
 }
 
-// Appends the needs of these words.
+// Appends the needs that these words spell.
 fn append_needs(alloc: Global, words: &str, needs: &mut Vec<Need>) -> Result<(), Fail> {
     for word in words.split_whitespace() {
-        needs.push(need_of(alloc, word)?)?;
+        needs.push(parse_need(alloc, word)?)?;
     }
     Ok(())
 }
 
-// How many candidates stay in a chain of so many, and how many strikes that takes. All are eligible, but the last one
-// perhaps not. It may have further needs.
+// How many candidates of a chain are kept, and how many strikes that takes. The text has the number of the last
+// candidate, the letter that says whether it is eligible, and any further needs. All other candidates are eligible.
 fn solve_chain(alloc: Global, text: &str) -> Result<RowText, Fail> {
     let (last, more) = split_at_first(text, " ");
     let (letter, more) = split_at_first(more, " ");
@@ -168,23 +159,23 @@ fn solve_chain(alloc: Global, text: &str) -> Result<RowText, Fail> {
     let mut needs = chain(alloc, last)?;
     append_needs(alloc, more, &mut needs)?;
     let system = System::from_needs(eligible, needs)?;
-    let mut spelled = RowText::new();
-    let (kept, strikes) = solve_twice(alloc, &system, &mut spelled)?;
-    spelled.put_number(kept.flags().iter().filter(|flag| **flag).count());
-    put_strikes(&mut spelled, strikes);
-    Ok(spelled)
+    let mut out = RowText::new();
+    let (kept, strikes) = solve_twice(alloc, &system, &mut out)?;
+    out.put_number(kept.flags().iter().filter(|flag| **flag).count());
+    put_strikes(&mut out, strikes);
+    Ok(out)
 }
 
-// How many needs the system has that is made of them, or why it is not made.
+// How many needs a system has that is made of all of them at once, or why it is not made.
 fn need_count(alloc: Global, text: &str) -> Result<RowText, Fail> {
     let (letters, words) = split_at_first(text, " ");
     let mut needs = Vec::new(alloc);
     append_needs(alloc, words, &mut needs)?;
-    let mut spelled = RowText::new();
-    match System::from_needs(flags_of(alloc, letters)?, needs) {
-        Ok(system) => spelled.put_number(system.needs().len()),
-        Err(SystemError::BadNeed) => spelled.put(b"bad need"),
+    let mut out = RowText::new();
+    match System::from_needs(parse_flags(alloc, letters)?, needs) {
+        Ok(system) => out.put_number(system.needs().len()),
+        Err(SystemError::BadNeed) => out.put(b"bad need"),
         Err(error) => return Err(Fail::from(error)),
     }
-    Ok(spelled)
+    Ok(out)
 }

@@ -1,31 +1,28 @@
 //! Numbered texts, updates and merges, as text.
 
-use crate::spelled::RowText;
+use crate::row_text::RowText;
 use std::alloc::Global;
 use std::test::Fail;
 use terms::{TextCode, TextFault};
-use text80::{Line, Numbered, TextError, Update, bytes_of, lines_of, merge};
+use text80::{Line, Numbered, RECORD, TextError, Update, bytes_of, lines_of, merge};
 
-/// The bytes of a record.
-const RECORD: usize = 80;
+/// How many columns of a record come before its number.
+const TEXT_COLUMNS: usize = 72;
 
-/// The bytes of a record before its number.
-const COLUMNS: usize = 72;
-
-/// The element of all updates.
+/// The name of the element that all updates change.
 const ELEMENT: &[u8] = b"M1";
 
-// The records of the file.
-fn lines_in(alloc: Global, file: &[u8]) -> Result<Vec<Line>, Fail> {
-    if file.len() % RECORD == 0 {
-        return Ok(lines_of(alloc, file)?);
+// The records of the file, which must all be whole.
+fn whole_lines(alloc: Global, file: &[u8]) -> Result<Vec<Line>, Fail> {
+    if file.len() % RECORD != 0 {
+        return Err(Fail::from("the last record is not whole"));
     }
-    Err(Fail::from("no whole records"))
+    Ok(lines_of(alloc, file)?)
 }
 
-fn put_fault(spelled: &mut RowText, fault: TextFault) {
-    spelled.put_number(fault.number);
-    spelled.put(match fault.code {
+fn put_fault(out: &mut RowText, fault: TextFault) {
+    out.put_number(fault.number);
+    out.put(match fault.code {
         TextCode::NoNumber => b" no number",
         TextCode::NumberOutOfOrder => b" number out of order",
         TextCode::NoChangeRecord => b" no CHANGE",
@@ -37,47 +34,48 @@ fn put_fault(spelled: &mut RowText, fault: TextFault) {
 
 /// The number of records of the text, or its fault.
 pub(crate) fn text_size(alloc: Global, file: &[u8]) -> Result<RowText, Fail> {
-    let mut spelled = RowText::new();
-    match Numbered::read(lines_in(alloc, file)?) {
-        Ok(text) => spelled.put_number(text.lines().len()),
-        Err(fault) => put_fault(&mut spelled, fault),
+    let mut out = RowText::new();
+    match Numbered::read(whole_lines(alloc, file)?) {
+        Ok(text) => out.put_number(text.lines().len()),
+        Err(fault) => put_fault(&mut out, fault),
     }
-    Ok(spelled)
+    Ok(out)
 }
 
 /// The number of records of the update, or its fault.
 pub(crate) fn update_size(alloc: Global, file: &[u8]) -> Result<RowText, Fail> {
-    let mut spelled = RowText::new();
-    match Update::read(alloc, lines_in(alloc, file)?, ELEMENT) {
-        Ok(update) => spelled.put_number(update.records().len()),
-        Err(TextError::Fault(fault)) => put_fault(&mut spelled, fault),
+    let mut out = RowText::new();
+    match Update::read(alloc, whole_lines(alloc, file)?, ELEMENT) {
+        Ok(update) => out.put_number(update.records().len()),
+        Err(TextError::Fault(fault)) => put_fault(&mut out, fault),
         Err(TextError::Memory) => return Err(Fail::from("out of memory")),
     }
-    Ok(spelled)
+    Ok(out)
 }
 
 /// How many records a copy of the update has, and how many of them it gives.
 pub(crate) fn copy_sizes(alloc: Global, file: &[u8]) -> Result<RowText, Fail> {
-    let original = Update::read(alloc, lines_in(alloc, file)?, ELEMENT)?;
+    let original = Update::read(alloc, whole_lines(alloc, file)?, ELEMENT)?;
     let update = original.clone()?;
-    let mut spelled = RowText::new();
-    spelled.put_number(update.records().len());
-    spelled.put(b" ");
-    spelled.put_number(update.given_records(alloc)?.lines().len());
-    Ok(spelled)
+    let mut out = RowText::new();
+    out.put_number(update.records().len());
+    out.put(b" ");
+    out.put_number(update.given_records(alloc)?.lines().len());
+    Ok(out)
 }
 
-/// Each record of what the update makes of the text: its columns without the blanks at their end, and its number.
+/// The records of the text after the update: the columns of each before its number, without the blanks at their end,
+/// and its number.
 pub(crate) fn merged_text(alloc: Global, text: &[u8], update: &[u8]) -> Result<RowText, Fail> {
-    let old = Numbered::read(lines_in(alloc, text)?)?;
-    let update = Update::read(alloc, lines_in(alloc, update)?, ELEMENT)?;
+    let old = Numbered::read(whole_lines(alloc, text)?)?;
+    let update = Update::read(alloc, whole_lines(alloc, update)?, ELEMENT)?;
     let merged = merge(alloc, &old, &update)?;
     let bytes = bytes_of(alloc, merged.lines())?;
-    let mut spelled = RowText::new();
+    let mut out = RowText::new();
     for record in bytes.chunks(RECORD) {
-        if let Some((columns, number)) = record.split_at_checked(COLUMNS) {
-            spelled.put_words(&[columns.trim_ascii_end(), number]);
+        if let Some((columns, number)) = record.split_at_checked(TEXT_COLUMNS) {
+            out.put_words(&[columns.trim_ascii_end(), number]);
         }
     }
-    Ok(spelled)
+    Ok(out)
 }

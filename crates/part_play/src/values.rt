@@ -1,6 +1,6 @@
 //! Fields, lists of ids, lists by keys, and files with bytes that no record may have.
 
-use crate::spelled::RowText;
+use crate::row_text::RowText;
 use fields::{Class, HoldDate, Id, IdList, Name, Reason, Rising, Source, Srel, YyDdd, ZoneName};
 use rec80::{RecError, records};
 use sorted::lists::{Lists, add, add_to_all, listed};
@@ -8,12 +8,15 @@ use std::alloc::Global;
 use std::collections::BTreeMap;
 use std::test::Fail;
 
+/// How many bytes a file of the table BYTES has at most: two records and a byte.
+const MOST_FILE_BYTES: usize = 161;
+
 /// What this reader makes of the text.
 pub(crate) fn read_value(alloc: Global, name: &str, text: &str) -> Result<RowText, Fail> {
     match name.as_bytes() {
-        b"FIELD" => Ok(fields_of(text)),
-        b"DATE" => Ok(date_of(text)),
-        b"RISING" => changed_list(alloc, text),
+        b"FIELD" => Ok(fitting_fields(text)),
+        b"DATE" => Ok(date_of_day(text)),
+        b"RISING" => list_calls(alloc, text),
         b"SORTED" => sorted_ids(alloc, text),
         b"LISTS" => lists_by_key(alloc),
         b"BYTES" => record_count(text),
@@ -37,34 +40,35 @@ fn takes_text(letter: u8, text: &[u8]) -> bool {
         b'Z' => ZoneName::read(text).is_some(),
         b'L' => Srel::read(text).is_some(),
         b'H' => HoldDate::read(text).is_some(),
-        _ => YyDdd::read(text).is_some(),
+        b'D' => YyDdd::read(text).is_some(),
+        _ => false,
     }
 }
 
 // The letters of the fields that may have this text.
-fn fields_of(text: &str) -> RowText {
-    let mut spelled = RowText::new();
+fn fitting_fields(text: &str) -> RowText {
+    let mut out = RowText::new();
     for letter in b"ISCRNZLHD" {
         if takes_text(*letter, text.as_bytes()) {
-            spelled.put(&[*letter]);
+            out.put(&[*letter]);
         }
     }
-    spelled
+    out
 }
 
-// The day of 2024 with this number.
-fn date_of(text: &str) -> RowText {
-    let mut spelled = RowText::new();
-    if let Ok(day) = text.parse::<u16>() {
-        if day >= 1 && day <= 366 {
-            spelled.put(YyDdd::new(2024, day).as_bytes());
-        }
+// The date of the day of 2024 with this number, if there is one.
+fn date_of_day(text: &str) -> RowText {
+    let mut out = RowText::new();
+    if let Ok(day) = text.parse::<u16>()
+        && (1..=366).contains(&day)
+    {
+        out.put(YyDdd::new(2024, day).as_bytes());
     }
-    spelled
+    out
 }
 
-// Inserts an id (`+`), appends it (`>`), removes it (`-`), or asks for it (`?`), and returns what the call does.
-fn change_list(list: &mut IdList, word: &str) -> Result<bool, Fail> {
+// Inserts an id (`+`), appends it (`>`), removes it (`-`), or looks for it (`?`), and returns what that call returns.
+fn call_list(list: &mut IdList, word: &str) -> Result<bool, Fail> {
     let (sign, id) = word.split_at_checked(1).ok_or("no sign")?;
     let id = read_id(id)?;
     Ok(match sign.as_bytes() {
@@ -75,16 +79,15 @@ fn change_list(list: &mut IdList, word: &str) -> Result<bool, Fail> {
     })
 }
 
-// A letter for what each of these calls returns, and then a copy of the list.
-fn changed_list(alloc: Global, text: &str) -> Result<RowText, Fail> {
+// A letter for what each of these calls on a list returns, and then a copy of the list.
+fn list_calls(alloc: Global, text: &str) -> Result<RowText, Fail> {
     let mut list = IdList::new(alloc);
-    let mut spelled = RowText::new();
+    let mut out = RowText::new();
     for word in text.split_whitespace() {
-        let is_so = change_list(&mut list, word)?;
-        spelled.put(if is_so { b"T" } else { b"F" });
+        out.put_flag(call_list(&mut list, word)?);
     }
-    spelled.put_ids(b" ", &list.try_clone(alloc)?);
-    Ok(spelled)
+    out.put_id_list(b" ", &list.try_clone(alloc)?);
+    Ok(out)
 }
 
 // The rising list of ids that are given in any order.
@@ -93,9 +96,9 @@ fn sorted_ids(alloc: Global, text: &str) -> Result<RowText, Fail> {
     for word in text.split_whitespace() {
         ids.push(read_id(word)?)?;
     }
-    let mut spelled = RowText::new();
-    spelled.put_ids(b"", &Rising::from_vec(ids));
-    Ok(spelled)
+    let mut out = RowText::new();
+    out.put_id_list(b"", &Rising::from_vec(ids));
+    Ok(out)
 }
 
 // The values under the keys 1, 2 and 3, once 7 is under 2, and 9 under 1 and 2.
@@ -103,43 +106,43 @@ fn lists_by_key(alloc: Global) -> Result<RowText, Fail> {
     let mut lists: Lists<u32, usize> = BTreeMap::new(alloc);
     add(alloc, &mut lists, 2, 7)?;
     add_to_all(alloc, &mut lists, &[1, 2], 9)?;
-    let mut spelled = RowText::new();
+    let mut out = RowText::new();
     for key in 1..=3u32 {
         for value in listed(&lists, key) {
-            spelled.put_number(*value);
+            out.put_number(*value);
         }
-        spelled.put(b"/");
+        out.put(b"/");
     }
-    Ok(spelled)
+    Ok(out)
 }
 
-// How many records a file of so many bytes has, all blank but one, which is given by its place and its value, or why
-// it has none.
+// How many records a file has, or why it has none. The text has the size of the file, and the place and the value of
+// its one byte that is not blank.
 fn record_count(text: &str) -> Result<RowText, Fail> {
     let mut numbers = text.split_whitespace();
     let size: usize = numbers.next().unwrap_or("").parse()?;
     let place: usize = numbers.next().unwrap_or("").parse()?;
     let byte: u8 = numbers.next().unwrap_or("").parse()?;
-    let mut bytes = [b' '; 161];
+    let mut bytes = [b' '; MOST_FILE_BYTES];
     if let Some(at) = bytes.get_mut(place) {
         *at = byte;
     }
-    let mut spelled = RowText::new();
+    let mut out = RowText::new();
     match records(bytes.get(..size).ok_or("too many bytes")?) {
-        Ok(found) => spelled.put_number(found.all.len()),
-        Err(error) => put_record_error(&mut spelled, error),
+        Ok(found) => out.put_number(found.all.len()),
+        Err(error) => put_record_error(&mut out, error),
     }
-    Ok(spelled)
+    Ok(out)
 }
 
-fn put_record_error(spelled: &mut RowText, error: RecError) {
-    spelled.put(b"record ");
-    spelled.put_number(error.record());
+fn put_record_error(out: &mut RowText, error: RecError) {
+    out.put(b"record ");
+    out.put_number(error.record());
     match error {
-        RecError::ShortRecord { .. } => spelled.put(b" is short"),
+        RecError::ShortRecord { .. } => out.put(b" is short"),
         RecError::BadByte { column, .. } => {
-            spelled.put(b" has a bad byte in column ");
-            spelled.put_number(column);
+            out.put(b" has a bad byte in column ");
+            out.put_number(column);
         }
     }
 }

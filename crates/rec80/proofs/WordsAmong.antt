@@ -152,24 +152,24 @@ reads_other text after found alone pieces r passes =
 
 -- one of the two
 pub reads_next : (text after : Text) (pieces : List Piece) (found : Result Read NoWord) (old new : Operands)
-    → Reads text (words_of old.words.items) old.alone pieces
+    → Reads text (words_of old.words.items) old.only_words pieces
     → ((ps : List Piece) → HasSolid text ps → IfOk found (λ w. (rest : List Piece) × TakesWord ps (word_of w) rest
     × HasSolid after rest))
     → ((ps : List Piece) → HasSolid text ps → IfErr found (λ _. BeginsNoWords ps × ((p : Piece) × (rest : List Piece)
     × (ps ≡ p ∷ rest) × HasSolid after rest)))
-    → IfOk found (λ w. (new.words.items ≡ old.words.items ++ w ∷ []) × (new.alone ≡ old.alone))
-    → IfErr found (λ _. (new.words.items ≡ old.words.items) × (new.alone ≡ false))
-    → Reads after (words_of new.words.items) new.alone pieces
+    → IfOk found (λ w. (new.words.items ≡ old.words.items ++ w ∷ []) × (new.only_words ≡ old.only_words))
+    → IfErr found (λ _. (new.words.items ≡ old.words.items) × (new.only_words ≡ false))
+    → Reads after (words_of new.words.items) new.only_words pieces
 reads_next text after pieces (Ok w) old new r word other more passed =
     let all : words_of new.words.items ≡ words_of old.words.items ++ word_of w ∷ [] =
     ap words_of more.0 ∙ map-append word_of old.words.items (w ∷ []) in
     subst (λ b. Reads after (words_of new.words.items) b pieces) (sym more.1)
-    (subst (λ ws. Reads after ws old.alone pieces) (sym all)
-    (reads_word text after (words_of old.words.items) old.alone pieces (word_of w) r word))
+    (subst (λ ws. Reads after ws old.only_words pieces) (sym all)
+    (reads_word text after (words_of old.words.items) old.only_words pieces (word_of w) r word))
 reads_next text after pieces (Err e) old new r word other more passed =
     subst (λ b. Reads after (words_of new.words.items) b pieces) (sym passed.1)
     (subst (λ ws. Reads after ws false pieces) (sym (ap words_of passed.0))
-    (reads_other text after (words_of old.words.items) old.alone pieces r other))
+    (reads_other text after (words_of old.words.items) old.only_words pieces r other))
 
 -- Where nothing is left, the words are those among the pieces,
 pub reads_words : (text : Text) (found : List Word) (alone : Bool) (pieces : List Piece)

@@ -15,4 +15,4 @@ words_among (_ ∷ ps) = words_among ps
 -- The operands are those of the pieces: the words among them, and whether there is nothing else.
 pub record IsRead (pieces : List Piece) (operands : Operands) : Type 0 where
   pub words_are : words_of operands.words.items ≡ words_among pieces
-  pub alone_is : IsTrue operands.alone ↔ HasWords pieces (words_among pieces)
+  pub only_words_is : IsTrue operands.only_words ↔ HasWords pieces (words_among pieces)

@@ -10,7 +10,7 @@ ghost use Rattle.rec80.specs.Left.{AreNamed};
 
 use crate::text::Text;
 
-// Whether the text is one of the names.
+// The answer of `is_among`, in terms of the slices. The prover finds a chain of iterators only in this form.
 fn is_one_of(names: &[&[u8]], text: &[u8]) -> bool
     ensures { result ≡ list_any (λ name. bytes_eq text.now name.now) names.now }
 {

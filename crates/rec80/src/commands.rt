@@ -68,6 +68,7 @@ impl<'a> Commands<'a> {
         if from.is_end() {
             return Ok(None);
         }
+        // `from.later` are the records after the one in which the command begins.
         let number = self.number + (self.rest.len() - from.later.len() - 1);
         let later = match inline_records(&from) {
             Ok(later) => later,

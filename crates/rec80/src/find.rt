@@ -65,7 +65,7 @@ pub(crate) fn are_operands(words: &[Word<'_>], names: &[&[u8]]) -> bool
     are_known(words, names) && !any_twice(words, names)
 }
 
-// Takes the next member, if there is one. It returns none too if something else follows.
+// Takes the next member. Returns `None` if none is left, and also if what is left is not a list of members.
 fn take_member<'a>(left: &mut Members<'a>) -> Option<Word<'a>>
     ensures member { IfSome result (λ m. (ms : List grammar.Word) → LeavesMembers left.old ms
         → (more : List grammar.Word) × (ms ≡ word_of m ∷ more) × LeavesMembers left.new more) }

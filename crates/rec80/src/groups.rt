@@ -36,24 +36,17 @@ fn begins_statement(card: &Record) -> bool
     card[0] == b'+' && card[1] == b'+'
 }
 
-// Whether the record belongs to a statement that began before it.
-fn continues_statement(card: &Record) -> bool
-    ensures { result ≡ not (begins_statement card.now) }
-{
-    !begins_statement(card)
-}
-
 // How many records come before the next statement.
 fn continuing_len(records: &[Record]) -> usize
     ensures { result ≡ prefix_len (λ r. not (begins_statement r)) records.now }
 {
     records
         .iter()
-        .take_while(|card| continues_statement(card))
+        .take_while(|card| !begins_statement(card))
         .count()
 }
 
-// The first statement's records, and the rest.
+// The records of the first statement, and the rest.
 fn split_group(records: &[Record]) -> (&[Record], &[Record])
     requires starts { starts_outside records.now ≡ false }
     requires some { 0 < length records.now }

@@ -55,14 +55,14 @@ fn skip_byte<'a>(text: &Text<'a>, byte: u8) -> Option<Text<'a>>
 }
 
 // A member's own list, if it has one, and the text after it. None if a list begins and is not closed.
-fn member_list<'a>(behind: &Text<'a>) -> Option<(Option<Text<'a>>, Text<'a>)>
-    ensures list { IfSome result (λ x. TakesInner (text_of behind.now) (option_map text_of x.0) (text_of x.1)) }
+fn member_list<'a>(after_name: &Text<'a>) -> Option<(Option<Text<'a>>, Text<'a>)>
+    ensures list { IfSome result (λ x. TakesInner (text_of after_name.now) (option_map text_of x.0) (text_of x.1)) }
     ensures none { IfNone result ((list : Option (List ℕ)) (after : List ℕ)
-        → TakesInner (text_of behind.now) list after → ⊥) }
+        → TakesInner (text_of after_name.now) list after → ⊥) }
 {
-    let after_blanks = skip_blanks(behind);
+    let after_blanks = skip_blanks(after_name);
     let Some(inside) = skip_byte(&after_blanks, b'(') else {
-        return Some((None, *behind));
+        return Some((None, *after_name));
     };
     let (list, close) = split_at_paren(&inside);
     let after = skip_byte(&close, b')')?;
@@ -93,8 +93,8 @@ fn split_next_member<'a>(rest: &Text<'a>, first: bool) -> Option<(Word<'a>, Text
         → ⊥) }
 {
     let start = member_start(rest, first)?;
-    let (word, behind) = split_member_word(&start)?;
-    let (list, after) = member_list(&behind)?;
+    let (word, after_name) = split_member_word(&start)?;
+    let (list, after) = member_list(&after_name)?;
     Some((Word { word, list }, after))
 }
 

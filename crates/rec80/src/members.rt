@@ -26,10 +26,10 @@ pub struct Members<'a> {
 fn is_part_of_member(byte: u8) -> bool
     ensures { result ≡ is_member_byte byte }
 {
-    !(byte == b' ' || byte == b',' || byte == b'(' || byte == b')')
+    !matches!(byte, b' ' | b',' | b'(' | b')')
 }
 
-// How many bytes of a member come first.
+// How many bytes of a member's name the line begins with.
 fn member_len(line: &[u8]) -> usize
     ensures { result ≡ prefix_len is_member_byte line.now }
 {

@@ -50,8 +50,9 @@ pub fn list_in_file_order<T: Member>(alloc: Global, word: &Word<'_>) -> Result<V
     Ok(read)
 }
 
-/// The ids of the word's list in the order of the file, which need not rise. Returns `Memory` if memory runs out, and
-/// `Bad` if the word has no list of ids or an id occurs twice.
+/// The ids of the word's list in the order of the file, which need not rise: `list_in_file_order` with a contract about
+/// the ids and not their texts. Returns `Memory` if memory runs out, and `Bad` if the word has no list of ids or an id
+/// occurs twice.
 pub fn ids_in_file_order(alloc: Global, word: &Word<'_>) -> Result<Vec<Id>, OperandError>
     ensures listed { IfOk result (λ list. HasListed IsId (word_of word.now) list.items) }
     ensures bad { IfErr result (λ e. Excludes e ((values : List (List ℕ)) × HasListed IsId (word_of word.now) values)) }
@@ -59,8 +60,8 @@ pub fn ids_in_file_order(alloc: Global, word: &Word<'_>) -> Result<Vec<Id>, Oper
     list_in_file_order::<Id>(alloc, word)
 }
 
-/// The ids of the word's list in rising order. Returns `Memory` if memory runs out, and `Bad` if the word has no list
-/// of ids or an id occurs twice.
+/// The ids of the word's list in rising order: [`rising`] with a contract about the ids and not their texts. Returns
+/// `Memory` if memory runs out, and `Bad` if the word has no list of ids or an id occurs twice.
 pub fn ids(alloc: Global, word: &Word<'_>) -> Result<IdList, OperandError>
     ensures sorted { IfOk result (λ list. HasSorted IsId (word_of word.now) list) }
     ensures bad { IfErr result (λ e. Excludes e ((values : List (List ℕ)) × HasSorted IsId (word_of word.now) values)) }

@@ -21,19 +21,19 @@ use std::alloc::{AllocError, Global};
 pub struct Operands<'a> {
     pub(crate) words: Vec<Word<'a>>,
     /// Whether there is nothing besides words and their lists.
-    pub(crate) alone: bool,
+    pub(crate) only_words: bool,
 }
 
 impl<'a> Operands<'a> {
-    // Adds the next word, or notes that something else is there instead of one.
+    // Adds the word, or notes that something else stands in its place.
     fn add(&mut self, found: Result<Word<'a>, NoWord>) -> Result<(), AllocError>
         ensures word { OnOk result (IfOk found.entry (λ w. (self.new.words.items ≡ self.old.words.items ++ w ∷ [])
-            × (self.new.alone ≡ self.old.alone))) }
+            × (self.new.only_words ≡ self.old.only_words))) }
         ensures other { OnOk result (IfErr found.entry (λ _. (self.new.words.items ≡ self.old.words.items)
-            × (self.new.alone ≡ false))) }
+            × (self.new.only_words ≡ false))) }
     {
         let Ok(word) = found else {
-            self.alone = false;
+            self.only_words = false;
             return Ok(());
         };
         self.words.push(word)?;
@@ -44,7 +44,7 @@ impl<'a> Operands<'a> {
     pub fn is_empty(&self) -> bool
         ensures { (pieces : List Piece) → IsRead pieces self.now → IsTrue result ↔ (pieces ≡ []) }
     {
-        self.alone && self.words.is_empty()
+        self.only_words && self.words.is_empty()
     }
 
     /// The words, if there is nothing else.
@@ -54,7 +54,7 @@ impl<'a> Operands<'a> {
         ensures none { IfNone result ((pieces : List Piece) → IsRead pieces self.now → (ws : List grammar.Word)
             → HasWords pieces ws → ⊥) }
     {
-        if !self.alone {
+        if !self.only_words {
             return None;
         }
         Some(self.words.as_slice())
@@ -107,7 +107,7 @@ impl<'a> Words<'a> {
         let mut left = *self;
         let mut read = Operands {
             words: Vec::new(alloc),
-            alone: true,
+            only_words: true,
         };
         while let Some(found) = left.next_operand() {
             read.add(found)?;

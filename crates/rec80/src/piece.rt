@@ -47,15 +47,10 @@ pub fn skip_gap<'a>(at: &Cursor<'a>) -> Option<Cursor<'a>>
 pub fn is_part_of_word(byte: u8) -> bool
     ensures { result ≡ is_word_byte byte }
 {
-    byte.is_ascii_uppercase()
-        || byte.is_ascii_digit()
-        || byte == b'$'
-        || byte == b'#'
-        || byte == b'@'
-        || byte == b'+'
+    byte.is_ascii_uppercase() || byte.is_ascii_digit() || matches!(byte, b'$' | b'#' | b'@' | b'+')
 }
 
-// The length of the word that comes first.
+// How many bytes of a word the line begins with.
 fn word_len(line: &[u8]) -> usize
     ensures { result ≡ prefix_len is_word_byte line.now }
 {

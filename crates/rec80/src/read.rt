@@ -10,7 +10,7 @@ use crate::record_files::Records;
 fn is_printable(byte: u8) -> bool
     ensures { IsTrue result ↔ IsPrintable byte }
 {
-    0x20 <= byte && byte <= 0x7E
+    (b' '..=b'~').contains(&byte)
 }
 
 /// The records of a file. Returns `BadByte` at the first whole record with a bad byte, or `ShortRecord` if there is no

@@ -10,7 +10,7 @@ use crate::member::Member;
 use crate::operand_errors::BadOperand;
 use crate::words::Word;
 
-/// Whether there is an operand of that name, which has no list. Returns an error if it has one.
+/// Whether this operand was found. A flag is its name only, so it returns an error if the operand has a list.
 pub fn flag(found: &Option<Word<'_>>) -> Result<bool, BadOperand>
     ensures ok { IfOk result (λ flag. HasFlag (option_map word_of found.now) flag) }
     ensures bad { OnErr result ((flag : Bool) → HasFlag (option_map word_of found.now) flag → ⊥) }
@@ -26,7 +26,7 @@ pub fn flag(found: &Option<Word<'_>>) -> Result<bool, BadOperand>
     }
 }
 
-// The only member of the word's list.
+// The only member of the word's list, if the list has exactly one and this one has no list of its own.
 fn one_member<'a>(word: &Word<'a>) -> Option<&'a [u8]>
     ensures one { IfSome result (λ m. IsSomeAnd (word_of word.now).list (λ text. HasMembers text (plain m.now ∷ []))) }
     ensures none { IfNone result ((m : List ℕ) → IsSomeAnd (word_of word.now).list

@@ -69,15 +69,15 @@ impl<'a> Words<'a> {
         let Piece::Word(word) = piece else {
             return Err(NoWord);
         };
-        let behind = skip_gaps(&next);
-        if let Some((list, after)) = list_at(&behind) {
+        let after_gaps = skip_gaps(&next);
+        if let Some((list, after)) = list_at(&after_gaps) {
             self.rest = after;
             return Ok(Some(Word {
                 word,
                 list: Some(list),
             }));
         }
-        self.rest = behind;
+        self.rest = after_gaps;
         Ok(Some(Word { word, list: None }))
     }
 

@@ -4,11 +4,13 @@ use Rattle.report.specs.Facts as facts
 use Rattle.report.specs.declared.fact.Standing.{Standing}
 use Rattle.report.specs.declared.fact.Standing.TheVariants as standing
 use Rattle.report.specs.declared.fact.Resolution.{Resolution}
-use Rattle.report.specs.declared.fact.Resolution.TheVariants as answer
+use Rattle.report.specs.declared.fact.Resolution.TheVariants as resolution
 use Rattle.report.specs.declared.fact.Rank.{Rank}
 use Rattle.report.specs.declared.fact.Rank.TheVariants as rank
 use Rattle.report.specs.declared.fact.Maker.{Maker}
 use Rattle.report.specs.declared.fact.Found.{Found}
+use Rattle.report.specs.declared.fact.NumberedVer.{NumberedVer}
+use Rattle.report.specs.declared.fact.ChangedElement.{ChangedElement}
 use Rattle.report.specs.declared.fact.Fact.{Fact}
 use Rattle.report.specs.declared.fact.Fact.TheVariants as fact
 
@@ -19,11 +21,11 @@ standing_view standing.Deleted = facts.StandsDeleted
 standing_view standing.Received = facts.StandsReceived
 standing_view standing.Missing = facts.StandsMissing
 
-abbrev pub answer_view : Resolution → facts.Resolution
-answer_view (answer.Supplied ids) = facts.Supplied ids.items
-answer_view answer.Waived = facts.Waived
-answer_view answer.ByItself = facts.ByItself
-answer_view (answer.Open ids) = facts.Open ids
+abbrev pub resolution_view : Resolution → facts.Resolution
+resolution_view (resolution.Supplied ids) = facts.Supplied ids.items
+resolution_view resolution.Waived = facts.Waived
+resolution_view resolution.ByItself = facts.ByItself
+resolution_view (resolution.Open ids) = facts.Open ids
 
 abbrev pub rank_view : Rank → facts.Rank
 rank_view rank.Itself = facts.Itself
@@ -41,13 +43,19 @@ found_view f = record {
   umids = map maker_view f.umids.items;
 }
 
+abbrev pub ver_view : NumberedVer → facts.Fact
+ver_view v = facts.VerFact v.number v.fmid v.fits v.counts
+
+abbrev pub element_view : ChangedElement → facts.Fact
+element_view e = facts.ElementFact e.elem_type e.name e.replaces (option_map found_view e.found)
+
 abbrev pub fact_view : Fact → facts.Fact
 fact_view (fact.Standing id kind s) = facts.StandingFact id kind (standing_view s)
 fact_view (fact.Entry kind entry) = facts.EntryFact kind entry.now
-fact_view (fact.Ver number fmid fits counts) = facts.VerFact number fmid fits counts
-fact_view (fact.Requisite r a) = facts.RequisiteFact r (answer_view a)
-fact_view (fact.Hold hold a) = facts.HoldFact hold.now (option_map answer_view a)
-fact_view (fact.Element type name replaces f) = facts.ElementFact type name replaces (option_map found_view f)
+fact_view (fact.Ver v) = ver_view v
+fact_view (fact.Requisite r a) = facts.RequisiteFact r (resolution_view a)
+fact_view (fact.Hold hold a) = facts.HoldFact hold.now (option_map resolution_view a)
+fact_view (fact.Element e) = element_view e
 fact_view (fact.Delete id own) = facts.DeleteFact id own
 fact_view (fact.Takes id) = facts.TakesFact id
 fact_view (fact.Npre id applied) = facts.NpreFact id applied

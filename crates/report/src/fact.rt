@@ -72,6 +72,25 @@ pub struct Found {
     pub umids: Vec<Maker>,
 }
 
+/// A `++VER` for the zone's SREL, by its number.
+#[derive(Clone, Copy)]
+pub struct NumberedVer {
+    pub number: usize,
+    pub fmid: Option<Id>,
+    pub fits: bool,
+    pub counts: bool,
+}
+
+/// An element that is replaced, or else updated.
+#[derive(Drop)]
+pub struct ChangedElement {
+    pub elem_type: ElemType,
+    pub name: Name,
+    pub replaces: bool,
+    /// What the zone has of it, if anything.
+    pub found: Option<Found>,
+}
+
 /// A fact of an id.
 #[derive(Drop)]
 pub enum Fact<'a> {
@@ -85,29 +104,17 @@ pub enum Fact<'a> {
         kind: ZoneKind,
         entry: &'a Entry,
     },
-    /// A `++VER` for the zone's SREL, by its number.
-    Ver {
-        number: usize,
-        fmid: Option<Id>,
-        fits: bool,
-        counts: bool,
-    },
+    Ver(NumberedVer),
     Requisite {
         requisite: Requisite,
-        answer: Resolution,
+        resolution: Resolution,
     },
-    /// For an ERROR hold with the answer to its reason.
+    /// A hold, and for an ERROR hold how its reason is resolved.
     Hold {
         hold: &'a Hold,
         resolution: Option<Resolution>,
     },
-    /// An element that is replaced, or else updated.
-    Element {
-        elem_type: ElemType,
-        name: Name,
-        replaces: bool,
-        found: Option<Found>,
-    },
+    Element(ChangedElement),
     /// An id of its DELETE, which may be one of its own chain.
     Delete {
         id: Id,

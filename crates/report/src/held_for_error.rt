@@ -11,8 +11,8 @@ use sysmods::GlobalZone;
 use terms::CommandWord;
 use zones::{Zone, choose};
 
-// An ERRSYSMOD line for each open hold, with the SYSMODs that resolve its reason. Without holds there is no search for
-// the `++VER`s that count.
+// An ERRSYSMOD line for each open hold, with the SYSMODs that resolve its reason. If there are no holds, it does not
+// choose the `++VER`s that count.
 fn errsysmod_lines(
     alloc: Global,
     global: &GlobalZone,
@@ -24,14 +24,14 @@ fn errsysmod_lines(
     if errors.is_empty() {
         return Ok(Vec::new(alloc));
     }
-    let none = IdList::new(alloc);
-    let vers = choose(alloc, global, zone, &none)?;
+    let no_candidates = IdList::new(alloc);
+    let vers = choose(alloc, global, zone, &no_candidates)?;
     let mut lines = Vec::new(alloc);
     for error in errors {
         let ids = resolvers(alloc, &vers, zone.srel(), error.reason)?;
         lines.push(ReportLine::Errsysmod {
             id: error.id,
-            // (each id has the form of a reason)
+            // (every id has the form of a reason)
             reason: Reason::read(error.reason.as_bytes()).unwrap(),
             resolvers: Vec::from_slice(alloc, ids.as_slice())?,
         })?;
@@ -39,7 +39,7 @@ fn errsysmod_lines(
     Ok(lines)
 }
 
-/// Finds what REPORT ERRSYSMODS prints of the zone, which has this name.
+/// Finds what REPORT ERRSYSMODS prints of the zone. `zone_name` is its name, for the headline.
 pub fn errsysmods(
     alloc: Global,
     zone_name: ZoneName,
@@ -48,6 +48,7 @@ pub fn errsysmods(
 ) -> Result<Outcome<'static>, AllocError>
     ensures { IfOk result (IsReportOf zone_name global.now zone.now) }
 {
+    // (for the clause: the global zone has its form, so no SYSMOD supersedes itself in a loop)
     global.attest();
     let errors = open_error_holds(alloc, global, zone)?;
     let lines = errsysmod_lines(alloc, global, zone, &errors)?;

@@ -24,11 +24,14 @@ mod superseders;
 mod write;
 mod zone_lines;
 
-pub use fact::{Fact, Found, Maker, Rank, Requisite, Resolution, Standing};
+pub use fact::{
+    ChangedElement, Fact, Found, Maker, NumberedVer, Rank, Requisite, Resolution, Standing,
+};
 pub use held_for_error::errsysmods;
 pub use line_words::{
     ELEM_TYPE_WIDTH, HOLD_WIDTH, LineWord, NAME_WIDTH, TYPE_WIDTH, append_words, applied_word,
 };
+pub use lines::status_word;
 pub use optional_texts::{class_or_dash, date_or_dash, id_or_dash};
 pub use outcome::{Header, Outcome, Place, Refusal, ReportLine, Status};
 pub use pieces::{put, write_all};

@@ -129,8 +129,8 @@ fn put_word<W: Sink>(word: LineWord<'_>, page: &mut Page<'_, W>)
     }
 }
 
-/// Puts a line on the page: `start`, and each word after a blank. For a line that is indented and begins with a word,
-/// `start` has one blank less than the line.
+/// Puts a line on the page: `start`, and each word after a blank. If `start` consists of blanks, the line is indented
+/// by one more.
 pub(crate) fn put_words<W: Sink>(start: &[u8], words: &[LineWord<'_>], page: &mut Page<'_, W>)
     ensures paged { Paged W.Sink page.old page.new (words_line (start.now ∷ map word_text words.now)) }
     ensures some { 0 < length page.new.waiting.items }
@@ -153,7 +153,7 @@ fn write_words<W: Sink>(start: &[u8], words: &[LineWord<'_>], w: &mut W) -> Resu
     page.flush()
 }
 
-/// Appends the line that `put_words` puts on a page to a text.
+/// Appends to a text the line that `put_words` puts on a page.
 pub fn append_words(
     start: &[u8],
     words: &[LineWord<'_>],

@@ -35,7 +35,7 @@ pub(crate) fn put_header<W: Sink>(header: &Header, page: &mut Page<'_, W>)
     put_words(word, &[zone], page);
 }
 
-// Puts the line of a command that a fault of its file refused: the record of the fault, and its code.
+// Puts the line of a command that is refused because its file has a fault: the record of the fault, and its code.
 fn put_fault<W: Sink>(word: &[u8], number: usize, code: StatementCode, page: &mut Page<'_, W>)
     ensures { Paged W.Sink page.old page.new
         (words_line (codes "REFUSED" ∷ word.now ∷ codes "RECORD" ∷ decimal number ∷ statement_code_text code ∷ [])) }
@@ -73,8 +73,8 @@ fn place_text(place: &Place) -> &[u8]
     }
 }
 
-// The word that says what became of an id.
-fn status_word(status: &Status) -> &[u8]
+/// The word that says what became of an id.
+pub fn status_word(status: &Status) -> &'static [u8]
     ensures { result.now ≡ status_word (status_view status.now) }
 {
     match status {
@@ -99,16 +99,16 @@ fn status_word(status: &Status) -> &[u8]
     }
 }
 
-// What follows the status word: why the id was refused, the source, or the reason of the hold.
+// What follows the status word, if anything: why the id was refused, the source, or the reason of the hold.
 fn status_detail(status: &Status) -> Option<&[u8]>
     ensures { at_most_one (option_map (λ t. t.now) result) ≡ status_detail (status_view status.now) }
 {
     match status {
         Status::Refused(why) => Some(refusal_text(*why)),
         Status::Assigned(source) => Some(source.as_bytes()),
-        Status::Held(reason) => Some(reason.as_bytes()),
-        Status::Replaced(reason) => Some(reason.as_bytes()),
-        Status::Released(reason) => Some(reason.as_bytes()),
+        Status::Held(reason) | Status::Replaced(reason) | Status::Released(reason) => {
+            Some(reason.as_bytes())
+        }
         _ => None,
     }
 }
@@ -153,8 +153,8 @@ fn put_status<'a, W: Sink>(id: Id, place: &'a Place, status: &'a Status, page: &
     }
 }
 
-// Puts a held SYSMOD with its reason, and the SYSMODs that resolve it: `RESOLVER` lines, or one that says that there
-// are none.
+// Puts the line of an ERROR hold on an applied SYSMOD, and a `RESOLVER` line for each SYSMOD that resolves its reason,
+// or a single one with `-` if there is none.
 fn put_errsysmod<'a, W: Sink>(
     id: &'a Id,
     reason: &'a Reason,

@@ -15,7 +15,7 @@ use std::alloc::{AllocError, Global};
 use sysmods::VerChoice;
 use terms::NeedKind;
 
-// The SYSMODs among these that name the id in SUP.
+// Those of `namers` that name the id in SUP.
 fn superseders_among(
     alloc: Global,
     vers: &VerChoice<'_>,
@@ -31,7 +31,7 @@ fn superseders_among(
         .collect(alloc)
 }
 
-// The received SYSMODs that name the id in SUP. Only those that name it in some operand are examined.
+// The received SYSMODs that name the id in SUP. The search goes only through those that name it in some operand.
 fn direct_superseders(
     alloc: Global,
     vers: &VerChoice<'_>,
@@ -46,8 +46,8 @@ fn direct_superseders(
     superseders_among(alloc, vers, id, namers.as_slice())
 }
 
-// The id, and all received SYSMODs that supersede it. The search grows a set from the id and goes through each member
-// once.
+// The id, and all received SYSMODs that supersede it. The search begins a set with the id, and adds to it the direct
+// superseders of each member.
 fn id_and_superseders(
     alloc: Global,
     vers: &VerChoice<'_>,
@@ -62,14 +62,13 @@ fn id_and_superseders(
     seen.insert(id)?;
     let mut searched = 0;
     while searched < seen.len() {
-        let above = direct_superseders(alloc, vers, srel, seen.as_slice()[searched])?;
-        for by in above.as_slice() {
+        let superseders = direct_superseders(alloc, vers, srel, seen.as_slice()[searched])?;
+        for by in superseders.as_slice() {
             seen.insert(*by)?;
         }
         searched += 1;
     }
-    let ids = Vec::from_slice(alloc, seen.as_slice())?;
-    Ok(ids)
+    Vec::from_slice(alloc, seen.as_slice())
 }
 
 /// The ids that serve a need for the id: the id itself, received or not, and its superseders if this kind of need takes

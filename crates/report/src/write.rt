@@ -17,7 +17,7 @@ use crate::zone_lines::put_zone;
 use fields::spelling::command_code_text;
 use terms::IdRefusal;
 
-// The return code of a line for what was done, and of a list.
+// The return code of a line for what was done, and of a LIST.
 const DONE_CODE: u8 = 0;
 
 // The return code of a line that warns.
@@ -29,7 +29,7 @@ const FAILED_CODE: u8 = 8;
 // The return code of a refused command or command file.
 const REFUSED_CODE: u8 = 12;
 
-// The return code of a line: 8 or 4 for what was not done, otherwise 0.
+// The return code of a line.
 fn line_code(line: &ReportLine) -> u8
     ensures code { result ≡ line_code (line_view line.now) }
     ensures most { result ≤ 12 }
@@ -37,11 +37,15 @@ fn line_code(line: &ReportLine) -> u8
     match line {
         ReportLine::Nothing | ReportLine::Errsysmod { .. } => WARNING_CODE,
         ReportLine::Status { status, .. } => match status {
-            Status::Already | Status::Unknown => WARNING_CODE,
-            Status::Refused(IdRefusal::NoHold | IdRefusal::Internal) => WARNING_CODE,
-            Status::Refused(_) => FAILED_CODE,
-            Status::Failed(_) | Status::Deleted | Status::Missing => FAILED_CODE,
-            Status::NoVer | Status::NotApplied => FAILED_CODE,
+            Status::Already
+            | Status::Unknown
+            | Status::Refused(IdRefusal::NoHold | IdRefusal::Internal) => WARNING_CODE,
+            Status::Refused(_)
+            | Status::Failed(_)
+            | Status::Deleted
+            | Status::Missing
+            | Status::NoVer
+            | Status::NotApplied => FAILED_CODE,
             _ => DONE_CODE,
         },
     }

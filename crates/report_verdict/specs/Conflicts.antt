@@ -18,8 +18,8 @@ use Rattle.report_verdict.specs.declared.conflict.Apart.TheVariants.{OtherOwner,
 use Rattle.report_verdict.specs.declared.conflict.Conflict.{Conflict}
 use Rattle.report_verdict.specs.declared.conflict.Conflict.TheVariants.{Deletes, Forbids, ForbiddenBy, Shares}
 use Rattle.report_verdict.specs.declared.conflict.Partner.{Partner}
-use Rattle.report_verdict.specs.declared.statuses.Saying.{Saying}
-use Rattle.report_verdict.specs.declared.statuses.Saying.TheVariants as saying
+use Rattle.report_verdict.specs.declared.statuses.Condition.{Condition}
+use Rattle.report_verdict.specs.declared.statuses.Condition.TheVariants as condition
 
 -- the two tests at which a candidate looks at the others
 abbrev pub by_delete : Test → Bool
@@ -53,10 +53,10 @@ passes_alone Superseded = true
 passes_alone (Failed f) = list_all by_others f.tests
 passes_alone _ = false
 
-abbrev pub says : Saying → Status → Bool
-says saying.ChainDeleted status = is_chain_deleted status
-says saying.InClash status = is_in_clash status
-says saying.PassesAlone status = passes_alone status
+abbrev pub meets : Condition → Status → Bool
+meets condition.ChainDeleted status = is_chain_deleted status
+meets condition.InClash status = is_in_clash status
+meets condition.PassesAlone status = passes_alone status
 
 -- the ids of the lines with such a status
 abbrev pub id_where : (Status → Bool) → Line → List Id
@@ -101,7 +101,8 @@ IsPartner s x y p = (p.id ≡ y) × IsApart s x y p.apart
 
 -- the elements that both change, if they may not
 abbrev pub share_of : Global → Id → Apart → Change → List Conflict
-share_of g y apart h = if has_change g y h.elem_type h.name then Shares y h.elem_type h.name apart ∷ [] else []
+share_of g y apart h = if has_change g y h.elem_type h.name then
+    Shares (record { with = y; elem_type = h.elem_type; name = h.name; apart = apart }) ∷ [] else []
 
 abbrev pub shares : Setting → Id → Id → Option Apart → List Conflict
 shares s x y None = []

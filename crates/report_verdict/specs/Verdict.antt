@@ -131,8 +131,8 @@ conflict_reason t (Forbids y) =
     if by_clash t then inner_line (test_text t ∷ codes "NPRE" ∷ y ∷ codes "is selected too" ∷ []) else []
 conflict_reason t (ForbiddenBy y) =
     if by_clash t then inner_line (test_text t ∷ y ∷ codes "is selected too and has it in NPRE" ∷ []) else []
-conflict_reason t (Shares y type name apart) =
-    if by_clash t then element_reason t type name (y ∷ apart_text apart ∷ []) else []
+conflict_reason t (Shares s) =
+    if by_clash t then element_reason t s.elem_type s.name (s.with ∷ apart_text s.apart ∷ []) else []
 
 -- all lines of a failed test. NotInTarget rests on no fact.
 abbrev pub test_told : Basis → Test → Text

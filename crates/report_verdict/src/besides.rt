@@ -5,7 +5,7 @@ ghost use Rattle.std.specs.String.{string_bytes};
 ghost use Rattle.machine.specs.Report.{optional_text};
 ghost use Rattle.report.specs.Views.{line_view, status_view};
 ghost use Rattle.report.specs.Facts.{RequisiteFact, HoldFact};
-ghost use Rattle.report.specs.FactViews.{answer_view, fact_view};
+ghost use Rattle.report.specs.FactViews.{resolution_view, fact_view};
 ghost use Rattle.report_verdict.specs.Verdict.{is_candidate, supply_by, supply_of, supply_told, is_lacking};
 ghost use Rattle.report_verdict.specs.Verdict.{bypassed_told, besides_told};
 ghost use Rattle.report_verdict.specs.Grounds.{basis_of};
@@ -24,20 +24,17 @@ use sysmods_values::Hold;
 use terms::NeedKind;
 use zones::is_bypassed_hold;
 
-// Whether the status is that of a candidate: installed, superseded or failed.
+// Whether the status is that of a candidate of APPLY or ACCEPT: installed, superseded or failed.
 fn is_candidate(status: &Status) -> bool
     ensures { result ≡ is_candidate (status_view status.now) }
 {
     match status {
-        Status::Applied => true,
-        Status::Accepted => true,
-        Status::Superseded => true,
-        Status::Failed(_) => true,
+        Status::Applied | Status::Accepted | Status::Superseded | Status::Failed(_) => true,
         _ => false,
     }
 }
 
-// Appends what becomes of the SYSMOD `by`, which would supply the requisite, if this line is about it.
+// Appends what becomes of the SYSMOD `by`, which would supply the requisite, if this is the line of `by`.
 fn put_supplier_line<'a>(
     kind: NeedKind,
     id: &'a [u8],
@@ -48,24 +45,27 @@ fn put_supplier_line<'a>(
     ensures { OnOk result (text.new.items ≡ text.old.items ++ supply_by kind id.now by.now (line_view line.now)) }
 {
     match line {
-        ReportLine::Status { id: of, status, .. } => {
-            let is_about_it = *by == *of && is_candidate(status);
-            if !is_about_it {
+        ReportLine::Status {
+            id: line_id,
+            status,
+            ..
+        } => {
+            let is_of_supplier = *by == *line_id && is_candidate(status);
+            if !is_of_supplier {
                 return Ok(());
             }
             let supply = LineWord::Text(b"SUPPLY");
             let kind = LineWord::Text(need_text(kind));
             let id = LineWord::WithColon(id);
             let by = LineWord::Text(by.as_bytes());
-            let word = LineWord::Text(verdict_word(status));
-            append_words(INDENT, &[supply, kind, id, by, word], text)
+            let verdict = LineWord::Text(verdict_word(status));
+            append_words(INDENT, &[supply, kind, id, by, verdict], text)
         }
-        ReportLine::Nothing => Ok(()),
-        ReportLine::Errsysmod { .. } => Ok(()),
+        ReportLine::Nothing | ReportLine::Errsysmod { .. } => Ok(()),
     }
 }
 
-// Appends what becomes of the SYSMOD `by`, which would supply the requisite, for each line that is about it.
+// Appends what becomes of the SYSMOD `by`, which would supply the requisite, for each line of `by`.
 fn put_supplier<'a>(
     kind: NeedKind,
     id: &'a [u8],
@@ -99,18 +99,18 @@ fn put_suppliers<'a>(
     Ok(())
 }
 
-// Appends what becomes of the SYSMODs that would supply an open requisite.
+// Appends what becomes of the SYSMODs that would supply the requisite, if it is open.
 fn put_suppliers_if_open<'a>(
     kind: NeedKind,
     id: &'a [u8],
-    answer: &'a Resolution,
+    resolution: &'a Resolution,
     lines: &[ReportLine],
     text: &mut Vec<u8>,
 ) -> Result<(), AllocError>
     ensures { OnOk result (text.new.items ≡ text.old.items
-        ++ supply_of (map line_view lines.now) kind id.now (answer_view answer.now)) }
+        ++ supply_of (map line_view lines.now) kind id.now (resolution_view resolution.now)) }
 {
-    match answer {
+    match resolution {
         Resolution::Open(ids) => put_suppliers(kind, id, ids.as_slice(), lines, text),
         _ => Ok(()),
     }
@@ -126,18 +126,21 @@ fn put_suppliers_of_fact(
         ≡ text.old.items ++ supply_told (map line_view lines.now) (fact_view fact.now)) }
 {
     match fact {
-        Fact::Requisite { requisite, answer } => put_suppliers_if_open(
+        Fact::Requisite {
+            requisite,
+            resolution,
+        } => put_suppliers_if_open(
             requisite.kind,
             requisite.id.as_bytes(),
-            answer,
+            resolution,
             lines,
             text,
         ),
         Fact::Hold { hold, resolution } => match resolution {
-            Some(answer) => put_suppliers_if_open(
+            Some(resolution) => put_suppliers_if_open(
                 NeedKind::HoldError,
                 hold.reason.as_bytes(),
-                answer,
+                resolution,
                 lines,
                 text,
             ),
@@ -148,10 +151,10 @@ fn put_suppliers_of_fact(
 }
 
 // Whether no applied SYSMOD supplies the requisite.
-fn is_unsupplied(answer: &Resolution) -> bool
-    ensures { result ≡ is_lacking (answer_view answer.now) }
+fn is_unsupplied(resolution: &Resolution) -> bool
+    ensures { result ≡ is_lacking (resolution_view resolution.now) }
 {
-    match answer {
+    match resolution {
         Resolution::Supplied(_) => false,
         _ => true,
     }
@@ -161,14 +164,14 @@ fn is_unsupplied(answer: &Resolution) -> bool
 fn put_bypassed_requisite(
     bypass: &Bypass,
     requisite: &Requisite,
-    answer: &Resolution,
+    resolution: &Resolution,
     text: &mut Vec<u8>,
 ) -> Result<(), AllocError>
     ensures { OnOk result (text.new.items ≡ text.old.items
-        ++ bypassed_told bypass.now (RequisiteFact requisite.now (answer_view answer.now))) }
+        ++ bypassed_told bypass.now (RequisiteFact requisite.now (resolution_view resolution.now))) }
 {
-    let covered = bypass.covers(requisite.kind) && is_unsupplied(answer);
-    if !covered {
+    let is_bypassed = bypass.covers(requisite.kind) && is_unsupplied(resolution);
+    if !is_bypassed {
         return Ok(());
     }
     let bypassed = LineWord::Text(b"BYPASSED");
@@ -195,7 +198,7 @@ fn put_bypassed_hold(
     text: &mut Vec<u8>,
 ) -> Result<(), AllocError>
     ensures { OnOk result (text.new.items ≡ text.old.items
-        ++ bypassed_told bypass.now (HoldFact hold.now (option_map answer_view resolution.now))) }
+        ++ bypassed_told bypass.now (HoldFact hold.now (option_map resolution_view resolution.now))) }
 {
     if !is_bypassed_hold(bypass, hold) {
         return Ok(());
@@ -204,13 +207,22 @@ fn put_bypassed_hold(
     let kind = LineWord::Text(hold_text(hold.kind));
     let hold_word = LineWord::Text(b"hold");
     let reason = LineWord::Text(hold.reason.as_bytes());
-    let (of_class, of_date) = (LineWord::Text(b"CLASS"), LineWord::Text(b"DATE"));
+    let (class_word, date_word) = (LineWord::Text(b"CLASS"), LineWord::Text(b"DATE"));
     let class = LineWord::Text(class_or_dash(&hold.class));
     let date = LineWord::Text(date_or_dash(&hold.date));
-    let of_comment = LineWord::Text(b"COMMENT");
+    let comment_word = LineWord::Text(b"COMMENT");
     let comment = LineWord::Text(comment_or_dash(&hold.comment));
     let words = [
-        bypassed, kind, hold_word, reason, of_class, class, of_date, date, of_comment, comment,
+        bypassed,
+        kind,
+        hold_word,
+        reason,
+        class_word,
+        class,
+        date_word,
+        date,
+        comment_word,
+        comment,
     ];
     append_words(INDENT, &words, text)
 }
@@ -220,9 +232,10 @@ fn put_bypassed_fact(bypass: &Bypass, fact: &Fact<'_>, text: &mut Vec<u8>) -> Re
     ensures { OnOk result (text.new.items ≡ text.old.items ++ bypassed_told bypass.now (fact_view fact.now)) }
 {
     match fact {
-        Fact::Requisite { requisite, answer } => {
-            put_bypassed_requisite(bypass, requisite, answer, text)
-        }
+        Fact::Requisite {
+            requisite,
+            resolution,
+        } => put_bypassed_requisite(bypass, requisite, resolution, text),
         Fact::Hold { hold, resolution } => put_bypassed_hold(bypass, hold, resolution, text),
         _ => Ok(()),
     }

@@ -4,14 +4,14 @@ ghost use Rattle.std.specs.List.{flat_map};
 ghost use Rattle.report_verdict.specs.Verdict.{element_reason, apart_text, conflict_reason};
 ghost use Rattle.report_verdict.specs.declared.conflict.Conflict.TheVariants.{Deletes, Forbids, ForbiddenBy, Shares};
 
-use crate::conflict::{Apart, Conflict};
+use crate::conflict::{Apart, Conflict, SharedElement};
 use crate::indent::INDENT;
 use crate::statuses::{is_clash_test, is_delete_test};
+use fields::Id;
 use fields::spelling::{test_text, type_text};
-use fields::{Id, Name};
 use report::{LineWord, append_words};
 use std::alloc::AllocError;
-use terms::{ElemType, Test};
+use terms::Test;
 
 // Appends that the candidate `by` has an id of the chain in DELETE, if that decides the test.
 fn put_deletes<'a>(test: Test, by: &'a Id, id: &'a Id, text: &mut Vec<u8>) -> Result<(), AllocError>
@@ -69,31 +69,23 @@ fn apart_text(apart: Apart) -> &'static [u8]
     }
 }
 
-// Appends that another candidate changes the element too, if that decides the test.
-fn put_shares<'a>(
-    test: Test,
-    with: &'a Id,
-    elem_type: ElemType,
-    name: &'a Name,
-    apart: Apart,
-    text: &mut Vec<u8>,
-) -> Result<(), AllocError>
-    ensures { OnOk result (text.new.items
-        ≡ text.old.items ++ conflict_reason test (Shares with.now elem_type name.now apart)) }
+// Appends that another candidate changes an element of the SYSMOD too, if that decides the test.
+fn put_shares(test: Test, shared: &SharedElement, text: &mut Vec<u8>) -> Result<(), AllocError>
+    ensures { OnOk result (text.new.items ≡ text.old.items ++ conflict_reason test (Shares shared.now)) }
 {
     if !is_clash_test(test) {
         return Ok(());
     }
     let code = LineWord::Text(test_text(test));
-    let elem_type = LineWord::Text(type_text(elem_type));
-    let name = LineWord::WithColon(name.as_bytes());
-    let with = LineWord::Text(with.as_bytes());
-    let why = LineWord::Text(apart_text(apart));
+    let elem_type = LineWord::Text(type_text(shared.elem_type));
+    let name = LineWord::WithColon(shared.name.as_bytes());
+    let with = LineWord::Text(shared.with.as_bytes());
+    let why = LineWord::Text(apart_text(shared.apart));
     let words = [code, elem_type, name, with, why];
     append_words(INDENT, &words, text)
 }
 
-// Appends the line of a failed test that rests on this conflict, if it does.
+// Appends the line of the failed test for this conflict, if the test rests on it.
 fn put_conflict(test: Test, conflict: &Conflict, text: &mut Vec<u8>) -> Result<(), AllocError>
     ensures { OnOk result (text.new.items ≡ text.old.items ++ conflict_reason test conflict.now) }
 {
@@ -101,16 +93,11 @@ fn put_conflict(test: Test, conflict: &Conflict, text: &mut Vec<u8>) -> Result<(
         Conflict::Deletes { by, id } => put_deletes(test, by, id, text),
         Conflict::Forbids(id) => put_forbids(test, id, text),
         Conflict::ForbiddenBy(id) => put_forbidden_by(test, id, text),
-        Conflict::Shares {
-            with,
-            elem_type,
-            name,
-            apart,
-        } => put_shares(test, with, *elem_type, name, *apart, text),
+        Conflict::Shares(shared) => put_shares(test, shared, text),
     }
 }
 
-/// Appends the lines of a failed test that rest on these conflicts.
+/// Appends a line of the failed test for each of these conflicts on which the test rests.
 pub(crate) fn put_conflicts(
     conflicts: &[Conflict],
     test: Test,

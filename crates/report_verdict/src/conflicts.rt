@@ -12,7 +12,7 @@ ghost use Rattle.report_verdict.specs.Conflicts.{clashing, deletion_of, deletion
 ghost use Rattle.report_verdict.specs.Conflicts.{shares, clashes_with, AreConflicts};
 ghost use Rattle.report_verdict.specs.declared.conflict.Conflict.TheVariants.{Forbids, ForbiddenBy};
 
-use crate::conflict::{Apart, Conflict, Partner};
+use crate::conflict::{Apart, Conflict, Partner, SharedElement};
 use crate::statuses::{clashing_ids, deleters};
 use fields::Id;
 use report::ReportLine;
@@ -28,28 +28,28 @@ fn is_in_chain(vers: &VerChoice<'_>, id: Id, other: Id) -> bool
     vers.chain_contains_any(id, &[other])
 }
 
-// Whether the first SYSMOD names the second in NPRE.
-fn forbids(vers: &VerChoice<'_>, first: Id, second: Id) -> bool
-    ensures { result ≡ is_in (npre_of (choice vers.now) first) second }
+// Whether the NPRE of the SYSMOD `id` names `other`.
+fn forbids(vers: &VerChoice<'_>, id: Id, other: Id) -> bool
+    ensures { result ≡ is_in (npre_of (choice vers.now) id) other }
 {
-    vers.npre(first).contains(&second)
+    vers.npre(id).contains(&other)
 }
 
-// Adds the conflict if `is_so`. It stands apart so that the clause of its caller needs no cases.
+// Adds the conflict if the condition holds.
 fn push_conflict_if(
-    is_so: bool,
+    condition: bool,
     conflict: Conflict,
     found: &mut Vec<Conflict>,
 ) -> Result<(), AllocError>
-    ensures { OnOk result (found.new.items ≡ found.old.items ++ (if is_so then conflict ∷ [] else [])) }
+    ensures { OnOk result (found.new.items ≡ found.old.items ++ (if condition then conflict ∷ [] else [])) }
 {
-    if is_so {
+    if condition {
         found.push(conflict)?;
     }
     Ok(())
 }
 
-// Adds that the candidate `by` has `del` in DELETE, if the chain of the id contains that.
+// Adds the conflict that the candidate `by` has `del` in DELETE, if the chain of the id contains `del`.
 fn push_deletion(
     scope: &Scope<'_, '_>,
     id: Id,
@@ -59,14 +59,13 @@ fn push_deletion(
 ) -> Result<(), AllocError>
     ensures { OnOk result (found.new.items ≡ found.old.items ++ deletion_of (setting_of scope.now) id by del) }
 {
-    push_conflict_if(
-        is_in_chain(scope.vers, id, del),
-        Conflict::Deletes { by, id: del },
-        found,
-    )
+    if is_in_chain(scope.vers, id, del) {
+        found.push(Conflict::Deletes { by, id: del })?;
+    }
+    Ok(())
 }
 
-// Adds each id of the chain that the candidate `by` has in DELETE.
+// Adds a conflict for each id of the chain that the candidate `by` has in DELETE.
 fn push_deletions(
     scope: &Scope<'_, '_>,
     id: Id,
@@ -75,8 +74,7 @@ fn push_deletions(
 ) -> Result<(), AllocError>
     ensures { OnOk result (found.new.items ≡ found.old.items ++ deletions_by (setting_of scope.now) id by) }
 {
-    let named = scope.vers.del(by);
-    for del in named {
+    for del in scope.vers.del(by) {
         push_deletion(scope, id, by, *del, found)?;
     }
     Ok(())
@@ -97,8 +95,7 @@ fn are_ordered(alloc: Global, vers: &VerChoice<'_>, x: Id, y: Id) -> Result<bool
     if vers.over(alloc, x, y)? {
         return Ok(true);
     }
-    let back = vers.over(alloc, y, x)?;
-    Ok(back)
+    vers.over(alloc, y, x)
 }
 
 // Why the two may not change one element. They may if they have one owner and one is over the other.
@@ -150,13 +147,15 @@ fn push_shared_element(
 {
     let elem_type = change.elem_type;
     let name = change.name;
-    let share = Conflict::Shares {
-        with,
-        elem_type,
-        name,
-        apart,
-    };
-    push_conflict_if(global.has_change(with, elem_type, name), share, found)
+    if global.has_change(with, elem_type, name) {
+        found.push(Conflict::Shares(SharedElement {
+            with,
+            elem_type,
+            name,
+            apart,
+        }))?;
+    }
+    Ok(())
 }
 
 // Adds a conflict for each element that both change.
@@ -178,7 +177,7 @@ fn push_shared_elements(
     Ok(())
 }
 
-// Adds a conflict for each element that the id and its partner both change, if they may not share one.
+// Adds a conflict for each element that the id and its partner both change, if they may not change one element.
 fn push_partner_elements(
     scope: &Scope<'_, '_>,
     id: Id,
@@ -217,8 +216,8 @@ fn push_clashes(
     push_partner_elements(scope, id, partner, found)
 }
 
-/// The conflicts of the id with the other candidates of a report with these lines: those on which it rests that the id
-/// fails J8 (a DELETE takes out its chain) or J9 (it clashes with another candidate).
+/// The conflicts of the id with the other candidates of a report with these lines, because of which the id fails J8 (a
+/// DELETE takes out its chain) or J9 (it clashes with another candidate).
 pub fn conflicts_of(
     alloc: Global,
     scope: &Scope<'_, '_>,

@@ -14,7 +14,7 @@ mod reasons;
 mod statuses;
 mod verdict;
 
-pub use conflict::{Apart, Conflict, Partner};
+pub use conflict::{Apart, Conflict, Partner, SharedElement};
 pub use conflicts::conflicts_of;
 pub use grounds::Grounds;
 pub use verdict::put_verdict;

@@ -1,9 +1,9 @@
 //! The lines of a failed test, by the facts on which it rests.
-ghost use Rattle.std.specs.Prelude.{◌≡◌, ◌++◌, map, option_map, OnOk};
+ghost use Rattle.std.specs.Prelude.{◌≡◌, ◌++◌, map, OnOk};
 ghost use Rattle.std.specs.List.{flat_map};
 ghost use Rattle.terms.specs.CommandForms.{no_bypass};
-ghost use Rattle.report.specs.Facts.{is_over, ElementFact, VerFact, DeleteFact, NpreFact, ForbiddenFact};
-ghost use Rattle.report.specs.FactViews.{rank_view, maker_view, found_view, fact_view};
+ghost use Rattle.report.specs.Facts.{is_over, DeleteFact, NpreFact, ForbiddenFact};
+ghost use Rattle.report.specs.FactViews.{rank_view, maker_view, found_view, ver_view, element_view, fact_view};
 ghost use Rattle.report_verdict.specs.Verdict.{by_hold, by_npre, by_owner, by_makers, by_update, by_target, by_vers};
 ghost use Rattle.report_verdict.specs.Verdict.{hold_reason, element_reason, maker_reason, owner_reason};
 ghost use Rattle.report_verdict.specs.Verdict.{makers_reason, there_reason, missing_reason, reason, test_told};
@@ -14,11 +14,13 @@ use crate::grounds::Grounds;
 use crate::indent::INDENT;
 use crate::statuses::is_delete_test;
 use fields::spelling::{hold_text, test_text, type_text};
-use fields::{Bypass, Id, Name};
-use report::{Fact, Found, LineWord, Maker, Rank, append_words, id_or_dash};
+use fields::{Bypass, Id};
+use report::{
+    ChangedElement, Fact, Found, LineWord, Maker, NumberedVer, Rank, append_words, id_or_dash,
+};
 use std::alloc::AllocError;
 use sysmods_values::Hold;
-use terms::{ElemType, HoldKind, Test};
+use terms::{HoldKind, Test};
 use zones::is_bypassed_hold;
 
 // Whether holds of this kind decide the test.
@@ -32,21 +34,21 @@ fn is_hold_test(test: Test, kind: HoldKind) -> bool
     }
 }
 
-// Whether NPRE decides the test.
+// Whether this is the test that fails if NPRE forbids the id.
 fn is_npre_test(test: Test) -> bool
     ensures { result ≡ by_npre test }
 {
     matches!(test, Test::ForbiddenByNpre)
 }
 
-// Whether the owner of an element decides the test.
+// Whether this is the test that fails if an element belongs to another function.
 fn is_owner_test(test: Test) -> bool
     ensures { result ≡ by_owner test }
 {
     matches!(test, Test::OwnedByAnother)
 }
 
-// Whether the SYSMODs that made an element decide the test.
+// Whether this is the test that fails if the id is not over the SYSMODs that made an element.
 fn is_regression_test(test: Test) -> bool
     ensures { result ≡ by_makers test }
 {
@@ -60,7 +62,7 @@ fn is_update_test(test: Test) -> bool
     matches!(test, Test::NothingToUpdate)
 }
 
-// Whether the related target zone decides the test.
+// Whether this is the test that fails if no related target zone has applied the id.
 fn is_target_test(test: Test) -> bool
     ensures { result ≡ by_target test }
 {
@@ -90,8 +92,8 @@ fn put_hold_reason(
 ) -> Result<(), AllocError>
     ensures { OnOk result (text.new.items ≡ text.old.items ++ hold_reason bypass.now test hold.now) }
 {
-    let stands = is_hold_test(test, hold.kind) && !is_bypassed_hold(bypass, hold);
-    if !stands {
+    let is_uncovered = is_hold_test(test, hold.kind) && !is_bypassed_hold(bypass, hold);
+    if !is_uncovered {
         return Ok(());
     }
     let code = LineWord::Text(test_text(test));
@@ -105,21 +107,20 @@ fn put_hold_reason(
 // Appends the line of a SYSMOD that made the element, unless the id is over it. The word is `RMID` or `UMID`.
 fn put_maker_reason<'a>(
     test: Test,
-    elem_type: ElemType,
-    name: &'a Name,
+    element: &'a ChangedElement,
     word: &'a [u8],
     maker: &'a Maker,
     text: &mut Vec<u8>,
 ) -> Result<(), AllocError>
     ensures { OnOk result (text.new.items
-        ≡ text.old.items ++ maker_reason test elem_type name.now word.now (maker_view maker.now)) }
+        ≡ text.old.items ++ maker_reason test element.now.elem_type element.now.name word.now (maker_view maker.now)) }
 {
     if is_over(maker.rank) {
         return Ok(());
     }
     let code = LineWord::Text(test_text(test));
-    let elem_type = LineWord::Text(type_text(elem_type));
-    let name = LineWord::WithColon(name.as_bytes());
+    let elem_type = LineWord::Text(type_text(element.elem_type));
+    let name = LineWord::WithColon(element.name.as_bytes());
     let word = LineWord::Text(word);
     let id = LineWord::Text(maker.id.as_bytes());
     let not_over = LineWord::Text(b"is not required or superseded by it");
@@ -127,20 +128,19 @@ fn put_maker_reason<'a>(
     append_words(INDENT, &words, text)
 }
 
-// Appends the lines of the SYSMODs that made the element and that the id is not over.
+// Appends a line for each SYSMOD that made the element, unless the id is over it.
 fn put_makers_reason<'a>(
     test: Test,
-    elem_type: ElemType,
-    name: &'a Name,
+    element: &'a ChangedElement,
     found: &'a Found,
     text: &mut Vec<u8>,
 ) -> Result<(), AllocError>
     ensures { OnOk result (text.new.items
-        ≡ text.old.items ++ makers_reason test elem_type name.now (found_view found.now)) }
+        ≡ text.old.items ++ makers_reason test element.now.elem_type element.now.name (found_view found.now)) }
 {
-    put_maker_reason(test, elem_type, name, b"RMID", &found.rmid, text)?;
+    put_maker_reason(test, element, b"RMID", &found.rmid, text)?;
     for umid in found.umids.as_slice() {
-        put_maker_reason(test, elem_type, name, b"UMID", umid, text)?;
+        put_maker_reason(test, element, b"UMID", umid, text)?;
     }
     Ok(())
 }
@@ -148,110 +148,94 @@ fn put_makers_reason<'a>(
 // Appends the owner of the element, if that is not the function of the id.
 fn put_owner_reason<'a>(
     test: Test,
-    elem_type: ElemType,
-    name: &'a Name,
+    element: &'a ChangedElement,
     found: &'a Found,
     text: &mut Vec<u8>,
 ) -> Result<(), AllocError>
     ensures { OnOk result (text.new.items
-        ≡ text.old.items ++ owner_reason test elem_type name.now (found_view found.now)) }
+        ≡ text.old.items ++ owner_reason test element.now.elem_type element.now.name (found_view found.now)) }
 {
     if found.owned {
         return Ok(());
     }
     let code = LineWord::Text(test_text(test));
-    let elem_type = LineWord::Text(type_text(elem_type));
-    let name = LineWord::WithColon(name.as_bytes());
+    let elem_type = LineWord::Text(type_text(element.elem_type));
+    let name = LineWord::WithColon(element.name.as_bytes());
     let belongs = LineWord::Text(b"it belongs to");
     let owner = LineWord::Text(found.fmid.as_bytes());
     let words = [code, elem_type, name, belongs, owner];
     append_words(INDENT, &words, text)
 }
 
-// Appends the lines of an element that the zone has, if they decide the test.
+// Appends why the id fails the test because of an element that the zone has, if it does.
 fn put_existing_element_reason<'a>(
     test: Test,
-    elem_type: ElemType,
-    name: &'a Name,
+    element: &'a ChangedElement,
     found: &'a Found,
     text: &mut Vec<u8>,
 ) -> Result<(), AllocError>
     ensures { OnOk result (text.new.items
-        ≡ text.old.items ++ there_reason test elem_type name.now (found_view found.now)) }
+        ≡ text.old.items ++ there_reason test element.now.elem_type element.now.name (found_view found.now)) }
 {
     if is_owner_test(test) {
-        return put_owner_reason(test, elem_type, name, found, text);
+        return put_owner_reason(test, element, found, text);
     }
     if is_regression_test(test) {
-        return put_makers_reason(test, elem_type, name, found, text);
+        return put_makers_reason(test, element, found, text);
     }
     Ok(())
 }
 
-// Appends the line of an element that the zone does not have, if that decides the test.
+// Appends that the zone does not have the element to update, if that decides the test.
 fn put_missing_element_reason(
     test: Test,
-    elem_type: ElemType,
-    name: &Name,
-    replaces: bool,
+    element: &ChangedElement,
     text: &mut Vec<u8>,
 ) -> Result<(), AllocError>
     ensures { OnOk result (text.new.items
-        ≡ text.old.items ++ missing_reason test elem_type name.now replaces) }
+        ≡ text.old.items ++ missing_reason test element.now.elem_type element.now.name element.now.replaces) }
 {
-    let fails = is_update_test(test) && !replaces;
+    let fails = is_update_test(test) && !element.replaces;
     if !fails {
         return Ok(());
     }
     let code = LineWord::Text(test_text(test));
-    let elem_type = LineWord::Text(type_text(elem_type));
-    let name = LineWord::WithColon(name.as_bytes());
+    let elem_type = LineWord::Text(type_text(element.elem_type));
+    let name = LineWord::WithColon(element.name.as_bytes());
     let none = LineWord::Text(b"there is none to update");
     let words = [code, elem_type, name, none];
     append_words(INDENT, &words, text)
 }
 
 // Appends the lines of an element that the id changes, if they decide the test.
-fn put_element_reason<'a>(
+fn put_element_reason(
     test: Test,
-    elem_type: ElemType,
-    name: &'a Name,
-    replaces: bool,
-    found: &'a Option<Found>,
+    element: &ChangedElement,
     text: &mut Vec<u8>,
 ) -> Result<(), AllocError>
-    ensures { OnOk result (text.new.items ≡ text.old.items
-        ++ reason no_bypass test (ElementFact elem_type name.now replaces (option_map found_view found.now))) }
+    ensures { OnOk result (text.new.items ≡ text.old.items ++ reason no_bypass test (element_view element.now)) }
 {
-    match found {
-        Some(found) => put_existing_element_reason(test, elem_type, name, found, text),
-        None => put_missing_element_reason(test, elem_type, name, replaces, text),
+    match &element.found {
+        Some(found) => put_existing_element_reason(test, element, found, text),
+        None => put_missing_element_reason(test, element, text),
     }
 }
 
 // Appends the line of a `++VER` that fits, if that decides the test.
-fn put_ver_reason(
-    test: Test,
-    number: usize,
-    fmid: &Option<Id>,
-    fits: bool,
-    counts: bool,
-    text: &mut Vec<u8>,
-) -> Result<(), AllocError>
-    ensures { OnOk result (text.new.items
-        ≡ text.old.items ++ reason no_bypass test (VerFact number fmid.now fits counts)) }
+fn put_ver_reason(test: Test, ver: &NumberedVer, text: &mut Vec<u8>) -> Result<(), AllocError>
+    ensures { OnOk result (text.new.items ≡ text.old.items ++ reason no_bypass test (ver_view ver.now)) }
 {
-    let fails = is_several_fit_test(test) && fits;
+    let fails = is_several_fit_test(test) && ver.fits;
     if !fails {
         return Ok(());
     }
     let code = LineWord::Text(test_text(test));
-    let ver = LineWord::Text(b"VER");
-    let number = LineWord::Number(number);
-    let of_fmid = LineWord::Text(b"FMID");
-    let fmid = LineWord::Text(id_or_dash(fmid));
-    let fits_word = LineWord::Text(b"fits");
-    let words = [code, ver, number, of_fmid, fmid, fits_word];
+    let ver_word = LineWord::Text(b"VER");
+    let number = LineWord::Number(ver.number);
+    let fmid_word = LineWord::Text(b"FMID");
+    let fmid = LineWord::Text(id_or_dash(&ver.fmid));
+    let fits = LineWord::Text(b"fits");
+    let words = [code, ver_word, number, fmid_word, fmid, fits];
     append_words(INDENT, &words, text)
 }
 
@@ -311,27 +295,17 @@ fn put_reason(
     ensures { OnOk result (text.new.items ≡ text.old.items ++ reason bypass.now test (fact_view fact.now)) }
 {
     match fact {
-        Fact::Standing { .. } => Ok(()),
-        Fact::Entry { .. } => Ok(()),
-        Fact::Ver {
-            number,
-            fmid,
-            fits,
-            counts,
-        } => put_ver_reason(test, *number, fmid, *fits, *counts, text),
-        Fact::Requisite { .. } => Ok(()),
+        Fact::Ver(ver) => put_ver_reason(test, ver, text),
         Fact::Hold { hold, .. } => put_hold_reason(bypass, test, hold, text),
-        Fact::Element {
-            elem_type,
-            name,
-            replaces,
-            found,
-        } => put_element_reason(test, *elem_type, name, *replaces, found, text),
+        Fact::Element(element) => put_element_reason(test, element, text),
         Fact::Delete { id, own } => put_delete_reason(test, id, *own, text),
-        Fact::Takes(_) => Ok(()),
         Fact::Npre { id, applied } => put_npre_reason(test, id, *applied, text),
         Fact::Forbidden(id) => put_forbidden_reason(test, id, text),
-        Fact::Needed(_) => Ok(()),
+        Fact::Standing { .. }
+        | Fact::Entry { .. }
+        | Fact::Requisite { .. }
+        | Fact::Takes(_)
+        | Fact::Needed(_) => Ok(()),
     }
 }
 

@@ -1,11 +1,10 @@
 //! What the lines of a report say about its candidates.
 ghost use Rattle.std.specs.Prelude.{◌≡◌, ◌++◌, map, IfOk, OnOk};
-ghost use Rattle.std.specs.List.{list_any, list_all};
-ghost use Rattle.terms.specs.Lookups.{is_in};
+ghost use Rattle.std.specs.List.{list_all};
 ghost use Rattle.judge_system.specs.TestSets.{tests_of};
 ghost use Rattle.report.specs.Views.{status_view, line_view};
 ghost use Rattle.report_verdict.specs.Conflicts.{by_delete, by_clash, by_others, is_chain_deleted, is_in_clash};
-ghost use Rattle.report_verdict.specs.Conflicts.{passes_alone, says, id_where, ids_where, others, deleters, clashing};
+ghost use Rattle.report_verdict.specs.Conflicts.{passes_alone, meets, id_where, ids_where, others, deleters, clashing};
 
 use fields::Id;
 use judge_system::TestSet;
@@ -13,14 +12,14 @@ use report::{ReportLine, Status};
 use std::alloc::{AllocError, Global};
 use terms::Test;
 
-/// Whether a DELETE of an id of the chain decides the test.
+/// Whether this is the test that fails if a DELETE names an id of the chain.
 pub(crate) fn is_delete_test(test: Test) -> bool
     ensures { result ≡ by_delete test }
 {
     matches!(test, Test::ChainDeleted)
 }
 
-/// Whether clashes with other candidates decide the test.
+/// Whether this is the test that fails if the SYSMOD clashes with other candidates.
 pub(crate) fn is_clash_test(test: Test) -> bool
     ensures { result ≡ by_clash test }
 {
@@ -32,20 +31,6 @@ fn is_test_of_others(test: Test) -> bool
     ensures { result ≡ by_others test }
 {
     is_delete_test(test) || is_clash_test(test)
-}
-
-// Whether the tests include the one that a DELETE of an id of the chain decides.
-fn has_delete_test(tests: TestSet) -> bool
-    ensures { result ≡ list_any by_delete (tests_of tests) }
-{
-    tests.chain_deleted
-}
-
-// Whether the tests include the one that clashes with other candidates decide.
-fn has_clash_test(tests: TestSet) -> bool
-    ensures { result ≡ list_any by_clash (tests_of tests) }
-{
-    tests.in_clash
 }
 
 // Whether each of these tests depends on other candidates.
@@ -60,7 +45,7 @@ fn is_chain_deleted(status: &Status) -> bool
     ensures { result ≡ is_chain_deleted (status_view status.now) }
 {
     match status {
-        Status::Failed(failure) => has_delete_test(failure.tests),
+        Status::Failed(failure) => failure.tests.chain_deleted,
         _ => false,
     }
 }
@@ -70,7 +55,7 @@ fn is_in_clash(status: &Status) -> bool
     ensures { result ≡ is_in_clash (status_view status.now) }
 {
     match status {
-        Status::Failed(failure) => has_clash_test(failure.tests),
+        Status::Failed(failure) => failure.tests.in_clash,
         _ => false,
     }
 }
@@ -80,56 +65,61 @@ fn passes_alone(status: &Status) -> bool
     ensures { result ≡ passes_alone (status_view status.now) }
 {
     match status {
-        Status::Applied => true,
-        Status::Accepted => true,
-        Status::Superseded => true,
+        Status::Applied | Status::Accepted | Status::Superseded => true,
         Status::Failed(failure) => are_tests_of_others(failure.tests),
         _ => false,
     }
 }
 
-/// What a line may say about a candidate.
+/// A condition on the status of a candidate.
 #[derive(Clone, Copy)]
-pub(crate) enum Saying {
+pub(crate) enum Condition {
     ChainDeleted,
     InClash,
     PassesAlone,
 }
 
-// Whether the status says this of its candidate.
-fn has_saying(saying: Saying, status: &Status) -> bool
-    ensures { result ≡ says saying (status_view status.now) }
+// Whether the status meets the condition.
+fn meets(condition: Condition, status: &Status) -> bool
+    ensures { result ≡ meets condition (status_view status.now) }
 {
-    match saying {
-        Saying::ChainDeleted => is_chain_deleted(status),
-        Saying::InClash => is_in_clash(status),
-        Saying::PassesAlone => passes_alone(status),
+    match condition {
+        Condition::ChainDeleted => is_chain_deleted(status),
+        Condition::InClash => is_in_clash(status),
+        Condition::PassesAlone => passes_alone(status),
     }
 }
 
-// Adds the id of the line, if its status says so about that id.
-fn push_id_saying(saying: Saying, line: &ReportLine, found: &mut Vec<Id>) -> Result<(), AllocError>
-    ensures { OnOk result (found.new.items ≡ found.old.items ++ id_where (says saying) (line_view line.now)) }
+// Adds the id of the line, if its status meets the condition.
+fn push_id_if_meets(
+    condition: Condition,
+    line: &ReportLine,
+    found: &mut Vec<Id>,
+) -> Result<(), AllocError>
+    ensures { OnOk result (found.new.items ≡ found.old.items ++ id_where (meets condition) (line_view line.now)) }
 {
     match line {
         ReportLine::Status { id, status, .. } => {
-            if has_saying(saying, status) {
+            if meets(condition, status) {
                 found.push(*id)?;
             }
             Ok(())
         }
-        ReportLine::Nothing => Ok(()),
-        ReportLine::Errsysmod { .. } => Ok(()),
+        ReportLine::Nothing | ReportLine::Errsysmod { .. } => Ok(()),
     }
 }
 
-// The ids of the lines whose statuses say so.
-fn ids_saying(alloc: Global, saying: Saying, lines: &[ReportLine]) -> Result<Vec<Id>, AllocError>
-    ensures { IfOk result (λ ids. ids.items ≡ ids_where (says saying) (map line_view lines.now)) }
+// The ids of the lines whose statuses meet the condition.
+fn ids_where(
+    alloc: Global,
+    condition: Condition,
+    lines: &[ReportLine],
+) -> Result<Vec<Id>, AllocError>
+    ensures { IfOk result (λ ids. ids.items ≡ ids_where (meets condition) (map line_view lines.now)) }
 {
     let mut found = Vec::new(alloc);
     for line in lines {
-        push_id_saying(saying, line, &mut found)?;
+        push_id_if_meets(condition, line, &mut found)?;
     }
     Ok(found)
 }
@@ -144,21 +134,14 @@ fn without_id(alloc: Global, id: Id, ids: &[Id]) -> Result<Vec<Id>, AllocError>
         .collect(alloc)
 }
 
-// Whether the id is one of these.
-fn is_among(ids: &[Id], id: Id) -> bool
-    ensures { result ≡ is_in ids.now id }
-{
-    ids.contains(&id)
-}
-
 /// If the id fails J8 (a DELETE takes out its chain), the other candidates whose DELETEs decide that: those that pass
 /// every test that does not depend on other candidates.
 pub(crate) fn deleters(alloc: Global, lines: &[ReportLine], id: Id) -> Result<Vec<Id>, AllocError>
     ensures { IfOk result (λ ids. ids.items ≡ deleters (map line_view lines.now) id) }
 {
-    let deleted = ids_saying(alloc, Saying::ChainDeleted, lines)?;
-    if is_among(deleted.as_slice(), id) {
-        let passing = ids_saying(alloc, Saying::PassesAlone, lines)?;
+    let deleted = ids_where(alloc, Condition::ChainDeleted, lines)?;
+    if deleted.as_slice().contains(&id) {
+        let passing = ids_where(alloc, Condition::PassesAlone, lines)?;
         return without_id(alloc, id, passing.as_slice());
     }
     Ok(Vec::new(alloc))
@@ -172,8 +155,8 @@ pub(crate) fn clashing_ids(
 ) -> Result<Vec<Id>, AllocError>
     ensures { IfOk result (λ ids. ids.items ≡ clashing (map line_view lines.now) id) }
 {
-    let clashing = ids_saying(alloc, Saying::InClash, lines)?;
-    if is_among(clashing.as_slice(), id) {
+    let clashing = ids_where(alloc, Condition::InClash, lines)?;
+    if clashing.as_slice().contains(&id) {
         return without_id(alloc, id, clashing.as_slice());
     }
     Ok(Vec::new(alloc))

@@ -7,7 +7,7 @@ ghost use Rattle.judge_system.specs.TestSets.{tests_of};
 ghost use Rattle.judge_system.specs.Views.{need_view, failure_view};
 ghost use Rattle.report.specs.Views.{status_view, line_view};
 ghost use Rattle.report.specs.Facts.{Open};
-ghost use Rattle.report.specs.FactViews.{answer_view, fact_view};
+ghost use Rattle.report.specs.FactViews.{resolution_view, fact_view};
 ghost use Rattle.report_verdict.specs.Verdict.{answered, first_answer, supply_words, need_line, need_told, causer_told};
 ghost use Rattle.report_verdict.specs.Verdict.{test_told, failure_told, verdict_word, why_told, status_told};
 ghost use Rattle.report_verdict.specs.Verdict.{verdict_told, verdict_text};
@@ -20,14 +20,15 @@ use crate::reasons::put_failed_test;
 use fields::Id;
 use fields::spelling::need_text;
 use judge_system::{Failure, OpenNeed, TestSet};
-use report::{Fact, LineWord, ReportLine, Resolution, Status, append_words};
+use report::{Fact, LineWord, ReportLine, Resolution, Status, append_words, status_word};
 use std::alloc::AllocError;
 use terms::NeedKind;
 
-// Why a need is open if the facts do not say why.
+// What the line of a need says if the facts do not tell why it is open.
 const UNSUPPLIED: &[u8] = b"nothing supplies it";
 
-// Whether the need is of this kind and for this id. No two kinds have one word, and the clause compares the words.
+// Whether the need is of this kind and for this id. It compares the words of the kinds, as its clause does: no two
+// kinds have the same word.
 fn matches_need(need: &OpenNeed, kind: NeedKind, id: &[u8]) -> bool
     ensures { result ≡ (bytes_eq (need_text need.now.kind) (need_text kind) && bytes_eq need.now.id id.now) }
 {
@@ -36,22 +37,16 @@ fn matches_need(need: &OpenNeed, kind: NeedKind, id: &[u8]) -> bool
 
 // How the need is resolved, if this fact is about it.
 fn matching_resolution<'f>(need: &OpenNeed, fact: &'f Fact<'_>) -> Option<&'f Resolution>
-    ensures { option_map (λ a. answer_view a.now) result ≡ answered need.now.kind need.now.id (fact_view fact.now) }
+    ensures { option_map (λ a. resolution_view a.now) result ≡ answered need.now.kind need.now.id (fact_view fact.now) }
 {
     match fact {
-        Fact::Requisite { requisite, answer } => {
-            if matches_need(need, requisite.kind, requisite.id.as_bytes()) {
-                Some(answer)
-            } else {
-                None
-            }
-        }
-        Fact::Hold { hold, resolution } => {
-            if matches_need(need, NeedKind::HoldError, hold.reason.as_bytes()) {
-                resolution.as_ref()
-            } else {
-                None
-            }
+        Fact::Requisite {
+            requisite,
+            resolution,
+        } if matches_need(need, requisite.kind, requisite.id.as_bytes()) => Some(resolution),
+        Fact::Hold { hold, resolution }
+            if matches_need(need, NeedKind::HoldError, hold.reason.as_bytes()) => {
+            resolution.as_ref()
         }
         _ => None,
     }
@@ -59,12 +54,12 @@ fn matching_resolution<'f>(need: &OpenNeed, fact: &'f Fact<'_>) -> Option<&'f Re
 
 // How the need is resolved, by the first fact that is about it.
 fn first_resolution<'f>(need: &OpenNeed, facts: &'f [Fact<'_>]) -> Option<&'f Resolution>
-    ensures { option_map (λ a. answer_view a.now) result
+    ensures { option_map (λ a. resolution_view a.now) result
         ≡ first_answer need.now.kind need.now.id (map fact_view facts.now) }
 {
     for fact in facts {
-        if let Some(answer) = matching_resolution(need, fact) {
-            return Some(answer);
+        if let Some(resolution) = matching_resolution(need, fact) {
+            return Some(resolution);
         }
     }
     None
@@ -107,21 +102,20 @@ fn put_need_line<'a>(
     append_words(INDENT, &words, text)
 }
 
-// Appends the line of an open need. `answer` is what the facts say of it, if one of them is about it.
+// Appends the line of an open need with how it could be resolved, if a fact says that.
 fn put_need_resolution<'a>(
     need: &'a OpenNeed,
-    answer: Option<&'a Resolution>,
+    resolution: Option<&'a Resolution>,
     text: &mut Vec<u8>,
 ) -> Result<(), AllocError>
     ensures { OnOk result (text.new.items ≡ text.old.items
-        ++ need_line (need_view need.now) (supply_words (option_map (λ a. answer_view a.now) answer.entry))) }
+        ++ need_line (need_view need.now) (supply_words (option_map (λ a. resolution_view a.now) resolution.entry))) }
 {
-    let Some(answer) = answer else {
+    let Some(resolution) = resolution else {
         return put_need_line(need, UNSUPPLIED, text);
     };
-    match answer {
-        Resolution::Supplied(_) => put_need_line(need, UNSUPPLIED, text),
-        Resolution::Waived => put_need_line(need, UNSUPPLIED, text),
+    match resolution {
+        Resolution::Supplied(_) | Resolution::Waived => put_need_line(need, UNSUPPLIED, text),
         Resolution::ByItself => put_need_line(need, b"it supplies this itself", text),
         Resolution::Open(ids) => put_open_need(need, ids.as_slice(), text),
     }
@@ -206,29 +200,16 @@ fn put_failure(
     put_causers(id, failure.causers.as_slice(), text)
 }
 
-/// What would become of a candidate. For an id that is no candidate, the word of its line.
+/// The words for what would become of a candidate. For an id that is no candidate, the word of its line.
 pub(crate) fn verdict_word(status: &Status) -> &'static [u8]
     ensures { result.now ≡ verdict_word (status_view status.now) }
 {
     match status {
-        Status::Received => b"RECEIVED",
-        Status::Already => b"ALREADY",
-        Status::Refused(_) => b"REFUSED",
-        Status::Assigned(_) => b"ASSIGNED",
-        Status::Unknown => b"UNKNOWN",
-        Status::Held(_) => b"HELD",
-        Status::Replaced(_) => b"REPLACED",
-        Status::Released(_) => b"RELEASED",
-        Status::Rejected => b"REJECTED",
         Status::Applied => b"WOULD BE APPLIED",
         Status::Accepted => b"WOULD BE ACCEPTED",
         Status::Superseded => b"WOULD BE SUPERSEDED",
         Status::Failed(_) => b"WOULD FAIL",
-        Status::Deleted => b"DELETED",
-        Status::Missing => b"MISSING",
-        Status::NoVer => b"NOVER",
-        Status::Restored => b"RESTORED",
-        Status::NotApplied => b"NOTAPPLIED",
+        _ => status_word(status),
     }
 }
 
@@ -274,32 +255,19 @@ fn put_line_verdict(
         ≡ text.old.items ++ verdict_told id (basis_of grounds.now) (line_view line.now)) }
 {
     match line {
-        ReportLine::Status { id: of, status, .. } => {
-            if id == *of {
+        ReportLine::Status {
+            id: line_id,
+            status,
+            ..
+        } => {
+            if id == *line_id {
                 put_status(id, grounds, status, text)
             } else {
                 Ok(())
             }
         }
-        ReportLine::Nothing => Ok(()),
-        ReportLine::Errsysmod { .. } => Ok(()),
+        ReportLine::Nothing | ReportLine::Errsysmod { .. } => Ok(()),
     }
-}
-
-// Appends what these lines say about the id.
-fn put_lines_verdict(
-    id: Id,
-    grounds: &Grounds<'_, '_>,
-    lines: &[ReportLine],
-    text: &mut Vec<u8>,
-) -> Result<(), AllocError>
-    ensures { OnOk result (text.new.items
-        ≡ text.old.items ++ flat_map (verdict_told id (basis_of grounds.now)) (map line_view lines.now)) }
-{
-    for line in lines {
-        put_line_verdict(id, grounds, line, text)?;
-    }
-    Ok(())
 }
 
 /// Appends what the lines of an APPLY or ACCEPT say about the id, in words that name its facts, the other candidates
@@ -307,5 +275,8 @@ fn put_lines_verdict(
 pub fn put_verdict(id: Id, grounds: &Grounds<'_, '_>, text: &mut Vec<u8>) -> Result<(), AllocError>
     ensures { OnOk result (text.new.items ≡ text.old.items ++ verdict_text id (basis_of grounds.now)) }
 {
-    put_lines_verdict(id, grounds, grounds.lines, text)
+    for line in grounds.lines {
+        put_line_verdict(id, grounds, line, text)?;
+    }
+    Ok(())
 }

@@ -7,7 +7,7 @@ ghost use Rattle.terms.specs.Candidates.{is_installable};
 ghost use Rattle.zones.specs.Scopes.{global_of};
 ghost use Rattle.report.specs.Facts.{suppliers, is_waivable, is_waived, MayServe, IsResolution};
 ghost use Rattle.report_why.specs.Asking.{setting_in, left_in};
-ghost use Rattle.report.specs.FactViews.{answer_view};
+ghost use Rattle.report.specs.FactViews.{resolution_view};
 
 use crate::asking::Asking;
 use fields::{Id, IdList};
@@ -16,7 +16,8 @@ use std::alloc::{AllocError, Global};
 use terms::NeedKind;
 use zones::Zone;
 
-// The id alone, if it stays applied when the DELETE of the SYSMOD in question has taken out what it names.
+// The id as a list of one if it is applied and the DELETE of the SYSMOD in question does not take it out, otherwise an
+// empty list.
 fn id_if_applied(alloc: Global, asking: &Asking<'_, '_>, id: Id) -> Result<Vec<Id>, AllocError>
     ensures { IfOk result (λ ids. ids.items ≡ (if is_applied (left_in asking.now) id then id ∷ [] else [])) }
 {
@@ -41,8 +42,8 @@ fn suppliers(
         NeedKind::Fmid => id_if_applied(alloc, asking, id),
         _ => {
             let mut found = id_if_applied(alloc, asking, id)?;
-            let above = asking.superseders(alloc, id)?;
-            found.extend_from_slice(above.as_slice())?;
+            let superseders = asking.superseders(alloc, id)?;
+            found.extend_from_slice(superseders.as_slice())?;
             Ok(found)
         }
     }
@@ -52,13 +53,11 @@ fn suppliers(
 fn waives(zone: &Zone, by: Id, id: Id) -> bool
     ensures { result ≡ is_in (waived_of zone.now by) id }
 {
-    match zone.entry(by) {
-        Some(entry) => entry.waived.contains(id),
-        None => false,
-    }
+    zone.entry(by)
+        .is_some_and(|entry| entry.waived.contains(id))
 }
 
-// Only PRE, REQ and IFREQ can be waived.
+// Whether requisites of this kind can be waived.
 fn is_waivable(kind: NeedKind) -> bool
     ensures { result ≡ is_waivable kind }
 {
@@ -72,13 +71,10 @@ fn is_waived(zone: &Zone, id: Id, requisite: Requisite) -> bool
     if !zone.is_applied(id) || !is_waivable(requisite.kind) {
         return false;
     }
-    if waives(zone, requisite.by, requisite.id) {
-        return true;
-    }
-    match requisite.function {
-        Some(function) => waives(zone, function, requisite.id),
-        None => false,
-    }
+    waives(zone, requisite.by, requisite.id)
+        || requisite
+            .function
+            .is_some_and(|function| waives(zone, function, requisite.id))
 }
 
 // Whether the id is received with a `++VER` for the zone, and the zone neither supplies it nor has deleted it.
@@ -112,7 +108,7 @@ pub(crate) fn resolve_requisite(
     asking: &Asking<'_, '_>,
     requisite: Requisite,
 ) -> Result<Resolution, AllocError>
-    ensures { IfOk result (λ a. IsResolution (setting_in asking.now) asking.now.id requisite (answer_view a)) }
+    ensures { IfOk result (λ a. IsResolution (setting_in asking.now) asking.now.id requisite (resolution_view a)) }
 {
     let Requisite { kind, id, .. } = requisite;
     if asking.meets_need(kind, id) {

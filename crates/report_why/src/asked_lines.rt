@@ -3,7 +3,7 @@ ghost use Rattle.std.specs.Prelude.{◌≡◌, ◌++◌, option_map, OnOk};
 ghost use Rattle.std.specs.String.{string_bytes};
 ghost use Rattle.report.specs.Facts.{RequisiteFact, HoldFact};
 ghost use Rattle.report_why.specs.FactText.{id_lines, answer_lines, comment_line, fact_text};
-ghost use Rattle.report.specs.FactViews.{answer_view};
+ghost use Rattle.report.specs.FactViews.{resolution_view};
 
 use crate::fact_words::resolution_word;
 use crate::indent::INDENT;
@@ -15,7 +15,7 @@ use report::{
 use std::alloc::AllocError;
 use sysmods_values::Hold;
 
-// Appends a line with the word and an id for each of the ids, or one line with `-` if there is none.
+// Appends a line for each of the ids, with the word and the id, or one line with `-` if there are none.
 fn put_id_lines(word: &[u8], ids: &[Id], text: &mut Vec<u8>) -> Result<(), AllocError>
     ensures { OnOk result (text.new.items ≡ text.old.items ++ id_lines word.now ids.now) }
 {
@@ -23,20 +23,17 @@ fn put_id_lines(word: &[u8], ids: &[Id], text: &mut Vec<u8>) -> Result<(), Alloc
         return append_words(INDENT, &[LineWord::Text(word), LineWord::Text(b"-")], text);
     }
     for id in ids {
-        append_words(
-            INDENT,
-            &[LineWord::Text(word), LineWord::Text(id.as_bytes())],
-            text,
-        )?;
+        let words = [LineWord::Text(word), LineWord::Text(id.as_bytes())];
+        append_words(INDENT, &words, text)?;
     }
     Ok(())
 }
 
 // Appends a line for each SYSMOD that supplies the requisite, or that would serve it.
-fn put_resolution(answer: &Resolution, text: &mut Vec<u8>) -> Result<(), AllocError>
-    ensures { OnOk result (text.new.items ≡ text.old.items ++ answer_lines (answer_view answer.now)) }
+fn put_resolution(resolution: &Resolution, text: &mut Vec<u8>) -> Result<(), AllocError>
+    ensures { OnOk result (text.new.items ≡ text.old.items ++ answer_lines (resolution_view resolution.now)) }
 {
-    match answer {
+    match resolution {
         Resolution::Supplied(ids) => put_id_lines(b"SUPPLIER", ids.as_slice(), text),
         Resolution::Waived => Ok(()),
         Resolution::ByItself => Ok(()),
@@ -47,30 +44,27 @@ fn put_resolution(answer: &Resolution, text: &mut Vec<u8>) -> Result<(), AllocEr
 /// Appends the lines of a requisite: its kind and id, how it is resolved, and by which SYSMODs.
 pub(crate) fn put_requisite(
     requisite: &Requisite,
-    answer: &Resolution,
+    resolution: &Resolution,
     text: &mut Vec<u8>,
 ) -> Result<(), AllocError>
     ensures { OnOk result (text.new.items
-        ≡ text.old.items ++ fact_text (RequisiteFact requisite.now (answer_view answer.now))) }
+        ≡ text.old.items ++ fact_text (RequisiteFact requisite.now (resolution_view resolution.now))) }
 {
     let kind = LineWord::Text(need_text(requisite.kind));
     let id = LineWord::Text(requisite.id.as_bytes());
     let by = LineWord::Text(requisite.by.as_bytes());
-    let answered = LineWord::Text(resolution_word(answer));
+    let resolved = LineWord::Text(resolution_word(resolution));
     match &requisite.function {
         Some(function) => {
             let function = LineWord::Text(function.as_bytes());
-            let (fmid, stated) = (LineWord::Text(b"FMID"), LineWord::Text(b"BY"));
-            append_words(
-                b" ",
-                &[kind, id, fmid, function, stated, by, answered],
-                text,
-            )?;
-            put_resolution(answer, text)
+            let (fmid_word, by_word) = (LineWord::Text(b"FMID"), LineWord::Text(b"BY"));
+            let words = [kind, id, fmid_word, function, by_word, by, resolved];
+            append_words(b" ", &words, text)?;
+            put_resolution(resolution, text)
         }
         None => {
-            append_words(b" ", &[kind, id, answered], text)?;
-            put_resolution(answer, text)
+            append_words(b" ", &[kind, id, resolved], text)?;
+            put_resolution(resolution, text)
         }
     }
 }
@@ -81,14 +75,13 @@ fn put_comment(comment: &Option<String>, text: &mut Vec<u8>) -> Result<(), Alloc
         ≡ text.old.items ++ comment_line (option_map string_bytes comment.now)) }
 {
     match comment {
-        Some(comment) => append_words(
-            INDENT,
-            &[
+        Some(comment) => {
+            let words = [
                 LineWord::Text(b"COMMENT"),
                 LineWord::Text(comment.as_bytes()),
-            ],
-            text,
-        ),
+            ];
+            append_words(INDENT, &words, text)
+        }
         None => Ok(()),
     }
 }
@@ -100,24 +93,26 @@ pub(crate) fn put_hold(
     text: &mut Vec<u8>,
 ) -> Result<(), AllocError>
     ensures { OnOk result (text.new.items
-        ≡ text.old.items ++ fact_text (HoldFact hold.now (option_map answer_view resolution.now))) }
+        ≡ text.old.items ++ fact_text (HoldFact hold.now (option_map resolution_view resolution.now))) }
 {
     let kind = LineWord::Left(HOLD_WIDTH, hold_text(hold.kind));
     let reason = LineWord::Text(hold.reason.as_bytes());
     let mark = LineWord::If(hold.internal, b"INTERNAL", b"EXTERNAL");
-    let (of_class, of_date) = (LineWord::Text(b"CLASS"), LineWord::Text(b"DATE"));
+    let (class_word, date_word) = (LineWord::Text(b"CLASS"), LineWord::Text(b"DATE"));
     let class = LineWord::Text(class_or_dash(&hold.class));
     let date = LineWord::Text(date_or_dash(&hold.date));
     match resolution {
-        Some(answer) => {
-            let answered = LineWord::Text(resolution_word(answer));
-            let words = [kind, reason, mark, of_class, class, of_date, date, answered];
+        Some(resolution) => {
+            let resolved = LineWord::Text(resolution_word(resolution));
+            let words = [
+                kind, reason, mark, class_word, class, date_word, date, resolved,
+            ];
             append_words(b"  HOLD", &words, text)?;
             put_comment(&hold.comment, text)?;
-            put_resolution(answer, text)
+            put_resolution(resolution, text)
         }
         None => {
-            let words = [kind, reason, mark, of_class, class, of_date, date];
+            let words = [kind, reason, mark, class_word, class, date_word, date];
             append_words(b"  HOLD", &words, text)?;
             put_comment(&hold.comment, text)
         }

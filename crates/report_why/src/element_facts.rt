@@ -4,38 +4,39 @@ ghost use Rattle.terms.specs.Beside.{Beside};
 ghost use Rattle.terms.specs.Lookups.{changes_of, element_of};
 ghost use Rattle.sysmods.specs.Choices.{choice};
 ghost use Rattle.zones.specs.Scopes.{global_of};
-ghost use Rattle.report.specs.Facts.{IsFound, HasFound, IsElementFact};
+ghost use Rattle.report.specs.Facts.{IsRank, IsFound, HasFound, IsElementFact};
 ghost use Rattle.report_why.specs.Asking.{setting_in, view_in};
-ghost use Rattle.report.specs.FactViews.{found_view, fact_view};
+ghost use Rattle.report.specs.FactViews.{rank_view, found_view, fact_view};
 ghost use Rattle.report_why.specs.Makers.{IsMaker};
 
 use crate::asking::Asking;
 use fields::Id;
-use report::{Fact, Found, Maker, Rank};
+use report::{ChangedElement, Fact, Found, Maker, Rank};
 use std::alloc::{AllocError, Global};
 use sysmods::VerChoice;
 use sysmods_values::ElemChange;
 use zones::Element;
 
+// How the SYSMOD `id` is related to the SYSMOD `other`.
+fn rank_over(alloc: Global, vers: &VerChoice<'_>, id: Id, other: Id) -> Result<Rank, AllocError>
+    ensures { IfOk result (λ rank. IsRank (choice vers.now) id other (rank_view rank)) }
+{
+    if id == other {
+        return Ok(Rank::Itself);
+    }
+    if vers.over(alloc, id, other)? {
+        return Ok(Rank::Over);
+    }
+    Ok(Rank::NotOver)
+}
+
 // The SYSMOD `other`, which made an element, and how the SYSMOD `id` is related to it.
 fn maker(alloc: Global, vers: &VerChoice<'_>, id: Id, other: Id) -> Result<Maker, AllocError>
     ensures { IfOk result (λ m. IsMaker (choice vers.now) id other m) }
 {
-    if id == other {
-        return Ok(Maker {
-            id: other,
-            rank: Rank::Itself,
-        });
-    }
-    if vers.over(alloc, id, other)? {
-        return Ok(Maker {
-            id: other,
-            rank: Rank::Over,
-        });
-    }
     Ok(Maker {
         id: other,
-        rank: Rank::NotOver,
+        rank: rank_over(alloc, vers, id, other)?,
     })
 }
 
@@ -88,12 +89,12 @@ pub(crate) fn element_facts(
     let mut facts = Vec::new(alloc);
     for change in asking.scope.global().changes_of(asking.id) {
         let found = element_of_change(alloc, asking, change)?;
-        facts.push(Fact::Element {
+        facts.push(Fact::Element(ChangedElement {
             elem_type: change.elem_type,
             name: change.name,
             replaces: change.is_replacement(),
             found,
-        })?;
+        }))?;
     }
     Ok(facts)
 }

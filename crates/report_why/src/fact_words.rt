@@ -1,7 +1,7 @@
 //! How single values of facts are spelled.
 ghost use Rattle.std.specs.Prelude.{◌≡◌};
 ghost use Rattle.report_why.specs.FactText.{type_word, standing_text, answer_word, rank_text};
-ghost use Rattle.report.specs.FactViews.{standing_view, answer_view, rank_view};
+ghost use Rattle.report.specs.FactViews.{standing_view, resolution_view, rank_view};
 
 use fields::spelling::kind_text;
 use report::{Rank, Resolution, Standing, applied_word};
@@ -31,10 +31,10 @@ pub(crate) fn standing_text(standing: Standing) -> &'static [u8]
 }
 
 /// The word for how a requisite is resolved.
-pub(crate) fn resolution_word(answer: &Resolution) -> &'static [u8]
-    ensures { result.now ≡ answer_word (answer_view answer.now) }
+pub(crate) fn resolution_word(resolution: &Resolution) -> &'static [u8]
+    ensures { result.now ≡ answer_word (resolution_view resolution.now) }
 {
-    match answer {
+    match resolution {
         Resolution::Supplied(_) => b"SUPPLIED",
         Resolution::Waived => b"WAIVED",
         Resolution::ByItself => b"ITSELF",

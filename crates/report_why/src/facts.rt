@@ -48,10 +48,10 @@ impl<'a> Lookups<'a> {
         ensures global { IfOk result (λ found. found.global.now ≡ global.now) }
         ensures zone { IfOk result (λ found. found.zone.now ≡ zone.now) }
     {
-        let bare = choose(alloc, global, zone, &IdList::new(alloc))?;
+        let vers = choose(alloc, global, zone, &IdList::new(alloc))?;
         let applied = applied_ids(alloc, zone)?;
         let functions = functions_among(alloc, global, applied.as_slice())?;
-        let needed = needed_pairs(alloc, &bare, zone, applied.as_slice())?;
+        let needed = needed_pairs(alloc, &vers, zone, applied.as_slice())?;
         Ok(Lookups {
             global,
             zone,
@@ -124,13 +124,13 @@ fn all_facts<'a>(
         ≡ place (global_of asking.now.scope) asking.now.scope.zone.now asking.now.scope.ids.now asking.now.id + 1 }
     ensures { IfOk result (λ facts. AreFacts (setting_in asking.now) asking.now.id (facts_view facts.items)) }
 {
-    let own = standing_and_ver_facts(alloc, lookups, &asking.scope, asking.id)?;
+    let first = standing_and_ver_facts(alloc, lookups, &asking.scope, asking.id)?;
     let asked = requisite_and_hold_facts(alloc, asking)?;
-    let facts = join_facts(own, asked)?;
+    let up_to_holds = join_facts(first, asked)?;
     let changes = change_facts(alloc, asking)?;
-    let changed = join_facts(facts, changes)?;
+    let up_to_changes = join_facts(up_to_holds, changes)?;
     let needed = needed_facts(alloc, lookups.needed.as_slice(), asking.id)?;
-    join_facts(changed, needed)
+    join_facts(up_to_changes, needed)
 }
 
 /// All facts of the id, for an install with the candidates of this scope.
@@ -147,19 +147,19 @@ pub fn id_facts<'a>(
         ≡ place scope.now.vers.now.global.now scope.now.zone.now scope.now.ids.now id + 1 }
     ensures { IfOk result (λ facts. AreFacts (setting_of scope.now) id (facts_view facts.items)) }
 {
-    let seen = scope.view_deletions(alloc, id)?;
-    let dropped = deletions(alloc, scope.vers, &[id])?;
+    let view_dels = scope.view_deletions(alloc, id)?;
+    let own_dels = deletions(alloc, scope.vers, &[id])?;
     let asking = Asking {
         scope: *scope,
         id,
         seen: ZoneLess {
             vers: scope.vers,
-            dels: seen.as_slice(),
+            dels: view_dels.as_slice(),
             zone: scope.zone,
         },
         left: ZoneLess {
             vers: scope.vers,
-            dels: dropped.as_slice(),
+            dels: own_dels.as_slice(),
             zone: scope.zone,
         },
         applied: lookups.applied.as_slice(),

@@ -6,7 +6,7 @@ ghost use Rattle.terms.specs.Lookups.{holds_of};
 ghost use Rattle.zones.specs.Scopes.{global_of};
 ghost use Rattle.report.specs.Facts.{holds_on, HasResolution, IsHoldFact};
 ghost use Rattle.report_why.specs.Asking.{setting_in};
-ghost use Rattle.report.specs.FactViews.{answer_view, fact_view};
+ghost use Rattle.report.specs.FactViews.{resolution_view, fact_view};
 
 use crate::answers::resolve_requisite;
 use crate::asking::Asking;
@@ -25,7 +25,7 @@ fn error_hold_resolution(
 ) -> Result<Option<Resolution>, AllocError>
     requires { hold.now.kind ≡ Error }
     ensures { IfOk result (λ a. HasResolution (setting_in asking.now) asking.now.id hold.now Error
-        (option_map answer_view a)) }
+        (option_map resolution_view a)) }
 {
     match hold.reason.as_id() {
         Some(reason) => {
@@ -48,7 +48,7 @@ fn hold_resolution(
     hold: &Hold,
 ) -> Result<Option<Resolution>, AllocError>
     ensures { IfOk result (λ a. HasResolution (setting_in asking.now) asking.now.id hold.now hold.now.kind
-        (option_map answer_view a)) }
+        (option_map resolution_view a)) }
 {
     match hold.kind {
         HoldKind::Error => error_hold_resolution(alloc, asking, hold),

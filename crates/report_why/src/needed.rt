@@ -1,6 +1,5 @@
 //! Which applied SYSMODs need what another one supplies.
 ghost use Rattle.std.specs.Prelude.{◌≡◌, ◌++◌, [], ◌∷◌, filter, map, IfOk, OnOk};
-ghost use Rattle.std.specs.Prelude.{if◌then◌else◌};
 ghost use Rattle.std.specs.List.{flat_map, list_all};
 ghost use Rattle.std.specs.Str.{bytes_eq};
 ghost use Rattle.terms.specs.Types.{Global as AGlobal, Zone as AZone};
@@ -19,21 +18,11 @@ use sysmods::VerChoice;
 use undo::suppliers;
 use zones::{Zone, binding_requisites};
 
-// Whether the group that begins with `first` has no other member. It may name that one several times.
+// Whether the group of `first` and the `rest` has only one member, which it may name several times.
 fn is_only_member(first: Id, rest: &[Id]) -> bool
     ensures { result ≡ list_all (bytes_eq first) rest.now }
 {
     rest.iter().all(|id| first == *id)
-}
-
-// Adds the id if `is_so`. It stands apart so that the clause of its caller needs no cases.
-fn push_id_if(is_so: bool, id: Id, found: &mut Vec<Id>) -> Result<(), AllocError>
-    ensures { OnOk result (found.new.items ≡ found.old.items ++ (if is_so then id ∷ [] else [])) }
-{
-    if is_so {
-        found.push(id)?;
-    }
-    Ok(())
 }
 
 // Adds the member of the group, if it has only one.
@@ -43,7 +32,9 @@ fn push_only_member(group: &[Id], found: &mut Vec<Id>) -> Result<(), AllocError>
     let Some((first, rest)) = group.split_first() else {
         return Ok(());
     };
-    push_id_if(is_only_member(*first, rest), *first, found)?;
+    if is_only_member(*first, rest) {
+        found.push(*first)?;
+    }
     Ok(())
 }
 
@@ -76,7 +67,7 @@ fn push_only_suppliers(
     Ok(())
 }
 
-// Adds the function, if it is applied.
+// Adds the function, if there is one and it is applied.
 fn push_applied_function(
     alloc: Global,
     zone: &Zone,
@@ -95,7 +86,7 @@ fn push_applied_function(
     }
 }
 
-// The SYSMODs each of which alone supplies something that an applied one needs.
+// The SYSMODs that are the only supplier of something that the applied SYSMOD `by` needs.
 fn only_suppliers(
     alloc: Global,
     vers: &VerChoice<'_>,
@@ -111,8 +102,8 @@ fn only_suppliers(
     Ok(found)
 }
 
-/// Each applied SYSMOD that alone supplies something that another one needs, with that one. The `++VER`s are those that
-/// count without candidates.
+/// A pair `(id, by)` for each SYSMOD `id` that is the only supplier of something that the applied SYSMOD `by` needs.
+/// The `++VER`s are those that count without candidates.
 pub(crate) fn needed_pairs(
     alloc: Global,
     vers: &VerChoice<'_>,
@@ -132,12 +123,13 @@ pub(crate) fn needed_pairs(
     Ok(pairs)
 }
 
-// Adds `by` of a pair `(id, by)` of `needed_pairs`, if the pair is about this id and `by` is another SYSMOD.
+// Adds `by` of a pair `(supplier, by)` of `needed_pairs`, if the supplier is this id and `by` is another SYSMOD.
 fn push_needing(pair: &(Id, Id), id: Id, found: &mut Vec<Id>) -> Result<(), AllocError>
     ensures { OnOk result (found.new.items ≡ found.old.items ++ needing id pair.now) }
 {
-    if pair.0 == id && pair.1 != id {
-        found.push(pair.1)?;
+    let (supplier, by) = *pair;
+    if supplier == id && by != id {
+        found.push(by)?;
     }
     Ok(())
 }

@@ -72,7 +72,7 @@ fn push_own_ifreqs(
     Ok(())
 }
 
-// Adds what these `++IF`s of the SYSMOD `by` require for the function.
+// Adds the requisites of those of these `++IF`s, of the SYSMOD `by`, that are for the function.
 fn push_ifreqs_for(
     function: Id,
     by: Id,
@@ -90,14 +90,15 @@ fn push_ifreqs_for(
     Ok(())
 }
 
-// Whether `by` is applied in the view of the SYSMOD in question, and not that SYSMOD itself.
-fn is_other_applied(asking: &Asking<'_, '_>, by: Id) -> bool
+// Whether `by` is applied in the view of the SYSMOD in question, and is another SYSMOD.
+fn is_another_applied(asking: &Asking<'_, '_>, by: Id) -> bool
     ensures { result ≡ (is_applied (view_in asking.now) by && not (bytes_eq asking.now.id by)) }
 {
     asking.is_applied_in_view(by) && asking.id != by
 }
 
-// Adds what the `++IF`s of other SYSMODs among these, which are applied in the view, require for the id as a function.
+// Adds what the `++IF`s of those SYSMODs among `ids` require for the function in question that are others and applied
+// in its view.
 fn push_ifreqs_of_others(
     asking: &Asking<'_, '_>,
     ids: &[Id],
@@ -108,14 +109,14 @@ fn push_ifreqs_of_others(
         (filter (λ y. is_applied (view_in asking.now) y && not (bytes_eq asking.now.id y)) ids.now)) }
 {
     for by in ids {
-        if is_other_applied(asking, *by) {
+        if is_another_applied(asking, *by) {
             push_ifreqs_for(asking.id, *by, asking.scope.ifs(*by), found)?;
         }
     }
     Ok(())
 }
 
-// Adds the requisites by `++IF`: its own, and if it is a function those that other applied SYSMODs state for it.
+// Adds the requisites by `++IF`: the id's own, and if it is a function, those that other applied SYSMODs state for it.
 fn push_all_ifreqs(asking: &Asking<'_, '_>, found: &mut Vec<Requisite>) -> Result<(), AllocError>
     ensures { OnOk result (found.new.items ≡ found.old.items ++ conditions (setting_in asking.now) asking.now.id) }
 {
@@ -126,7 +127,8 @@ fn push_all_ifreqs(asking: &Asking<'_, '_>, found: &mut Vec<Requisite>) -> Resul
     push_ifreqs_of_others(asking, asking.applied, found)
 }
 
-// All that the id asks for, except the reasons of ERROR holds.
+// All that the id asks for: its FMID, its requisites, and what would lose its last supplier by its DELETE. The reasons
+// of ERROR holds are left to `hold_facts`.
 fn requisites(alloc: Global, asking: &Asking<'_, '_>) -> Result<Vec<Requisite>, AllocError>
     ensures { IfOk result (λ found. (lost : List AnId) × AreOrphans (setting_in asking.now) asking.now.id lost
         × (found.items ≡ requisites (setting_in asking.now) asking.now.id lost)) }
@@ -139,9 +141,9 @@ fn requisites(alloc: Global, asking: &Asking<'_, '_>) -> Result<Vec<Requisite>, 
     push_requisites_of_kind(NeedKind::Pre, id, scope.pre(id), &mut found)?;
     push_requisites_of_kind(NeedKind::Req, id, scope.req(id), &mut found)?;
     push_all_ifreqs(asking, &mut found)?;
-    let losses = orphans(alloc, scope.vers, scope.zone, id)?;
-    let lost = IdList::from_vec(losses);
-    push_requisites_of_kind(NeedKind::Orphan, id, lost.as_slice(), &mut found)?;
+    let unsorted_orphans = orphans(alloc, scope.vers, scope.zone, id)?;
+    let orphans = IdList::from_vec(unsorted_orphans);
+    push_requisites_of_kind(NeedKind::Orphan, id, orphans.as_slice(), &mut found)?;
     Ok(found)
 }
 
@@ -157,10 +159,10 @@ pub(crate) fn requisite_facts(
     let found = requisites(alloc, asking)?;
     let mut facts = Vec::new(alloc);
     for requisite in found.as_slice() {
-        let answer = resolve_requisite(alloc, asking, *requisite)?;
+        let resolution = resolve_requisite(alloc, asking, *requisite)?;
         facts.push(Fact::Requisite {
             requisite: *requisite,
-            answer,
+            resolution,
         })?;
     }
     Ok(facts)

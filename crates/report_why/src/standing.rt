@@ -15,13 +15,10 @@ use zones::Zone;
 fn is_superseded(zone: &Zone, id: Id) -> bool
     ensures { result ≡ not (is_nil (supby_of zone.now id)) }
 {
-    match zone.entry(id) {
-        Some(entry) => !entry.supby.is_empty(),
-        None => false,
-    }
+    zone.entry(id).is_some_and(|entry| !entry.supby.is_empty())
 }
 
-// The state of the id in the zone. If it has none there, whether it is received.
+// The state of the id in the zone. For an id with no state there, it says whether the id is received.
 fn standing(global: &GlobalZone, zone: &Zone, id: Id) -> Standing
     ensures { standing_view result ≡ standing global.now zone.now id }
 {
@@ -44,8 +41,7 @@ fn standing(global: &GlobalZone, zone: &Zone, id: Id) -> Standing
 fn kind_of(global: &GlobalZone, id: Id) -> Option<Kind>
     ensures { result ≡ option_map (λ s. s.kind) (sysmod_of global.now id) }
 {
-    let sysmod = global.get(id)?;
-    Some(sysmod.kind)
+    Some(global.get(id)?.kind)
 }
 
 /// The state of the id, and its entry if there is one.

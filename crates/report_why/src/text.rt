@@ -1,32 +1,26 @@
 //! The text of facts.
 ghost use Rattle.std.specs.Prelude.{◌≡◌, ◌++◌, map, OnOk};
-ghost use Rattle.report.specs.Facts.{VerFact};
 ghost use Rattle.report_why.specs.FactText.{fact_text, facts_text as text_of, fact_code, facts_code as code_of};
-ghost use Rattle.report.specs.FactViews.{fact_view};
+ghost use Rattle.report.specs.FactViews.{ver_view, fact_view};
 
 use crate::asked_lines::{put_hold, put_requisite};
 use crate::element_lines::put_element;
 use crate::fact_words::{kind_or_dash, standing_text};
-use fields::Id;
-use report::{Fact, LineWord, Standing, TYPE_WIDTH, append_words, entry_words, id_or_dash};
+use report::{
+    Fact, LineWord, NumberedVer, Standing, TYPE_WIDTH, append_words, entry_words, id_or_dash,
+};
 use std::alloc::AllocError;
 
 // Appends the line of a `++VER`.
-fn put_ver(
-    number: usize,
-    fmid: &Option<Id>,
-    fits: bool,
-    counts: bool,
-    text: &mut Vec<u8>,
-) -> Result<(), AllocError>
-    ensures { OnOk result (text.new.items ≡ text.old.items ++ fact_text (VerFact number fmid.now fits counts)) }
+fn put_ver(ver: &NumberedVer, text: &mut Vec<u8>) -> Result<(), AllocError>
+    ensures { OnOk result (text.new.items ≡ text.old.items ++ fact_text (ver_view ver.now)) }
 {
     let words = [
-        LineWord::Number(number),
+        LineWord::Number(ver.number),
         LineWord::Text(b"FMID"),
-        LineWord::Text(id_or_dash(fmid)),
-        LineWord::If(fits, b"FITS", b"-"),
-        LineWord::If(counts, b"COUNTS", b"-"),
+        LineWord::Text(id_or_dash(&ver.fmid)),
+        LineWord::If(ver.fits, b"FITS", b"-"),
+        LineWord::If(ver.counts, b"COUNTS", b"-"),
     ];
     append_words(b"  VER", &words, text)
 }
@@ -42,20 +36,13 @@ fn put_fact(fact: &Fact<'_>, text: &mut Vec<u8>) -> Result<(), AllocError>
             append_words(id.as_bytes(), &[kind, standing], text)
         }
         Fact::Entry { kind, entry } => append_words(b"  ENTRY", &entry_words(*kind, entry), text),
-        Fact::Ver {
-            number,
-            fmid,
-            fits,
-            counts,
-        } => put_ver(*number, fmid, *fits, *counts, text),
-        Fact::Requisite { requisite, answer } => put_requisite(requisite, answer, text),
+        Fact::Ver(ver) => put_ver(ver, text),
+        Fact::Requisite {
+            requisite,
+            resolution,
+        } => put_requisite(requisite, resolution, text),
         Fact::Hold { hold, resolution } => put_hold(hold, resolution, text),
-        Fact::Element {
-            elem_type,
-            name,
-            replaces,
-            found,
-        } => put_element(*elem_type, name, *replaces, found, text),
+        Fact::Element(element) => put_element(element, text),
         Fact::Delete { id, own } => {
             let chain = LineWord::If(*own, b"CHAIN", b"-");
             append_words(b"  DELETE", &[LineWord::Text(id.as_bytes()), chain], text)
@@ -80,7 +67,10 @@ pub fn put_facts(facts: &[Fact<'_>], text: &mut Vec<u8>) -> Result<(), AllocErro
     Ok(())
 }
 
-// The return code of one fact: 4 if it says that the id is unknown, otherwise 0.
+// The return code of a fact which says that the id is unknown.
+const UNKNOWN_CODE: u8 = 4;
+
+// The return code of one fact.
 fn fact_code(fact: &Fact<'_>) -> u8
     ensures { result ≡ fact_code (fact_view fact.now) }
 {
@@ -88,12 +78,12 @@ fn fact_code(fact: &Fact<'_>) -> u8
         Fact::Standing {
             standing: Standing::Missing,
             ..
-        } => 4,
+        } => UNKNOWN_CODE,
         _ => 0,
     }
 }
 
-/// The return code of `smpe why` for these facts: 4 if an id is unknown.
+/// The return code of `smpe why` for these facts: 4 if one of them says that an id is unknown, otherwise 0.
 pub fn facts_code(facts: &[Fact<'_>]) -> u8
     ensures { result ≡ code_of (map fact_view facts.now) }
 {

@@ -11,7 +11,7 @@ ghost use Rattle.report_why.specs.Numbered.{numbered};
 ghost use Rattle.report.specs.FactViews.{fact_view};
 
 use fields::Id;
-use report::Fact;
+use report::{Fact, NumberedVer};
 use std::alloc::{AllocError, Global};
 use sysmods_values::Ver;
 use zones::{Scope, fits};
@@ -21,16 +21,16 @@ fn ver_fact(scope: &Scope<'_, '_>, id: Id, ver: &Ver, number: usize) -> Fact<'st
     ensures { fact_view result ≡ VerFact number ver.now.fmid
         (fits scope.now.zone.now (is_in scope.now.ids.now) ver.now) (number == number_in scope.now.vers.now id) }
 {
-    Fact::Ver {
+    Fact::Ver(NumberedVer {
         number,
         fmid: ver.fmid,
         fits: fits(scope.zone, scope.ids, ver),
         counts: number == scope.vers.number(id).get(),
-    }
+    })
 }
 
-// Adds the `++VER` if it is for the zone's SREL. `facts` has one fact for each such `++VER` before it, so its number is
-// one more.
+// Adds the fact of the `++VER`, if that is for the zone's SREL. `facts` has a fact for each earlier one of this SREL,
+// so the number is one more than there are facts.
 fn push_ver(
     scope: &Scope<'_, '_>,
     id: Id,

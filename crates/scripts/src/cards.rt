@@ -3,19 +3,19 @@
 use std::alloc::Global;
 use std::test::Fail;
 
-/// The bytes of a card.
+/// How many bytes a card has.
 const CARD: usize = 80;
 
-/// The bytes of a card before column 73.
-const COLUMNS: usize = 72;
+/// How many columns of a card have text. Column 73 follows them.
+const TEXT_COLUMNS: usize = 72;
 
-// A card with this text, as far as that has room; a tab leads to column 73.
+// A card with as much of this text as fits. A tab leads to column 73.
 fn card(text: &str) -> [u8; CARD] {
     let mut card = [b' '; CARD];
     let mut place: usize = 0;
     for byte in text.as_bytes() {
         if *byte == b'\t' {
-            place = COLUMNS;
+            place = TEXT_COLUMNS;
         } else if let Some(column) = card.get_mut(place) {
             *column = *byte;
             place = place.saturating_add(1);

@@ -2,7 +2,7 @@
 
 use std::test::Fail;
 
-/// A line in which two texts differ. After the end of a text it has no line.
+/// The lines of two texts that differ. A text that has ended has none.
 #[derive(Clone, Copy)]
 pub struct Difference<'a> {
     /// The number of the line, counted from 1.
@@ -33,7 +33,7 @@ pub fn first_difference<'a>(got: &'a str, wanted: &'a str) -> Difference<'a> {
     }
 }
 
-/// Returns a failure with this name and the first lines that differ, if the two texts differ.
+/// Checks that the two texts are equal. If not, the failure has this name and the first lines that differ.
 pub fn compare(name: &str, got: &[u8], wanted: &str) -> Result<(), Fail> {
     if got == wanted.as_bytes() {
         return Ok(());

@@ -8,7 +8,7 @@ use std::test::Fail;
 
 /// What performs the steps of a script.
 pub trait Performs {
-    /// Begins a case, in which nothing is left of the one before it.
+    /// Begins a case, and drops what is left of the case before it.
     fn begin(&mut self, alloc: Global) -> Result<(), Fail>;
 
     /// Performs a step, and appends what it prints.
@@ -27,7 +27,7 @@ pub struct Played {
     pub differences: String,
 }
 
-/// Plays the script that standard input has, and prints its differences and how many steps it has.
+/// Plays the script from standard input, and prints the differences and how many steps it has.
 pub fn play_input<P: Performs>(rt: &HostRuntime, performer: &mut P) -> Result<(), Fail> {
     let alloc = rt.alloc();
     let mut script = Vec::new(alloc);
@@ -52,7 +52,7 @@ pub fn play<P: Performs>(alloc: Global, script: &str, performer: &mut P) -> Resu
     Ok(played)
 }
 
-// Plays the steps of a case, of which the first line says what it shows.
+// Plays the steps of a case, whose first line says what it shows.
 fn play_case<P: Performs>(
     alloc: Global,
     case: &str,
@@ -68,7 +68,7 @@ fn play_case<P: Performs>(
     Ok(())
 }
 
-// Plays a step, and counts it.
+// Plays a step, counts it, and appends a line if it prints something else than it must.
 fn play_step<P: Performs>(
     alloc: Global,
     shows: &str,
@@ -83,7 +83,7 @@ fn play_step<P: Performs>(
     append_difference(alloc, shows, step, printed, &mut played.differences)
 }
 
-// Appends a line that says where they differ, unless this is what the step must print.
+// If the step had to print something else, appends a line that says where the two differ.
 fn append_difference(
     alloc: Global,
     shows: &str,

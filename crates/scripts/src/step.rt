@@ -13,14 +13,14 @@ impl<'a> ScriptStep<'a> {
         head
     }
 
-    /// The lines below the first one, up to the first part, without blank ones at the end.
+    /// The lines between the first line and the first part, without empty ones at the end.
     pub fn cards(&self) -> &'a str {
         let (before_parts, _) = split_at_first(self.text, "\n= ");
         let (_, lines) = split_at_first(before_parts, "\n");
         lines.trim_end_matches('\n')
     }
 
-    /// The lines of the part with this name, without blank ones at the end; none if there is no such part.
+    /// The lines of the part with this name, without empty ones at the end. Without such a part, an empty text.
     pub fn part(&self, name: &str) -> &'a str {
         for part in self.text.split("\n= ") {
             let (head, lines) = split_at_first(part, "\n");
@@ -32,7 +32,7 @@ impl<'a> ScriptStep<'a> {
     }
 }
 
-/// The text before the first separator, and the text after it; all of it and nothing if it has none.
+/// The text before the first separator, and the text after it. Without a separator, the whole text and an empty one.
 pub fn split_at_first<'a>(text: &'a str, separator: &str) -> (&'a str, &'a str) {
     match text.split_once(separator) {
         Some((before, after)) => (before, after),

@@ -18,7 +18,7 @@ use Rattle.terms.proofs.Places.{contains_at}
 use Rattle.terms.proofs.TextOrder.{same_from}
 use Rattle.terms.proofs.Applied.{AppliedAre, applied_dated}
 use Rattle.select.specs.Scopes.{Selecting, vers_in}
-use Rattle.select.specs.Growing.{taken_up, has_grown, open_fmids, fitting, required_of, required_for, kept_ver}
+use Rattle.select.specs.Growing.{taken_up, has_grown, open_fmids, fitting, required_of, required_for, installed_ver}
 use Rattle.select.specs.Growing.{namers_in, stated, reasons, own_asked, fitting_namers, asked_by_namers}
 use Rattle.select.proofs.Vers.{reqs_flat, reqs_from, in_reqs, required_from, in_required, fitting_from, in_fitting}
 use Rattle.select.proofs.Needs.{for_function, Asks, Fmid, Required, Stated, Reason, AsksThrough, if_required}
@@ -44,12 +44,12 @@ module _ (scope : Selecting) where
   counted_ver = counting scope.global zone []
 
   -- the ++VER that counts of what is applied
-  kept_counts : (y : Id) (a : Applied) → applied_of zone y ≡ Some a → counted_ver y ≡ kept_ver scope y
+  kept_counts : (y : Id) (a : Applied) → applied_of zone y ≡ Some a → counted_ver y ≡ installed_ver scope y
   kept_counts y a at = by_number (vers_in scope y) (applied_of zone y) a
       (unwrap_or (position (fits zone (is_in [])) (vers_in scope y)) 0) at
 
   -- what has one is applied, and it is one of its ++VERs
-  kept_there : (y : Id) (v : Ver) → kept_ver scope y ≡ Some v
+  kept_there : (y : Id) (v : Ver) → installed_ver scope y ≡ Some v
       → IsTrue (is_applied zone y) × Contains (vers_in scope y) v
   kept_there y v = by (applied_of zone y) refl
     where
@@ -67,10 +67,10 @@ module _ (scope : Selecting) where
     on : IsTrue (is_applied zone y)
     names : Contains (namers_in scope x) y
 
-  states : (x y z : Id) → Contains (if_reqs (kept_ver scope) (bytes_eq x) y) z → States x y
-  states x y z = by (kept_ver scope y) refl
+  states : (x y z : Id) → Contains (if_reqs (installed_ver scope) (bytes_eq x) y) z → States x y
+  states x y z = by (installed_ver scope y) refl
     where
-      by : (o : Option Ver) → kept_ver scope y ≡ o
+      by : (o : Option Ver) → installed_ver scope y ≡ o
           → Contains (reqs_where (bytes_eq x) (option_map_or (λ v. v.ifs) o [])) z → States x y
       by None at none = absurd (none_in z none)
       by (Some v) at h =
@@ -90,32 +90,32 @@ module _ (scope : Selecting) where
       reqs_at : Option Ver → List Id
       reqs_at o = reqs_where (bytes_eq x) (option_map_or (λ v. v.ifs) o [])
 
-      counted : (y : Id) → IsTrue (is_applied zone y) → counted_ver y ≡ kept_ver scope y
+      counted : (y : Id) → IsTrue (is_applied zone y) → counted_ver y ≡ installed_ver scope y
       counted y on = let a = applied_dated zone y on in kept_counts y a.0 a.1
 
-      as_stated : reqs_where (bytes_eq x) (flat_map (ifs_of (kept_ver scope)) (namers_in scope x))
-          ≡ stated_for (kept_ver scope) (namers_in scope x) x
-      as_stated = reqs_flat (bytes_eq x) (ifs_of (kept_ver scope)) (namers_in scope x)
+      as_stated : reqs_where (bytes_eq x) (flat_map (ifs_of (installed_ver scope)) (namers_in scope x))
+          ≡ stated_for (installed_ver scope) (namers_in scope x) x
+      as_stated = reqs_flat (bytes_eq x) (ifs_of (installed_ver scope)) (namers_in scope x)
 
       by : (b : Bool)
           → Contains
-          (if b then reqs_where (bytes_eq x) (flat_map (ifs_of (kept_ver scope)) (namers_in scope x)) else [])
+          (if b then reqs_where (bytes_eq x) (flat_map (ifs_of (installed_ver scope)) (namers_in scope x)) else [])
           z
           ↔ Contains (if b then stated_for counted_ver (applied_ids zone) x else []) z
       by false = (λ none. none, λ none. none)
       by true = (
         λ h.
-            let from = flat_in (if_reqs (kept_ver scope) (bytes_eq x)) (namers_in scope x) z
+            let from = flat_in (if_reqs (installed_ver scope) (bytes_eq x)) (namers_in scope x) z
             (subst (λ zs. Contains zs z) as_stated h) in
             let is = states x from.0 z from.2 in
             in_flat (if_reqs counted_ver (bytes_eq x)) (applied_ids zone) from.0 z ((applied from.0).1 is.on)
             (subst (λ o. Contains (reqs_at o) z) (sym (counted from.0 is.on)) from.2),
         λ h.
             let from = flat_in (if_reqs counted_ver (bytes_eq x)) (applied_ids zone) z h in
-            let within : Contains (if_reqs (kept_ver scope) (bytes_eq x) from.0) z =
+            let within : Contains (if_reqs (installed_ver scope) (bytes_eq x) from.0) z =
             subst (λ o. Contains (reqs_at o) z) (counted from.0 ((applied from.0).0 from.1)) from.2 in
             subst (λ zs. Contains zs z) (sym as_stated)
-            (in_flat (if_reqs (kept_ver scope) (bytes_eq x)) (namers_in scope x) from.0 z
+            (in_flat (if_reqs (installed_ver scope) (bytes_eq x)) (namers_in scope x) from.0 z
             (states x from.0 z within).names within),
       )
 

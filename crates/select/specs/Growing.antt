@@ -78,8 +78,8 @@ abbrev pub required_for : Id → List Ver → List Id
 required_for f vs = reqs_where (bytes_eq f) (flat_map (λ v. v.ifs) vs)
 
 -- the ++VER by which an applied SYSMOD was installed
-abbrev pub kept_ver : Selecting → Choice
-kept_ver scope y = option_and_then (λ a. slice_get (vers_in scope y) (a.number - 1)) (applied_of scope.zone y)
+abbrev pub installed_ver : Selecting → Choice
+installed_ver scope y = option_and_then (λ a. slice_get (vers_in scope y) (a.number - 1)) (applied_of scope.zone y)
 
 -- the received SYSMODs that name it as a function
 abbrev pub namers_in : Selecting → Id → List Id
@@ -88,8 +88,8 @@ namers_in scope f = function_namers scope.global.sysmods f
 -- the requisites that applied SYSMODs state for a function by ++IF
 abbrev pub stated : Selecting → Id → List Id
 stated scope x =
-    if is_function scope.global x then reqs_where (bytes_eq x) (flat_map (ifs_of (kept_ver scope)) (namers_in scope x))
-    else []
+    if is_function scope.global x
+    then reqs_where (bytes_eq x) (flat_map (ifs_of (installed_ver scope)) (namers_in scope x)) else []
 
 -- the reasons of its ERROR holds, under GROUPEXTEND
 abbrev pub reasons : Selecting → Id → List Id

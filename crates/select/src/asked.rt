@@ -11,7 +11,7 @@ ghost use Rattle.terms.specs.Candidates.{fmids_for};
 ghost use Rattle.terms.specs.Conditions.{reqs_where};
 ghost use Rattle.select.specs.Scopes.{is_for_and_fits};
 ghost use Rattle.select.specs.Growing.{is_open_among, taken_up, has_grown, is_there, open_fmids, fitting, required_of};
-ghost use Rattle.select.specs.Growing.{kept_ver, stated, reasons, own_asked};
+ghost use Rattle.select.specs.Growing.{installed_ver, stated, reasons, own_asked};
 
 use crate::scope::Selecting;
 use fields::{Id, Srel};
@@ -58,10 +58,10 @@ impl<'a> Selecting<'a> {
     }
 
     // The `++IF`s of the `++VER` by which the SYSMOD was installed, or none if it is not applied.
-    fn kept_ifs(&self, id: Id) -> &'a [IfReq]
-        ensures { result.now ≡ ifs_of (kept_ver self.now) id }
+    fn installed_ifs(&self, id: Id) -> &'a [IfReq]
+        ensures { result.now ≡ ifs_of (installed_ver self.now) id }
     {
-        match self.kept_ver(id) {
+        match self.installed_ver(id) {
             Some(ver) => ver.ifs.as_slice(),
             None => &[],
         }
@@ -75,10 +75,10 @@ impl<'a> Selecting<'a> {
         ids: &[Id],
     ) -> Result<Vec<Id>, AllocError>
         ensures { IfOk result (λ found. found.items
-            ≡ reqs_where (bytes_eq function) (flat_map (ifs_of (kept_ver self.now)) ids.now)) }
+            ≡ reqs_where (bytes_eq function) (flat_map (ifs_of (installed_ver self.now)) ids.now)) }
     {
         ids.iter()
-            .flat_map(|id| self.kept_ifs(*id).iter())
+            .flat_map(|id| self.installed_ifs(*id).iter())
             .filter(|condition| function == condition.function)
             .flat_map(|condition| condition.req.iter())
             .copied()
@@ -180,8 +180,8 @@ impl<'a> Asked<'a> {
         self.scope.is_applied(function) || self.is_candidate(function)
     }
 
-    // Whether the `++VER` names no FMID, or one that is applied or a candidate.
-    fn has_fmid_applied_or_candidate(&self, ver: &Ver) -> bool
+    // Whether the `++VER` fits: it has no FMID, or one that is applied or a candidate.
+    fn fits(&self, ver: &Ver) -> bool
         ensures { result ≡ fits self.now.scope.now.zone (taken_up self.now.scope.now self.now.seen.now.keys) ver.now }
     {
         match ver.fmid {
@@ -190,12 +190,12 @@ impl<'a> Asked<'a> {
         }
     }
 
-    // Whether the `++VER` is for the zone's SREL, and its FMID is applied or a candidate.
+    // Whether the `++VER` is for the zone's SREL and fits.
     fn is_for_zone_and_fits(&self, ver: &Ver) -> bool
         ensures { result
             ≡ is_for_and_fits self.now.scope.now.zone (taken_up self.now.scope.now self.now.seen.now.keys) ver.now }
     {
-        self.scope.is_for_zone_srel(ver) && self.has_fmid_applied_or_candidate(ver)
+        self.scope.is_for_zone_srel(ver) && self.fits(ver)
     }
 
     /// The `++VER`s of these SYSMODs that are for the zone's SREL and fit.

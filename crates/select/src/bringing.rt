@@ -117,9 +117,9 @@ impl<'a> Asked<'a> {
         self.scope.unsupplied(alloc, ids.as_slice())
     }
 
-    // What an open id brings in. One that grew from the start has asked already. One that was a candidate from the
-    // start but did not grow asks now, by itself: those that name it already counted it as a candidate when they were
-    // asked.
+    // What an open id brings in. An id of the start that brings others in has asked for them before the search. Any
+    // other id of the start asks only by itself: it has always been a candidate, so those that name it have asked with
+    // it. For any other id, those that name it ask again.
     fn brought_by(&self, alloc: Global, id: Id) -> Result<Vec<Id>, AllocError>
         ensures { IfOk result (λ found. found.items ≡ brought_by self.now.scope.now self.now.seen.now.keys id) }
     {

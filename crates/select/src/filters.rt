@@ -33,7 +33,7 @@ fn has_source_among(sources: &SourceList, wanted: &SourceList) -> bool
 }
 
 // Whether SOURCEID is not given, or one of the sources is in it.
-fn passes_sourceid(wanted: &SourceList, sources: &SourceList) -> bool
+fn passes_sourceid(sources: &SourceList, wanted: &SourceList) -> bool
     ensures { result ≡ (is_nil wanted.now || meets sources.now wanted.now) }
 {
     wanted.is_empty() || has_source_among(sources, wanted)
@@ -112,7 +112,7 @@ pub(crate) fn passes_filters(
     ensures { result ≡ passes_filters global.now zone.now selection.now sysmod.now }
 {
     chooses_kind(selection, sysmod.kind)
-        && passes_sourceid(&selection.sourceid, &sysmod.sources)
+        && passes_sourceid(&sysmod.sources, &selection.sourceid)
         && passes_forfmid(global, zone, sysmod.id, &selection.forfmid)
 }
 

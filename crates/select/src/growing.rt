@@ -91,11 +91,11 @@ pub(crate) fn asked_ids(
 {
     scope.zone.attest();
     let mut seen = asked_by_start(alloc, scope, start)?;
-    let mut i = 0;
-    while i < seen.len() {
-        let id = seen.as_slice()[i];
+    let mut searched = 0;
+    while searched < seen.len() {
+        let id = seen.as_slice()[searched];
         insert_next_asked(alloc, scope, id, &mut seen)?;
-        i += 1;
+        searched += 1;
     }
     Ok(seen)
 }

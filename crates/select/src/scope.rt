@@ -5,7 +5,7 @@ ghost use Rattle.std.specs.Str.{bytes_eq};
 ghost use Rattle.terms.specs.Lookups.{is_in, is_applied, is_supplied};
 ghost use Rattle.sysmods.specs.Choices.{has_ver};
 ghost use Rattle.select.specs.Scopes.{is_installable_in, is_open_in, received_vers, sups_in};
-ghost use Rattle.select.specs.Growing.{kept_ver, namers_in};
+ghost use Rattle.select.specs.Growing.{installed_ver, namers_in};
 
 use fields::{Id, Selection, Srel};
 use std::alloc::{AllocError, Global};
@@ -60,8 +60,8 @@ impl<'a> Selecting<'a> {
     }
 
     /// The `++VER` by which the SYSMOD was installed, if it is applied.
-    pub(crate) fn kept_ver(&self, id: Id) -> Option<&'a Ver>
-        ensures { option_copied result ≡ kept_ver self.now id }
+    pub(crate) fn installed_ver(&self, id: Id) -> Option<&'a Ver>
+        ensures { option_copied result ≡ installed_ver self.now id }
     {
         let applied = self.zone.applied(id)?;
         numbered_ver(self.global, self.zone.srel(), id, applied.number)

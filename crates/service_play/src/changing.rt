@@ -11,7 +11,7 @@ use std::test::Fail;
 use terms::CommandWord;
 use zones::ZoneDelta;
 
-/// What a command changes, and its lines.
+/// What a command changes, and the lines of its report.
 #[derive(Drop)]
 struct ZoneChange {
     word: CommandWord,
@@ -19,7 +19,7 @@ struct ZoneChange {
     lines: Vec<ReportLine>,
 }
 
-/// Performs the command, with its report.
+/// Performs the command: changes its zone, and prints its report.
 pub(crate) fn change(
     alloc: Global,
     shop: &mut Shop,
@@ -28,7 +28,7 @@ pub(crate) fn change(
 ) -> Result<(), Fail> {
     let ZoneChange { word, delta, lines } = changed(alloc, shop, command)?;
     put_report(word, lines, printed)?;
-    if is_accept(word) {
+    if changes_distribution(word) {
         shop.distribution = delta.apply(alloc, &shop.distribution)?;
     } else {
         shop.target = delta.apply(alloc, &shop.target)?;
@@ -36,12 +36,12 @@ pub(crate) fn change(
     Ok(())
 }
 
-// Whether the command changes the distribution zone, and not the target zone.
-fn is_accept(word: CommandWord) -> bool {
+// Whether the command changes the distribution zone, and not the target zone as the others do.
+fn changes_distribution(word: CommandWord) -> bool {
     matches!(word, CommandWord::Accept)
 }
 
-/// Prints what the command would change, and the zone that it would leave. The zone remains as it is.
+/// Prints what the command would change, and the zone that it would leave. It changes no zone.
 pub(crate) fn preview(
     alloc: Global,
     shop: &Shop,
@@ -49,7 +49,7 @@ pub(crate) fn preview(
     printed: &mut Vec<u8>,
 ) -> Result<(), Fail> {
     let ZoneChange { word, delta, .. } = changed(alloc, shop, command)?;
-    if is_accept(word) {
+    if changes_distribution(word) {
         return put_delta(alloc, DISTRIBUTION, &shop.distribution, &delta, printed);
     }
     put_delta(alloc, TARGET, &shop.target, &delta, printed)
@@ -60,13 +60,19 @@ fn changed(alloc: Global, shop: &Shop, command: &Command) -> Result<ZoneChange, 
     match command {
         Command::Apply(install) => {
             let InstallChange { delta, lines } = applied(alloc, shop, install)?;
-            let word = CommandWord::Apply;
-            Ok(ZoneChange { word, delta, lines })
+            Ok(ZoneChange {
+                word: CommandWord::Apply,
+                delta,
+                lines,
+            })
         }
         Command::Accept(install) => {
             let InstallChange { delta, lines } = accepted(alloc, shop, install)?;
-            let word = CommandWord::Accept;
-            Ok(ZoneChange { word, delta, lines })
+            Ok(ZoneChange {
+                word: CommandWord::Accept,
+                delta,
+                lines,
+            })
         }
         Command::Restore { list, .. } => {
             let (target, distribution) = (&shop.target, &shop.distribution);
@@ -77,8 +83,11 @@ fn changed(alloc: Global, shop: &Shop, command: &Command) -> Result<ZoneChange, 
                 distribution,
                 list,
             )?;
-            let word = CommandWord::Restore;
-            Ok(ZoneChange { word, delta, lines })
+            Ok(ZoneChange {
+                word: CommandWord::Restore,
+                delta,
+                lines,
+            })
         }
         _ => Err(Fail::from("no command that changes a zone")),
     }

@@ -66,6 +66,7 @@ fn action_of(name: &str) -> Option<StepAction> {
     }
 }
 
+// Performs an action with the cards of its step.
 fn perform_action(
     alloc: Global,
     shop: &mut Shop,
@@ -86,6 +87,7 @@ fn perform_action(
     }
 }
 
+// Performs an action with a command.
 fn perform_command(
     alloc: Global,
     shop: &mut Shop,
@@ -100,7 +102,7 @@ fn perform_command(
     }
 }
 
-// The last command of these cards.
+// The command of these cards, or the last one of several.
 fn read_command(alloc: Global, cards: &str) -> Result<Command, Fail> {
     let file = card_file(alloc, cards)?;
     let mut commands = read_cntl(alloc, file.as_slice())?;

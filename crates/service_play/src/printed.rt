@@ -23,7 +23,7 @@ pub(crate) fn put_line(words: &[&[u8]], text: &mut Vec<u8>) -> Result<(), AllocE
     Ok(())
 }
 
-/// Appends a line for each of these ids.
+/// Appends a line for each of these ids, with the word before it.
 pub(crate) fn put_ids(word: &[u8], ids: &[Id], text: &mut Vec<u8>) -> Result<(), AllocError> {
     for id in ids {
         put_line(&[word, id.as_bytes()], text)?;
@@ -31,7 +31,7 @@ pub(crate) fn put_ids(word: &[u8], ids: &[Id], text: &mut Vec<u8>) -> Result<(),
     Ok(())
 }
 
-/// Appends a line for each candidate with a requisite of it that BYPASS covers.
+/// Appends a line for each requisite that BYPASS covers: the candidate that has it, and the requisite.
 pub(crate) fn put_bypassed(pairs: &[(Id, Id)], text: &mut Vec<u8>) -> Result<(), AllocError> {
     for pair in pairs {
         let (of, id) = *pair;
@@ -89,8 +89,8 @@ pub(crate) fn put_failures(failed: &[(Id, Failure)], text: &mut Vec<u8>) -> Resu
     Ok(())
 }
 
-// The word for the reason that an id is no candidate.
-fn why_text(why: NotChosen) -> &'static [u8] {
+// The word for the reason why an id is no candidate.
+fn not_chosen_text(why: NotChosen) -> &'static [u8] {
     match why {
         NotChosen::Already => b"ALREADY",
         NotChosen::Deleted => b"DELETED",
@@ -108,15 +108,15 @@ pub(crate) fn put_candidates(
     put_ids(b"CANDIDATE", candidates.ids.as_slice(), text)?;
     for left in candidates.left_out.as_slice() {
         let (id, why) = *left;
-        put_line(&[b"LEFT", id.as_bytes(), why_text(why)], text)?;
+        put_line(&[b"LEFT", id.as_bytes(), not_chosen_text(why)], text)?;
     }
     Ok(())
 }
 
-// What an edit does at its key, which had a value or none.
-fn edit_text<T, K>(edit: &Edit<T, K>, had_value: bool) -> &'static [u8] {
+// The word for what an edit does at its key.
+fn edit_text<T, K>(edit: &Edit<T, K>, existed: bool) -> &'static [u8] {
     match edit {
-        Edit::Put(_) if had_value => b"CHANGED",
+        Edit::Put(_) if existed => b"CHANGED",
         Edit::Put(_) => b"NEW",
         Edit::Remove(_) => b"REMOVED",
     }
@@ -124,12 +124,12 @@ fn edit_text<T, K>(edit: &Edit<T, K>, had_value: bool) -> &'static [u8] {
 
 // Appends a line for each edit of an entry.
 fn put_entry_edits(delta: &ZoneDelta, text: &mut Vec<u8>) -> Result<(), AllocError> {
-    for (edit, stood) in delta.entries().iter().zip(delta.numbers_before().iter()) {
+    for (edit, old_number) in delta.entries().iter().zip(delta.numbers_before().iter()) {
         let id = match edit {
             Edit::Put(entry) => entry.id,
             Edit::Remove(id) => *id,
         };
-        let what = edit_text(edit, stood.is_some());
+        let what = edit_text(edit, old_number.is_some());
         put_line(&[b"ENTRY", id.as_bytes(), what], text)?;
     }
     Ok(())
@@ -137,12 +137,12 @@ fn put_entry_edits(delta: &ZoneDelta, text: &mut Vec<u8>) -> Result<(), AllocErr
 
 // Appends a line for each edit of an element.
 fn put_element_edits(delta: &ZoneDelta, text: &mut Vec<u8>) -> Result<(), AllocError> {
-    for (edit, stood) in delta.elements().iter().zip(delta.elements_existed().iter()) {
+    for (edit, existed) in delta.elements().iter().zip(delta.elements_existed().iter()) {
         let (elem_type, name) = match edit {
             Edit::Put(element) => (element.elem_type, element.name),
-            Edit::Remove(key) => (key.0, key.1),
+            Edit::Remove(key) => *key,
         };
-        let what = edit_text(edit, *stood);
+        let what = edit_text(edit, *existed);
         put_line(
             &[b"ELEM", type_text(elem_type), name.as_bytes(), what],
             text,
@@ -180,7 +180,7 @@ pub(crate) fn put_report(
 
 // Appends the text of an outcome.
 fn put_outcome(outcome: &Outcome<'_>, text: &mut Vec<u8>) -> Result<(), Fail> {
-    write_report(outcome, &mut Out::new(text))?;
+    let _return_code = write_report(outcome, &mut Out::new(text))?;
     Ok(())
 }
 

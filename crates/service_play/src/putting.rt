@@ -34,7 +34,7 @@ fn installed(
     zone: &Zone,
     kept: &IdList,
 ) -> Result<Installed, Fail> {
-    if !change_nothing(vers.global(), kept.as_slice()) {
+    if !change_no_elements(vers.global(), kept.as_slice()) {
         return Err(Fail::from("an id that changes an element"));
     }
     let installing = Installing {
@@ -48,14 +48,14 @@ fn installed(
 }
 
 // Whether none of these SYSMODs changes an element.
-fn change_nothing(global: &GlobalZone, ids: &[Id]) -> bool
+fn change_no_elements(global: &GlobalZone, ids: &[Id]) -> bool
     ensures { result ≡ list_all (λ x. is_nil (changes_of global.now x)) ids.now }
 {
-    ids.iter().all(|id| changes_nothing(global, *id))
+    ids.iter().all(|id| changes_no_element(global, *id))
 }
 
-// Whether the SYSMOD changes no element; one that is not received changes none.
-fn changes_nothing(global: &GlobalZone, id: Id) -> bool
+// Whether the SYSMOD changes no element. A SYSMOD that is not received changes none.
+fn changes_no_element(global: &GlobalZone, id: Id) -> bool
     ensures { result ≡ is_nil (changes_of global.now id) }
 {
     match global.get(id) {

@@ -22,7 +22,7 @@ pub(crate) fn receive_sysmods(
     Ok(())
 }
 
-// Receives a SYSMOD, or appends a line that says why it is refused.
+// Receives a SYSMOD. If it is refused, appends a line that says why.
 fn receive_item(
     alloc: Global,
     global: &mut GlobalZone,

@@ -17,7 +17,7 @@ use std::alloc::Global;
 use store::{Store, StoreError};
 use terms::ZoneKind;
 
-// The result of a command that reports its outcome, as each command but LIST does, or its error.
+// The outcome as the result of a command, or the error. Each command but LIST has its outcome at once.
 fn wrap_outcome(outcome: Result<Outcome<'static>, StoreError>) -> Result<Performed, StoreError>
     ensures { result ≡ told outcome.entry }
 {

@@ -14,7 +14,7 @@ use cntl::Install;
 use fields::{YyDdd, ZoneName};
 use report::{Header, Outcome};
 use smpe_service::{InstallChange, apply};
-use smpe_session::{Session, lines_or_nothing};
+use smpe_session::{Session, ZoneChange, lines_or_nothing};
 use sqlite::Alter;
 use std::alloc::Global;
 use store::{Store, StoreError};
@@ -46,17 +46,17 @@ pub(crate) fn install<S: Alter>(
     store: &mut Store<S>,
     date: YyDdd,
     kind: ZoneKind,
-    install: &Install,
+    operands: &Install,
 ) -> Result<Outcome<'static>, StoreError>
     ensures uses { UsesStore S.Store store.old store.new
-        (λ own. IsOfZone own × (install.now.check ≡ false) × IfOk result (TellsRun own))
+        (λ own. IsOfZone own × (operands.now.check ≡ false) × IfOk result (TellsRun own))
         (λ s ended. IsSessionOf s session.old → (files : Files)
         → HasPerformed S.Store store.old store.new s session.new date files
-        (install_command kind install.now) ended) result }
-    ensures header { IfOk result (TellsOutcomeOf (install_command kind install.now)) }
+        (install_command kind operands.now) ended) result }
+    ensures header { IfOk result (TellsOutcomeOf (install_command kind operands.now)) }
 {
     let related = session.load_related_zone(store, kind)?;
-    let header = install_header(kind, session.boundary, install.check);
+    let header = install_header(kind, session.boundary, operands.check);
     let place = match session.boundary_zone(kind) {
         Ok(place) => place,
         Err(refusal) => return Ok(Outcome::Refused { header, refusal }),
@@ -67,10 +67,10 @@ pub(crate) fn install<S: Alter>(
         &session.global,
         place.zone,
         session.zone_at(related),
-        &install.selection,
-        &install.bypass,
+        &operands.selection,
+        &operands.bypass,
         date,
     )?;
     let lines = lines_or_nothing(lines)?;
-    session.carry_out(alloc, store, header, name, delta, lines)
+    session.carry_out(alloc, store, header, ZoneChange { name, delta }, lines)
 }

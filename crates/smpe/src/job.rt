@@ -22,28 +22,33 @@ use sqlite::Alter;
 use std::alloc::Global;
 use store::Store;
 
+// What each command of a job is given.
+#[derive(Drop)]
+struct JobInput<'a> {
+    date: YyDdd,
+    files: Files<'a>,
+}
+
 // Performs a command, writes its report once it is committed, and returns its return code. The errors are those of
 // `run_job`.
 fn run_command<S: Alter, W: Sink>(
     alloc: Global,
     session: &mut Session,
     store: &mut Store<S>,
-    date: YyDdd,
-    files: &Files<'_>,
+    input: &JobInput<'_>,
     command: &Command,
     w: &mut W,
 ) -> Result<u8, JobError>
     ensures follows { Follows S.Store store.old store.new }
     ensures ends { HasCleanDisk (state S.Store store.new) → (s : State) → IsSessionOf s session.old
         → Keeps S.Store store.old s
-        → EndsCommands S.Store store.old store.new s session.new date files.now (command_of command.now ∷ []) (W.taken
-        w.old)
-        (W.taken w.new) result }
-    ensures goes { GoesCommands S.Store store.old store.new (Perform date files.now (command_of command.now) ∷ [])
-        (W.taken w.old) (W.taken w.new) result }
+        → EndsCommands S.Store store.old store.new s session.new input.now.date input.now.files
+        (command_of command.now ∷ []) (W.taken w.old) (W.taken w.new) result }
+    ensures goes { GoesCommands S.Store store.old store.new
+        (Perform input.now.date input.now.files (command_of command.now) ∷ []) (W.taken w.old) (W.taken w.new) result }
     ensures fault { TellsOfSink (W.has_failed w.old) (W.has_failed w.new) result }
 {
-    let performed = perform(alloc, session, store, date, files, command)?;
+    let performed = perform(alloc, session, store, input.date, &input.files, command)?;
     match performed {
         Performed::Told(outcome) => Ok(write_report(&outcome, w)?),
         Performed::Lists { text } => Ok(write_report(&session.list(text), w)?),
@@ -55,24 +60,23 @@ fn run_commands<S: Alter, W: Sink>(
     alloc: Global,
     session: &mut Session,
     store: &mut Store<S>,
-    date: YyDdd,
-    files: &Files<'_>,
+    input: &JobInput<'_>,
     commands: &[Command],
     w: &mut W,
 ) -> Result<u8, JobError>
     ensures follows { Follows S.Store store.old store.new }
     ensures ends { HasCleanDisk (state S.Store store.new) → (s : State) → IsSessionOf s session.old
         → Keeps S.Store store.old s
-        → EndsCommands S.Store store.old store.new s session.new date files.now (map command_of commands.now) (W.taken
-        w.old)
-        (W.taken w.new) result }
-    ensures goes { GoesCommands S.Store store.old store.new (map (Perform date files.now) (map command_of commands.now))
+        → EndsCommands S.Store store.old store.new s session.new input.now.date input.now.files
+        (map command_of commands.now) (W.taken w.old) (W.taken w.new) result }
+    ensures goes { GoesCommands S.Store store.old store.new (map (Perform input.now.date input.now.files)
+        (map command_of commands.now))
         (W.taken w.old) (W.taken w.new) result }
     ensures fault { TellsOfSink (W.has_failed w.old) (W.has_failed w.new) result }
 {
     let mut code: u8 = 0;
     for command in commands {
-        let next = run_command(alloc, session, store, date, files, command, w)?;
+        let next = run_command(alloc, session, store, input, command, w)?;
         code = code.max(next);
     }
     Ok(code)
@@ -113,6 +117,9 @@ pub fn run_job<S: Alter, W: Sink>(
         }
     };
     let mut session = Session::begin(alloc, store)?;
-    let files = Files { ptfin, holds: hold };
-    run_commands(alloc, &mut session, store, date, &files, &commands, w)
+    let input = JobInput {
+        date,
+        files: Files { ptfin, holds: hold },
+    };
+    run_commands(alloc, &mut session, store, &input, &commands, w)
 }

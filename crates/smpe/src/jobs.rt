@@ -20,8 +20,8 @@ use std::alloc::Global;
 use store::Store;
 use terms::ZoneKind;
 
-// Defines a zone, and returns how that ended: a refusal is an answer, and any other fault an error, `Memory` or
-// `Store`.
+// Defines a zone, and returns how that ended. A refusal is an answer. Returns the error `Memory` if memory runs out, and
+// `Store` if the database fails.
 fn answer_definition<S: Alter>(
     store: &mut Store<S>,
     name: ZoneName,

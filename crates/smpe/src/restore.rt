@@ -11,7 +11,7 @@ ghost use Rattle.smpe_zones.specs.Own.{IsOfZone};
 use fields::RestoreList;
 use report::{Header, Outcome, Refusal};
 use smpe_service::Restored;
-use smpe_session::Session;
+use smpe_session::{Session, ZoneChange};
 use sqlite::Alter;
 use std::alloc::Global;
 use store::{Store, StoreError};
@@ -44,7 +44,7 @@ pub(crate) fn restore<S: Alter>(
         Err(refusal) => return Ok(Outcome::Refused { header, refusal }),
     };
     let Some(distribution) = session.zone_at(distribution_name) else {
-        // (this does not happen: each target zone has a distribution zone)
+        // (this does not happen, because each target zone has a distribution zone)
         let refusal = Refusal::WrongKind;
         return Ok(Outcome::Refused { header, refusal });
     };
@@ -56,5 +56,5 @@ pub(crate) fn restore<S: Alter>(
         distribution,
         list,
     )?;
-    session.carry_out(alloc, store, header, name, delta, lines)
+    session.carry_out(alloc, store, header, ZoneChange { name, delta }, lines)
 }

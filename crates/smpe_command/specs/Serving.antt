@@ -15,6 +15,7 @@ use Rattle.smpe_invocation.specs.declared.asked.CommandJob.{CommandJob}
 use Rattle.smpe_invocation.specs.declared.asked.Invocation.{Invocation}
 use Rattle.smpe_invocation.specs.declared.asked.Invocation.TheVariants.{Zone, Run, List as ListOf, Why, Check}
 use Rattle.smpe_invocation.specs.declared.asked.Invocation.TheVariants.{Migrate, Verify}
+use Rattle.smpe_invocation.specs.declared.asked.RunOptions.{RunOptions}
 use Rattle.smpe_invocation.specs.declared.asked.ServiceSet.{ServiceSet}
 use Rattle.smpe_invocation.specs.declared.asked.WhyOptions.{WhyOptions}
 use Rattle.smpe_invocation.specs.declared.fault.ArgFault.TheVariants.{BadOperand}
@@ -52,10 +53,14 @@ IsBypassIn (Some list) bypass = IsBypassOf list bypass
 abbrev pub IsGiven : WhyOptions → Option Bypass → Type 0
 IsGiven options bypass = IsBypassIn (option_map string_bytes options.bypass) bypass
 
--- what they ask about these ids
-abbrev pub inquiry : List Text → WhyOptions → Bypass → Inquiry
-inquiry ids options bypass =
-    record { ids = ids; together = options.together; groupextend = options.group; bypass = bypass }
+-- what they ask about their ids
+abbrev pub inquiry : WhyOptions → Bypass → Inquiry
+inquiry options bypass = record {
+  ids = options.ids.items;
+  together = options.together;
+  groupextend = options.group;
+  bypass = bypass;
+}
 
 -- the error of a job is the program's fault
 abbrev pub job_told : Result ℕ JobError → Result ℕ Fault
@@ -90,12 +95,12 @@ module _ {H D O : Type 0} (host : HostGhosts H D) (g : Ghosts D) (sink : SinkGho
 
     -- The ids are asked about, with the BYPASS of the words. If ACCEPT does not take its list, that is a bad operand;
     -- or memory ran out for it. Then the database is not looked at.
-    abbrev pub ServesWhy : Text → List Text → WhyOptions → Result ℕ Fault → H → O → Type 0
-    ServesWhy zone ids options r after out' =
+    abbrev pub ServesWhy : WhyOptions → Result ℕ Fault → H → O → Type 0
+    ServesWhy options r after out' =
         ((r ≡ Err (Job Memory)) × (after ≡ h) × (out' ≡ out))
         ⊎ ((IsGiven options None × (r ≡ Err (Arg BadOperand)) × (after ≡ h) × (out' ≡ out))
         ⊎ ((bypass : Bypass) × IsGiven options (Some bypass) × (told : Result ℕ JobError)
-        × AsksZone zone (inquiry ids options bypass) told after out' × (r ≡ job_told told)))
+        × AsksZone options.zone (inquiry options bypass) told after out' × (r ≡ job_told told)))
 
     -- All zones are looked at, and it is told whether they are closed.
     abbrev pub ServesVerify : Result ℕ JobError → H → O → Type 0
@@ -107,12 +112,14 @@ module _ {H D O : Type 0} (host : HostGhosts H D) (g : Ghosts D) (sink : SinkGho
         × TellsMigrated sink out out' done r
 
 -- The files of a job are read in this order, or the first that cannot be read is reported, and nothing else is done.
-abbrev pub ServesRun : {H D O : Type 0} → HostGhosts H D → Ghosts D → SinkGhosts O → H → Text → O → Bool → Text
-    → List (Option Text) → Result ℕ Fault → H → O → Type 0
-ServesRun host g sink h db out careful date names r after out' =
+abbrev pub ServesRun : {H D O : Type 0} → HostGhosts H D → Ghosts D → SinkGhosts O → H → Text → O → RunOptions
+    → Result ℕ Fault → H → O → Type 0
+ServesRun host g sink h db out options r after out' =
+    let names = Some (string_bytes options.cntl) ∷ option_map string_bytes options.ptfin
+    ∷ option_map string_bytes options.hold ∷ [] in
     ((fault : Fault) × ReadsAll host h names (Err fault) after × (r ≡ Err fault) × (out' ≡ out))
     ⊎ ((m : _) × (cntl ptfin hold : List ℕ) × ReadsAll host h names (Ok (cntl ∷ ptfin ∷ hold ∷ [])) m
-    × RunsIf host g sink m db out careful date cntl (record { ptfin = ptfin; holds = hold }) r after out')
+    × RunsIf host g sink m db out options.careful options.date cntl (record { ptfin = ptfin; holds = hold }) r after out')
 
 module _ {H D M O : Type 0} (host : HostGhosts H D) (memory : disk.Ghosts M)
     (sink : SinkGhosts O) where
@@ -138,15 +145,13 @@ module _ {H D M O : Type 0} (host : HostGhosts H D) (memory : disk.Ghosts M)
 module _ {H D M O : Type 0} (host : HostGhosts H D) (g : Ghosts D) (memory : disk.Ghosts M)
     (sink : SinkGhosts O) where
   abbrev pub Serves : H → Invocation → O → Result ℕ Fault → H → O → Type 0
-  Serves h (Zone db name kind srel related) out r after out' = (told : Result ℕ JobError)
-      × ServesZone host g sink h (string_bytes db.name) out (definition name kind srel related) told after out'
+  Serves h (Zone db zone) out r after out' = (told : Result ℕ JobError)
+      × ServesZone host g sink h (string_bytes db.name) out
+      (definition zone.name zone.kind zone.srel zone.related) told after out'
       × (r ≡ job_told told)
-  Serves h (Run db date cntl ptfin hold careful) out r after out' =
-      ServesRun host g sink h (string_bytes db.name) out careful date
-      (Some (string_bytes cntl) ∷ option_map string_bytes ptfin ∷ option_map string_bytes hold ∷ []) r after out'
+  Serves h (Run db options) out r after out' = ServesRun host g sink h (string_bytes db.name) out options r after out'
   Serves h (ListOf db zone) out r after out' = ServesList host g sink h (string_bytes db.name) out zone r after out'
-  Serves h (Why db zone ids options) out r after out' =
-      ServesWhy host g sink h (string_bytes db.name) out zone ids.items options r after out'
+  Serves h (Why db options) out r after out' = ServesWhy host g sink h (string_bytes db.name) out options r after out'
   Serves h (Check system set) out r after out' = ServesCheck host memory sink h out system set r after out'
   Serves h (Migrate db) out r after out' = (told : Result ℕ JobError)
       × ServesMigrate host g sink h (string_bytes db.name) out told after out' × (r ≡ job_told told)

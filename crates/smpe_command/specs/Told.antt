@@ -12,10 +12,10 @@ use Rattle.smpe_jobs.specs.Errors.{job_error}
 use Rattle.smpe_jobs.specs.Messages.{answer_status, migrated_text, zone_text}
 use Rattle.smpe_why.specs.Telling.{Inquiry, IsTold}
 use Rattle.smpe_why.specs.declared.found.LoadedZones.{LoadedZones}
-use Rattle.smpe_why.specs.declared.told.Told.{Told}
+use Rattle.smpe_why.specs.declared.told.WhyAnswer.{WhyAnswer}
 use Rattle.smpe_verify.specs.Telling.{IsTold as IsToldOf}
 use Rattle.smpe_verify.specs.declared.verification.Verification.{Verification}
-use Rattle.smpe_verify.specs.declared.told.Verified.{Verified}
+use Rattle.smpe_verify.specs.declared.told.VerifyAnswer.{VerifyAnswer}
 
 module _ {O : Type 0} (sink : SinkGhosts O) (out out' : O) where
   -- The text goes to the sink, and the status is this one, or a fault if the text did not go out whole.
@@ -36,11 +36,12 @@ module _ {O : Type 0} (sink : SinkGhosts O) (out out' : O) where
   -- so what is told of the ids of a question, given what was found. Or memory ran out for it, and nothing went out.
   abbrev pub TellsFound : Inquiry → Result LoadedZones StoreError → Result ℕ JobError → Type 0
   TellsFound q (Ok found) r = ((r ≡ Err Memory) × (out' ≡ out))
-      ⊎ ((told : Told) × IsTold found.global found.zone found.related q told × TellsText told.text.items told.status r)
+      ⊎ ((told : WhyAnswer) × IsTold found.global found.zone found.related q told
+      × TellsText told.text.items told.status r)
   TellsFound q (Err why) r = (r ≡ Err (job_error why)) × (out' ≡ out)
 
   -- so what is told of the zones, given whether they are closed
   abbrev pub TellsVerified : Result Verification StoreError → Result ℕ JobError → Type 0
   TellsVerified (Ok found) r = ((r ≡ Err Memory) × (out' ≡ out))
-      ⊎ ((told : Verified) × IsToldOf found told × TellsText told.text.items told.status r)
+      ⊎ ((told : VerifyAnswer) × IsToldOf found told × TellsText told.text.items told.status r)
   TellsVerified (Err why) r = (r ≡ Err (job_error why)) × (out' ≡ out)

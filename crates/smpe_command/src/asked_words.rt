@@ -25,7 +25,7 @@ pub(crate) fn read_words(alloc: Global, words: &[Vec<u8>]) -> Result<Invocation,
     }
 }
 
-// The words as texts, with U+FFFD in place of what is not UTF-8, so that `clap` can read all of them.
+// The words as texts, with U+FFFD in place of each part that is not UTF-8, so that `clap` can read all words.
 fn lossy_texts(alloc: Global, words: &[Vec<u8>]) -> Result<Vec<String>, AllocError>
     ensures { IfOk result (λ texts. map string_bytes texts.items ≡ shown (map (λ word. word.items) words.now)) }
 {
@@ -47,7 +47,6 @@ fn borrow_texts<'a>(alloc: Global, texts: &'a [String]) -> Result<Vec<&'a str>, 
     Ok(views)
 }
 
-// Whether all words are UTF-8.
 fn are_utf8(words: &[Vec<u8>]) -> bool
     ensures { IsTrue result ↔ All (λ word. IsUtf8 word.items) words.now }
 {
@@ -59,7 +58,6 @@ fn are_utf8(words: &[Vec<u8>]) -> bool
     true
 }
 
-// Whether the word is UTF-8.
 fn is_utf8(word: &[u8]) -> bool
     ensures { IsTrue result ↔ IsUtf8 word.now }
 {

@@ -10,6 +10,7 @@ use crate::host::Host;
 use cntl::{CntlError, Command, read_cntl};
 use fields::ZoneName;
 use smpe::{DatabaseFile, Fault, JobError};
+use smpe_invocation::RunOptions;
 use std::alloc::Global;
 
 /// Checks the commands of a careful job before it runs; any other job runs unchecked. The error says why nothing runs:
@@ -18,14 +19,14 @@ use std::alloc::Global;
 pub(crate) fn check_commands_if_careful<'a, H: Host>(
     alloc: Global,
     host: &mut H,
-    is_careful: bool,
     db: &DatabaseFile,
+    options: &RunOptions,
     cntl: &[u8],
 ) -> Result<(), Fault<'a>>
-    ensures { ChecksIfCareful H.Host H.Disk.Store host.old (string_bytes db.now.name) cntl.now is_careful result
-        host.new }
+    ensures { ChecksIfCareful H.Host H.Disk.Store host.old (string_bytes db.now.name) cntl.now options.now.careful
+        result host.new }
 {
-    if is_careful {
+    if options.careful {
         check_commands(alloc, host, db, cntl)
     } else {
         Ok(())
@@ -60,7 +61,7 @@ fn check_commands<'a, H: Host>(
     }
 }
 
-// The first zone that a SET names and that is not defined; `None` if there is none.
+// The first zone that a SET names and that is not defined, or `None` if there is none.
 fn first_undefined_zone(commands: &[Command], names: &[ZoneName]) -> Option<ZoneName>
     ensures some { IfSome result (IsFirstUndefined names.now (zones_set (map command_of commands.now))) }
     ensures none { result ≡ None → All (IsDefined names.now) (zones_set (map command_of commands.now)) }
@@ -73,7 +74,7 @@ fn first_undefined_zone(commands: &[Command], names: &[ZoneName]) -> Option<Zone
     None
 }
 
-// The zone that the command names, if it is a SET and the zone is not defined; otherwise `None`.
+// The zone that the command names, if it is a SET and the zone is not defined, otherwise `None`.
 fn undefined_zone_of(command: &Command, names: &[ZoneName]) -> Option<ZoneName>
     ensures some { IfSome result (IsFirstUndefined names.now (zone_set (command_of command.now))) }
     ensures none { result ≡ None → All (IsDefined names.now) (zone_set (command_of command.now)) }
@@ -102,7 +103,7 @@ fn zone_if_undefined(zone: ZoneName, names: &[ZoneName]) -> Option<ZoneName>
     }
 }
 
-// Whether the name is of the global zone or of one of these zones.
+// Whether this is the global zone or one of these zones.
 fn is_defined(zone: ZoneName, names: &[ZoneName]) -> bool
     ensures { IsTrue result ↔ IsDefined names.now zone }
 {

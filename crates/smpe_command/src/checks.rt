@@ -27,7 +27,7 @@ pub(crate) fn serve_check<'a, H: Host, O: Sink>(
     let cntl = set.commands.as_ref().map(|commands| commands.cntl.as_str());
     let ptfin = Some(set.ptfin.as_str());
     let files = read_files(alloc, host, cntl, ptfin, set.hold.as_deref())?;
-    status_or_fault(check_in_system(alloc, host, system, &set.commands, &files, out))
+    status_or_fault(check_in_system(alloc, host, system, &set.commands, files, out))
 }
 
 // Rehearses the set in an empty system of its own, or in the copy of a database, and returns the status.
@@ -36,11 +36,11 @@ fn check_in_system<H: Host, O: Sink>(
     host: &mut H,
     system: &CheckedSystem,
     commands: &Option<CommandJob>,
-    files: &JobFiles,
+    files: JobFiles,
     out: &mut O,
 ) -> Result<u8, JobError>
-    ensures { ChecksIn H.Host ⟦<Memory as Disk>⟧ O.Sink system.now host.old out.old commands.now files.now.cntl.items
-        (record { ptfin = files.now.ptfin.items; holds = files.now.hold.items }) result host.new out.new }
+    ensures { ChecksIn H.Host ⟦<Memory as Disk>⟧ O.Sink system.now host.old out.old commands.now files.cntl.items
+        (record { ptfin = files.ptfin.items; holds = files.hold.items }) result host.new out.new }
 {
     match system {
         CheckedSystem::Empty(srel) => {

@@ -3,100 +3,86 @@ ghost use Rattle.std.specs.Prelude.{◌≡◌, map, false, IfOk, IfErr};
 ghost use Rattle.std.specs.String.{string_bytes};
 ghost use Rattle.store_schema.specs.Known.{told};
 ghost use Rattle.smpe_jobs.specs.Ending.{job_of};
-ghost use Rattle.smpe_command.specs.Copied.{AsksIfAny, AsksStore, TriedOver, TriesBytes, TriesCopied, TriesCopy};
-ghost use Rattle.smpe_command.specs.Copied.{TriesOver, apply_to, copy_jobs};
+ghost use Rattle.smpe_command.specs.Copied.{AsksIfAny, TriedOver, TriesBytes, TriesCopied, TriesCopy};
+ghost use Rattle.smpe_command.specs.Copied.{TriesOver, copy_jobs};
 ghost use Rattle.smpe_command.specs.Database.{IsStoreOver};
 ghost use Rattle.smpe_command.specs.ServiceSet.{receive_records};
 ghost use Rattle.sqlite.specs.Held.{Held};
 ghost use Rattle.sqlite.specs.declared.error.Error.{Error};
 
-use crate::any_date::{ANY_DAY, ANY_YEAR};
+use crate::any_date::any_date;
 use crate::host::{DatabaseBytes, Host};
 use crate::job_files::JobFiles;
 use crate::memory_files::connect_in_memory;
 use crate::questions::answer_and_write;
-use crate::service_set::greatest_status;
-use fields::{Bypass, Id, YyDdd, ZoneName};
+use crate::service_set::{Rehearsal, greatest_status};
+use fields::{Bypass, Id, ZoneName};
 use report::Sink;
-use smpe::{CommandJob, DatabaseFile, Job, JobError, run_jobs, two_commands};
+use smpe::{CommandJob, DatabaseFile, Job, JobError, commands_in_zone, run_jobs, two_commands};
 use smpe_invocation::SystemCopy;
 use smpe_why::{Question, load_zones};
 use sqlite::{Alter, Connection};
 use sqlite_disk::{Disk, Memory};
-use std::alloc::{AllocError, Global};
+use std::alloc::Global;
 use store::{Store, StoreError};
 
 /// Rehearses the set in the copy with its commands, or with those that apply all of it to the zone, and then asks about
-/// the ids. Returns the greatest status of the jobs and the answers.
+/// the ids. Returns the greatest status of the jobs and the answer.
 pub(crate) fn rehearse_in_copy<H: Host, O: Sink>(
     alloc: Global,
     host: &mut H,
     copy: &SystemCopy,
     commands: &Option<CommandJob>,
-    files: &JobFiles,
+    mut files: JobFiles,
     out: &mut O,
 ) -> Result<u8, JobError>
-    ensures { TriesCopy H.Host ⟦<Memory as Disk>⟧ O.Sink host.old copy.now out.old commands.now files.now.cntl.items
-        (record { ptfin = files.now.ptfin.items; holds = files.now.hold.items }) result host.new out.new }
+    ensures { TriesCopy H.Host ⟦<Memory as Disk>⟧ O.Sink host.old copy.now out.old commands.now files.cntl.items
+        (record { ptfin = files.ptfin.items; holds = files.hold.items }) result host.new out.new }
 {
     let receive = two_commands(alloc, b"SET BDY(GLOBAL).", b"RECEIVE.")?;
-    let receive = receive.as_slice();
     match commands {
         Some(commands) => {
-            let cntl = files.cntl.as_slice();
-            rehearse_commands_in_copy(alloc, host, copy, commands.date, receive, cntl, files, out)
+            let rehearsal = Rehearsal {
+                date: commands.date,
+                receive,
+                files,
+            };
+            run_in_copy(alloc, host, copy, &rehearsal, out)
         }
         None => {
-            let cntl = apply_check_commands(alloc, copy.zone)?;
-            // Nothing that an APPLY with CHECK prints has the job's date.
-            let date = YyDdd::new(ANY_YEAR, ANY_DAY);
-            rehearse_commands_in_copy(
-                alloc,
-                host,
-                copy,
-                date,
+            let apply = b"APPLY FUNCTIONS PTFS GROUPEXTEND CHECK.";
+            let cntl = commands_in_zone(alloc, copy.zone, apply)?;
+            files.cntl = cntl;
+            let rehearsal = Rehearsal {
+                date: any_date(),
                 receive,
-                cntl.as_slice(),
                 files,
-                out,
-            )
+            };
+            run_in_copy(alloc, host, copy, &rehearsal, out)
         }
     }
 }
 
-// The command file of an APPLY with CHECK that selects all that fits the zone. Returns an error if memory runs out.
-fn apply_check_commands(alloc: Global, zone: ZoneName) -> Result<Vec<u8>, AllocError>
-    ensures { IfOk result (λ file. file.items ≡ apply_to zone) }
-{
-    let mut set = Vec::new(alloc);
-    set.extend_from_slice(b"SET BDY(")?;
-    set.extend_from_slice(zone.as_bytes())?;
-    set.extend_from_slice(b").")?;
-    two_commands(
-        alloc,
-        set.as_slice(),
-        b"APPLY FUNCTIONS PTFS GROUPEXTEND CHECK.",
-    )
-}
-
-// Makes the two jobs, RECEIVE and the commands, runs them in the copy of the database, and asks about the ids. Returns
-// the greatest status of the jobs and the answer. So do the calls below that run the jobs.
-fn rehearse_commands_in_copy<'a, H: Host, O: Sink>(
+// Runs the jobs of the rehearsal in the copy of the database, and then asks about the ids. Returns the greatest status of
+// the jobs and the answer. So do the calls below that run the jobs.
+fn run_in_copy<H: Host, O: Sink>(
     alloc: Global,
     host: &mut H,
     copy: &SystemCopy,
-    date: YyDdd,
-    receive: &'a [u8],
-    cntl: &'a [u8],
-    files: &'a JobFiles,
+    rehearsal: &Rehearsal,
     out: &mut O,
 ) -> Result<u8, JobError>
-    requires { receive.now ≡ receive_records }
-    ensures { TriesCopied H.Host ⟦<Memory as Disk>⟧ O.Sink host.old copy.now out.old (copy_jobs date cntl.now
-        (record { ptfin = files.now.ptfin.items; holds = files.now.hold.items })) result host.new out.new }
+    requires { rehearsal.now.receive.items ≡ receive_records }
+    ensures { TriesCopied H.Host ⟦<Memory as Disk>⟧ O.Sink host.old copy.now out.old
+        (copy_jobs rehearsal.now.date rehearsal.now.files.cntl.items
+        (record { ptfin = rehearsal.now.files.ptfin.items; holds = rehearsal.now.files.hold.items })) result host.new
+        out.new }
 {
-    let ptfin = files.ptfin.as_slice();
-    let hold = files.hold.as_slice();
+    let date = rehearsal.date;
+    let receive = rehearsal.receive.as_slice();
+    let cntl = rehearsal.files.cntl.as_slice();
+    let ptfin = rehearsal.files.ptfin.as_slice();
+    let hold = rehearsal.files.hold.as_slice();
     let jobs = [
         Job::Run {
             date,
@@ -115,7 +101,7 @@ fn rehearse_commands_in_copy<'a, H: Host, O: Sink>(
     rehearse_over_bytes(alloc, &bytes, &jobs, copy.zone, copy.ids.as_slice(), out)
 }
 
-// Reads the bytes of the database's file and of its log. The error is what the store makes of the database's error.
+// Reads the bytes of the database's file and of its log. An error of the library becomes one of the store.
 fn read_database_bytes<H: Host>(
     host: &mut H,
     db: &DatabaseFile,
@@ -183,12 +169,13 @@ fn run_and_ask<S: Alter, O: Sink>(
 {
     let answers = run_jobs(alloc, store, jobs, out)?;
     let status = greatest_status(answers.as_slice());
-    let answer_status = ask_if_any(alloc, store, zone, ids, out)?;
+    let answer_status = ask_about_ids(alloc, store, zone, ids, out)?;
     Ok(status.max(answer_status))
 }
 
-// Asks about the ids, if there are any, and returns the status of the answer. Without an id that is 0.
-fn ask_if_any<S: Alter, O: Sink>(
+// Asks about each id by itself, without BYPASS, writes one answer for all, and returns its status. Without an id, asks
+// nothing and returns 0.
+fn ask_about_ids<S: Alter, O: Sink>(
     alloc: Global,
     store: &mut Store<S>,
     zone: ZoneName,
@@ -198,22 +185,8 @@ fn ask_if_any<S: Alter, O: Sink>(
     ensures { AsksIfAny S.Store O.Sink zone ids.now store.old out.old result out.new }
 {
     if ids.is_empty() {
-        Ok(0)
-    } else {
-        ask_about_each(alloc, store, zone, ids, out)
+        return Ok(0);
     }
-}
-
-// Asks about each id by itself, without BYPASS, writes one answer for all, and returns its status.
-fn ask_about_each<S: Alter, O: Sink>(
-    alloc: Global,
-    store: &mut Store<S>,
-    zone: ZoneName,
-    ids: &[Id],
-    out: &mut O,
-) -> Result<u8, JobError>
-    ensures { AsksStore S.Store O.Sink zone ids.now store.old out.old result out.new }
-{
     let zones = load_zones(store, zone)?;
     let bypass = Bypass::none(alloc);
     let question = Question {

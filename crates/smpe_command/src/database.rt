@@ -36,9 +36,9 @@ pub(crate) fn run_job_in_database<H: Host, O: Sink>(
     Ok(answers?[0])
 }
 
-/// Loads the global zone, the zone of this name, and the one at which an ACCEPT there also looks. It changes nothing,
-/// except that a database that is missing or blank gets its tables. Returns an error if the database cannot be opened
-/// or read.
+/// Loads the global zone, the zone of this name, and the target zone at which an ACCEPT there also looks. It changes
+/// nothing, except that a database that is missing or blank gets its tables. Returns an error if the database cannot be
+/// opened or read.
 pub(crate) fn load_zones_of_database<H: Host>(
     alloc: Global,
     host: &mut H,

@@ -73,10 +73,10 @@ pub trait Host {
         ensures taken { conn.new ≡ None };
 
     /// Shows the text of the error on standard error.
-    fn show(&mut self, error: &clap::Error)
+    fn show_error(&mut self, error: &clap::Error)
         ensures { shows self.old error.now self.new };
 
-    /// Prints on standard output the text that `clap` has instead of an answer, as for `--help`.
-    fn print(&mut self, error: &clap::Error)
+    /// Prints on standard output the text of `--help` or `--version`, which `clap` returns as an error.
+    fn print_help(&mut self, error: &clap::Error)
         ensures { prints self.old error.now self.new };
 }

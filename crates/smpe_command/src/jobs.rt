@@ -1,5 +1,5 @@
 //! The subcommands, except for `why` (in `questions`) and `check` (in `checks`).
-ghost use Rattle.std.specs.Prelude.{◌≡◌, [], ◌∷◌, Some, Result, option_map};
+ghost use Rattle.std.specs.Prelude.{◌≡◌, Result};
 ghost use Rattle.std.specs.String.{string_bytes};
 ghost use Rattle.machine.specs.Machine.{RunFiles};
 ghost use Rattle.smpe_jobs.specs.declared.error.JobError.{JobError};
@@ -9,23 +9,23 @@ ghost use Rattle.smpe_command.specs.Database.{JobOver};
 ghost use Rattle.smpe_command.specs.Serving.{Serves, ServesList, ServesMigrate, ServesRun, ServesVerify, ServesZone};
 ghost use Rattle.smpe_command.specs.Serving.{job_told, status_told};
 
-use crate::any_date::{ANY_DAY, ANY_YEAR};
+use crate::any_date::any_date;
 use crate::careful::check_commands_if_careful;
 use crate::checks::serve_check;
 use crate::database::{migrate_database, run_job_in_database, verify_database};
 use crate::host::Host;
 use crate::job_files::{JobFiles, read_files};
 use crate::questions::serve_why;
-use fields::{Srel, YyDdd, ZoneName};
+use fields::{YyDdd, ZoneName};
 use report::{Sink, write_all};
 use smpe::{
     DatabaseFile, Fault, Invocation, Job, JobError, listing_commands, status_of,
     write_migrated_line, write_zone_line,
 };
+use smpe_invocation::{RunOptions, ZoneDefinition};
 use smpe_verify::describe_verification;
 use sqlite_disk::{Disk, Memory};
 use std::alloc::Global;
-use terms::ZoneKind;
 
 /// Does what the words ask for, and returns the status. The fault is the first that keeps it from its end.
 pub(crate) fn serve<'a, H: Host, O: Sink>(
@@ -38,45 +38,19 @@ pub(crate) fn serve<'a, H: Host, O: Sink>(
         out.new }
 {
     match request {
-        Invocation::Zone {
-            db,
-            name,
-            kind,
-            srel,
-            related,
-        } => status_or_fault(serve_zone(alloc, host, db, *name, *kind, *srel, *related, out)),
-        Invocation::Run {
-            db,
-            date,
-            cntl,
-            ptfin,
-            hold,
-            careful,
-        } => serve_run(
-            alloc,
-            host,
-            db,
-            *careful,
-            *date,
-            cntl.as_str(),
-            ptfin,
-            hold,
-            out,
-        ),
+        Invocation::Zone { db, definition } => {
+            status_or_fault(serve_zone(alloc, host, db, definition, out))
+        }
+        Invocation::Run { db, options } => serve_run(alloc, host, db, options, out),
         Invocation::List { db, zone } => status_or_fault(serve_list(alloc, host, db, *zone, out)),
-        Invocation::Why {
-            db,
-            zone,
-            ids,
-            options,
-        } => serve_why(alloc, host, db, *zone, ids.as_slice(), options, out),
+        Invocation::Why { db, options } => serve_why(alloc, host, db, options, out),
         Invocation::Check { system, set } => serve_check(alloc, host, system, set, out),
         Invocation::Migrate { db } => status_or_fault(serve_migrate(alloc, host, db, out)),
         Invocation::Verify { db } => status_or_fault(serve_verify(alloc, host, db, out)),
     }
 }
 
-/// The status of a job, whose error becomes a fault of the program.
+/// The status, or the error of the job as a fault of the program.
 pub(crate) fn status_or_fault<'a>(status: Result<u8, JobError>) -> Result<u8, Fault<'a>>
     ensures { result ≡ job_told status }
 {
@@ -88,50 +62,45 @@ fn serve_zone<H: Host, O: Sink>(
     alloc: Global,
     host: &mut H,
     db: &DatabaseFile,
-    name: ZoneName,
-    kind: ZoneKind,
-    srel: Srel,
-    related: Option<ZoneName>,
+    zone: &ZoneDefinition,
     out: &mut O,
 ) -> Result<u8, JobError>
     ensures { ServesZone H.Host H.Disk.Store O.Sink host.old (string_bytes db.now.name)
-        out.old (definition name kind srel related) result
+        out.old (definition zone.now.name zone.now.kind zone.now.srel zone.now.related) result
         host.new out.new }
 {
+    let name = zone.name;
     let job = Job::Zone {
         name,
-        kind,
-        srel,
-        related,
+        kind: zone.kind,
+        srel: zone.srel,
+        related: zone.related,
     };
     let answer = run_job_in_database(alloc, host, db, &job, out)?;
     Ok(write_zone_line(name, &answer, out)?)
 }
 
-// Runs the commands of a file, and returns the status. All files are read before the database is opened. That is true
-// of a careful job too, whose commands are checked in between.
+// Runs the commands of a file, and returns the status. All files are read before the database is opened, also those of
+// a careful job, whose commands are checked in between.
 fn serve_run<'a, H: Host, O: Sink>(
     alloc: Global,
     host: &mut H,
     db: &DatabaseFile,
-    is_careful: bool,
-    date: YyDdd,
-    cntl: &'a str,
-    ptfin: &'a Option<String>,
-    hold: &'a Option<String>,
+    options: &'a RunOptions,
     out: &mut O,
 ) -> Result<u8, Fault<'a>>
     ensures { ServesRun H.Host H.Disk.Store O.Sink host.old (string_bytes db.now.name)
-        out.old is_careful date (Some cntl.entry.now
-        ∷ option_map string_bytes ptfin.entry.now ∷ option_map string_bytes hold.entry.now ∷ []) result host.new
-        out.new }
+        out.old options.entry.now result host.new out.new }
 {
-    let files = read_files(alloc, host, Some(cntl), ptfin.as_deref(), hold.as_deref())?;
-    check_commands_if_careful(alloc, host, is_careful, db, files.cntl.as_slice())?;
-    status_or_fault(run_files(alloc, host, db, date, &files, out))
+    let cntl = Some(options.cntl.as_str());
+    let ptfin = options.ptfin.as_deref();
+    let hold = options.hold.as_deref();
+    let files = read_files(alloc, host, cntl, ptfin, hold)?;
+    check_commands_if_careful(alloc, host, db, options, files.cntl.as_slice())?;
+    status_or_fault(run_job_over_files(alloc, host, db, options.date, &files, out))
 }
 
-// Lists a zone, by a job of the commands `SET` and `LIST`, and returns the status.
+// Lists a zone, by a job of the commands SET and LIST, and returns the status.
 fn serve_list<H: Host, O: Sink>(
     alloc: Global,
     host: &mut H,
@@ -147,12 +116,11 @@ fn serve_list<H: Host, O: Sink>(
         ptfin: Vec::new(alloc),
         hold: Vec::new(alloc),
     };
-    // Nothing that a listing prints or changes has the job's date.
-    run_files(alloc, host, db, YyDdd::new(ANY_YEAR, ANY_DAY), &files, out)
+    run_job_over_files(alloc, host, db, any_date(), &files, out)
 }
 
 // Runs a job over files that have been read, and returns its status.
-fn run_files<H: Host, O: Sink>(
+fn run_job_over_files<H: Host, O: Sink>(
     alloc: Global,
     host: &mut H,
     db: &DatabaseFile,
@@ -175,7 +143,7 @@ fn run_files<H: Host, O: Sink>(
     Ok(status_of(&answer))
 }
 
-// Migrates the tables, writes the line of that, and returns the status.
+// Migrates the tables, writes the line that says so, and returns the status.
 fn serve_migrate<H: Host, O: Sink>(
     alloc: Global,
     host: &mut H,

@@ -11,7 +11,7 @@ use sqlite_disk::{Disk, Memory};
 use std::alloc::Global;
 use store::StoreError;
 
-// The seed for which sqlite asks.
+// The seed that `sqlite` takes for each connection: any other would do.
 const SEED: u64 = 1;
 
 /// Connects to a copy in memory of a database whose file and log have these bytes. What is written stays in memory. The
@@ -28,7 +28,7 @@ pub(crate) fn connect_in_memory(
     Ok(open_files(alloc, memory_file(alloc, db)?, memory_file(alloc, log)?)?)
 }
 
-// Opens a connection over these two files. The error is why they are no database.
+// Opens a connection over these two files. The error says why they are no database.
 fn open_files(
     alloc: Global,
     db: Memory,

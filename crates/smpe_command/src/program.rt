@@ -13,8 +13,8 @@ use smpe::{ArgFault, FAULT_STATUS, Fault, write_fault_line};
 use sqlite_disk::{Disk, Memory};
 use std::alloc::{AllocError, Global};
 
-/// Does what the words ask for, the first of which is the program's name, and returns the status. If memory runs out
-/// for the words themselves, that is a fault of the words. `--help` and `--version` are no faults.
+/// Does what the words ask for, the first of which is the program's name, and returns the status. `words` is an error if
+/// memory ran out while they were read. `--help` and `--version` are no faults.
 pub fn command<H: Host, O: Sink, E: Sink>(
     alloc: Global,
     host: &mut H,
@@ -40,8 +40,8 @@ pub fn command<H: Host, O: Sink, E: Sink>(
     }
 }
 
-// Answers words that were not read as an invocation: prints the text for which they ask instead of an answer, or
-// reports their fault.
+// Answers words that ask for no invocation: prints the help or the version if they ask for that, or reports their
+// fault.
 fn answer_refused_words<H: Host, E: Sink>(host: &mut H, fault: ArgFault, err: &mut E) -> u8
     ensures { TellsWords H.Host E.Sink host.old err.old fault result host.new err.new }
 {
@@ -50,7 +50,7 @@ fn answer_refused_words<H: Host, E: Sink>(host: &mut H, fault: ArgFault, err: &m
             error.kind(),
             ErrorKind::DisplayHelp | ErrorKind::DisplayVersion
         ) {
-            host.print(error);
+            host.print_help(error);
             return 0;
         }
     }
@@ -63,7 +63,7 @@ fn report_fault<H: Host, E: Sink>(host: &mut H, fault: &Fault<'_>, err: &mut E) 
     ensures { Tells H.Host E.Sink host.old err.old fault.now result host.new err.new }
 {
     match fault {
-        Fault::Arg(ArgFault::Clap(error)) => host.show(error),
+        Fault::Arg(ArgFault::Clap(error)) => host.show_error(error),
         Fault::Arg(ArgFault::Memory) => {}
         Fault::Arg(ArgFault::BadOperand) => {}
         Fault::Job(_) => {}

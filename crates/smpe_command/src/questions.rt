@@ -2,13 +2,13 @@
 ghost use Rattle.std.specs.Prelude.{◌≡◌, Ok, IfOk, IfErr};
 ghost use Rattle.std.specs.String.{string_bytes};
 ghost use Rattle.smpe_jobs.specs.declared.error.JobError.TheVariants.{Memory};
-ghost use Rattle.smpe_command.specs.Serving.{AsksZone, IsGiven, ServesWhy};
+ghost use Rattle.smpe_command.specs.Serving.{AsksZone, IsGiven, ServesWhy, inquiry};
 ghost use Rattle.smpe_command.specs.Told.{TellsFound};
 
 use crate::database::load_zones_of_database;
 use crate::host::Host;
 use crate::jobs::status_or_fault;
-use fields::{Bypass, Id, ZoneName};
+use fields::Bypass;
 use report::{Sink, write_all};
 use smpe::{ArgFault, DatabaseFile, Fault, JobError};
 use smpe_invocation::WhyOptions;
@@ -21,24 +21,16 @@ pub(crate) fn serve_why<'a, H: Host, O: Sink>(
     alloc: Global,
     host: &mut H,
     db: &DatabaseFile,
-    zone: ZoneName,
-    ids: &[Id],
     options: &WhyOptions,
     out: &mut O,
 ) -> Result<u8, Fault<'a>>
-    ensures { ServesWhy H.Host H.Disk.Store O.Sink host.old (string_bytes db.now.name) out.old zone ids.now options.now
-        result host.new out.new }
+    ensures { ServesWhy H.Host H.Disk.Store O.Sink host.old (string_bytes db.now.name) out.old options.now result
+        host.new out.new }
 {
     let Some(bypass) = stated_bypass(alloc, options)? else {
         return Err(Fault::Arg(ArgFault::BadOperand));
     };
-    let question = Question {
-        ids,
-        together: options.together,
-        groupextend: options.group,
-        bypass: &bypass,
-    };
-    status_or_fault(ask_zone(alloc, host, db, zone, &question, out))
+    status_or_fault(ask_zone(alloc, host, db, options, &bypass, out))
 }
 
 // The BYPASS of the words, one of nothing if they have none, or `None` if ACCEPT does not take its list. Returns
@@ -53,20 +45,26 @@ fn stated_bypass(alloc: Global, options: &WhyOptions) -> Result<Option<Bypass>, 
     }
 }
 
-// Loads the zones of the question from the database, writes the answer, and returns its status.
+// Asks with this BYPASS: loads the zones from the database, writes the answer, and returns its status.
 fn ask_zone<H: Host, O: Sink>(
     alloc: Global,
     host: &mut H,
     db: &DatabaseFile,
-    zone: ZoneName,
-    question: &Question<'_>,
+    options: &WhyOptions,
+    bypass: &Bypass,
     out: &mut O,
 ) -> Result<u8, JobError>
-    ensures { AsksZone H.Host H.Disk.Store O.Sink host.old (string_bytes db.now.name) out.old zone question.now result
-        host.new out.new }
+    ensures { AsksZone H.Host H.Disk.Store O.Sink host.old (string_bytes db.now.name) out.old options.now.zone
+        (inquiry options.now bypass.now) result host.new out.new }
 {
-    let zones = load_zones_of_database(alloc, host, db, zone)?;
-    answer_and_write(alloc, &zones, question, out)
+    let question = Question {
+        ids: options.ids.as_slice(),
+        together: options.together,
+        groupextend: options.group,
+        bypass,
+    };
+    let zones = load_zones_of_database(alloc, host, db, options.zone)?;
+    answer_and_write(alloc, &zones, &question, out)
 }
 
 /// Answers the question by the zones that were loaded, writes the answer, and returns its status. All of it is made

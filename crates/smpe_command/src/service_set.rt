@@ -4,7 +4,7 @@ ghost use Rattle.smpe_jobs.specs.Ending.{answer_of, job_of};
 ghost use Rattle.smpe_command.specs.ServiceSet.{JobsInMemory, JobsOverNew, TriesSet, greatest, receive_records};
 ghost use Rattle.smpe_command.specs.ServiceSet.{set_jobs};
 
-use crate::any_date::{ANY_DAY, ANY_YEAR};
+use crate::any_date::any_date;
 use crate::job_files::JobFiles;
 use fields::{Srel, YyDdd, ZoneName};
 use report::Sink;
@@ -14,62 +14,70 @@ use std::alloc::Global;
 use store::Store;
 use terms::ZoneKind;
 
+/// The jobs that rehearse a service set: one receives it, and one runs the commands of its files.
+#[derive(Drop)]
+pub(crate) struct Rehearsal {
+    pub(crate) date: YyDdd,
+    /// The command file of the job that receives.
+    pub(crate) receive: Vec<u8>,
+    pub(crate) files: JobFiles,
+}
+
 /// Rehearses the set in an empty system with its commands, or with those that apply all of it, and returns how each of
 /// the jobs ended.
 pub(crate) fn rehearse_in_empty_system<O: Sink>(
     alloc: Global,
     srel: Srel,
     commands: &Option<CommandJob>,
-    files: &JobFiles,
+    mut files: JobFiles,
     out: &mut O,
 ) -> Result<Vec<Answer>, JobError>
-    ensures { TriesSet O.Sink out.old srel commands.now files.now.cntl.items (record {
-      ptfin = files.now.ptfin.items;
-      holds = files.now.hold.items;
+    ensures { TriesSet O.Sink out.old srel commands.now files.cntl.items (record {
+      ptfin = files.ptfin.items;
+      holds = files.hold.items;
     }) (λ v. map answer_of v.items) result out.new }
 {
     let receive = two_commands(alloc, b"SET BDY(GLOBAL).", b"RECEIVE.")?;
-    let receive = receive.as_slice();
     match commands {
         Some(commands) => {
-            let cntl = files.cntl.as_slice();
-            rehearse_commands_in_empty_system(alloc, srel, commands.date, receive, cntl, files, out)
+            let rehearsal = Rehearsal {
+                date: commands.date,
+                receive,
+                files,
+            };
+            run_in_empty_system(alloc, srel, &rehearsal, out)
         }
         None => {
             let apply = b"APPLY FUNCTIONS PTFS GROUPEXTEND CHECK.";
             let cntl = two_commands(alloc, b"SET BDY(TGT).", apply)?;
-            // Nothing that an APPLY with CHECK prints has the job's date.
-            let date = YyDdd::new(ANY_YEAR, ANY_DAY);
-            rehearse_commands_in_empty_system(
-                alloc,
-                srel,
-                date,
+            files.cntl = cntl;
+            let rehearsal = Rehearsal {
+                date: any_date(),
                 receive,
-                cntl.as_slice(),
                 files,
-                out,
-            )
+            };
+            run_in_empty_system(alloc, srel, &rehearsal, out)
         }
     }
 }
 
-// Defines the zones, receives the set and runs the commands in an empty system.
-fn rehearse_commands_in_empty_system<'a, O: Sink>(
+// Defines the zones and runs the jobs of the rehearsal in an empty system.
+fn run_in_empty_system<O: Sink>(
     alloc: Global,
     srel: Srel,
-    date: YyDdd,
-    receive: &'a [u8],
-    cntl: &'a [u8],
-    files: &'a JobFiles,
+    rehearsal: &Rehearsal,
     out: &mut O,
 ) -> Result<Vec<Answer>, JobError>
-    requires { receive.now ≡ receive_records }
-    ensures { JobsInMemory O.Sink (set_jobs srel date cntl.now
-        (record { ptfin = files.now.ptfin.items; holds = files.now.hold.items })) out.old (λ v. map answer_of v.items)
-        result out.new }
+    requires { rehearsal.now.receive.items ≡ receive_records }
+    ensures { JobsInMemory O.Sink (set_jobs srel rehearsal.now.date rehearsal.now.files.cntl.items
+        (record { ptfin = rehearsal.now.files.ptfin.items; holds = rehearsal.now.files.hold.items })) out.old
+        (λ v. map answer_of v.items) result out.new }
 {
-    let ptfin = files.ptfin.as_slice();
-    let hold = files.hold.as_slice();
+    let date = rehearsal.date;
+    let receive = rehearsal.receive.as_slice();
+    let cntl = rehearsal.files.cntl.as_slice();
+    let ptfin = rehearsal.files.ptfin.as_slice();
+    let hold = rehearsal.files.hold.as_slice();
     let distribution = ZoneName::read(b"DLIB").unwrap();
     let target = ZoneName::read(b"TGT").unwrap();
     let jobs = [
@@ -99,11 +107,11 @@ fn rehearse_commands_in_empty_system<'a, O: Sink>(
         },
     ];
     let conn = Connection::open_in_memory(alloc)?;
-    run_jobs_over_new(alloc, conn, &jobs, out)
+    run_jobs_in_new_database(alloc, conn, &jobs, out)
 }
 
 // Opens a store over the connection to a new database, runs the jobs over it, and drops the connection.
-fn run_jobs_over_new<S: Alter + Drop, O: Sink>(
+fn run_jobs_in_new_database<S: Alter + Drop, O: Sink>(
     alloc: Global,
     conn: Connection<S>,
     jobs: &[Job<'_>],
@@ -126,7 +134,7 @@ fn run_jobs_over_new<S: Alter + Drop, O: Sink>(
     }
 }
 
-/// The greatest status of these answers; 0 if there are none.
+/// The greatest status of these answers, or 0 if there are none.
 pub(crate) fn greatest_status(answers: &[Answer]) -> u8
     ensures { result ≡ greatest (map answer_of answers.now) }
 {

@@ -33,9 +33,9 @@ fn sysmod_head(alloc: Global, sysmod: &Sysmod) -> Result<Sysmod, AllocError>
 // Appends the edit that writes the sources of a received SYSMOD. It appends nothing for an id that is not received.
 fn push_source_edit(
     alloc: Global,
-    edits: &mut Vec<GlobalEdit>,
     global: &GlobalZone,
     id: Id,
+    edits: &mut Vec<GlobalEdit>,
 ) -> Result<(), AllocError>
     ensures { OnOk result (edits.new.items ≡ edits.old.items ++ source_edits (sysmod_of global.now id)) }
 {
@@ -70,7 +70,7 @@ fn assign_id(
     global.attest();
     let place = place_of(global, id);
     let received = global.assign(source, id)?;
-    push_source_edit(alloc, &mut change.edits, global, id)?;
+    push_source_edit(alloc, global, id, &mut change.edits)?;
     change.lines.push(ReportLine::Status {
         id,
         place,

@@ -28,10 +28,9 @@ fn marked_copy(global: &GlobalZone, hold: &Hold) -> Result<Hold, AllocError>
     ensures { IfOk result (λ copy. copy ≡ marked (hold_of global.now hold.now.id hold.now.kind hold.now.reason)
         hold.now) }
 {
-    let was_internal = match global.hold_of(hold.id, hold.kind, hold.reason) {
-        Some(old) => old.internal,
-        None => false,
-    };
+    let was_internal = global
+        .hold_of(hold.id, hold.kind, hold.reason)
+        .is_some_and(|old| old.internal);
     Ok(Hold {
         id: hold.id,
         kind: hold.kind,
@@ -91,13 +90,13 @@ fn release_status(answer: Result<(), ReleaseError>, reason: Reason) -> Status
     }
 }
 
-// Appends the edit that removes a hold that is released.
+// Appends the edit that removes the hold, if it was released.
 fn push_release_edit(
-    edits: &mut Vec<GlobalEdit>,
     answer: Result<(), ReleaseError>,
     id: Id,
     kind: HoldKind,
     reason: Reason,
+    edits: &mut Vec<GlobalEdit>,
 ) -> Result<(), AllocError>
     ensures { OnOk result (edits.new.items ≡ edits.old.items ++ release_edits id kind reason answer) }
 {
@@ -120,7 +119,7 @@ fn receive_release(
     let kind = release.kind;
     let reason = release.reason;
     let answer = global.release(id, kind, reason);
-    push_release_edit(&mut change.edits, answer, id, kind, reason)?;
+    push_release_edit(answer, id, kind, reason, &mut change.edits)?;
     change.lines.push(ReportLine::Status {
         id,
         place: Place::Hold(kind),
@@ -148,14 +147,14 @@ fn receive_hold_item(
 // Receives the items of a hold file, in their order.
 fn receive_hold_items(
     global: &mut GlobalZone,
-    found: Vec<HoldItem>,
+    hold_items: Vec<HoldItem>,
     change: &mut GlobalChange,
 ) -> Result<(), AllocError>
-    requires { All IsExternal (items found.items) }
-    ensures { OnOk result (IsTaken (Runs TakesHoldItem global.old (items found.items)) global.old global.new change.old
-        change.new) }
+    requires { All IsExternal (items hold_items.items) }
+    ensures { OnOk result (IsTaken (Runs TakesHoldItem global.old (items hold_items.items)) global.old global.new
+        change.old change.new) }
 {
-    for item in found {
+    for item in hold_items {
         receive_hold_item(global, item, change)?;
     }
     Ok(())
@@ -165,10 +164,10 @@ fn receive_hold_items(
 pub fn receive_holds(
     alloc: Global,
     global: &mut GlobalZone,
-    found: Vec<HoldItem>,
+    hold_items: Vec<HoldItem>,
 ) -> Result<GlobalChange, AllocError>
-    requires { All IsExternal (items found.items) }
-    ensures runs { IfOk result (λ t. Runs TakesHoldItem global.old (items found.items) global.new
+    requires { All IsExternal (items hold_items.items) }
+    ensures runs { IfOk result (λ t. Runs TakesHoldItem global.old (items hold_items.items) global.new
         (map line_view t.lines.items)) }
     ensures receives { IfOk result (λ t. All IsOfReceive t.edits.items) }
     ensures stays { OnOk result (StatesThose global.new global.old) }
@@ -178,6 +177,6 @@ pub fn receive_holds(
         → after_edits stated t.edits.items global.old ≡ global.new) }
 {
     let mut change = GlobalChange::new(alloc);
-    receive_hold_items(global, found, &mut change)?;
+    receive_hold_items(global, hold_items, &mut change)?;
     Ok(change)
 }

@@ -94,14 +94,14 @@ fn receive_item(
 fn receive_items(
     alloc: Global,
     global: &mut GlobalZone,
-    found: Vec<Item>,
+    ptfin_items: Vec<Item>,
     source: &Option<Source>,
     change: &mut GlobalChange,
 ) -> Result<(), AllocError>
-    ensures { OnOk result (IsTaken (Runs (TakesItem source.now) global.old (items found.items)) global.old global.new
-        change.old change.new) }
+    ensures { OnOk result (IsTaken (Runs (TakesItem source.now) global.old (items ptfin_items.items)) global.old
+        global.new change.old change.new) }
 {
-    for item in found {
+    for item in ptfin_items {
         receive_item(alloc, global, item, source, change)?;
     }
     Ok(())
@@ -112,10 +112,10 @@ fn receive_items(
 pub fn receive_ptfin(
     alloc: Global,
     global: &mut GlobalZone,
-    found: Vec<Item>,
+    ptfin_items: Vec<Item>,
     source: Option<Source>,
 ) -> Result<GlobalChange, AllocError>
-    ensures runs { IfOk result (λ t. Runs (TakesItem source) global.old (items found.items) global.new
+    ensures runs { IfOk result (λ t. Runs (TakesItem source) global.old (items ptfin_items.items) global.new
         (map line_view t.lines.items)) }
     ensures receives { IfOk result (λ t. All IsOfReceive t.edits.items) }
     ensures fits { IfOk result (λ t. (stated : AGlobal) → StatesThose stated global.new
@@ -130,6 +130,6 @@ pub fn receive_ptfin(
         None => true,
     });
     let mut change = GlobalChange::new(alloc);
-    receive_items(alloc, global, found, &source, &mut change)?;
+    receive_items(alloc, global, ptfin_items, &source, &mut change)?;
     Ok(change)
 }

@@ -29,9 +29,9 @@ fn is_applied_somewhere(zones: &IndexMap<ZoneName, Zone>, id: Id) -> bool
     zones.values().any(|zone| zone.is_applied(id))
 }
 
-// Takes a SYSMOD out of the global zone and adds the edits for that. Refuses it if it is not received, or is applied
-// in a zone.
-fn remove_sysmod(
+// Takes a SYSMOD out of the global zone, and adds the edits for that. Refuses to if the SYSMOD is not received, or is
+// applied in one of the zones.
+fn remove_or_refuse(
     global: &mut GlobalZone,
     zones: &IndexMap<ZoneName, Zone>,
     id: Id,
@@ -47,8 +47,8 @@ fn remove_sysmod(
     if is_applied_somewhere(zones, id) {
         return Ok(Status::Refused(IdRefusal::AppliedSomewhere));
     }
-    push_sysmod_removal(edits, global, id)?;
-    // (it is received, so this returns no error)
+    push_sysmod_removal(global, id, edits)?;
+    // (the SYSMOD is received, so this returns no error)
     let _ = global.reject(id);
     Ok(Status::Rejected)
 }
@@ -64,7 +64,7 @@ fn reject_id(
         change.new.edits.items change.old.lines.items change.new.lines.items) }
 {
     let place = place_of(global, id);
-    let status = remove_sysmod(global, zones, id, &mut change.edits)?;
+    let status = remove_or_refuse(global, zones, id, &mut change.edits)?;
     change.lines.push(ReportLine::Status { id, place, status })?;
     Ok(())
 }
@@ -83,13 +83,10 @@ pub fn reject(
     ensures edits { IfOk result (λ r. (stated : AGlobal) → after_edits stated r.edits.items global.old ≡ global.new) }
     ensures names { IsUnique bytes_eq zones.now }
 {
+    // (for the clause `names`: a map has each name once, which its type promises)
     prove!(zones.len() < usize::MAX);
-    let mut change = GlobalChange {
-        edits: Vec::new(alloc),
-        lines: Vec::new(alloc),
-    };
-    let all = ids.as_slice();
-    for id in all {
+    let mut change = GlobalChange::new(alloc);
+    for id in ids.as_slice() {
         reject_id(global, zones, *id, &mut change)?;
     }
     Ok(change)

@@ -11,9 +11,9 @@ use terms::HoldKind;
 
 // Appends the edits that remove the internal holds on a SYSMOD.
 fn push_internal_hold_removals(
-    edits: &mut Vec<GlobalEdit>,
     global: &GlobalZone,
     id: Id,
+    edits: &mut Vec<GlobalEdit>,
 ) -> Result<(), AllocError>
     ensures { OnOk result (edits.new.items ≡ edits.old.items
         ++ map removal (filter (λ h. h.internal) (holds_of global.now System id))) }
@@ -29,12 +29,12 @@ fn push_internal_hold_removals(
 /// Appends the edits that remove a SYSMOD and the internal holds on it from the tables. External holds stay: they come
 /// from hold files, not from the SYSMOD.
 pub(crate) fn push_sysmod_removal(
-    edits: &mut Vec<GlobalEdit>,
     global: &GlobalZone,
     id: Id,
+    edits: &mut Vec<GlobalEdit>,
 ) -> Result<(), AllocError>
     ensures { OnOk result (edits.new.items ≡ edits.old.items ++ edits_of global.now id) }
 {
     edits.push(GlobalEdit::RemoveSysmod(id))?;
-    push_internal_hold_removals(edits, global, id)
+    push_internal_hold_removals(global, id, edits)
 }

@@ -1,12 +1,12 @@
 //! The card that a code names, and the wrong word in it, as far as that shows without the grammar.
-use fields::{Id, Srel, ZoneName};
+use crate::operand::Form;
 use std::alloc::{AllocError, Global};
 
-/// The bytes of a record.
+/// How many bytes a record has.
 const RECORD: usize = 80;
 
-/// The columns of a card that have words.
-const COLUMNS: usize = 72;
+/// How many columns of a card have words.
+const TEXT_COLUMNS: usize = 72;
 
 /// How many cards of one command or statement are read at most.
 const MOST_CARDS: usize = 200;
@@ -16,6 +16,16 @@ const MOST_CARDS: usize = 200;
 struct CardWord {
     operand: String,
     value: Option<String>,
+}
+
+impl CardWord {
+    // Whether this is the zone as the value of BDY.
+    fn is_boundary(&self, zone: &str) -> bool {
+        match &self.value {
+            Some(value) => self.operand.as_str() == "BDY" && value.as_str() == zone,
+            None => false,
+        }
+    }
 }
 
 /// The words of a command or of a statement, up to the period that ends it.
@@ -38,6 +48,7 @@ struct CardWords {
 }
 
 impl CardWords {
+    // No words, before the first card.
     fn new(alloc: Global) -> CardWords {
         CardWords {
             alloc,
@@ -51,8 +62,7 @@ impl CardWords {
         }
     }
 
-    // Reads the words of the command or statement that begins in this record, counted from 1. Here and below, an error
-    // means that memory runs out.
+    // Reads the words of the command or statement that begins in this record, counted from 1.
     fn read(alloc: Global, file: &[u8], record: usize) -> Result<CardWords, AllocError> {
         let mut card_words = CardWords::new(alloc);
         let cards = file.chunks(RECORD).skip(record.saturating_sub(1));
@@ -67,7 +77,7 @@ impl CardWords {
 
     // Adds the words of the next card, up to the period. A word ends with its card.
     fn add_card(&mut self, card: &[u8]) -> Result<(), AllocError> {
-        for &byte in card.iter().take(COLUMNS) {
+        for &byte in card.iter().take(TEXT_COLUMNS) {
             if self.is_done {
                 return Ok(());
             }
@@ -76,19 +86,19 @@ impl CardWords {
         self.add_byte(b' ')
     }
 
-    // Adds the byte of the next column: it is of a comment, ends a word, or is of a word. An asterisk that opens a
-    // comment does not close it, and parentheses have no comments.
+    // Adds the byte of the next column, which belongs to a comment or a word, or ends a word. An asterisk that opens a
+    // comment does not close it, and there are no comments inside parentheses.
     fn add_byte(&mut self, byte: u8) -> Result<(), AllocError> {
-        let last = self.last;
+        let previous = self.last;
         self.last = byte;
         if self.is_comment {
-            if last == b'*' && byte == b'/' {
+            if previous == b'*' && byte == b'/' {
                 self.is_comment = false;
                 self.last = b' ';
             }
             return Ok(());
         }
-        if self.depth == 0 && last == b'/' && byte == b'*' {
+        if self.depth == 0 && previous == b'/' && byte == b'*' {
             self.is_comment = true;
             self.last = b' ';
             self.word.pop();
@@ -113,8 +123,8 @@ impl CardWords {
         Ok(())
     }
 
-    // Keeps the word that has ended, if any: outside parentheses as an operand, in its list as a value of it. A word of
-    // an inner list, as a reason in BYPASS(HOLDUSER(..)), is not kept.
+    // Keeps the word that has ended, if there is one: outside parentheses as an operand, and inside as a value of the
+    // last operand. It drops a word of an inner list, as a reason in BYPASS(HOLDUSER(..)).
     fn end_word(&mut self) -> Result<(), AllocError> {
         if self.word.is_empty() {
             return Ok(());
@@ -139,18 +149,11 @@ impl CardWords {
 
     // Whether this is a SET of the zone.
     fn is_set_of(&self, zone: &str) -> bool {
-        match self.words.first() {
-            Some(command) if command.operand.as_str() == "SET" => {}
-            _ => return false,
-        }
-        for word in &self.words {
-            if let Some(value) = &word.value {
-                if word.operand.as_str() == "BDY" && value.as_str() == zone {
-                    return true;
-                }
-            }
-        }
-        false
+        let is_set = match self.words.first() {
+            Some(command) => command.operand.as_str() == "SET",
+            None => false,
+        };
+        is_set && self.words.iter().any(|word| word.is_boundary(zone))
     }
 }
 
@@ -218,7 +221,8 @@ fn is_unprintable(byte: u8) -> bool {
     byte != b' ' && !byte.is_ascii_graphic()
 }
 
-/// The text of a record, without the blanks at its end. A question mark stands for each character that is not printable.
+/// The text of a record, without the blanks at its end, and with a question mark for each character that is not
+/// printable.
 pub(crate) fn card_text(alloc: Global, record: &[u8]) -> Result<String, AllocError> {
     let mut text = String::new(alloc);
     for &byte in record {
@@ -238,7 +242,7 @@ pub(crate) fn find_set(
     let mut start = None;
     for (place, card) in file.chunks(RECORD).enumerate() {
         command.add_card(card)?;
-        // (comments may precede the command)
+        // Cards of comments may come before the command.
         if start.is_none() && !command.words.is_empty() {
             start = place.checked_add(1);
         }
@@ -298,8 +302,8 @@ fn fault_of_code(code: &str) -> &'static str {
     }
 }
 
-// The hint that names the first operand that no command and no statement has, or value that lacks the form that its
-// operand demands; `None` if there is neither.
+// The hint about the first operand that no command and no statement has, or the first value that has not the form that
+// its operand demands; `None` if there is neither.
 fn wrong_word_hint(alloc: Global, words: &[CardWord]) -> Result<Option<String>, AllocError> {
     for word in words.iter().skip(1) {
         let operand = word.operand.as_str();
@@ -315,33 +319,25 @@ fn wrong_word_hint(alloc: Global, words: &[CardWord]) -> Result<Option<String>, 
     Ok(None)
 }
 
-// The hint that says what the value should look like; `None` if its operand demands no form, or it has that form.
+// The hint that says what a value of this operand should look like; `None` if this value looks so, or the operand takes
+// any value.
 fn wrong_value_hint(
     alloc: Global,
     operand: &str,
     value: &str,
 ) -> Result<Option<String>, AllocError> {
-    let form = match operand {
-        "BDY" if ZoneName::read(value.as_bytes()).is_none() => {
-            "a zone name has 1 to 7 characters and begins with a letter"
-        }
-        "++VER" if Srel::read(value.as_bytes()).is_none() => {
-            "an SREL is a capital letter and three digits"
-        }
-        _ if takes_ids(operand) && Id::read(value.as_bytes()).is_none() => {
-            "the id of a SYSMOD has seven of A to Z, 0 to 9, $, # and @"
-        }
-        "BYPASS" if !is_bypass_member(value) => "BYPASS has no such member",
+    let fault = match value_form(operand) {
+        Some(form) if !form.fits(value) => form.description(),
+        None if operand == "BYPASS" && !is_bypass_member(value) => "BYPASS has no such member",
         _ => return Ok(None),
     };
-    Ok(Some(format!(in alloc; "{operand} has {value}: {form}")?))
+    Ok(Some(format!(in alloc; "{operand} has {value}: {fault}")?))
 }
 
-// The hint that names the first operand that stands in the statement twice; `None` if none does.
+// The hint that names the first operand that occurs twice; `None` if none does.
 fn repeated_operand_hint(alloc: Global, words: &[CardWord]) -> Result<Option<String>, AllocError> {
     for (place, word) in words.iter().enumerate().skip(1) {
-        let before = words.iter().take(place);
-        for earlier in before {
+        for earlier in words.iter().take(place) {
             if word.value.is_none() && earlier.value.is_none() && earlier.operand == word.operand {
                 let operand = word.operand.as_str();
                 return Ok(Some(format!(in alloc; "{operand} stands there twice")?));
@@ -351,11 +347,24 @@ fn repeated_operand_hint(alloc: Global, words: &[CardWord]) -> Result<Option<Str
     Ok(None)
 }
 
-// Whether the list of this word, which is an operand or begins a statement, has only ids.
+// The form of the values of this word, which is an operand or begins a statement; `None` if they have several forms.
+fn value_form(word: &str) -> Option<Form> {
+    match word {
+        "BDY" => Some(Form::ZoneName),
+        "++VER" => Some(Form::Srel),
+        _ if takes_ids(word) => Some(Form::Id),
+        _ => None,
+    }
+}
+
+// Whether the values of this word, which is an operand or begins a statement, are ids.
 fn takes_ids(word: &str) -> bool {
     match word {
+        // operands of commands
         "SELECT" | "EXCLUDE" | "GROUP" | "FORFMID" => true,
+        // operands of statements
         "FMID" | "PRE" | "REQ" | "NPRE" | "SUP" | "DELETE" | "TO" => true,
+        // statements
         "++FUNCTION" | "++PTF" | "++APAR" | "++USERMOD" | "++HOLD" | "++RELEASE" => true,
         _ => false,
     }

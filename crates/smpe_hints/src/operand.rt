@@ -3,9 +3,9 @@ use fields::{Id, Srel, ZoneName};
 use smpe_invocation::{read_date, read_seconds};
 use std::alloc::{AllocError, Global};
 
-/// What the value of an option looks like.
+/// What the value of an option, or of an operand of a card, looks like.
 #[derive(Clone, Copy, Debug)]
-enum Form {
+pub(crate) enum Form {
     ZoneName,
     Srel,
     Id,
@@ -26,8 +26,8 @@ impl Form {
         }
     }
 
-    // Whether the value has the form.
-    fn fits(self, value: &str) -> bool {
+    /// Whether the value has the form.
+    pub(crate) fn fits(self, value: &str) -> bool {
         match self {
             Form::ZoneName => ZoneName::read(value.as_bytes()).is_some(),
             Form::Srel => Srel::read(value.as_bytes()).is_some(),
@@ -37,8 +37,8 @@ impl Form {
         }
     }
 
-    // The form in words, with an example.
-    fn description(self) -> &'static str {
+    /// The form in words, with an example.
+    pub(crate) fn description(self) -> &'static str {
         match self {
             Form::ZoneName => {
                 "a zone name has 1 to 7 of A to Z, 0 to 9, $, # and @, and begins with a letter, as TGT1"
@@ -76,10 +76,10 @@ impl<'a> CommandLine<'a> {
     /// The value of the option where it stands first; `None` if the words do not have it.
     pub(crate) fn value(self, option: &str) -> Option<&'a str> {
         for place in 0..self.words.len() {
-            if let Some((name, value)) = self.option_at(place) {
-                if name == option {
-                    return Some(value);
-                }
+            if let Some((name, value)) = self.option_at(place)
+                && name == option
+            {
+                return Some(value);
             }
         }
         None

@@ -1,11 +1,11 @@
-//! What in a report needs more words.
+//! What in a report needs an explanation.
 use crate::card::{RecordForm, card_fault, card_text, find_set, has_whole_records, record_bytes};
 use crate::operand::CommandLine;
 use crate::related::{RelatedZone, related_hint};
 use std::alloc::{AllocError, Global};
 
 /// How many bytes of a line the watch looks at.
-const LONGEST: usize = 100;
+const MOST_LINE_BYTES: usize = 100;
 
 /// A file that was read.
 #[derive(Drop)]
@@ -14,7 +14,7 @@ pub struct ReadFile {
     pub bytes: Vec<u8>,
 }
 
-/// What needs more words.
+/// Something in a report that needs an explanation.
 #[derive(Drop)]
 enum Notice {
     /// A card of the file of this option is at fault.
@@ -37,7 +37,7 @@ enum Notice {
     Related,
 }
 
-/// Takes the bytes of a report, and finds what needs more words.
+/// Takes the bytes of a report, and notices what needs an explanation.
 #[derive(Drop)]
 pub struct ReportWatch {
     alloc: Global,
@@ -57,6 +57,7 @@ pub struct ReportWatch {
 }
 
 impl ReportWatch {
+    /// A watch that has seen nothing of the report.
     pub fn new(alloc: Global) -> ReportWatch {
         ReportWatch {
             alloc,
@@ -88,12 +89,12 @@ impl ReportWatch {
         self.header.as_str()
     }
 
-    /// Takes the next bytes of the report, and follows each line that they end. Returns an error if memory runs out.
+    /// Takes the next bytes of the report, and follows each line that they end.
     pub fn feed(&mut self, piece: &[u8]) -> Result<(), AllocError> {
         for &byte in piece {
             if byte == b'\n' {
                 self.end_line()?;
-            } else if self.line.len() < LONGEST {
+            } else if self.line.len() < MOST_LINE_BYTES {
                 self.line.push(byte)?;
             }
         }
@@ -113,8 +114,8 @@ impl ReportWatch {
 
     // Follows the beginning or the end of a command, and notices what the line says of a card or a refusal. `Cm4` and
     // `Cm5` are faults of the PTFIN and of the hold file, `Cm2` is a zone that is not defined, and `Zn2` a related zone
-    // that does not fit. The id of a SYSMOD may be the word of a command, as RESTORE: its type and its status follow it,
-    // and not a zone and CHECK.
+    // that does not fit. A SYSMOD may have the word of a command as its id, as RESTORE. Its type and its status follow
+    // it then, and not a zone and CHECK.
     fn follow_line(&mut self, line: &str) -> Result<(), AllocError> {
         let mut words = line.split(' ');
         let first = words.next().unwrap_or("");
@@ -199,8 +200,8 @@ impl ReportWatch {
         Ok(())
     }
 
-    /// What to say, a line each, about a report for which these words asked over these files, and over a database that
-    /// knows this about the related zone. No line is said twice.
+    /// What to say about the report, a line for each notice, and no line twice. The command line has these words, the
+    /// job read these files, and `related` is what the database knows of the related zone.
     pub fn hints(
         &self,
         words: &[Vec<u8>],
@@ -221,14 +222,14 @@ impl ReportWatch {
 
 // Whether the word begins the header of a command.
 fn is_command(word: &str) -> bool {
-    match word {
-        "SET" | "RECEIVE" | "REJECT" | "APPLY" | "ACCEPT" | "RESTORE" | "LIST" | "REPORT" => true,
-        _ => false,
-    }
+    matches!(
+        word,
+        "SET" | "RECEIVE" | "REJECT" | "APPLY" | "ACCEPT" | "RESTORE" | "LIST" | "REPORT"
+    )
 }
 
 impl Notice {
-    // The line about the notice. `None` about a card of a file that was not read, or if there is no more to say.
+    // The line that explains the notice. `None` if its file was not read, or if there is nothing to add.
     fn hint(
         &self,
         alloc: Global,
@@ -266,12 +267,7 @@ fn file_of_option<'a>(
     files: &'a [ReadFile],
 ) -> Option<&'a ReadFile> {
     let name = line.value(option)?;
-    for file in files {
-        if file.name.as_str() == name {
-            return Some(file);
-        }
-    }
-    None
+    files.iter().find(|file| file.name.as_str() == name)
 }
 
 // What is wrong with a record: its bytes, if they are no card, otherwise what the code says of the card. `None` if that
@@ -288,7 +284,7 @@ fn record_hint(
         RecordForm::NotAscii => Ok(Some(format!(in alloc;
             "{name} record {record} is not ASCII; smpe-intake and iconv convert EBCDIC"
         )?)),
-        // (of a file with another length, this is said when it is read)
+        // `smpe` has said this already when it read a file that has not only whole records.
         RecordForm::LineEnd if !has_whole_records(file.bytes.as_slice()) => Ok(None),
         RecordForm::LineEnd => Ok(Some(format!(in alloc;
             "{name} record {record} has the end of a line in it; smpe-cards makes records of text"

@@ -7,7 +7,8 @@ use Rattle.std.proofs.lemmas.Bool.Decides.{nat_tests}
 use Rattle.terms.specs.Types.{Text}
 use Rattle.clap.specs.Words.{Row}
 use Rattle.smpe_invocation.specs.Answers.{Excludes}
-use Rattle.smpe_invocation.specs.Values.{HasCommands, HasDate, HasOptions, HasSystem, HasText, HasValues, Lacks}
+use Rattle.smpe_invocation.specs.Values.{HasCommands, HasDate, HasOptions, HasRelated, HasSystem, HasText, HasValues}
+use Rattle.smpe_invocation.specs.Values.{HasZoneName, Lacks}
 use Rattle.smpe_invocation.specs.declared.fault.ArgFault.{ArgFault}
 use Rattle.smpe_invocation.specs.declared.fault.ArgFault.TheVariants.{Memory, Clap, BadOperand}
 use Rattle.std.proofs.lemmas.Option.{none-some}
@@ -40,76 +41,80 @@ two_words one two apart same = absurd (let first = ap (λ (t : Text). slice_inde
 -- the values of the invocation that a subcommand asks for
 module _ (rows : List Row) where
   pub zone_in : (i : Invocation) × HasValues (codes "zone", rows) i
-      → (db : _) × (name : _) × (kind : _) × (srel : _) × (related : _)
-      × HasOptions rows (asked.Zone db name kind srel related)
-  zone_in (asked.Zone db name kind srel related, h) = (db, name, kind, srel, related, h.1)
-  zone_in (asked.Run db date cntl ptfin hold careful, h) = two_words (codes "zone") (codes "run") refl h.0
+      → (db : _) × (definition : _) × HasOptions rows (asked.Zone db definition)
+  zone_in (asked.Zone db definition, h) = (db, definition, h.1)
+  zone_in (asked.Run db options, h) = two_words (codes "zone") (codes "run") refl h.0
   zone_in (asked.List db zone, h) = two_words (codes "zone") (codes "list") refl h.0
-  zone_in (asked.Why db zone ids options, h) = two_words (codes "zone") (codes "why") refl h.0
+  zone_in (asked.Why db options, h) = two_words (codes "zone") (codes "why") refl h.0
   zone_in (asked.Check system set, h) = two_words (codes "zone") (codes "check") refl h.0
   zone_in (asked.Migrate db, h) = two_words (codes "zone") (codes "migrate") refl h.0
   zone_in (asked.Verify db, h) = two_words (codes "zone") (codes "verify") refl h.0
 
   pub run_in : (i : Invocation) × HasValues (codes "run", rows) i
-      → (db : _) × (date : _) × (cntl : _) × (ptfin : _) × (hold : _) × (careful : _)
-      × HasOptions rows (asked.Run db date cntl ptfin hold careful)
-  run_in (asked.Zone db name kind srel related, h) = two_words (codes "run") (codes "zone") refl h.0
-  run_in (asked.Run db date cntl ptfin hold careful, h) = (db, date, cntl, ptfin, hold, careful, h.1)
+      → (db : _) × (options : _) × HasOptions rows (asked.Run db options)
+  run_in (asked.Zone db definition, h) = two_words (codes "run") (codes "zone") refl h.0
+  run_in (asked.Run db options, h) = (db, options, h.1)
   run_in (asked.List db zone, h) = two_words (codes "run") (codes "list") refl h.0
-  run_in (asked.Why db zone ids options, h) = two_words (codes "run") (codes "why") refl h.0
+  run_in (asked.Why db options, h) = two_words (codes "run") (codes "why") refl h.0
   run_in (asked.Check system set, h) = two_words (codes "run") (codes "check") refl h.0
   run_in (asked.Migrate db, h) = two_words (codes "run") (codes "migrate") refl h.0
   run_in (asked.Verify db, h) = two_words (codes "run") (codes "verify") refl h.0
 
   pub list_in : (i : Invocation) × HasValues (codes "list", rows) i
       → (db : _) × (zone : _) × HasOptions rows (asked.List db zone)
-  list_in (asked.Zone db name kind srel related, h) = two_words (codes "list") (codes "zone") refl h.0
-  list_in (asked.Run db date cntl ptfin hold careful, h) = two_words (codes "list") (codes "run") refl h.0
+  list_in (asked.Zone db definition, h) = two_words (codes "list") (codes "zone") refl h.0
+  list_in (asked.Run db options, h) = two_words (codes "list") (codes "run") refl h.0
   list_in (asked.List db zone, h) = (db, zone, h.1)
-  list_in (asked.Why db zone ids options, h) = two_words (codes "list") (codes "why") refl h.0
+  list_in (asked.Why db options, h) = two_words (codes "list") (codes "why") refl h.0
   list_in (asked.Check system set, h) = two_words (codes "list") (codes "check") refl h.0
   list_in (asked.Migrate db, h) = two_words (codes "list") (codes "migrate") refl h.0
   list_in (asked.Verify db, h) = two_words (codes "list") (codes "verify") refl h.0
 
   pub why_in : (i : Invocation) × HasValues (codes "why", rows) i
-      → (db : _) × (zone : _) × (ids : _) × (options : _) × HasOptions rows (asked.Why db zone ids options)
-  why_in (asked.Zone db name kind srel related, h) = two_words (codes "why") (codes "zone") refl h.0
-  why_in (asked.Run db date cntl ptfin hold careful, h) = two_words (codes "why") (codes "run") refl h.0
+      → (db : _) × (options : _) × HasOptions rows (asked.Why db options)
+  why_in (asked.Zone db definition, h) = two_words (codes "why") (codes "zone") refl h.0
+  why_in (asked.Run db options, h) = two_words (codes "why") (codes "run") refl h.0
   why_in (asked.List db zone, h) = two_words (codes "why") (codes "list") refl h.0
-  why_in (asked.Why db zone ids options, h) = (db, zone, ids, options, h.1)
+  why_in (asked.Why db options, h) = (db, options, h.1)
   why_in (asked.Check system set, h) = two_words (codes "why") (codes "check") refl h.0
   why_in (asked.Migrate db, h) = two_words (codes "why") (codes "migrate") refl h.0
   why_in (asked.Verify db, h) = two_words (codes "why") (codes "verify") refl h.0
 
   pub check_in : (i : Invocation) × HasValues (codes "check", rows) i
       → (system : _) × (set : _) × HasOptions rows (asked.Check system set)
-  check_in (asked.Zone db name kind srel related, h) = two_words (codes "check") (codes "zone") refl h.0
-  check_in (asked.Run db date cntl ptfin hold careful, h) = two_words (codes "check") (codes "run") refl h.0
+  check_in (asked.Zone db definition, h) = two_words (codes "check") (codes "zone") refl h.0
+  check_in (asked.Run db options, h) = two_words (codes "check") (codes "run") refl h.0
   check_in (asked.List db zone, h) = two_words (codes "check") (codes "list") refl h.0
-  check_in (asked.Why db zone ids options, h) = two_words (codes "check") (codes "why") refl h.0
+  check_in (asked.Why db options, h) = two_words (codes "check") (codes "why") refl h.0
   check_in (asked.Check system set, h) = (system, set, h.1)
   check_in (asked.Migrate db, h) = two_words (codes "check") (codes "migrate") refl h.0
   check_in (asked.Verify db, h) = two_words (codes "check") (codes "verify") refl h.0
 
   pub migrate_in : (i : Invocation) × HasValues (codes "migrate", rows) i
       → (db : _) × HasOptions rows (asked.Migrate db)
-  migrate_in (asked.Zone db name kind srel related, h) = two_words (codes "migrate") (codes "zone") refl h.0
-  migrate_in (asked.Run db date cntl ptfin hold careful, h) = two_words (codes "migrate") (codes "run") refl h.0
+  migrate_in (asked.Zone db definition, h) = two_words (codes "migrate") (codes "zone") refl h.0
+  migrate_in (asked.Run db options, h) = two_words (codes "migrate") (codes "run") refl h.0
   migrate_in (asked.List db zone, h) = two_words (codes "migrate") (codes "list") refl h.0
-  migrate_in (asked.Why db zone ids options, h) = two_words (codes "migrate") (codes "why") refl h.0
+  migrate_in (asked.Why db options, h) = two_words (codes "migrate") (codes "why") refl h.0
   migrate_in (asked.Check system set, h) = two_words (codes "migrate") (codes "check") refl h.0
   migrate_in (asked.Migrate db, h) = (db, h.1)
   migrate_in (asked.Verify db, h) = two_words (codes "migrate") (codes "verify") refl h.0
 
   pub verify_in : (i : Invocation) × HasValues (codes "verify", rows) i
       → (db : _) × HasOptions rows (asked.Verify db)
-  verify_in (asked.Zone db name kind srel related, h) = two_words (codes "verify") (codes "zone") refl h.0
-  verify_in (asked.Run db date cntl ptfin hold careful, h) = two_words (codes "verify") (codes "run") refl h.0
+  verify_in (asked.Zone db definition, h) = two_words (codes "verify") (codes "zone") refl h.0
+  verify_in (asked.Run db options, h) = two_words (codes "verify") (codes "run") refl h.0
   verify_in (asked.List db zone, h) = two_words (codes "verify") (codes "list") refl h.0
-  verify_in (asked.Why db zone ids options, h) = two_words (codes "verify") (codes "why") refl h.0
+  verify_in (asked.Why db options, h) = two_words (codes "verify") (codes "why") refl h.0
   verify_in (asked.Check system set, h) = two_words (codes "verify") (codes "check") refl h.0
   verify_in (asked.Migrate db, h) = two_words (codes "verify") (codes "migrate") refl h.0
   verify_in (asked.Verify db, h) = (db, h.1)
+
+  -- where there is a related zone, it has a name
+  pub related_in : ¬ Lacks (codes "related") rows → (related : Option Text) × HasRelated rows related
+      → (name : Text) × HasZoneName (codes "related") rows name
+  related_in named (None, h) = absurd (named h.0)
+  related_in named (Some name, h) = (name, h.0, h.1)
 
   -- where there is a file of commands, it has a name, and they have a date
   pub named_in : ¬ Lacks (codes "cntl") rows → (commands : Option CommandJob) × HasCommands rows commands

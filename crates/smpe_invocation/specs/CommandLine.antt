@@ -16,16 +16,16 @@ abbrev pub flag_arg : Text → Rule
 flag_arg id = record (optional_arg id) { action = Some SetTrue }
 
 -- one that is optional and may be repeated
-abbrev pub optional_repeated_arg : Text → Rule
-optional_repeated_arg id = record (optional_arg id) { action = Some Append }
+abbrev pub optional_repeatable_arg : Text → Rule
+optional_repeatable_arg id = record (optional_arg id) { action = Some Append }
 
 -- `--id TEXT`, which is required
 abbrev pub required_arg : Text → Rule
 required_arg id = record (optional_arg id) { required = true }
 
 -- the same, which may be repeated
-abbrev pub required_repeated_arg : Text → Rule
-required_repeated_arg id = record (required_arg id) { action = Some Append }
+abbrev pub required_repeatable_arg : Text → Rule
+required_repeatable_arg id = record (required_arg id) { action = Some Append }
 
 -- it takes a kind of zones, as it is spelled
 abbrev pub IsKindParser : ValueParser → Type 0
@@ -64,7 +64,7 @@ list_shape = with_options (codes "list") (database_options (required_arg (codes 
 -- `why --db F [--wait SECONDS] --zone Z --id ID [--id ID].. [--together] [--group] [--bypass LIST]`
 abbrev pub why_shape : Shape
 why_shape = with_options (codes "why") (database_options (required_arg (codes "zone")
-    ∷ required_repeated_arg (codes "id") ∷ flag_arg (codes "together") ∷ flag_arg (codes "group")
+    ∷ required_repeatable_arg (codes "id") ∷ flag_arg (codes "together") ∷ flag_arg (codes "group")
     ∷ optional_arg (codes "bypass") ∷ []))
 
 -- `check --ptfin F [--hold F] [--cntl F --date YYYY-MM-DD]` with `--srel S`, or with `--db F [--wait SECONDS] --zone Z
@@ -72,7 +72,7 @@ why_shape = with_options (codes "why") (database_options (required_arg (codes "z
 abbrev pub check_shape : Shape
 check_shape = with_options (codes "check")
     (optional_arg (codes "srel") ∷ optional_arg (codes "db") ∷ optional_arg (codes "wait") ∷ optional_arg (codes "zone")
-    ∷ optional_repeated_arg (codes "why") ∷ required_arg (codes "ptfin") ∷ optional_arg (codes "hold")
+    ∷ optional_repeatable_arg (codes "why") ∷ required_arg (codes "ptfin") ∷ optional_arg (codes "hold")
     ∷ optional_arg (codes "cntl") ∷ optional_arg (codes "date") ∷ [])
 
 -- `migrate --db F [--wait SECONDS]`

@@ -16,7 +16,6 @@ use Rattle.smpe_invocation.specs.declared.asked.DatabaseFile.{DatabaseFile}
 use Rattle.smpe_invocation.specs.declared.asked.Invocation.{Invocation}
 use Rattle.smpe_invocation.specs.declared.asked.Invocation.TheVariants as asked
 use Rattle.smpe_invocation.specs.declared.asked.ServiceSet.{ServiceSet}
-use Rattle.smpe_invocation.specs.declared.asked.WhyOptions.{WhyOptions}
 
 abbrev pub HasText : Text → List Row → Text → Type 0
 HasText id rows text = first_of id rows ≡ Some text
@@ -73,11 +72,6 @@ abbrev pub AreIds : Option (List Text) → List Text → Type 0
 AreIds None ids = ids ≡ []
 AreIds (Some texts) ids = (ids ≡ texts) × All IsId ids
 
-abbrev pub HasWhyOptions : List Row → WhyOptions → Type 0
-HasWhyOptions rows options = HasFlag (codes "together") rows options.together
-    × HasFlag (codes "group") rows options.group
-    × HasOptional (codes "bypass") rows (option_map string_bytes options.bypass)
-
 -- The commands, if the words have a file of them; then they have a date.
 abbrev pub HasCommands : List Row → Option CommandJob → Type 0
 HasCommands rows None = Lacks (codes "cntl") rows
@@ -97,25 +91,29 @@ HasSystem rows (Copied copy) = HasDatabase rows copy.db × HasZoneName (codes "z
 
 -- the subcommand that asks for it
 abbrev pub subcommand : Invocation → Text
-subcommand (asked.Zone db name kind srel related) = codes "zone"
-subcommand (asked.Run db date cntl ptfin hold careful) = codes "run"
+subcommand (asked.Zone db definition) = codes "zone"
+subcommand (asked.Run db options) = codes "run"
 subcommand (asked.List db zone) = codes "list"
-subcommand (asked.Why db zone ids options) = codes "why"
+subcommand (asked.Why db options) = codes "why"
 subcommand (asked.Check system set) = codes "check"
 subcommand (asked.Migrate db) = codes "migrate"
 subcommand (asked.Verify db) = codes "verify"
 
 -- the options have its values
 abbrev pub HasOptions : List Row → Invocation → Type 0
-HasOptions rows (asked.Zone db name kind srel related) = HasDatabase rows db
-    × HasZoneName (codes "name") rows name × HasKind rows kind × HasSrel rows srel × HasRelated rows related
-HasOptions rows (asked.Run db date cntl ptfin hold careful) = HasDatabase rows db × HasDate rows date
-    × HasText (codes "cntl") rows (string_bytes cntl)
-    × HasOptional (codes "ptfin") rows (option_map string_bytes ptfin)
-    × HasOptional (codes "hold") rows (option_map string_bytes hold) × HasFlag (codes "careful") rows careful
+HasOptions rows (asked.Zone db definition) = HasDatabase rows db
+    × HasZoneName (codes "name") rows definition.name × HasKind rows definition.kind
+    × HasSrel rows definition.srel × HasRelated rows definition.related
+HasOptions rows (asked.Run db options) = HasDatabase rows db × HasDate rows options.date
+    × HasText (codes "cntl") rows (string_bytes options.cntl)
+    × HasOptional (codes "ptfin") rows (option_map string_bytes options.ptfin)
+    × HasOptional (codes "hold") rows (option_map string_bytes options.hold)
+    × HasFlag (codes "careful") rows options.careful
 HasOptions rows (asked.List db zone) = HasDatabase rows db × HasZoneName (codes "zone") rows zone
-HasOptions rows (asked.Why db zone ids options) = HasDatabase rows db × HasZoneName (codes "zone") rows zone
-    × HasIds rows ids.items × HasWhyOptions rows options
+HasOptions rows (asked.Why db options) = HasDatabase rows db × HasZoneName (codes "zone") rows options.zone
+    × HasIds rows options.ids.items × HasFlag (codes "together") rows options.together
+    × HasFlag (codes "group") rows options.group
+    × HasOptional (codes "bypass") rows (option_map string_bytes options.bypass)
 HasOptions rows (asked.Check system set) = HasSystem rows system × HasServiceSet rows set
 HasOptions rows (asked.Migrate db) = HasDatabase rows db
 HasOptions rows (asked.Verify db) = HasDatabase rows db

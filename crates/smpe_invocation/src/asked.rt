@@ -40,12 +40,36 @@ pub enum CheckedSystem {
     Copied(SystemCopy),
 }
 
-/// How `why` judges the ids: all as the candidates of one command, with those that GROUPEXTEND brings in, and with the
-/// members of this list of BYPASS.
+/// A zone to define.
+#[derive(Drop)]
+pub struct ZoneDefinition {
+    pub name: ZoneName,
+    pub kind: ZoneKind,
+    pub srel: Srel,
+    pub related: Option<ZoneName>,
+}
+
+/// The files of a job, by their names, and its date.
+#[derive(Drop)]
+pub struct RunOptions {
+    pub date: YyDdd,
+    pub cntl: String,
+    pub ptfin: Option<String>,
+    pub hold: Option<String>,
+    /// Whether to run the job only if it has a command and each zone that its SETs name is defined.
+    pub careful: bool,
+}
+
+/// The ids to ask about, in which zone, and how to judge them.
 #[derive(Drop)]
 pub struct WhyOptions {
+    pub zone: ZoneName,
+    pub ids: Vec<Id>,
+    /// Whether they are judged as the candidates of one command, and not each by itself.
     pub together: bool,
+    /// Whether they are judged with the requisites that GROUPEXTEND brings in.
     pub group: bool,
+    /// The members of BYPASS.
     pub bypass: Option<String>,
 }
 
@@ -55,19 +79,12 @@ pub enum Invocation {
     /// Define a zone.
     Zone {
         db: DatabaseFile,
-        name: ZoneName,
-        kind: ZoneKind,
-        srel: Srel,
-        related: Option<ZoneName>,
+        definition: ZoneDefinition,
     },
-    /// Run a job; with `careful` only if it has a command and each zone that its SETs name is defined.
+    /// Run a job.
     Run {
         db: DatabaseFile,
-        date: YyDdd,
-        cntl: String,
-        ptfin: Option<String>,
-        hold: Option<String>,
-        careful: bool,
+        options: RunOptions,
     },
     /// List a zone.
     List {
@@ -77,8 +94,6 @@ pub enum Invocation {
     /// Tell the facts about ids in a zone, and what an install would make of them.
     Why {
         db: DatabaseFile,
-        zone: ZoneName,
-        ids: Vec<Id>,
         options: WhyOptions,
     },
     /// Tell what a service set would do in a system, and change no database.

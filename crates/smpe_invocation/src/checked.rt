@@ -16,7 +16,7 @@ use crate::option_values::{
 use clap::ArgMatches;
 use std::alloc::Global;
 
-/// Reads in which system to check: in a copy of a database if `--db` is given, otherwise in an empty one.
+/// Reads the system in which to check: the copy of a database if `--db` is given, otherwise an empty system.
 pub(crate) fn read_checked_system(
     alloc: Global,
     found: &ArgMatches<'_>,
@@ -32,7 +32,7 @@ pub(crate) fn read_checked_system(
     }
 }
 
-// Reads the empty system to check in, which has an SREL. Returns `BadOperand` if an option of a copy is given.
+// Reads the SREL of an empty system. Returns `BadOperand` if an option of a copy is given.
 fn read_empty_system(found: &ArgMatches<'_>) -> Result<CheckedSystem, ArgFault>
     requires { Lacks (codes "db") (rows_of (found_of found.now)) }
     ensures ok { IfOk result (HasSystem (rows_of (found_of found.now))) }
@@ -47,8 +47,7 @@ fn read_empty_system(found: &ArgMatches<'_>) -> Result<CheckedSystem, ArgFault>
     }
 }
 
-// Reads the copy of a database to check in, with its zone and the ids to ask about. Returns `BadOperand` if an SREL is
-// given.
+// Reads the database to copy, the zone and the ids to ask about. Returns `BadOperand` if an SREL is given.
 fn read_copied_system(alloc: Global, found: &ArgMatches<'_>) -> Result<CheckedSystem, ArgFault>
     requires { ¬ (Lacks (codes "db") (rows_of (found_of found.now))) }
     ensures ok { IfOk result (HasSystem (rows_of (found_of found.now))) }
@@ -78,7 +77,7 @@ fn read_command_job(alloc: Global, found: &ArgMatches<'_>) -> Result<Option<Comm
     Ok(Some(CommandJob { cntl, date }))
 }
 
-/// Reads the names of the files of the service set that is checked.
+/// Reads the names of the service set's files, and the commands to check it with.
 pub(crate) fn read_service_set(
     alloc: Global,
     found: &ArgMatches<'_>,

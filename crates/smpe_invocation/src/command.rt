@@ -4,14 +4,14 @@ ghost use Rattle.clap.specs.Words.{app_of, rule_of};
 ghost use Rattle.clap.specs.declared.builder.value_parser.ValueParser.{ValueParser};
 ghost use Rattle.smpe_invocation.specs.CommandLine.{IsCommandLine, IsKindParser, IsSubcommand, check_shape};
 ghost use Rattle.smpe_invocation.specs.CommandLine.{database_options, flag_arg, kind_arg, list_shape, migrate_shape};
-ghost use Rattle.smpe_invocation.specs.CommandLine.{optional_arg, optional_repeated_arg, required_arg};
-ghost use Rattle.smpe_invocation.specs.CommandLine.{required_repeated_arg, run_shape, verify_shape, why_shape};
+ghost use Rattle.smpe_invocation.specs.CommandLine.{optional_arg, optional_repeatable_arg, required_arg};
+ghost use Rattle.smpe_invocation.specs.CommandLine.{required_repeatable_arg, run_shape, verify_shape, why_shape};
 ghost use Rattle.smpe_invocation.specs.CommandLine.{with_options, zone_shape};
 
 use clap::{Arg, ArgAction, Command};
 use std::alloc::{AllocError, Global};
 
-/// What `--version` prints after the name.
+// What `--version` prints after the name.
 const VERSION: &str = "1.0.0";
 
 // The kinds of zones that `--kind` takes.
@@ -46,7 +46,7 @@ fn new_command<'a>(alloc: Global, name: &'a str, about: &'a str, example: &'a st
     Command::new(alloc, name).about(about).after_help(example)
 }
 
-// A command over a database, with the options for that.
+// A command over a database, with the options `--db` and `--wait`.
 fn database_command<'a>(
     alloc: Global,
     name: &'a str,
@@ -117,7 +117,7 @@ fn why_command<'a>(alloc: Global) -> Result<Command<'a>, AllocError>
         "Example: smpe why --db smpe.db --zone TGT1 --id UA00001 --id UA00002 --together",
     )?
     .arg(required_arg(alloc, "zone", "The target or distribution zone"))?
-    .arg(required_repeated_arg(alloc, "id", "The id of a SYSMOD, once or more often"))?
+    .arg(required_repeatable_arg(alloc, "id", "The id of a SYSMOD, once or more often"))?
     .arg(flag_arg(
         alloc,
         "together",
@@ -135,7 +135,8 @@ fn why_command<'a>(alloc: Global) -> Result<Command<'a>, AllocError>
     ))
 }
 
-// An empty system has an SREL, and a database a zone; `checked` finds out which of them the words mean.
+// `clap` takes any of the options for an empty system (`--srel`) and for a copy of a database. The module `checked`
+// refuses a mixture of the two.
 fn check_command<'a>(alloc: Global) -> Result<Command<'a>, AllocError>
     ensures { IfOk result (IsSubcommand check_shape) }
 {
@@ -157,7 +158,7 @@ fn check_command<'a>(alloc: Global) -> Result<Command<'a>, AllocError>
         "zone",
         "The target or distribution zone of the database",
     ))?
-    .arg(optional_repeated_arg(
+    .arg(optional_repeatable_arg(
         alloc,
         "why",
         "An id to ask about afterwards, as why does, once or more often",
@@ -214,7 +215,7 @@ fn wait_arg<'a>(alloc: Global) -> Arg<'a>
     )
 }
 
-// An option with a value, without which `clap` refuses the words.
+// An option with a value. `clap` refuses words that lack it.
 fn required_arg<'a>(alloc: Global, id: &'a str, help: &'a str) -> Arg<'a>
     ensures rule { rule_of result ≡ required_arg id.entry.now }
     ensures global { result.global ≡ false }
@@ -222,17 +223,17 @@ fn required_arg<'a>(alloc: Global, id: &'a str, help: &'a str) -> Arg<'a>
     optional_arg(alloc, id, help).required(true)
 }
 
-// A required option that may be stated more than once.
-fn required_repeated_arg<'a>(alloc: Global, id: &'a str, help: &'a str) -> Arg<'a>
-    ensures rule { rule_of result ≡ required_repeated_arg id.entry.now }
+// An option with a value, which has to be stated once or more often.
+fn required_repeatable_arg<'a>(alloc: Global, id: &'a str, help: &'a str) -> Arg<'a>
+    ensures rule { rule_of result ≡ required_repeatable_arg id.entry.now }
     ensures global { result.global ≡ false }
 {
     required_arg(alloc, id, help).action(ArgAction::Append)
 }
 
-// An option that may be stated more than once, or not at all.
-fn optional_repeated_arg<'a>(alloc: Global, id: &'a str, help: &'a str) -> Arg<'a>
-    ensures rule { rule_of result ≡ optional_repeated_arg id.entry.now }
+// An option with a value, which may be stated any number of times.
+fn optional_repeatable_arg<'a>(alloc: Global, id: &'a str, help: &'a str) -> Arg<'a>
+    ensures rule { rule_of result ≡ optional_repeatable_arg id.entry.now }
     ensures global { result.global ≡ false }
 {
     optional_arg(alloc, id, help).action(ArgAction::Append)

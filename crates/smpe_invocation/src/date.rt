@@ -7,8 +7,8 @@ ghost use Rattle.smpe_invocation.specs.Dates.{month_of, year_of};
 use fields::YyDdd;
 use jiff::civil::Date;
 
-/// Reads a date of four digits for the year, two for the month and two for the day, with hyphens between them. Any
-/// other text, and a day that the calendar lacks, give none.
+/// Reads a date of four digits for the year, two for the month and two for the day, with hyphens between them. Returns
+/// `None` for any other text, and for a day that the calendar lacks.
 pub fn read_date(text: &str) -> Option<YyDdd>
     ensures form { IsSome result ↔ (HasDateForm text.now × IsCalendarDay text.now) }
     ensures value { IfSome result (λ date. date ≡ dotted text.now) }
@@ -20,7 +20,7 @@ pub fn read_date(text: &str) -> Option<YyDdd>
     Some(YyDdd::new(year(date), day_of_year(date)))
 }
 
-// The year of a date that was read without a sign.
+// The year of the date, which is not negative because its text has no sign.
 fn year(date: Date) -> u16
     requires { (y : ℕ) × (date.year ≡ pos y) }
     ensures { pos result ≡ date.year }
@@ -64,5 +64,5 @@ fn has_date_digits(text: &[u8]) -> bool
 fn are_digits(text: &[u8]) -> bool
     ensures { IsTrue result ↔ AreDigits text.now }
 {
-    text.iter().all(|b| b.is_ascii_digit())
+    text.iter().all(|byte| byte.is_ascii_digit())
 }

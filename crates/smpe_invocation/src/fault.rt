@@ -1,6 +1,6 @@
 //! Why the words ask for nothing.
 use clap::error::ErrorKind;
-use std::alloc::AllocError;
+use std::alloc::{AllocError, AllocFailed};
 use thiserror::Error;
 
 /// Why no invocation is read: memory ran out, `clap` refuses the words, with its own text, or a name, an id, an SREL or
@@ -21,7 +21,18 @@ impl From<AllocError> for ArgFault {
 
     ghost from_gives = { λ _ e. e ≡ Memory };
 
-    fn from(_e: AllocError) -> ArgFault {
+    fn from(_error: AllocError) -> ArgFault {
+        ArgFault::Memory
+    }
+}
+
+impl<T: Drop> From<AllocFailed<T>> for ArgFault {
+    ghost use Rattle.std.specs.Prelude.{◌≡◌};
+    ghost use Rattle.smpe_invocation.specs.declared.fault.ArgFault.TheVariants.{Memory};
+
+    ghost from_gives = { λ _ e. e ≡ Memory };
+
+    fn from(_error: AllocFailed<T>) -> ArgFault {
         ArgFault::Memory
     }
 }

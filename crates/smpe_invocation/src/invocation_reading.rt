@@ -2,10 +2,10 @@
 ghost use Rattle.std.specs.Prelude.{map, option_map, codes, IfOk, IfErr};
 ghost use Rattle.clap.specs.Words.{found_of, rows_of};
 ghost use Rattle.smpe_invocation.specs.Answers.{Excludes, IsMet, IsRead, IsRefused};
-ghost use Rattle.smpe_invocation.specs.Values.{HasValues, HasWhyOptions};
+ghost use Rattle.smpe_invocation.specs.Values.{HasValues};
 ghost use Rattle.smpe_invocation.specs.declared.asked.Invocation.{Invocation};
 
-use crate::asked::{Invocation, WhyOptions};
+use crate::asked::{Invocation, RunOptions, WhyOptions, ZoneDefinition};
 use crate::checked::{read_checked_system, read_service_set};
 use crate::command::command_line;
 use crate::fault::ArgFault;
@@ -14,7 +14,7 @@ use crate::option_values::{
     read_related, read_required_ids, read_srel, read_zone_name,
 };
 use clap::ArgMatches;
-use std::alloc::{AllocError, Global};
+use std::alloc::Global;
 
 /// Reads the words, the first of which is the program's name. Returns `Memory` if memory runs out, `Clap` if `clap`
 /// refuses the words or has a text to show instead of them, as for `--help`, and `BadOperand` if a name, an id, an
@@ -24,11 +24,11 @@ pub fn invocation<'a>(alloc: Global, words: &'a [&'a str]) -> Result<Invocation,
     ensures err { IfErr result (IsRefused (map (λ word. word.now) words.entry.now)) }
 {
     let matches = command_line(alloc)?.try_get_matches_from(words)?;
-    subcommand_invocation(alloc, matches.subcommand())
+    read_subcommand_options(alloc, matches.subcommand())
 }
 
-// What the subcommand that `clap` found asks for, of its name and its matches.
-fn subcommand_invocation(
+// Reads the options of the subcommand that `clap` found, which is given by its name and its matches.
+fn read_subcommand_options(
     alloc: Global,
     subcommand: Option<(&str, &ArgMatches<'_>)>,
 ) -> Result<Invocation, ArgFault>
@@ -40,27 +40,27 @@ fn subcommand_invocation(
         return Err(ArgFault::BadOperand);
     };
     if name == "zone" {
-        zone_invocation(alloc, found)
+        read_zone_options(alloc, found)
     } else if name == "run" {
-        run_invocation(alloc, found)
+        read_run_options(alloc, found)
     } else if name == "list" {
-        list_invocation(alloc, found)
+        read_list_options(alloc, found)
     } else if name == "why" {
-        why_invocation(alloc, found)
+        read_why_options(alloc, found)
     } else if name == "check" {
-        check_invocation(alloc, found)
+        read_check_options(alloc, found)
     } else if name == "migrate" {
-        migrate_invocation(alloc, found)
+        read_migrate_options(alloc, found)
     } else if name == "verify" {
-        verify_invocation(alloc, found)
+        read_verify_options(alloc, found)
     } else {
         Err(ArgFault::BadOperand)
     }
 }
 
-// Each of the following reads the options of one subcommand, and returns `BadOperand` at the first that is required and
-// absent, or has a bad form.
-fn zone_invocation(alloc: Global, found: &ArgMatches<'_>) -> Result<Invocation, ArgFault>
+// Each of the following functions reads the options of one subcommand. It returns `BadOperand` if a required one is
+// missing or one has a bad form.
+fn read_zone_options(alloc: Global, found: &ArgMatches<'_>) -> Result<Invocation, ArgFault>
     ensures ok { IfOk result (HasValues (codes "zone", rows_of (found_of found.now))) }
     ensures err { IfErr result (λ e. Excludes e ((invocation : Invocation)
         × HasValues (codes "zone", rows_of (found_of found.now)) invocation)) }
@@ -70,16 +70,16 @@ fn zone_invocation(alloc: Global, found: &ArgMatches<'_>) -> Result<Invocation, 
     let srel = read_srel(found)?;
     let related = read_related(found)?;
     let db = read_database(alloc, found)?;
-    Ok(Invocation::Zone {
-        db,
+    let definition = ZoneDefinition {
         name,
         kind,
         srel,
         related,
-    })
+    };
+    Ok(Invocation::Zone { db, definition })
 }
 
-fn run_invocation(alloc: Global, found: &ArgMatches<'_>) -> Result<Invocation, ArgFault>
+fn read_run_options(alloc: Global, found: &ArgMatches<'_>) -> Result<Invocation, ArgFault>
     ensures ok { IfOk result (HasValues (codes "run", rows_of (found_of found.now))) }
     ensures err { IfErr result (λ e. Excludes e ((invocation : Invocation)
         × HasValues (codes "run", rows_of (found_of found.now)) invocation)) }
@@ -89,17 +89,17 @@ fn run_invocation(alloc: Global, found: &ArgMatches<'_>) -> Result<Invocation, A
     let cntl = copy_required_text(alloc, found, "cntl")?;
     let ptfin = copy_optional_text(alloc, found, "ptfin")?;
     let hold = copy_optional_text(alloc, found, "hold")?;
-    Ok(Invocation::Run {
-        db,
+    let options = RunOptions {
         date,
         cntl,
         ptfin,
         hold,
         careful: has_flag(found, "careful"),
-    })
+    };
+    Ok(Invocation::Run { db, options })
 }
 
-fn list_invocation(alloc: Global, found: &ArgMatches<'_>) -> Result<Invocation, ArgFault>
+fn read_list_options(alloc: Global, found: &ArgMatches<'_>) -> Result<Invocation, ArgFault>
     ensures ok { IfOk result (HasValues (codes "list", rows_of (found_of found.now))) }
     ensures err { IfErr result (λ e. Excludes e ((invocation : Invocation)
         × HasValues (codes "list", rows_of (found_of found.now)) invocation)) }
@@ -109,36 +109,26 @@ fn list_invocation(alloc: Global, found: &ArgMatches<'_>) -> Result<Invocation, 
     Ok(Invocation::List { db, zone })
 }
 
-fn why_invocation(alloc: Global, found: &ArgMatches<'_>) -> Result<Invocation, ArgFault>
+fn read_why_options(alloc: Global, found: &ArgMatches<'_>) -> Result<Invocation, ArgFault>
     ensures ok { IfOk result (HasValues (codes "why", rows_of (found_of found.now))) }
     ensures err { IfErr result (λ e. Excludes e ((invocation : Invocation)
         × HasValues (codes "why", rows_of (found_of found.now)) invocation)) }
 {
     let zone = read_zone_name(found, "zone")?;
     let ids = read_required_ids(alloc, found)?;
-    let options = read_why_options(alloc, found)?;
     let db = read_database(alloc, found)?;
-    Ok(Invocation::Why {
-        db,
+    let bypass = copy_optional_text(alloc, found, "bypass")?;
+    let options = WhyOptions {
         zone,
         ids,
-        options,
-    })
-}
-
-// How `why` judges the ids. All of these options may be left out.
-fn read_why_options(alloc: Global, found: &ArgMatches<'_>) -> Result<WhyOptions, AllocError>
-    ensures { IfOk result (HasWhyOptions (rows_of (found_of found.now))) }
-{
-    let bypass = copy_optional_text(alloc, found, "bypass")?;
-    Ok(WhyOptions {
         together: has_flag(found, "together"),
         group: has_flag(found, "group"),
         bypass,
-    })
+    };
+    Ok(Invocation::Why { db, options })
 }
 
-fn check_invocation(alloc: Global, found: &ArgMatches<'_>) -> Result<Invocation, ArgFault>
+fn read_check_options(alloc: Global, found: &ArgMatches<'_>) -> Result<Invocation, ArgFault>
     ensures ok { IfOk result (HasValues (codes "check", rows_of (found_of found.now))) }
     ensures err { IfErr result (λ e. Excludes e ((invocation : Invocation)
         × HasValues (codes "check", rows_of (found_of found.now)) invocation)) }
@@ -148,7 +138,7 @@ fn check_invocation(alloc: Global, found: &ArgMatches<'_>) -> Result<Invocation,
     Ok(Invocation::Check { system, set })
 }
 
-fn migrate_invocation(alloc: Global, found: &ArgMatches<'_>) -> Result<Invocation, ArgFault>
+fn read_migrate_options(alloc: Global, found: &ArgMatches<'_>) -> Result<Invocation, ArgFault>
     ensures ok { IfOk result (HasValues (codes "migrate", rows_of (found_of found.now))) }
     ensures err { IfErr result (λ e. Excludes e ((invocation : Invocation)
         × HasValues (codes "migrate", rows_of (found_of found.now)) invocation)) }
@@ -157,7 +147,7 @@ fn migrate_invocation(alloc: Global, found: &ArgMatches<'_>) -> Result<Invocatio
     Ok(Invocation::Migrate { db })
 }
 
-fn verify_invocation(alloc: Global, found: &ArgMatches<'_>) -> Result<Invocation, ArgFault>
+fn read_verify_options(alloc: Global, found: &ArgMatches<'_>) -> Result<Invocation, ArgFault>
     ensures ok { IfOk result (HasValues (codes "verify", rows_of (found_of found.now))) }
     ensures err { IfErr result (λ e. Excludes e ((invocation : Invocation)
         × HasValues (codes "verify", rows_of (found_of found.now)) invocation)) }

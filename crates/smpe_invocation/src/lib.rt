@@ -13,7 +13,8 @@ mod invocation_reading;
 mod option_values;
 
 pub use asked::{
-    CheckedSystem, CommandJob, DatabaseFile, Invocation, ServiceSet, SystemCopy, WhyOptions,
+    CheckedSystem, CommandJob, DatabaseFile, Invocation, RunOptions, ServiceSet, SystemCopy,
+    WhyOptions, ZoneDefinition,
 };
 pub use date::read_date;
 pub use fault::ArgFault;

@@ -1,6 +1,6 @@
 //! The values of the options.
-ghost use Rattle.std.specs.Prelude.{◌≡◌, ◌↔◌, ◌++◌, ◌∷◌, ℕ, [], All, List, Option, Some, map, option_map, codes};
-ghost use Rattle.std.specs.Prelude.{IsTrue, IsSome, IfOk, IfErr, IfSome, OnOk};
+ghost use Rattle.std.specs.Prelude.{◌≡◌, ◌↔◌, ℕ, All, List, Option, Some, map, option_map, codes};
+ghost use Rattle.std.specs.Prelude.{IsTrue, IsSome, IfOk, IfErr, IfSome};
 ghost use Rattle.std.specs.String.{string_bytes};
 ghost use Rattle.terms.specs.Forms.{IsId};
 ghost use Rattle.terms.specs.Types.{Text};
@@ -21,68 +21,68 @@ use fields::{Id, Srel, YyDdd, ZoneName};
 use std::alloc::{AllocError, Global};
 use terms::ZoneKind;
 
-/// The longest time to wait for a database, in seconds.
+// The longest time to wait for a database, in seconds.
 const LONGEST_WAIT: u32 = 9_999;
 
 // The text of the option, if the words have the option.
-fn option_text<'a>(found: &ArgMatches<'a>, id: &str) -> Option<&'a str>
-    ensures { option_map (λ text. text.now) result ≡ first_of id.now (rows_of (found_of found.now)) }
+fn option_text<'a>(found: &ArgMatches<'a>, option: &str) -> Option<&'a str>
+    ensures { option_map (λ text. text.now) result ≡ first_of option.now (rows_of (found_of found.now)) }
 {
-    found.get_str(id)
+    found.get_str(option)
 }
 
-// The text of an option that must be there, or `BadOperand`.
-fn required_text<'a>(found: &ArgMatches<'a>, id: &str) -> Result<&'a str, ArgFault>
-    ensures ok { IfOk result (λ text. HasText id.now (rows_of (found_of found.now)) text.now) }
-    ensures err { IfErr result (λ e. Excludes e ((text : Text) × HasText id.now (rows_of (found_of found.now)) text)) }
+// The text of a required option. Returns `BadOperand` if the words lack the option.
+fn required_text<'a>(found: &ArgMatches<'a>, option: &str) -> Result<&'a str, ArgFault>
+    ensures ok { IfOk result (λ text. HasText option.now (rows_of (found_of found.now)) text.now) }
+    ensures err { IfErr result (λ e. Excludes e ((text : Text) × HasText option.now (rows_of (found_of found.now)) text)) }
 {
-    option_text(found, id).ok_or(ArgFault::BadOperand)
+    option_text(found, option).ok_or(ArgFault::BadOperand)
 }
 
 /// Whether the words do not have the option.
-pub(crate) fn lacks(found: &ArgMatches<'_>, id: &str) -> bool
-    ensures { IsTrue result ↔ Lacks id.now (rows_of (found_of found.now)) }
+pub(crate) fn lacks(found: &ArgMatches<'_>, option: &str) -> bool
+    ensures { IsTrue result ↔ Lacks option.now (rows_of (found_of found.now)) }
 {
-    option_text(found, id).is_none()
+    option_text(found, option).is_none()
 }
 
 /// Whether the flag is set. `clap` gives a flag the text `true` or `false`.
-pub(crate) fn has_flag(found: &ArgMatches<'_>, id: &str) -> bool
-    ensures { HasFlag id.now (rows_of (found_of found.now)) result }
+pub(crate) fn has_flag(found: &ArgMatches<'_>, option: &str) -> bool
+    ensures { HasFlag option.now (rows_of (found_of found.now)) result }
 {
-    match option_text(found, id) {
+    match option_text(found, option) {
         Some(text) => text == "true",
         None => false,
     }
 }
 
-/// A copy of the text of an option that must be there, as of a file's name.
+/// A copy of the text of a required option, as of a file's name. Returns `BadOperand` if the words lack the option.
 pub(crate) fn copy_required_text(
     alloc: Global,
     found: &ArgMatches<'_>,
-    id: &str,
+    option: &str,
 ) -> Result<String, ArgFault>
-    ensures ok { IfOk result (λ text. HasText id.now (rows_of (found_of found.now)) (string_bytes text)) }
-    ensures err { IfErr result (λ e. Excludes e ((text : Text) × HasText id.now (rows_of (found_of found.now)) text)) }
+    ensures ok { IfOk result (λ text. HasText option.now (rows_of (found_of found.now)) (string_bytes text)) }
+    ensures err { IfErr result (λ e. Excludes e ((text : Text) × HasText option.now (rows_of (found_of found.now)) text)) }
 {
-    Ok(String::from_str(alloc, required_text(found, id)?)?)
+    Ok(String::from_str(alloc, required_text(found, option)?)?)
 }
 
-/// A copy of the text of an option, or none if the option is left out.
+/// A copy of the text of an option, or `None` if the words lack the option.
 pub(crate) fn copy_optional_text(
     alloc: Global,
     found: &ArgMatches<'_>,
-    id: &str,
+    option: &str,
 ) -> Result<Option<String>, AllocError>
-    ensures { IfOk result (λ text. HasOptional id.now (rows_of (found_of found.now)) (option_map string_bytes text)) }
+    ensures { IfOk result (λ text. HasOptional option.now (rows_of (found_of found.now)) (option_map string_bytes text)) }
 {
-    match option_text(found, id) {
+    match option_text(found, option) {
         Some(text) => Ok(Some(String::from_str(alloc, text)?)),
         None => Ok(None),
     }
 }
 
-/// Reads a whole number of seconds, at most 9,999. Any other text gives none.
+/// Reads a whole number of seconds, at most 9,999. Returns `None` for any other text.
 pub fn read_seconds(text: &str) -> Option<u32>
     ensures some { IfSome result (AreSeconds text.now) }
     ensures none { IsSome result ↔ ((seconds : ℕ) × AreSeconds text.now seconds) }
@@ -95,7 +95,7 @@ pub fn read_seconds(text: &str) -> Option<u32>
     }
 }
 
-// The seconds of `--wait`, and 0 without it.
+// The seconds of `--wait`, or 0 if the words lack it.
 fn read_wait(found: &ArgMatches<'_>) -> Result<u32, ArgFault>
     ensures ok { IfOk result (IsWait (first_of (codes "wait") (rows_of (found_of found.now)))) }
     ensures err { IfErr result (λ e. Excludes e ((seconds : ℕ)
@@ -117,13 +117,13 @@ pub(crate) fn read_database(alloc: Global, found: &ArgMatches<'_>) -> Result<Dat
     Ok(DatabaseFile { name, wait })
 }
 
-/// The name of a zone that the option states.
-pub(crate) fn read_zone_name(found: &ArgMatches<'_>, id: &str) -> Result<ZoneName, ArgFault>
-    ensures ok { IfOk result (λ name. HasZoneName id.now (rows_of (found_of found.now)) name) }
+/// The name of a zone, from a required option.
+pub(crate) fn read_zone_name(found: &ArgMatches<'_>, option: &str) -> Result<ZoneName, ArgFault>
+    ensures ok { IfOk result (λ name. HasZoneName option.now (rows_of (found_of found.now)) name) }
     ensures err { IfErr result (λ e. Excludes e ((name : Text)
-        × HasZoneName id.now (rows_of (found_of found.now)) name)) }
+        × HasZoneName option.now (rows_of (found_of found.now)) name)) }
 {
-    ZoneName::read(required_text(found, id)?.as_bytes()).ok_or(ArgFault::BadOperand)
+    ZoneName::read(required_text(found, option)?.as_bytes()).ok_or(ArgFault::BadOperand)
 }
 
 /// The kind of `--kind`.
@@ -142,21 +142,19 @@ pub(crate) fn read_srel(found: &ArgMatches<'_>) -> Result<Srel, ArgFault>
     Srel::read(required_text(found, "srel")?.as_bytes()).ok_or(ArgFault::BadOperand)
 }
 
-/// The related zone of `--related`, or none if that is left out.
+/// The zone name of `--related`, or `None` if the words lack it.
 pub(crate) fn read_related(found: &ArgMatches<'_>) -> Result<Option<ZoneName>, ArgFault>
     ensures ok { IfOk result (λ related. HasRelated (rows_of (found_of found.now)) related) }
     ensures err { IfErr result (λ e. Excludes e ((related : _) × HasRelated (rows_of (found_of found.now)) related)) }
 {
-    match option_text(found, "related") {
-        Some(name) => match ZoneName::read(name.as_bytes()) {
-            Some(name) => Ok(Some(name)),
-            None => Err(ArgFault::BadOperand),
-        },
-        None => Ok(None),
+    if lacks(found, "related") {
+        return Ok(None);
     }
+    let name = read_zone_name(found, "related")?;
+    Ok(Some(name))
 }
 
-// An id that has its form, or a bad operand.
+// The id that the text spells. Returns `BadOperand` if the text does not have the form of an id.
 fn read_id(text: &str) -> Result<Id, ArgFault>
     ensures ok { IfOk result (λ id. (id ≡ text.now) × IsId id) }
     ensures err { IfErr result (λ e. Excludes e (IsId text.now)) }
@@ -164,16 +162,7 @@ fn read_id(text: &str) -> Result<Id, ArgFault>
     Id::read(text.as_bytes()).ok_or(ArgFault::BadOperand)
 }
 
-// Appends an id. Its contract says only what a push without an error leaves, which is all that the loop of `read_ids`
-// needs.
-fn push_id(id: Id, ids: &mut Vec<Id>) -> Result<(), AllocError>
-    ensures { OnOk result (ids.new.items ≡ ids.old.items ++ id ∷ []) }
-{
-    ids.push(id)?;
-    Ok(())
-}
-
-// The ids that the texts spell, in their order, or a bad operand at the first text that is none.
+// The ids that the texts spell, in their order. Returns `BadOperand` at the first text that spells none.
 fn read_ids(alloc: Global, texts: &[&str]) -> Result<Vec<Id>, ArgFault>
     ensures ok { IfOk result (λ ids. (ids.items ≡ map (λ text. text.now) texts.now) × All IsId ids.items) }
     ensures err { IfErr result (λ e. Excludes e (All IsId (map (λ text. text.now) texts.now))) }
@@ -181,20 +170,20 @@ fn read_ids(alloc: Global, texts: &[&str]) -> Result<Vec<Id>, ArgFault>
     let mut ids = Vec::new(alloc);
     for text in texts {
         let id = read_id(text)?;
-        push_id(id, &mut ids)?;
+        ids.push(id)?;
     }
     Ok(ids)
 }
 
 // The texts of an option that may be repeated, if the words have it.
-fn option_texts<'a, 'b>(found: &'b ArgMatches<'a>, id: &str) -> Option<&'b [&'a str]>
+fn option_texts<'a, 'b>(found: &'b ArgMatches<'a>, option: &str) -> Option<&'b [&'a str]>
     ensures { option_map (λ texts. map (λ text. text.now) texts.now) result
-        ≡ all_of id.now (rows_of (found_of found.now)) }
+        ≡ all_of option.now (rows_of (found_of found.now)) }
 {
-    found.get_strs(id)
+    found.get_strs(option)
 }
 
-/// The ids of `--id`, which must be there.
+/// The ids of `--id`. Returns `BadOperand` if the words have none.
 pub(crate) fn read_required_ids(alloc: Global, found: &ArgMatches<'_>) -> Result<Vec<Id>, ArgFault>
     ensures ok { IfOk result (λ ids. HasIds (rows_of (found_of found.now)) ids.items) }
     ensures err { IfErr result (λ e. Excludes e ((ids : List Text) × HasIds (rows_of (found_of found.now)) ids)) }
@@ -205,17 +194,17 @@ pub(crate) fn read_required_ids(alloc: Global, found: &ArgMatches<'_>) -> Result
     }
 }
 
-/// The ids of an option that may be left out, and then has none.
+/// The ids of an option that may be repeated; none if the words lack the option.
 pub(crate) fn read_optional_ids(
     alloc: Global,
     found: &ArgMatches<'_>,
-    id: &str,
+    option: &str,
 ) -> Result<Vec<Id>, ArgFault>
-    ensures ok { IfOk result (λ ids. AreIds (all_of id.now (rows_of (found_of found.now))) ids.items) }
+    ensures ok { IfOk result (λ ids. AreIds (all_of option.now (rows_of (found_of found.now))) ids.items) }
     ensures err { IfErr result (λ e. Excludes e ((ids : List Text)
-        × AreIds (all_of id.now (rows_of (found_of found.now))) ids)) }
+        × AreIds (all_of option.now (rows_of (found_of found.now))) ids)) }
 {
-    match option_texts(found, id) {
+    match option_texts(found, option) {
         Some(texts) => read_ids(alloc, texts),
         None => Ok(Vec::new(alloc)),
     }

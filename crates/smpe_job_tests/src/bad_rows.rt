@@ -5,7 +5,7 @@ use crate::checked::CHECKED;
 use fields::Srel;
 use scripts::compare;
 use smpe::{JobError, ZoneError, define_zone};
-use smpe_play::{in_memory, installed, open_store, run_step, zone_name};
+use smpe_play::{installed, open_in_memory, open_store, run_step, zone_name};
 use sqlite::{Alter, Connection};
 use std::alloc::Global;
 use std::test::Fail;
@@ -140,8 +140,8 @@ fn rows_after_act<S: Alter + Drop>(
 // After each of these edits, the act must leave the rows as these statements do.
 fn check_each_edit(alloc: Global, edits: &[&str], act: Act, written: &[&str]) -> Result<(), Fail> {
     for bad in edits {
-        let got = rows_after_act(alloc, in_memory(alloc)?, bad, act)?;
-        let wanted = rows_after_statements(alloc, in_memory(alloc)?, bad, written)?;
+        let got = rows_after_act(alloc, open_in_memory(alloc)?, bad, act)?;
+        let wanted = rows_after_statements(alloc, open_in_memory(alloc)?, bad, written)?;
         compare(bad, got.as_bytes(), wanted.as_str())?;
     }
     Ok(())

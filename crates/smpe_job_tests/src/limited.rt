@@ -1,7 +1,7 @@
 //! A connection with a limit on the steps of a query: what was reported is stored, and no command is stored in part.
 
 use crate::checked::{Ended, check_zones_left, open_and_run};
-use smpe_play::{in_memory, installed, new_files};
+use smpe_play::{installed, open_in_memory, open_new_files};
 use sqlite::{Alter, Connection};
 use std::alloc::Global;
 use std::test::Fail;
@@ -23,8 +23,8 @@ fn run_with_limit<S: Alter + Drop>(
 
 // Runs the job with so many steps in memory and on disks. The answer is `Well` only if both runs succeed.
 fn run_in_memory_and_on_disks(alloc: Global, steps: u64) -> Result<Ended, Fail> {
-    let how = run_with_limit(alloc, in_memory(alloc)?, steps)?;
-    let on_disks = run_with_limit(alloc, new_files(alloc)?, steps)?;
+    let how = run_with_limit(alloc, open_in_memory(alloc)?, steps)?;
+    let on_disks = run_with_limit(alloc, open_new_files(alloc)?, steps)?;
     Ok(if how == Ended::Well { on_disks } else { how })
 }
 

@@ -5,7 +5,7 @@ use report::Out;
 use scripts::{card_file, compare, put_cards};
 use smpe::{Answer, Job, ZoneFault, listing_commands, run_job, two_commands};
 use smpe_play::{
-    FIX, FUNCTION, FUNCTION_RECEIVED, ListWanted, RECEIVE, in_memory, job_over, open_store,
+    FIX, FUNCTION, FUNCTION_RECEIVED, ListWanted, RECEIVE, job_over, open_in_memory, open_store,
     play_jobs, zone_name,
 };
 use sqlite::Alter;
@@ -171,7 +171,7 @@ fn run_alone<S: Alter>(alloc: Global, store: &mut Store<S>, wanted: &str) -> Res
 #[test]
 fn a_job_goes_alone(rt: HostRuntime) -> Result<(), Fail> {
     let alloc = rt.alloc();
-    let mut store = open_store(alloc, in_memory(alloc)?, "a job alone")?;
+    let mut store = open_store(alloc, open_in_memory(alloc)?, "a job alone")?;
     assert_eq!(rt; run_alone(alloc, &mut store, FUNCTION_RECEIVED.report)?, 0);
     Ok(())
 }

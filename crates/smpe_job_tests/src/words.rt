@@ -144,35 +144,24 @@ fn split_words<'a>(alloc: Global, line: &'a str) -> Result<Vec<&'a str>, Fail> {
 // The values of an invocation, with a blank between two and `-` for one that is absent.
 fn invocation_text(alloc: Global, invocation: &Invocation) -> Result<String, Fail> {
     match invocation {
-        Invocation::Zone {
-            db,
-            name,
-            kind,
-            srel,
-            related,
-        } => {
-            let name = std::str::from_utf8(name.as_bytes())?;
-            let srel = std::str::from_utf8(srel.as_bytes())?;
-            let related = match related {
+        Invocation::Zone { db, definition } => {
+            let name = std::str::from_utf8(definition.name.as_bytes())?;
+            let kind = definition.kind;
+            let srel = std::str::from_utf8(definition.srel.as_bytes())?;
+            let related = match &definition.related {
                 Some(related) => std::str::from_utf8(related.as_bytes())?,
                 None => "-",
             };
             let db = database_text(alloc, db)?;
             Ok(format!(in alloc; "{db} {name} {kind:?} {srel} {related}")?)
         }
-        Invocation::Run {
-            db,
-            date,
-            cntl,
-            ptfin,
-            hold,
-            careful,
-        } => {
+        Invocation::Run { db, options } => {
             let db = database_text(alloc, db)?;
-            let how = if *careful { "careful" } else { "-" };
-            let date = std::str::from_utf8(date.as_bytes())?;
-            let ptfin = ptfin.as_ref().map_or("-", |text| text.as_str());
-            let hold = hold.as_ref().map_or("-", |text| text.as_str());
+            let how = if options.careful { "careful" } else { "-" };
+            let date = std::str::from_utf8(options.date.as_bytes())?;
+            let cntl = options.cntl.as_str();
+            let ptfin = options.ptfin.as_ref().map_or("-", |text| text.as_str());
+            let hold = options.hold.as_ref().map_or("-", |text| text.as_str());
             Ok(format!(in alloc; "{db} {date} {cntl} {ptfin} {hold} {how}")?)
         }
         Invocation::List { db, zone } => {
@@ -180,17 +169,12 @@ fn invocation_text(alloc: Global, invocation: &Invocation) -> Result<String, Fai
             let db = database_text(alloc, db)?;
             Ok(format!(in alloc; "{db} {zone}")?)
         }
-        Invocation::Why {
-            db,
-            zone,
-            ids,
-            options,
-        } => {
-            let zone = std::str::from_utf8(zone.as_bytes())?;
-            let ids = ids_text(alloc, ids.as_slice())?;
-            let options = why_options_text(alloc, options)?;
+        Invocation::Why { db, options } => {
+            let zone = std::str::from_utf8(options.zone.as_bytes())?;
+            let ids = ids_text(alloc, options.ids.as_slice())?;
+            let judged = judging_text(alloc, options)?;
             let db = database_text(alloc, db)?;
-            Ok(format!(in alloc; "{db} {zone} {ids} {options}")?)
+            Ok(format!(in alloc; "{db} {zone} {ids} {judged}")?)
         }
         Invocation::Check { system, set } => {
             let system = system_text(alloc, system)?;
@@ -203,7 +187,7 @@ fn invocation_text(alloc: Global, invocation: &Invocation) -> Result<String, Fai
 }
 
 // How `why` judges the ids, in the words of its options.
-fn why_options_text(alloc: Global, options: &WhyOptions) -> Result<String, Fail> {
+fn judging_text(alloc: Global, options: &WhyOptions) -> Result<String, Fail> {
     let together = if options.together { "together" } else { "-" };
     let group = if options.group { "group" } else { "-" };
     let bypass = options.bypass.as_ref().map_or("-", |text| text.as_str());

@@ -5,7 +5,7 @@ use crate::checked::{AGAIN, CHECKED, REPORTS, count_commits, count_whole_reports
 use report::Out;
 use scripts::{card_file, compare};
 use smpe::{Answer, JobError, run_jobs};
-use smpe_play::{FIX, in_memory, installed, job_over};
+use smpe_play::{FIX, installed, job_over, open_in_memory};
 use sqlite::{Alter, Connection};
 use std::alloc::Global;
 use std::io::{self, ErrorKind, Write};
@@ -122,7 +122,7 @@ fn run_again<S: Alter + Drop>(alloc: Global, mut store: Store<S>) -> Result<(), 
 fn run_with_each_limit(alloc: Global, has_error: bool) -> Result<(), Fail> {
     let wanted = whole_report(alloc)?;
     for left in 0..=wanted.len() {
-        let conn = in_memory(alloc)?;
+        let conn = open_in_memory(alloc)?;
         let _store = run_with_limit(alloc, conn, wanted.as_slice(), left, has_error)?;
     }
     Ok(())
@@ -143,7 +143,7 @@ fn the_job_runs_again_after_a_cut(rt: HostRuntime) -> Result<(), Fail> {
     let alloc = rt.alloc();
     let wanted = whole_report(alloc)?;
     // The reports of four commands go out, and the fifth command is performed.
-    let conn = in_memory(alloc)?;
+    let conn = open_in_memory(alloc)?;
     let store = run_with_limit(alloc, conn, wanted.as_slice(), 127, false)?;
     run_again(alloc, store)
 }

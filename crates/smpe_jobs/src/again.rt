@@ -10,9 +10,9 @@ use sqlite_disk::Crash;
 use std::alloc::Global;
 use store::{Store, StoreError};
 
-// Takes the files out of what is left of the connection, without using its disks. These then come back as after a
-// crash, and a connection is opened over the files. An error returns the files: with `Memory` if memory runs out,
-// otherwise with the fault of the open.
+// Opens a new connection over the files of an old one. It takes the files out of what is left of the old connection
+// without using its disks, and lets the disks come back as after a crash. An error returns the files, with `Memory` if
+// memory runs out, otherwise with the fault of the open.
 fn reconnect<D: Crash + Drop>(
     alloc: Global,
     conn: Connection<FileStore<D>>,

@@ -18,7 +18,7 @@ pub use again::reopen;
 pub use error::JobError;
 pub use jobs::{Answer, Job};
 pub use law::{ends_closed, next_open_finds};
-pub use list_job::{listing_commands, two_commands};
+pub use list_job::{commands_in_zone, listing_commands, two_commands};
 pub use messages::{
     FAULT_STATUS, Fault, status_of, write_fault_line, write_migrated_line, write_zone_line,
 };

@@ -171,7 +171,7 @@ fn write_program_line<W: Sink>(text: &[u8], w: &mut W) -> Result<(), WriteFault>
     write_all(b"\n", w)
 }
 
-// Writes the line of a file that cannot be read. Its text has two pieces, so `write_program_line` does not serve.
+// Writes the line of a file that cannot be read. Its text has two pieces, and `write_program_line` takes one.
 fn write_unreadable_file<W: Sink>(name: &str, w: &mut W) -> Result<(), WriteFault>
     ensures sends { Sent W.Sink w.old w.new (program_line (codes "cannot read " ++ name.now)) }
     ensures fault { W.has_failed w.new ≡ is_err result }
@@ -181,7 +181,7 @@ fn write_unreadable_file<W: Sink>(name: &str, w: &mut W) -> Result<(), WriteFaul
     write_all(b"\n", w)
 }
 
-// Writes the line of a zone that a SET names and that is not defined: a text of two pieces as well.
+// Writes the line of a zone that a SET names and that is not defined. This text has two pieces as well.
 fn write_undefined_zone<W: Sink>(name: &ZoneName, w: &mut W) -> Result<(), WriteFault>
     ensures sends { Sent W.Sink w.old w.new (program_line (codes "no zone " ++ name.now)) }
     ensures fault { W.has_failed w.new ≡ is_err result }

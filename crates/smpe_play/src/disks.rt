@@ -23,14 +23,14 @@ pub fn open_files<D: Disk + Drop>(
 }
 
 /// A connection to new files.
-pub fn new_files(alloc: Global) -> Result<Connection<FileStore<Memory>>, Fail> {
+pub fn open_new_files(alloc: Global) -> Result<Connection<FileStore<Memory>>, Fail> {
     let log = Memory::new(alloc);
     let db = Memory::new(alloc);
     open_files(alloc, Files { log, db })
 }
 
 /// A connection to a new database in memory.
-pub fn in_memory(alloc: Global) -> Result<Connection<MemStore>, Fail> {
+pub fn open_in_memory(alloc: Global) -> Result<Connection<MemStore>, Fail> {
     Ok(Connection::open_in_memory(alloc)?)
 }
 
@@ -45,7 +45,7 @@ pub(crate) fn reopen_files(
     }
 }
 
-/// A store over the connection. A failure begins with the name.
+/// A store over the connection. A failure begins with this name.
 pub fn open_store<S: Alter + Drop>(
     alloc: Global,
     conn: Connection<S>,

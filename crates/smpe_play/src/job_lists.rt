@@ -1,6 +1,6 @@
 //! Running lists of jobs over new databases in which no zone is defined.
 
-use crate::disks::{in_memory, new_files, open_store, reopen_files};
+use crate::disks::{open_in_memory, open_new_files, open_store, reopen_files};
 use crate::running::run_printing;
 use scripts::compare;
 use smpe::{Answer, Job};
@@ -30,7 +30,7 @@ fn run_in_store<S: Alter + Drop>(
     Ok(store.close())
 }
 
-// A failure, unless this is what the jobs printed and returned.
+// Checks what the jobs printed and returned. A failure begins with the disk.
 fn check_jobs(
     alloc: Global,
     disk: &str,
@@ -40,8 +40,8 @@ fn check_jobs(
 ) -> Result<(), Fail> {
     compare(disk, report, wanted.report)?;
     let got = format!(in alloc; "{answers:?}")?;
-    let answers = wanted.answers;
-    let wanted = format!(in alloc; "{answers:?}")?;
+    let wanted_answers = wanted.answers;
+    let wanted = format!(in alloc; "{wanted_answers:?}")?;
     compare(disk, got.as_bytes(), wanted.as_str())
 }
 
@@ -61,7 +61,7 @@ fn run_in_one_call<S: Alter + Drop>(
 // Runs each job in a call of its own, over a store in memory that is opened for it.
 fn run_each_in_memory(alloc: Global, jobs: &[Job<'_>], wanted: ListWanted<'_>) -> Result<(), Fail> {
     let (mut report, mut answers) = (Vec::new(alloc), Vec::new(alloc));
-    let mut conn = in_memory(alloc)?;
+    let mut conn = open_in_memory(alloc)?;
     for job in jobs {
         conn = run_in_store(alloc, conn, slice::from_ref(job), &mut report, &mut answers)?;
     }
@@ -72,7 +72,7 @@ fn run_each_in_memory(alloc: Global, jobs: &[Job<'_>], wanted: ListWanted<'_>) -
 // Runs each job in a call of its own, over files that are closed and opened before it.
 fn run_each_on_disks(alloc: Global, jobs: &[Job<'_>], wanted: ListWanted<'_>) -> Result<(), Fail> {
     let (mut report, mut answers) = (Vec::new(alloc), Vec::new(alloc));
-    let mut conn = new_files(alloc)?;
+    let mut conn = open_new_files(alloc)?;
     for job in jobs {
         conn = run_in_store(
             alloc,
@@ -86,11 +86,11 @@ fn run_each_on_disks(alloc: Global, jobs: &[Job<'_>], wanted: ListWanted<'_>) ->
     check_jobs(alloc, disk, report.as_slice(), answers.as_slice(), wanted)
 }
 
-/// Runs the jobs in memory and on disks in memory: in one call, and each in a call over a store that is opened for it.
-/// A failure says in which of these ways.
+/// Runs the jobs in memory and on disks in memory, each time in one call, and then each job in a call of its own over a
+/// store that is opened for it. A failure says in which of these ways the jobs ran.
 pub fn play_jobs(alloc: Global, jobs: &[Job<'_>], wanted: ListWanted<'_>) -> Result<(), Fail> {
-    run_in_one_call(alloc, in_memory(alloc)?, "in memory", jobs, wanted)?;
+    run_in_one_call(alloc, open_in_memory(alloc)?, "in memory", jobs, wanted)?;
     run_each_in_memory(alloc, jobs, wanted)?;
-    run_in_one_call(alloc, new_files(alloc)?, "on disks", jobs, wanted)?;
+    run_in_one_call(alloc, open_new_files(alloc)?, "on disks", jobs, wanted)?;
     run_each_on_disks(alloc, jobs, wanted)
 }

@@ -14,10 +14,10 @@ pub use cards::{
     FUNCTION_RECEIVED, JOB, JobStep, LISTING, LISTING_TEXTS, RECEIVE, RECEIVING, REFUSED,
     RIVAL_RECEIVED, UPDATE_INSTALLED,
 };
-pub use disks::{in_memory, new_files, open_files, open_store};
+pub use disks::{open_files, open_in_memory, open_new_files, open_store};
 pub use job_lists::{ListWanted, play_jobs};
 pub use rows::query_lines;
-pub use running::{define_both, job_over, run_printing, zone_name};
+pub use running::{job_over, run_printing, zone_name};
 pub use steps::{
     Plays, RowsLeft, StepPlace, installed, installed_files, play, play_cases, play_installed,
     play_made, play_rows, run_step,

@@ -4,7 +4,7 @@ use sqlite::{Alter, Connection};
 use std::alloc::Global;
 use std::test::Fail;
 
-// Appends the rows that a query finds, a line each.
+// Appends a line for each row that a query finds: the text in the row's first column.
 fn append_rows<S: Alter>(
     conn: &mut Connection<S>,
     sql: &str,
@@ -19,7 +19,7 @@ fn append_rows<S: Alter>(
     Ok(())
 }
 
-/// The rows that each query finds, a line each, with a line of two hyphens after those of each query.
+/// For each query the texts in the first column of the rows that it finds, a line each, and then a line of two hyphens.
 pub fn query_lines<S: Alter>(
     alloc: Global,
     conn: &mut Connection<S>,

@@ -29,13 +29,13 @@ pub fn run_printing<S: Alter>(
     run_jobs(alloc, store, jobs, &mut Out::new(report))
 }
 
-/// The name of a zone. The error is that this is none.
+/// The zone name with these bytes. It fails if no zone may have this name.
 pub fn zone_name(name: &[u8]) -> Result<ZoneName, Fail> {
     Ok(ZoneName::read(name).ok_or("no name of a zone")?)
 }
 
-/// Defines the two zones of all cases.
-pub fn define_both<S: Alter>(alloc: Global, store: &mut Store<S>) -> Result<(), Fail> {
+/// Defines the target zone and the distribution zone of all cases.
+pub(crate) fn define_both_zones<S: Alter>(alloc: Global, store: &mut Store<S>) -> Result<(), Fail> {
     let distribution_name = zone_name(b"DLB1")?;
     let target_name = zone_name(b"TGT1")?;
     let srel = Srel::read(b"Z038").ok_or("no SREL")?;

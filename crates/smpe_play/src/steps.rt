@@ -1,9 +1,9 @@
 //! Playing cases, step by step.
 
 use crate::cards::{BEGINNING, Case, JobStep};
-use crate::disks::{in_memory, new_files, open_store, reopen_files};
+use crate::disks::{open_in_memory, open_new_files, open_store, reopen_files};
 use crate::rows::query_lines;
-use crate::running::{define_both, job_over, run_printing};
+use crate::running::{define_both_zones, job_over, run_printing};
 use scripts::{Difference, card_file, compare, first_difference, put_cards};
 use smpe::{Answer, JobError};
 use sqlite::{Alter, Connection, FileStore, MemStore};
@@ -44,7 +44,7 @@ pub fn run_step<S: Alter>(
     Ok(run_printing(alloc, store, &jobs, report))
 }
 
-// A failure, unless the step printed and returned what it must.
+// Checks what the step printed and returned. A failure says what the case shows, which step it was, and on which disk.
 fn check_step(
     step: &JobStep,
     place: StepPlace,
@@ -82,7 +82,7 @@ pub trait Plays {
 }
 
 impl Plays for JobStep {
-    // What the step prints and answers is compared.
+    // Runs the job, and checks what it prints and returns.
     fn play_at<S: Alter>(
         &self,
         alloc: Global,
@@ -119,7 +119,7 @@ pub fn play<S: Alter>(alloc: Global, store: &mut Store<S>, step: &JobStep) -> Re
     step.play_at(alloc, store, StepPlace { shows, disk: "" })
 }
 
-// Makes a store over a new database with both zones, and plays these steps in it.
+// A store over a new database with both zones, in which these steps were played.
 fn begin_store<S: Alter + Drop>(
     alloc: Global,
     conn: Connection<S>,
@@ -127,7 +127,7 @@ fn begin_store<S: Alter + Drop>(
     place: StepPlace,
 ) -> Result<Store<S>, Fail> {
     let mut store = open_store(alloc, conn, place.shows)?;
-    define_both(alloc, &mut store)?;
+    define_both_zones(alloc, &mut store)?;
     play_all(alloc, &mut store, before, place)?;
     Ok(store)
 }
@@ -138,7 +138,7 @@ pub fn installed<S: Alter + Drop>(alloc: Global, conn: Connection<S>) -> Result<
     begin_store(alloc, conn, BEGINNING, StepPlace { shows, disk: "" })
 }
 
-// Plays steps over one store, after those with which it begins.
+// Plays steps over one store, in which the steps `before` were played.
 fn play_in_one_store<S: Alter + Drop, P: Plays>(
     alloc: Global,
     conn: Connection<S>,
@@ -172,7 +172,7 @@ fn play_each_in_memory<P: Plays>(
 ) -> Result<Connection<MemStore>, Fail> {
     let disk = "in memory, opened for each";
     let place = StepPlace { shows, disk };
-    let mut conn = begin_store(alloc, in_memory(alloc)?, before, place)?.close();
+    let mut conn = begin_store(alloc, open_in_memory(alloc)?, before, place)?.close();
     for step in steps {
         conn = play_in_opened_store(alloc, conn, step, place)?;
     }
@@ -188,7 +188,7 @@ fn play_each_on_disks<P: Plays>(
 ) -> Result<Connection<FileStore<Memory>>, Fail> {
     let disk = "on disks that are closed and opened before it";
     let place = StepPlace { shows, disk };
-    let mut conn = begin_store(alloc, new_files(alloc)?, before, place)?.close();
+    let mut conn = begin_store(alloc, open_new_files(alloc)?, before, place)?.close();
     for step in steps {
         conn = play_in_opened_store(alloc, reopen_files(alloc, conn)?, step, place)?;
     }
@@ -207,21 +207,23 @@ pub struct RowsLeft<'a> {
     pub wanted: &'a str,
 }
 
-/// No look at rows.
-const UNSEEN: RowsLeft<'static> = RowsLeft {
+/// No query, so that no rows are compared.
+const NO_QUERIES: RowsLeft<'static> = RowsLeft {
     queries: &[],
     wanted: "",
 };
 
-// Returns a failure, unless the database has these rows.
-fn check_rows<S: Alter + Drop>(
-    alloc: Global,
-    mut conn: Connection<S>,
-    shows: &str,
-    rows: RowsLeft<'_>,
-) -> Result<(), Fail> {
-    let got = query_lines(alloc, &mut conn, rows.queries)?;
-    compare(shows, got.as_bytes(), rows.wanted)
+impl RowsLeft<'_> {
+    // Checks that the queries find these rows in the database.
+    fn check<S: Alter + Drop>(
+        self,
+        alloc: Global,
+        mut conn: Connection<S>,
+        shows: &str,
+    ) -> Result<(), Fail> {
+        let got = query_lines(alloc, &mut conn, self.queries)?;
+        compare(shows, got.as_bytes(), self.wanted)
+    }
 }
 
 // Plays steps in memory and on disks in memory: over one store, and over one for each step, for which the files are
@@ -235,22 +237,22 @@ fn play_steps<P: Plays>(
 ) -> Result<(), Fail> {
     let disk = "in memory";
     let place = StepPlace { shows, disk };
-    let conn = play_in_one_store(alloc, in_memory(alloc)?, before, steps, place)?;
-    check_rows(alloc, conn, shows, rows)?;
+    let conn = play_in_one_store(alloc, open_in_memory(alloc)?, before, steps, place)?;
+    rows.check(alloc, conn, shows)?;
     let conn = play_each_in_memory(alloc, before, steps, shows)?;
-    check_rows(alloc, conn, shows, rows)?;
+    rows.check(alloc, conn, shows)?;
     let disk = "on disks";
     let place = StepPlace { shows, disk };
-    let conn = play_in_one_store(alloc, new_files(alloc)?, before, steps, place)?;
-    check_rows(alloc, conn, shows, rows)?;
+    let conn = play_in_one_store(alloc, open_new_files(alloc)?, before, steps, place)?;
+    rows.check(alloc, conn, shows)?;
     let conn = play_each_on_disks(alloc, before, steps, shows)?;
-    check_rows(alloc, conn, shows, rows)
+    rows.check(alloc, conn, shows)
 }
 
 // Plays each case over a database in which these steps were played before.
 fn play_after(alloc: Global, before: &[JobStep], cases: &[Case]) -> Result<(), Fail> {
     for case in cases {
-        play_steps(alloc, before, case.steps, case.shows, UNSEEN)?;
+        play_steps(alloc, before, case.steps, case.shows, NO_QUERIES)?;
     }
     Ok(())
 }
@@ -268,7 +270,7 @@ pub fn play_installed(alloc: Global, cases: &[Case]) -> Result<(), Fail> {
 
 /// Plays steps that a test makes, over a database in which the function is applied, in the ways of `play_cases`.
 pub fn play_made<P: Plays>(alloc: Global, steps: &[P], shows: &'static str) -> Result<(), Fail> {
-    play_steps(alloc, BEGINNING, steps, shows, UNSEEN)
+    play_steps(alloc, BEGINNING, steps, shows, NO_QUERIES)
 }
 
 /// Plays steps as `play_made` does, and compares the rows that they leave.

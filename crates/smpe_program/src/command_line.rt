@@ -18,7 +18,7 @@ pub(crate) fn read_words(rt: &HostRuntime) -> Result<Vec<Vec<u8>>, AllocError> {
     Ok(words)
 }
 
-// Reads the word at this place of the command line; `None` if there are not that many.
+// Reads the word at this place of the command line, or returns `None` if there are not that many words.
 fn read_argument(rt: &HostRuntime, place: usize) -> Result<Option<Vec<u8>>, AllocError> {
     let mut size = FIRST_SIZE;
     for _ in 0..usize::BITS {
@@ -28,7 +28,7 @@ fn read_argument(rt: &HostRuntime, place: usize) -> Result<Option<Vec<u8>>, Allo
             Argument::TooLong => size = size.saturating_add(size),
         }
     }
-    // (a buffer of the size after so many doublings cannot be had)
+    // (after so many doublings, no memory holds the buffer)
     Err(AllocError)
 }
 

@@ -6,7 +6,7 @@ ghost use Rattle.sqlite.specs.Opening.{is_open_error};
 ghost use Rattle.sqlite.specs.State.{HasCleanDisk};
 ghost use Rattle.smpe_program.specs.Wary.{IsWary};
 
-use crate::copy::{CopyFault, read_copy};
+use crate::copy::{CopyFault, read_for_copy};
 use crate::place::{is_missing, is_surely_no_database};
 use crate::related_zone::query_related_zone;
 use clap::Error as WordsError;
@@ -56,11 +56,11 @@ pub(crate) struct Closing {
 }
 
 impl Closing {
-    // Closes the database, and returns what was met. What was committed is moved over from its log. If that fails, it
-    // remains in the log.
-    fn close(mut open: Connection<DatabaseFiles>) -> Closing {
-        let meta = open.query_row("SELECT v FROM meta", &[]).err();
-        match open.close_files() {
+    // Closes the connection, and returns what was met. What was committed is moved from the log to the database's file;
+    // if that fails, it remains in the log.
+    fn close(mut conn: Connection<DatabaseFiles>) -> Closing {
+        let meta = conn.query_row("SELECT v FROM meta", &[]).err();
+        match conn.close_files() {
             Ok(files) => Closing {
                 meta,
                 log: None,
@@ -80,8 +80,8 @@ impl Closing {
 pub(crate) struct ProgramHost<'a> {
     rt: &'a HostRuntime,
     /// Whether to create a database if there is none.
-    makes_database: bool,
-    /// The zone that `--related` names, of which there may be something to say, and what the database knows of it.
+    may_create_database: bool,
+    /// The zone that `--related` names, and what the database knows of it, for the hints.
     related_name: Option<&'a str>,
     pub(crate) related: RelatedZone,
     pub(crate) database: Database,
@@ -95,12 +95,12 @@ impl ProgramHost<'_> {
     /// A host that has read nothing and opened no database.
     pub(crate) fn new<'a>(
         rt: &'a HostRuntime,
-        makes_database: bool,
+        may_create_database: bool,
         related_name: Option<&'a str>,
     ) -> ProgramHost<'a> {
         ProgramHost {
             rt,
-            makes_database,
+            may_create_database,
             related_name,
             related: RelatedZone::Unknown,
             database: Database::None,
@@ -109,8 +109,7 @@ impl ProgramHost<'_> {
         }
     }
 
-    // Keeps a copy of the file, because there may be more to say about its cards. If memory runs out, that remains
-    // unsaid.
+    // Keeps a copy of the file, for the hints about its records. If memory runs out, there are none.
     fn keep_file(&mut self, name: &str, bytes: &[u8]) {
         let alloc = self.rt.alloc();
         if let (Ok(name), Ok(bytes)) = (
@@ -126,11 +125,8 @@ impl ProgramHost<'_> {
         String::from_str(self.rt.alloc(), name).unwrap_or(String::new(self.rt.alloc()))
     }
 
-    // Notes why a database was not read, for what is said at the end. Returns the library's error: `OutOfMemory` if
-    // memory ran out, otherwise `CannotOpen`.
-    fn note_unread(&mut self, name: &str, fault: CopyFault) -> Error
-        ensures { IsTrue (is_open_error result) }
-    {
+    // Notes why a database was not copied, for what is said at the end.
+    fn note_copy_fault(&mut self, name: &str, fault: &CopyFault) {
         match fault {
             CopyFault::Unread(error) => {
                 self.unread = format!(in self.rt.alloc(); "{name}: {error}").ok();
@@ -142,38 +138,38 @@ impl ProgramHost<'_> {
                 let error = Error::SqliteFailure(ErrorCode::NotADatabase);
                 self.database = Database::Refused(self.copy_name(name), error);
             }
-            CopyFault::Memory => return Error::SqliteFailure(ErrorCode::OutOfMemory),
+            CopyFault::Memory => {}
         }
-        Error::SqliteFailure(ErrorCode::CannotOpen)
     }
 
-    // Opens the database, and tries again for so many seconds as long as another program has it. Returns `DatabaseBusy`
-    // if it still has it then, and the errors of `open_once`.
+    // Opens the database. As long as another program has it, it tries again, for at most `wait` seconds. Returns
+    // `DatabaseBusy` if the other program still has it then, and the errors of `open_once`.
     fn open_waiting(&self, name: &str, wait: u32) -> Result<Connection<DatabaseFiles>, Error>
         ensures ok { IfOk result (λ conn. IsNew conn × IsWary conn × (HasCleanDisk (file_state conn) → IsOpened conn)) }
         ensures err { IfErr result (λ why. IsTrue (is_open_error why)) }
     {
         for second in 0..wait {
             match self.open_once(name) {
-                Err(Error::SqliteFailure(ErrorCode::DatabaseBusy)) => self.wait_a_second(
-                    name,
-                    second == 0,
-                ),
+                Err(Error::SqliteFailure(ErrorCode::DatabaseBusy)) => {
+                    if second == 0 {
+                        self.say_waiting(name);
+                    }
+                    thread::sleep(self.rt, Duration::from_secs(1));
+                }
                 outcome => return outcome,
             }
         }
         self.open_once(name)
     }
 
-    // Waits a second, and says so on a terminal the first time.
-    fn wait_a_second(&self, name: &str, is_first: bool) {
-        if is_first && self.rt.stderr().is_terminal() {
+    // Says on a terminal what the program waits for.
+    fn say_waiting(&self, name: &str) {
+        if self.rt.stderr().is_terminal() {
             let _ = eprintln!(self.rt; "smpe: another program has {name}; waiting for it");
         }
-        thread::sleep(self.rt, Duration::from_secs(1));
     }
 
-    // Opens the database once. A file that is none is refused with `NotADatabase`, before the library creates its log
+    // Opens the database once. Refuses a file that is no database with `NotADatabase`, before the library creates a log
     // next to it. Any other error is the library's.
     fn open_once(&self, name: &str) -> Result<Connection<DatabaseFiles>, Error>
         ensures ok { IfOk result (λ conn. IsNew conn × IsWary conn × (HasCleanDisk (file_state conn) → IsOpened conn)) }
@@ -210,8 +206,8 @@ impl Host for ProgramHost<'_> {
 
     ghost prints = { λ _ _ _. Unit {0} };
 
-    // RECEIVE refuses a file that does not end with a whole record, and so does the reader of commands. Usually the
-    // file is typed text.
+    // A file that does not end with a whole record is refused by RECEIVE, and as a command file. Usually it is typed
+    // text, so a line on standard error says what to do.
     fn read(&mut self, name: &str) -> io::Result<Vec<u8>> {
         match fs::read(self.rt, name) {
             Ok(bytes) => {
@@ -233,7 +229,7 @@ impl Host for ProgramHost<'_> {
     fn open(&mut self, db: &DatabaseFile) -> Result<Connection<Self::Disk>, sqlite::Error> {
         let name = db.name.as_str();
         let is_missing = is_missing(self.rt, name);
-        if is_missing && !self.makes_database {
+        if is_missing && !self.may_create_database {
             self.database = Database::Missing(self.copy_name(name));
             return Err(Error::SqliteFailure(ErrorCode::CannotOpen));
         }
@@ -255,20 +251,22 @@ impl Host for ProgramHost<'_> {
         }
     }
 
-    // The database's file and its log are opened only for reading, and nobody is kept from them meanwhile. A job that
-    // has them open is no hindrance.
+    // The database's file and its log are opened only for reading and are not locked, so a job may have them open.
     fn read_database(&mut self, db: &DatabaseFile) -> Result<DatabaseBytes, sqlite::Error> {
         let name = db.name.as_str();
         if is_missing(self.rt, name) {
             self.database = Database::Missing(self.copy_name(name));
             return Err(Error::SqliteFailure(ErrorCode::CannotOpen));
         }
-        match read_copy(self.rt, name, db.wait) {
+        match read_for_copy(self.rt, name, db.wait) {
             Ok(bytes) => {
                 self.database = Database::Copied(self.copy_name(name));
                 Ok(bytes)
             }
-            Err(fault) => Err(self.note_unread(name, fault)),
+            Err(fault) => {
+                self.note_copy_fault(name, &fault);
+                Err(fault.library_error())
+            }
         }
     }
 
@@ -277,18 +275,18 @@ impl Host for ProgramHost<'_> {
             if let Some(name) = self.related_name {
                 self.related = query_related_zone(&mut open, name).unwrap_or(RelatedZone::Unknown);
             }
-            let faults = Closing::close(open);
+            let met = Closing::close(open);
             if let Database::Opened { closing, .. } = &mut self.database {
-                *closing = Some(faults);
+                *closing = Some(met);
             }
         }
     }
 
-    fn show(&mut self, error: &WordsError) {
+    fn show_error(&mut self, error: &WordsError) {
         let _ = self.rt.eprint(error);
     }
 
-    fn print(&mut self, error: &WordsError) {
+    fn print_help(&mut self, error: &WordsError) {
         let _ = self.rt.print(error);
     }
 }

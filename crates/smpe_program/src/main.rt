@@ -15,31 +15,31 @@ use command_line::read_words;
 use host::ProgramHost;
 use report::Out;
 use smpe_command::command;
-use smpe_hints::{ReportWatch, related_name};
+use smpe_hints::related_name;
 use std::process::ExitCode;
 use telling::write_hints;
 use watched::{Progress, Watched};
 
 fn main(rt: HostRuntime) -> ExitCode {
     let words = read_words(&rt);
-    let read: &[Vec<u8>] = match &words {
+    let known_words: &[Vec<u8>] = match &words {
         Ok(words) => words.as_slice(),
         Err(_) => &[],
     };
-    let mut host = ProgramHost::new(&rt, makes_database(read), related_name(read));
-    let mut out = Watched::new(
-        Out::new(rt.stdout()),
-        ReportWatch::new(rt.alloc()),
-        Progress::new(&rt),
+    let mut host = ProgramHost::new(
+        &rt,
+        may_create_database(known_words),
+        related_name(known_words),
     );
-    let mut err = Watched::new(Out::new(rt.stderr()), ReportWatch::new(rt.alloc()), None);
+    let mut out = Watched::new(rt.alloc(), Out::new(rt.stdout()), Progress::new(&rt));
+    let mut err = Watched::new(rt.alloc(), Out::new(rt.stderr()), None);
     let status = command(rt.alloc(), &mut host, &words, &mut out, &mut err);
-    write_hints(&rt, read, &host, &out.watch, &err.watch);
+    write_hints(&rt, known_words, &host, &out.watch, &err.watch);
     ExitCode::from(status)
 }
 
 // Whether the words ask for something that creates a database if there is none: the definition of a zone, or a job.
-fn makes_database(words: &[Vec<u8>]) -> bool {
+fn may_create_database(words: &[Vec<u8>]) -> bool {
     match words.get(1) {
         Some(word) => matches!(word.as_slice(), b"zone" | b"run"),
         None => false,

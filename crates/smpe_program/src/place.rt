@@ -11,31 +11,28 @@ pub(crate) const LEFT_JOURNAL: &str =
 /// What is said of a name that is of no plain file.
 pub(crate) const NO_PLAIN_FILE: &str = "it is no plain file";
 
-/// The first bytes of a file of SQLite.
+// The first bytes of a file of SQLite.
 const HEAD: &[u8] = b"SQLite format 3\0";
 
-/// How many they are.
+// The length of `HEAD`.
 const HEAD_BYTES: usize = 16;
 
 /// Whether no file has this name; false if the system does not tell.
 pub(crate) fn is_missing(rt: &HostRuntime, name: &str) -> bool {
-    match fs::exists(rt, name) {
-        Ok(is_there) => !is_there,
-        Err(_) => false,
-    }
+    matches!(fs::exists(rt, name), Ok(false))
 }
 
 /// Whether a file is not empty and does not begin as those of SQLite do; false if it cannot be read, or if a log is
 /// next to it, which may make it whole.
 pub(crate) fn is_surely_no_database(rt: &HostRuntime, name: &str) -> bool {
-    match (begins_as_no_database(rt, name), has_log(rt, name)) {
-        (Ok(is_other), Ok(has_log)) => is_other && !has_log,
+    match (has_other_head(rt, name), has_log(rt, name)) {
+        (Ok(has_other_head), Ok(has_log)) => has_other_head && !has_log,
         _ => false,
     }
 }
 
-// Whether the file has bytes, and they are not those with which a file of SQLite begins; false if it is no plain file.
-fn begins_as_no_database(rt: &HostRuntime, name: &str) -> io::Result<bool> {
+// Whether the file is not empty and begins with other bytes than a file of SQLite; false if it is no plain file.
+fn has_other_head(rt: &HostRuntime, name: &str) -> io::Result<bool> {
     if !fs::metadata(rt, name)?.is_file() {
         return Ok(false);
     }

@@ -1,5 +1,5 @@
 //! What is said on standard error when the program ends, besides the line of its fault.
-use crate::copy::{has_meta_table, read_copy};
+use crate::copy::{may_have_meta_table, read_for_copy};
 use crate::host::{Closing, Database, ProgramHost};
 use crate::place::{is_surely_no_database, place_fault};
 use smpe_hints::{ReportWatch, careful_zone_hint, no_command_hint, operand_hint};
@@ -15,7 +15,7 @@ const ALTERED_ROW: &str = "a row of the database is not as smpe wrote it";
 const NO_META_TABLE: &str =
     "the file has no table meta: another program made it, or nothing could be written to it";
 
-/// What is said of a database whose tables the library does not read, for one of several reasons.
+// What is said of a database whose tables the library does not read.
 const UNSOUND: &str =
     "the database is damaged, has rows that break its own keys, or has tables that smpe cannot read";
 
@@ -141,15 +141,15 @@ fn open_error_text(error: Error) -> &'static str {
     }
 }
 
-// Why a database that was copied failed, as far as its files show that, which are read once more.
+// Why a database that was copied failed, as far as its files show it. They are read once more.
 fn copy_error_text(rt: &HostRuntime, name: &str) -> &'static str {
-    match read_copy(rt, name, 0) {
-        Ok(bytes) if !has_meta_table(&bytes) => NO_META_TABLE,
+    match read_for_copy(rt, name, 0) {
+        Ok(bytes) if !may_have_meta_table(&bytes) => NO_META_TABLE,
         _ => UNSOUND,
     }
 }
 
-// Why a database that was opened failed, by what was met when it was closed.
+// Why a database that was opened failed, judged by what was met when it was closed.
 fn failure_text(closing: &Closing) -> &'static str {
     if closing.tally.refused > 0 {
         return FULL;

@@ -4,6 +4,7 @@ ghost use Rattle.std.specs.Io.KnownBytes.{Appends, Keeps};
 
 use report::{Sink, WriteFault};
 use smpe_hints::ReportWatch;
+use std::alloc::Global;
 use std::io::IsTerminal;
 use std::time::Instant;
 
@@ -31,8 +32,8 @@ impl Progress<'_> {
         })
     }
 
-    // Prints how long the command took that has ended since the last call, if one has.
-    fn note_ended_command(&mut self, watch: &ReportWatch) {
+    // If a command has ended since the last call, prints how long it took.
+    fn print_time_of_ended_command(&mut self, watch: &ReportWatch) {
         if watch.ended_commands() == self.command_count {
             return;
         }
@@ -57,15 +58,11 @@ pub(crate) struct Watched<'a, S> {
 }
 
 impl<'a, S> Watched<'a, S> {
-    /// The sink under a watch. Without `progress`, no times are printed.
-    pub(crate) fn new(
-        sink: S,
-        watch: ReportWatch,
-        progress: Option<Progress<'a>>,
-    ) -> Watched<'a, S> {
+    /// A sink that has taken nothing yet. Without `progress`, it prints no times.
+    pub(crate) fn new(alloc: Global, sink: S, progress: Option<Progress<'a>>) -> Watched<'a, S> {
         Watched {
             sink,
-            watch,
+            watch: ReportWatch::new(alloc),
             progress,
         }
     }
@@ -81,7 +78,7 @@ impl<S: Sink> Sink for Watched<'_, S> {
         let count = self.sink.write(piece)?;
         let _ = self.watch.feed(piece.get(..count).unwrap_or(b""));
         if let Some(progress) = &mut self.progress {
-            progress.note_ended_command(&self.watch);
+            progress.print_time_of_ended_command(&self.watch);
         }
         Ok(count)
     }

@@ -22,7 +22,7 @@ fn sorted_by_id(mut statuses: Vec<(Id, Status)>) -> Vec<(Id, Status)>
     statuses
 }
 
-// The line of an id with this status.
+// The line of an id with this status, and with its place in the global zone.
 fn status_line(global: &GlobalZone, id: Id, status: Status) -> ReportLine
     ensures { line_view result ≡ StatusLine id (place_of global.now id) (status_view status) }
 {
@@ -60,8 +60,8 @@ fn lines_by_id(
     status_lines(alloc, global, sorted_by_id(statuses))
 }
 
-/// The lines of all ids that have a status, by id: for this kind of zone those that are kept, some of which take
-/// effect, those that failed, and those that were left out.
+/// The lines of all ids that have a status, by id: those that are kept, some of which take effect in a zone of this
+/// kind, those that failed, and those that were left out.
 pub(crate) fn install_lines(
     alloc: Global,
     global: &GlobalZone,
@@ -75,6 +75,6 @@ pub(crate) fn install_lines(
         (map line_view lines.items)) }
 {
     let Decided { kept, failed } = decided;
-    let found = install_statuses(alloc, kind, effective, kept.as_slice(), failed, left_out)?;
-    lines_by_id(alloc, global, found)
+    let statuses = install_statuses(alloc, kind, effective, kept.as_slice(), failed, left_out)?;
+    lines_by_id(alloc, global, statuses)
 }

@@ -14,7 +14,7 @@ use report::{ReportLine, Status, place_of};
 use std::alloc::{AllocError, Global};
 use sysmods::GlobalZone;
 
-/// A line for each of these ids, in their order: restored if it is kept, failed with why, or otherwise not applied.
+/// A line for each of these ids, in their order: restored if it is kept, failed with the reasons, otherwise not applied.
 pub(crate) fn restore_lines(
     alloc: Global,
     global: &GlobalZone,
@@ -66,12 +66,12 @@ fn restore_status(
         return Ok(Status::Restored);
     }
     match find_failed(failed, id) {
-        Some(failed) => Ok(Status::Failed(copy_failure(alloc, &failed.1)?)),
+        Some(found) => Ok(Status::Failed(copy_failure(alloc, &found.1)?)),
         None => Ok(Status::NotApplied),
     }
 }
 
-// The failure of the id, among those that rise by their ids.
+// The id with its failure, in a list that rises by the ids.
 fn find_failed(failed: &[(Id, Failure)], id: Id) -> Option<&(Id, Failure)>
     requires { Rises (slice_cmp nat_cmp) (λ f. f.0) failed.now }
     ensures { option_copied result ≡ find (λ f. bytes_eq f.0 id) failed.now }

@@ -33,7 +33,7 @@ fn kept_status(kind: ZoneKind, effective: &IdList, id: Id) -> Status
     }
 }
 
-// The status of an id that the command names and that is no candidate.
+// The status of an id that the command names in vain.
 fn left_out_status(why: NotChosen) -> Status
     ensures { status_view result ≡ not_chosen_status why }
 {
@@ -76,7 +76,7 @@ fn push_failed_statuses(
     Ok(())
 }
 
-// Adds the statuses of the ids that are no candidates.
+// Adds the statuses of the ids that the command names in vain.
 fn push_left_out_statuses(
     statuses: &mut Vec<(Id, Status)>,
     left_out: &[(Id, NotChosen)],
@@ -90,7 +90,7 @@ fn push_left_out_statuses(
     Ok(())
 }
 
-/// The statuses of all ids that have one: for this kind of zone those that are kept, some of which take effect, those
+/// The statuses of all ids that have one: those that are kept, some of which take effect in a zone of this kind, those
 /// that failed, and those that were left out.
 pub(crate) fn install_statuses(
     alloc: Global,
@@ -100,12 +100,12 @@ pub(crate) fn install_statuses(
     failed: Vec<(Id, Failure)>,
     left_out: &[(Id, NotChosen)],
 ) -> Result<Vec<(Id, Status)>, AllocError>
-    ensures { IfOk result (λ found. map id_and_status found.items
+    ensures { IfOk result (λ statuses. map id_and_status statuses.items
         ≡ all_statuses kind effective.now kept.now (map why_failed failed.items) left_out.now) }
 {
-    let mut found = Vec::new(alloc);
-    push_kept_statuses(&mut found, kind, effective, kept)?;
-    push_failed_statuses(&mut found, failed)?;
-    push_left_out_statuses(&mut found, left_out)?;
-    Ok(found)
+    let mut statuses = Vec::new(alloc);
+    push_kept_statuses(&mut statuses, kind, effective, kept)?;
+    push_failed_statuses(&mut statuses, failed)?;
+    push_left_out_statuses(&mut statuses, left_out)?;
+    Ok(statuses)
 }

@@ -32,7 +32,7 @@ pub(crate) fn refusal_unless_global(boundary: Option<ZoneName>) -> Option<Refusa
     Some(Refusal::WrongKind)
 }
 
-/// A zone under its name.
+/// The zone of the boundary, with its name.
 #[derive(Clone, Copy)]
 pub struct BoundaryZone<'a> {
     pub name: ZoneName,

@@ -20,6 +20,13 @@ use std::alloc::Global;
 use store::{Change, Store, StoreError};
 use zones::ZoneDelta;
 
+/// What a command has decided for a zone.
+#[derive(Drop)]
+pub struct ZoneChange {
+    pub name: ZoneName,
+    pub delta: ZoneDelta,
+}
+
 impl Session {
     /// Carries out what an APPLY, ACCEPT or RESTORE has decided for the zone of the boundary. Under CHECK nothing
     /// changes. Otherwise the change is prepared and committed, and then the session's zone changes, which takes no
@@ -30,21 +37,21 @@ impl Session {
         alloc: Global,
         store: &mut Store<S>,
         header: Header,
-        name: ZoneName,
-        delta: ZoneDelta,
+        change: ZoneChange,
         lines: Vec<ReportLine>,
     ) -> Result<Outcome<'static>, StoreError>
-        requires boundary { header.boundary ≡ Some name }
-        requires knows { (zone : AZone) × KnowsStood zone delta }
+        requires boundary { header.boundary ≡ Some change.name }
+        requires knows { (zone : AZone) × KnowsStood zone change.delta }
         ensures uses { UsesStore S.Store store.old store.new
             (λ own. IsOfZone own × (header.check ≡ false) × IfOk result (TellsRun own))
             (λ s ended. IsSessionOf s self.old → (date : Text) (files : Files) (c : Command)
-            → ChangesZone date files c s self.old name delta header.check
+            → ChangesZone date files c s self.old change.name change.delta header.check
             (Ran (header_view header) (map line_view lines.items))
             → HasPerformed S.Store store.old store.new s self.new date files c ended) result }
         ensures header { (c : Command) (boundary : Option Text) → header_view header ≡ header_of c boundary
             → IfOk result (TellsOutcomeOf c) }
     {
+        let ZoneChange { name, delta } = change;
         // (for the clause `uses`: the edits of the delta have their form)
         delta.attest();
         if header.check {

@@ -24,6 +24,7 @@ mod session;
 mod set;
 
 pub use boundary::BoundaryZone;
+pub use carry_out::ZoneChange;
 pub use files::Files;
 pub use lines::lines_or_nothing;
 pub use session::{Performed, Session};

@@ -27,8 +27,8 @@ use store::{Change, Store, StoreError};
 use sysmods::GlobalZone;
 use terms::CommandWord;
 
-// The edits and the report lines of these items, those of PTFIN before those of the hold file. The edits are made in
-// the global zone of the session.
+// Receives these items into the global zone of the session. Returns the edits and the report lines, those of PTFIN
+// before those of the hold file.
 fn receive_found_items(
     alloc: Global,
     global: &mut GlobalZone,
@@ -44,9 +44,9 @@ fn receive_found_items(
         mut edits,
         mut lines,
     } = receive_ptfin(alloc, global, found.items, source)?;
-    let mut more = receive_holds(alloc, global, found.holds)?;
-    edits.append(&mut more.edits)?;
-    lines.append(&mut more.lines)?;
+    let mut from_holds = receive_holds(alloc, global, found.holds)?;
+    edits.append(&mut from_holds.edits)?;
+    lines.append(&mut from_holds.lines)?;
     Ok(GlobalChange { edits, lines })
 }
 

@@ -18,7 +18,7 @@ use Rattle.smpe_verify.specs.declared.breach.Breach.TheVariants.{OfEntry, OfElem
 use Rattle.smpe_verify.specs.declared.verification.Counts.{Counts}
 use Rattle.smpe_verify.specs.declared.verification.Verification.{Verification}
 use Rattle.smpe_verify.specs.declared.verification.Verification.TheVariants.{Closed, Broken}
-use Rattle.smpe_verify.specs.declared.told.Verified.{Verified}
+use Rattle.smpe_verify.specs.declared.told.VerifyAnswer.{VerifyAnswer}
 
 abbrev pub counts_text : Counts → Text
 counts_text counts = words_line (
@@ -68,6 +68,6 @@ abbrev pub status_of : Verification → ℕ
 status_of (Closed counts) = 0
 status_of (Broken zone breach) = 12
 
-pub record IsTold (found : Verification) (told : Verified) : Type 0 where
+pub record IsTold (found : Verification) (told : VerifyAnswer) : Type 0 where
   pub text_is : told.text.items ≡ text_of found
   pub status_is : told.status ≡ status_of found

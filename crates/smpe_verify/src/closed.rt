@@ -16,7 +16,7 @@ use sysmods::{GlobalZone, VerChoice};
 use zones::{Element, Zone, choose};
 
 /// The first breach of the zone: entries rising by id, then elements by type and name, and for each the rules in the
-/// order of the definition. `None` if and only if the zone is closed. Returns an error if memory runs out.
+/// order of the definition. `None` if and only if the zone is closed.
 pub fn first_breach(
     alloc: Global,
     global: &GlobalZone,
@@ -48,8 +48,8 @@ fn find_breach(
     find_breach_by_vers(alloc, &vers, zone)
 }
 
-// Finds the first breach by these `++VER`s: that of an entry, or else that of an element, or else `None`. It stands
-// apart because its clause leaves open how the `++VER`s were chosen.
+// Finds the first breach by these `++VER`s, however they were chosen: that of an entry, or else that of an element, or
+// else `None`.
 fn find_breach_by_vers(
     alloc: Global,
     vers: &VerChoice<'_>,
@@ -74,8 +74,7 @@ fn first_entry_breach(
         ≡ first_of (entry_breach vers.now.global.now (choice vers.now) zone.now) zone.now.entries) }
 {
     for entry in zone.entries() {
-        let broken_rule = entry_fault(alloc, vers, zone, entry)?;
-        if let Some(fault) = broken_rule {
+        if let Some(fault) = entry_fault(alloc, vers, zone, entry)? {
             return Ok(Some(Breach::OfEntry(entry.id, fault)));
         }
     }
@@ -95,8 +94,7 @@ fn first_element_breach(vers: &VerChoice<'_>, zone: &Zone) -> Option<Breach>
     None
 }
 
-// Proves for the clauses of the caller that the text of each element has the form of its type. The code only looks at
-// the elements.
+// Proves that the text of each element has the form of its type. The code only looks at the elements.
 fn attest_texts(zone: &Zone)
     ensures { All (λ e. HasForm e.elem_type e.text) zone.now.elements }
 {
@@ -105,8 +103,8 @@ fn attest_texts(zone: &Zone)
     }
 }
 
-// Proves that the text of the element has the form of its type: the type `Element` promises that to any code that reads
-// a field, so this code reads the text, and does nothing with it.
+// Proves that the text of the element has the form of its type. The type `Element` promises that to code that reads a
+// field, so this reads the text and does nothing with it.
 fn attest_text(element: &Element)
     ensures { HasForm element.now.elem_type element.now.text }
 {

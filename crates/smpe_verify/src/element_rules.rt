@@ -114,8 +114,7 @@ fn first_not_updating(
 fn has_update(global: &GlobalZone, id: Id, elem_type: ElemType, name: Name) -> bool
     ensures { result ≡ has_update global.now id elem_type name }
 {
-    match global.change_of(id, elem_type, name) {
-        Some(change) => !change.is_replacement(),
-        None => false,
-    }
+    global
+        .change_of(id, elem_type, name)
+        .is_some_and(|change| !change.is_replacement())
 }

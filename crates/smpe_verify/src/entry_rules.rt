@@ -13,8 +13,9 @@ use std::alloc::{AllocError, Global};
 use sysmods::VerChoice;
 use zones::{Entry, Zone, binding_requisites};
 
-/// The fault of the first rule that the entry breaks, or `None`: the rules for an applied SYSMOD, if its SYSMOD is
-/// applied, and then the one for its SUPBY. Returns an error if memory runs out; so do the calls below.
+/// The fault of the first rule that the entry breaks, or `None`. The rules for an applied SYSMOD come first, if the
+/// entry's SYSMOD is applied, and then the one for its SUPBY. Returns an error if memory runs out, as do the calls
+/// below.
 pub(crate) fn entry_fault(
     alloc: Global,
     vers: &VerChoice<'_>,

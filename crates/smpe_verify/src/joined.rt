@@ -5,16 +5,8 @@ ghost use Rattle.machine.specs.Report.{words_line};
 
 use std::alloc::AllocError;
 
-/// Appends the bytes to the text. Unlike that of `extend_from_slice`, its contract is silent about calls that fail,
-/// which is all that the calls below need. Returns an error if memory runs out, as they do.
-pub(crate) fn append(piece: &[u8], text: &mut Vec<u8>) -> Result<(), AllocError>
-    ensures { OnOk result (text.new.items ≡ text.old.items ++ piece.now) }
-{
-    text.extend_from_slice(piece)?;
-    Ok(())
-}
-
-/// Appends the words to the text, with one blank between each two.
+/// Appends the words to the text, with one blank between each two. Returns an error if memory runs out, as does
+/// `append_line`.
 pub(crate) fn append_joined(words: &[&[u8]], text: &mut Vec<u8>) -> Result<(), AllocError>
     ensures { OnOk result
         (text.new.items ≡ text.old.items ++ join_with_byte 32 (map (λ word. word.now) words.now)) }
@@ -22,10 +14,10 @@ pub(crate) fn append_joined(words: &[&[u8]], text: &mut Vec<u8>) -> Result<(), A
     let Some((first, rest)) = words.split_first() else {
         return Ok(());
     };
-    append(first, text)?;
+    text.extend_from_slice(first)?;
     for word in rest {
         text.push(b' ')?;
-        append(word, text)?;
+        text.extend_from_slice(word)?;
     }
     Ok(())
 }
@@ -36,5 +28,5 @@ pub(crate) fn append_line(words: &[&[u8]], text: &mut Vec<u8>) -> Result<(), All
         (text.new.items ≡ text.old.items ++ words_line (map (λ word. word.now) words.now)) }
 {
     append_joined(words, text)?;
-    append(b"\n", text)
+    text.extend_from_slice(b"\n")
 }

@@ -19,6 +19,6 @@ mod zone_by_zone;
 pub use breach::{Breach, ElementFault, EntryFault, Level};
 pub use closed::first_breach;
 pub use law::{told_is_broken, verified_is_closed};
-pub use told::{Verified, describe_verification};
+pub use told::{VerifyAnswer, describe_verification};
 pub use verification::{Counts, Verification};
 pub use zone_by_zone::verify;

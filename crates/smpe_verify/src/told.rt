@@ -4,19 +4,19 @@ ghost use Rattle.smpe_verify.specs.Telling.{IsTold, counts_text, breach_text, en
 ghost use Rattle.smpe_verify.specs.Telling.{level_text};
 
 use crate::breach::{Breach, ElementFault, EntryFault, Level};
-use crate::joined::{append, append_joined, append_line};
+use crate::joined::{append_joined, append_line};
 use crate::verification::{Counts, Verification};
 use fields::ZoneName;
 use fields::spelling::type_text;
 use itoa::Buffer;
 use std::alloc::{AllocError, Global};
 
-/// The status of a program that has found a zone which is not closed.
+// The status of a program that has found a zone which is not closed.
 const BROKEN_STATUS: u8 = 12;
 
 /// The line about what was found, and the program's status.
 #[derive(Drop)]
-pub struct Verified {
+pub struct VerifyAnswer {
     pub text: Vec<u8>,
     pub status: u8,
 }
@@ -26,18 +26,18 @@ pub struct Verified {
 pub fn describe_verification(
     alloc: Global,
     verification: Verification,
-) -> Result<Verified, AllocError>
+) -> Result<VerifyAnswer, AllocError>
     ensures { IfOk result (IsTold verification) }
 {
     let mut text = Vec::new(alloc);
     match verification {
         Verification::Closed(counts) => {
             append_counts(counts, &mut text)?;
-            Ok(Verified { text, status: 0 })
+            Ok(VerifyAnswer { text, status: 0 })
         }
         Verification::Broken(zone, breach) => {
             append_breach(zone, breach, &mut text)?;
-            Ok(Verified {
+            Ok(VerifyAnswer {
                 text,
                 status: BROKEN_STATUS,
             })
@@ -69,14 +69,14 @@ fn append_counts(counts: Counts, text: &mut Vec<u8>) -> Result<(), AllocError>
     )
 }
 
-// Appends the line of the zone and the breach: the entry or the element, and after a colon the rule.
+// Appends the line of a breach: the zone, the entry or the element, and after a colon the rule.
 fn append_breach(zone: ZoneName, breach: Breach, text: &mut Vec<u8>) -> Result<(), AllocError>
     ensures { OnOk result (text.new.items ≡ text.old.items ++ breach_text zone breach) }
 {
     match breach {
         Breach::OfEntry(id, fault) => {
             append_joined(&[b"ZONE", zone.as_bytes(), id.as_bytes()], text)?;
-            append(b": ", text)?;
+            text.extend_from_slice(b": ")?;
             append_entry_fault(fault, text)
         }
         Breach::OfElement(elem_type, name, fault) => {
@@ -89,13 +89,13 @@ fn append_breach(zone: ZoneName, breach: Breach, text: &mut Vec<u8>) -> Result<(
                 ],
                 text,
             )?;
-            append(b": ", text)?;
+            text.extend_from_slice(b": ")?;
             append_element_fault(fault, text)
         }
     }
 }
 
-// Appends the rest of the line: the rule that an entry breaks.
+// Appends the rest of the line, after the colon: the rule that the entry breaks.
 fn append_entry_fault(fault: EntryFault, text: &mut Vec<u8>) -> Result<(), AllocError>
     ensures { OnOk result (text.new.items ≡ text.old.items ++ entry_fault_text fault) }
 {
@@ -127,7 +127,7 @@ fn append_entry_fault(fault: EntryFault, text: &mut Vec<u8>) -> Result<(), Alloc
     }
 }
 
-// Appends the rest of the line: the rule that an element breaks.
+// Appends the rest of the line, after the colon: the rule that the element breaks.
 fn append_element_fault(fault: ElementFault, text: &mut Vec<u8>) -> Result<(), AllocError>
     ensures { OnOk result (text.new.items ≡ text.old.items ++ element_fault_text fault) }
 {

@@ -24,15 +24,15 @@ pub fn verify<S: Alter>(alloc: Global, store: &mut Store<S>) -> Result<Verificat
     let names = store.zone_names()?;
     let mut counts = initial_counts(&global, names.as_slice());
     for name in names.as_slice() {
-        let zone_breach = verify_zone(alloc, store, &global, *name, &mut counts)?;
-        if let Some(breach) = zone_breach {
+        if let Some(breach) = verify_zone(alloc, store, &global, *name, &mut counts)? {
             return Ok(Verification::Broken(*name, breach));
         }
     }
     Ok(Verification::Closed(counts))
 }
 
-// The counts before any zone is loaded: of received SYSMODs and of zones. No entry or element is counted yet.
+// The counts before any zone is loaded: those of received SYSMODs and of zones are final, and no entry or element is
+// counted yet.
 fn initial_counts(global: &GlobalZone, names: &[ZoneName]) -> Counts
     ensures { result ≡ begun global.now names.now }
 {
@@ -56,8 +56,7 @@ fn verify_zone<S: Alter>(
     ensures { Loads S.Store store.old store.new (λ i breach. (breach ≡ breach_at i global.now name)
         × (counts.new ≡ counted i counts.old name)) result }
 {
-    let named_zone = store.load_zone(name)?;
-    let Some(zone) = named_zone else {
+    let Some(zone) = store.load_zone(name)? else {
         return Ok(None);
     };
     count_zone(&zone, counts)?;

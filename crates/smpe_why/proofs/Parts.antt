@@ -20,7 +20,7 @@ use Rattle.terms.proofs.RisingLists.{Stands_at, with_item_same}
 use Rattle.terms.specs.Choice.{Choice, counting}
 use Rattle.terms.specs.Tests.{Setting}
 use Rattle.report.specs.Facts.{among, with_id}
-use Rattle.smpe_why.specs.declared.told.Told.{Told}
+use Rattle.smpe_why.specs.declared.told.WhyAnswer.{WhyAnswer}
 use Rattle.smpe_why.specs.Telling.{greatest, Inquiry, AreToldBy, IsTold}
 
 -- one part more
@@ -105,7 +105,7 @@ module _ (g : Global) (zone : Zone) (related : Option Zone) (a : Inquiry) where
   By ids text code = AreToldBy g zone related a ids text code
 
   -- all by one command
-  pub told_once : (told : Told) → a.together ≡ true → By a.ids told.text.items told.status
+  pub told_once : (told : WhyAnswer) → a.together ≡ true → By a.ids told.text.items told.status
       → IsTold g (Some zone) related a told
   told_once told together is = (
     (told.text.items, told.status) ∷ [],
@@ -124,7 +124,7 @@ module _ (g : Global) (zone : Zone) (related : Option Zone) (a : Inquiry) where
       one (suc n) ids p e f = absurd (cc e)
 
   -- each by its own
-  pub told_each : (told : Told) → a.together ≡ false → (parts : List (Text × ℕ))
+  pub told_each : (told : WhyAnswer) → a.together ≡ false → (parts : List (Text × ℕ))
       → Beside (λ n x p. By (x ∷ []) p.0 p.1) a.ids parts → told.text.items ≡ flat_map (λ p. p.0) parts
       → told.status ≡ greatest parts → IsTold g (Some zone) related a told
   told_each told apart parts each text status = (

@@ -23,7 +23,7 @@ use Rattle.store_zones.specs.declared.head.ZoneHead.{ZoneHead}
 use Rattle.store_zones.specs.Found.{zone_in, head_of}
 use Rattle.machine_laws.specs.AnyDate.{Selects}
 use Rattle.smpe_why.specs.declared.found.LoadedZones.{LoadedZones}
-use Rattle.smpe_why.specs.declared.told.Told.{Told}
+use Rattle.smpe_why.specs.declared.told.WhyAnswer.{WhyAnswer}
 
 -- the name of the other zone at which an APPLY or ACCEPT into a zone of this kind and name looks: for ACCEPT the first
 -- that names this one as its related zone
@@ -99,7 +99,7 @@ pub record AreToldBy (g : Global) (zone : Zone) (related : Option Zone) (a : Inq
 
 -- All ids are told, and the status is the greatest of theirs. If there is no such zone, a refusal is told as SET tells
 -- it, and the status is 12.
-abbrev pub IsTold : Global → Option Zone → Option Zone → Inquiry → Told → Type 0
+abbrev pub IsTold : Global → Option Zone → Option Zone → Inquiry → WhyAnswer → Type 0
 IsTold g None related a told = (told.text.items ≡ refused_text NoZone) × (told.status ≡ 12)
 IsTold g (Some zone) related a told = (parts : List (Text × ℕ))
     × Beside (λ n ids p. AreToldBy g zone related a ids p.0 p.1) (commands_of a) parts

@@ -15,4 +15,4 @@ mod told;
 pub use bypass_text::read_bypass;
 pub use found::{LoadedZones, load_zones};
 pub use question::Question;
-pub use told::{Told, answer_question};
+pub use told::{WhyAnswer, answer_question};

@@ -35,19 +35,19 @@ const ANY_DAY: u16 = 1;
 
 /// The lines of the answer, and the program's status.
 #[derive(Drop)]
-pub struct Told {
+pub struct WhyAnswer {
     pub text: Vec<u8>,
     pub status: u8,
 }
 
-/// For each id of the question, in their order: its facts, and what an APPLY (in a distribution zone an ACCEPT) that
-/// selects it, alone or with the others, would make of it. Or that there is no such zone. Returns an error if memory
-/// runs out, as do all calls here.
+/// The answer for the zone that was loaded, or the refusal if there is no such zone. It has for each id of the
+/// question, in their order, its facts and what would become of it by an APPLY (in a distribution zone an ACCEPT) that
+/// selects it, alone or with the others. Returns an error if memory runs out, as do all calls here.
 pub fn answer_question(
     alloc: Global,
     loaded_zones: &LoadedZones,
     question: &Question<'_>,
-) -> Result<Told, AllocError>
+) -> Result<WhyAnswer, AllocError>
     ensures { IfOk result (IsTold loaded_zones.now.global loaded_zones.now.zone loaded_zones.now.related question.now) }
 {
     let Some(zone) = &loaded_zones.zone else {
@@ -57,14 +57,14 @@ pub fn answer_question(
     answer_in_zone(alloc, &lookups, loaded_zones.related.as_ref(), question)
 }
 
-// The answer for a zone that exists: of one command that selects all ids, or of a command for each id, with the
-// greatest of their statuses.
+// The answer for a zone that exists: by one command that selects all ids, or by a command for each id, one after the
+// other, with the greatest of their statuses.
 fn answer_in_zone(
     alloc: Global,
     lookups: &Lookups<'_>,
     related: Option<&Zone>,
     question: &Question<'_>,
-) -> Result<Told, AllocError>
+) -> Result<WhyAnswer, AllocError>
     ensures { IfOk result
         (IsTold lookups.now.global.now (Some lookups.now.zone.now) (option_copied related.entry) question.now) }
 {
@@ -72,7 +72,7 @@ fn answer_in_zone(
         return describe_selected_ids(alloc, lookups, related, question, question.ids);
     }
     let ids = question.ids;
-    let mut answer = Told {
+    let mut answer = WhyAnswer {
         text: Vec::new(alloc),
         status: 0,
     };
@@ -84,14 +84,14 @@ fn answer_in_zone(
     Ok(answer)
 }
 
-// Describes these ids one after the other, by the lines of one command that selects them all.
+// The answer about these ids, one after the other, by the lines of one command that selects them all.
 fn describe_selected_ids(
     alloc: Global,
     lookups: &Lookups<'_>,
     related: Option<&Zone>,
     question: &Question<'_>,
     ids: &[Id],
-) -> Result<Told, AllocError>
+) -> Result<WhyAnswer, AllocError>
     ensures { IfOk result (λ answer. AreToldBy lookups.now.global.now lookups.now.zone.now (option_copied related.entry)
         question.now ids.now answer.text.items answer.status) }
 {
@@ -111,40 +111,40 @@ fn describe_selected_ids(
         dels: dels.as_slice(),
         bypass: question.bypass,
     };
-    describe_each_id(alloc, lookups, &scope, lines, ids)
+    describe_ids(alloc, lookups, &scope, lines, ids)
 }
 
-// Describes the ids, one after the other, by these lines of an install with the candidates of this scope.
-fn describe_each_id<'a>(
+// The answer about the ids, one after the other, by these lines of an install with the candidates of this scope.
+fn describe_ids<'a>(
     alloc: Global,
     lookups: &Lookups<'a>,
     scope: &Scope<'_, 'a>,
     lines: &[ReportLine],
     ids: &[Id],
-) -> Result<Told, AllocError>
+) -> Result<WhyAnswer, AllocError>
     requires { IsScopeOf lookups.now.global.now lookups.now.zone.now scope.now }
     ensures { IfOk result (λ answer. AreToldInTurn lookups.now.global.now lookups.now.zone.now scope.now.ids.now
         scope.now.bypass.now (map line_view lines.now) ids.now answer.text.items answer.status) }
 {
-    let mut answer = Told {
+    let mut answer = WhyAnswer {
         text: Vec::new(alloc),
         status: 0,
     };
     for id in ids {
-        describe_id(alloc, lookups, scope, lines, *id, &mut answer)?;
+        append_id(alloc, lookups, scope, lines, *id, &mut answer)?;
     }
     Ok(answer)
 }
 
 // Adds to the answer the facts of the id, for an install with the candidates of this scope, and what the lines say
 // about it. Raises the status to the code of the facts.
-fn describe_id<'a>(
+fn append_id<'a>(
     alloc: Global,
     lookups: &Lookups<'a>,
     scope: &Scope<'_, 'a>,
     lines: &[ReportLine],
     id: Id,
-    answer: &mut Told,
+    answer: &mut WhyAnswer,
 ) -> Result<(), AllocError>
     requires { IsScopeOf lookups.now.global.now lookups.now.zone.now scope.now }
     ensures { OnOk result ((text : AText) × (code : ℕ)
@@ -153,20 +153,20 @@ fn describe_id<'a>(
         × (answer.new.text.items ≡ answer.old.text.items ++ text) × (answer.new.status ≡ max answer.old.status code)) }
 {
     if scope.ids.contains(id) {
-        return describe_candidate(alloc, lookups, scope, lines, id, answer);
+        return append_candidate(alloc, lookups, scope, lines, id, answer);
     }
-    describe_non_candidate(alloc, lookups, scope, lines, id, answer)
+    append_non_candidate(alloc, lookups, scope, lines, id, answer)
 }
 
-// Adds to the answer the facts of an id that is no candidate of this scope, as if it were one too, and what the lines
-// say about it.
-fn describe_non_candidate<'a>(
+// Adds to the answer the facts of an id that is no candidate of this scope, as they are if it is made one, and what the
+// lines say about it.
+fn append_non_candidate<'a>(
     alloc: Global,
     lookups: &Lookups<'a>,
     scope: &Scope<'_, 'a>,
     lines: &[ReportLine],
     id: Id,
-    answer: &mut Told,
+    answer: &mut WhyAnswer,
 ) -> Result<(), AllocError>
     ensures { OnOk result ((text : AText) × (code : ℕ)
         × IsToldOf (among lookups.now.global.now lookups.now.zone.now scope.now.ids.now scope.now.bypass.now id)
@@ -184,17 +184,17 @@ fn describe_non_candidate<'a>(
         dels: dels.as_slice(),
         bypass: scope.bypass,
     };
-    describe_candidate(alloc, lookups, &with_id, lines, id, answer)
+    append_candidate(alloc, lookups, &with_id, lines, id, answer)
 }
 
 // Adds to the answer the facts of a candidate of this scope, and what the lines say about it.
-fn describe_candidate<'a>(
+fn append_candidate<'a>(
     alloc: Global,
     lookups: &Lookups<'a>,
     scope: &Scope<'_, 'a>,
     lines: &[ReportLine],
     id: Id,
-    answer: &mut Told,
+    answer: &mut WhyAnswer,
 ) -> Result<(), AllocError>
     requires global { scope.now.vers.now.global.now ≡ lookups.now.global.now }
     requires zone { scope.now.zone.now ≡ lookups.now.zone.now }
@@ -268,14 +268,14 @@ fn selection_of_ids(alloc: Global, ids: &[Id], groupextend: bool) -> Result<Sele
     })
 }
 
-// The refusal that SET prints if no zone has the name, with its status. `report` writes this line only to a sink, so
-// its code is spelled here too; the clause says that they are the same.
-fn refuse_unknown_zone(alloc: Global) -> Result<Told, AllocError>
+// The refusal that SET prints if no zone has the name, with its status. `report` writes this line only as part of an
+// outcome, so its code is spelled here too. The clause says that the two lines are the same.
+fn refuse_unknown_zone(alloc: Global) -> Result<WhyAnswer, AllocError>
     ensures { IfOk result (λ answer. (answer.text.items ≡ refused_text NoZone) × (answer.status ≡ 12)) }
 {
     let mut text = Vec::new(alloc);
     append_words(b"REFUSED", &[LineWord::Text(b"Cm2")], &mut text)?;
-    Ok(Told {
+    Ok(WhyAnswer {
         text,
         status: REFUSED_STATUS,
     })

@@ -25,14 +25,11 @@ fn head_named(heads: &[ZoneHead], name: ZoneName) -> Option<&ZoneHead>
 fn is_related_to(head: &ZoneHead, name: ZoneName) -> bool
     ensures { result ≡ is_related_to name head.now }
 {
-    match head.related {
-        Some(related) => name == related,
-        None => false,
-    }
+    head.related == Some(name)
 }
 
 // Whether some zone names the zone of this name as its related zone.
-fn is_any_related_to(heads: &[ZoneHead], name: ZoneName) -> bool
+fn is_related_zone_of_any(heads: &[ZoneHead], name: ZoneName) -> bool
     ensures { result ≡ list_any (is_related_to name) heads.now }
 {
     heads.iter().any(|head| is_related_to(head, name))
@@ -42,17 +39,14 @@ fn is_any_related_to(heads: &[ZoneHead], name: ZoneName) -> bool
 fn is_distribution_head(head: Option<&ZoneHead>) -> bool
     ensures { result ≡ is_distribution_head (option_copied head.entry) }
 {
-    match head {
-        Some(head) => head.kind == ZoneKind::Distribution,
-        None => false,
-    }
+    head.is_some_and(|head| head.kind == ZoneKind::Distribution)
 }
 
 // Whether a new target zone may be related to the zone of this name: a distribution zone to which no zone is related.
 fn is_free_distribution(heads: &[ZoneHead], name: ZoneName) -> bool
     ensures { result ≡ is_free_distribution heads.now name }
 {
-    is_distribution_head(head_named(heads, name)) && !is_any_related_to(heads, name)
+    is_distribution_head(head_named(heads, name)) && !is_related_zone_of_any(heads, name)
 }
 
 // Whether a zone of this kind may be defined with this related zone.
@@ -70,10 +64,7 @@ fn has_right_related(heads: &[ZoneHead], kind: ZoneKind, related: &Option<ZoneNa
 fn has_srel(head: Option<&ZoneHead>, srel: Srel) -> bool
     ensures { result ≡ has_srel srel (option_copied head.entry) }
 {
-    match head {
-        Some(head) => head.srel == srel,
-        None => false,
-    }
+    head.is_some_and(|head| head.srel == srel)
 }
 
 // Whether the related zone, if one is named, has this SREL.

@@ -70,7 +70,7 @@ impl Rules {
         self.outside.add_candidate(!starts)
     }
 
-    /// Whether a rule may be added: it is about numbers below `len`, and its list rises.
+    /// Whether a rule may be added: it is about numbers below `size`, and its list rises.
     pub fn admits(&self, these: &[u32], that: u32) -> bool
         ensures { IsTrue result ↔ IsRule (length self.now.start) (record { these = these.now; that = that }) }
     {

@@ -9,6 +9,6 @@ use std::alloc::{AllocError, Global};
 /// A way to find the kept set of a system.
 pub trait Solver {
     /// The union of all self-supporting sets.
-    fn greatest(&self, alloc: Global, s: &System) -> Result<Kept, AllocError>
-        ensures { IfOk result (λ kept. AreKept s.now kept) };
+    fn greatest(&self, alloc: Global, system: &System) -> Result<Kept, AllocError>
+        ensures { IfOk result (λ kept. AreKept system.now kept) };
 }

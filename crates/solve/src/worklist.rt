@@ -54,11 +54,11 @@ impl Board {
     }
 
     // Takes a member from a need, and drops the need's candidate when the last one is gone.
-    fn strike(&mut self, s: &System, need: usize)
-        requires need { need < length s.now.needs }
-        requires due { (rest : List ℕ) × AtRest s.now (need ∷ rest) self.old }
+    fn strike(&mut self, system: &System, need: usize)
+        requires need { need < length system.now.needs }
+        requires due { (rest : List ℕ) × AtRest system.now (need ∷ rest) self.old }
         requires strikes { self.old.count.strikes + 1 < 2 ^ 128 }
-        ensures board { (rest : List ℕ) → AtRest s.now (need ∷ rest) self.old → AtRest s.now rest self.new }
+        ensures board { (rest : List ℕ) → AtRest system.now (need ∷ rest) self.old → AtRest system.now rest self.new }
         ensures open { open_in self.new ≡ open_in self.old }
         ensures strikes { self.new.count.strikes ≡ self.old.count.strikes + 1 }
         ensures turns { self.new.count.turns ≡ self.old.count.turns }
@@ -67,37 +67,37 @@ impl Board {
         self.living[need] = left;
         self.count.strikes += 1;
         if left == 0 {
-            self.drop_candidate(s.needs()[need].of);
+            self.drop_candidate(system.needs()[need].of);
         }
     }
 
     // Makes the strikes of one dropped candidate; `row` lists the needs that it serves.
-    fn strike_row(&mut self, s: &System, row: &[usize])
-        requires row { All (λ k. k < length s.now.needs) row.now }
-        requires board { AtRest s.now row.now self.old }
-        requires few { pairs_of s.now.needs < 2 ^ 123 }
+    fn strike_row(&mut self, system: &System, row: &[usize])
+        requires row { All (λ k. k < length system.now.needs) row.now }
+        requires board { AtRest system.now row.now self.old }
+        requires few { pairs_of system.now.needs < 2 ^ 123 }
         requires turns { self.old.count.turns + length row.now < 2 ^ 128 }
-        ensures board { AtRest s.now [] self.new }
+        ensures board { AtRest system.now [] self.new }
         ensures open { open_in self.new ≡ open_in self.old }
         ensures strikes { self.new.count.strikes ≡ self.old.count.strikes + length row.now }
         ensures turns { self.new.count.turns ≡ self.old.count.turns + length row.now }
     {
         for need in row {
             self.count.turns += 1;
-            self.strike(s, *need);
+            self.strike(system, *need);
         }
     }
 
     // Drops the candidates with a need that no eligible candidate serves.
-    fn drop_unserved(&mut self, s: &System)
-        requires board { SettledBelow s.now 0 self.old }
-        requires turns { self.old.count.turns + length s.now.needs < 2 ^ 128 }
-        ensures board { AtRest s.now [] self.new }
+    fn drop_unserved(&mut self, system: &System)
+        requires board { SettledBelow system.now 0 self.old }
+        requires turns { self.old.count.turns + length system.now.needs < 2 ^ 128 }
+        ensures board { AtRest system.now [] self.new }
         ensures open { open_in self.new ≡ open_in self.old }
         ensures strikes { self.new.count.strikes ≡ self.old.count.strikes }
-        ensures turns { self.new.count.turns ≡ self.old.count.turns + length s.now.needs }
+        ensures turns { self.new.count.turns ≡ self.old.count.turns + length system.now.needs }
     {
-        for (k, need) in s.needs().iter().enumerate() {
+        for (k, need) in system.needs().iter().enumerate() {
             self.count.turns += 1;
             if self.living[k] == 0 {
                 self.drop_candidate(need.of);
@@ -106,20 +106,20 @@ impl Board {
     }
 
     // Makes the strikes of all dropped candidates, and of those that are dropped in turn.
-    fn follow_drops(&mut self, s: &System, served: &[Vec<usize>])
-        requires served { AreServed s.now.needs served.now }
-        requires size { length served.now ≡ s.now.size }
-        requires board { AtRest s.now [] self.old }
-        requires few { pairs_of s.now.needs < 2 ^ 123 }
-        requires turns { self.old.count.turns + s.now.size < 2 ^ 127 }
-        ensures board { AtRest s.now [] self.new }
+    fn follow_drops(&mut self, system: &System, served: &[Vec<usize>])
+        requires served { AreServed system.now.needs served.now }
+        requires size { length served.now ≡ system.now.size }
+        requires board { AtRest system.now [] self.old }
+        requires few { pairs_of system.now.needs < 2 ^ 123 }
+        requires turns { self.old.count.turns + system.now.size < 2 ^ 127 }
+        ensures board { AtRest system.now [] self.new }
         ensures done { self.new.dropped.items ≡ [] }
         ensures turns { self.new.count.turns + open_in self.new + self.old.count.strikes
             ≡ self.old.count.turns + open_in self.old + self.new.count.strikes }
     {
         while let Some(x) = self.dropped.pop() {
             self.count.turns += 1;
-            self.strike_row(s, &served[x as usize]);
+            self.strike_row(system, &served[x as usize]);
         }
     }
 }
@@ -150,18 +150,19 @@ fn index_need(
 }
 
 // The board at the start, and for each candidate the needs that it serves.
-fn prepare_board(alloc: Global, s: &System) -> Result<(Board, Vec<Vec<usize>>), AllocError>
-    ensures board { IfOk result (λ r. SettledBelow s.now 0 r.0) }
+fn prepare_board(alloc: Global, system: &System) -> Result<(Board, Vec<Vec<usize>>), AllocError>
+    ensures board { IfOk result (λ r. SettledBelow system.now 0 r.0) }
     ensures strikes { IfOk result (λ r. r.0.count.strikes ≡ 0) }
-    ensures turns { IfOk result (λ r. r.0.count.turns ≡ s.now.size + length s.now.needs + pairs_of s.now.needs) }
-    ensures served { IfOk result (λ r. AreServed s.now.needs r.1.items) }
-    ensures size { IfOk result (λ r. length r.1.items ≡ s.now.size) }
-    ensures few { IfOk result (λ r. pairs_of s.now.needs < 2 ^ 123) }
-    ensures needs { IfOk result (λ r. length s.now.needs < 2 ^ 64) }
+    ensures turns { IfOk result
+        (λ r. r.0.count.turns ≡ system.now.size + length system.now.needs + pairs_of system.now.needs) }
+    ensures served { IfOk result (λ r. AreServed system.now.needs r.1.items) }
+    ensures size { IfOk result (λ r. length r.1.items ≡ system.now.size) }
+    ensures few { IfOk result (λ r. pairs_of system.now.needs < 2 ^ 123) }
+    ensures needs { IfOk result (λ r. length system.now.needs < 2 ^ 64) }
 {
-    let size = s.size();
-    let needs = s.needs();
-    let standing = s.eligible().to_vec(alloc)?;
+    let size = system.size();
+    let needs = system.needs();
+    let standing = system.eligible().to_vec(alloc)?;
     let mut turns = 0;
     let mut served = Vec::new(alloc);
     for _candidate in 0..size {
@@ -171,7 +172,7 @@ fn prepare_board(alloc: Global, s: &System) -> Result<(Board, Vec<Vec<usize>>), 
     let mut living = Vec::with_capacity(alloc, needs.len())?;
     for (k, need) in needs.iter().enumerate() {
         turns += 1;
-        let alive = index_need(s.eligible(), &need.any, k, &mut served, &mut turns)?;
+        let alive = index_need(system.eligible(), &need.any, k, &mut served, &mut turns)?;
         living.push(alive)?;
     }
     let board = Board {
@@ -185,24 +186,24 @@ fn prepare_board(alloc: Global, s: &System) -> Result<(Board, Vec<Vec<usize>>), 
 
 impl Worklist {
     /// The kept set, and how much work it took.
-    pub fn count(alloc: Global, s: &System) -> Result<(Kept, Count), AllocError>
-        ensures kept { IfOk result (λ r. AreKept s.now r.0) }
-        ensures strikes { IfOk result (λ r. r.1.strikes ≡ strikes_of s.now r.0) }
-        ensures turns { IfOk result (λ r. r.1.turns ≤ most_turns s.now) }
+    pub fn count(alloc: Global, system: &System) -> Result<(Kept, Count), AllocError>
+        ensures kept { IfOk result (λ r. AreKept system.now r.0) }
+        ensures strikes { IfOk result (λ r. r.1.strikes ≡ strikes_of system.now r.0) }
+        ensures turns { IfOk result (λ r. r.1.turns ≤ most_turns system.now) }
 
         // Each strike is made in a turn of its own.
         ensures made { IfOk result (λ r. r.1.strikes ≤ r.1.turns) }
     {
-        let (mut board, served) = prepare_board(alloc, s)?;
-        board.drop_unserved(s);
-        board.follow_drops(s, &served);
-        Ok((Kept::new(s.size(), board.standing), board.count))
+        let (mut board, served) = prepare_board(alloc, system)?;
+        board.drop_unserved(system);
+        board.follow_drops(system, &served);
+        Ok((Kept::new(system.size(), board.standing), board.count))
     }
 }
 
 impl Solver for Worklist {
-    fn greatest(&self, alloc: Global, s: &System) -> Result<Kept, AllocError> {
-        let (kept, _count) = Worklist::count(alloc, s)?;
+    fn greatest(&self, alloc: Global, system: &System) -> Result<Kept, AllocError> {
+        let (kept, _count) = Worklist::count(alloc, system)?;
         Ok(kept)
     }
 }

@@ -43,7 +43,7 @@ impl<T: Keyed + TryClone> TryClone for Edit<T, T::Key> {
     }
 }
 
-/// Makes the edits. Items that stay or are put are moved into the room, so this takes no memory.
+/// Makes the edits. It moves the items that stay and those that are put into the room, so it allocates nothing.
 pub(crate) fn make_edits<T: Keyed + Drop>(
     items: &mut Vec<T>,
     edits: Vec<Edit<T, T::Key>>,
@@ -60,7 +60,7 @@ pub(crate) fn make_edits<T: Keyed + Drop>(
         let key = edit.key();
         move_before(&mut rest, items, key);
         remove_key(&mut rest, key);
-        move_put_item(items, edit);
+        move_put_item(edit, items);
     }
     move_all(rest, items);
 }
@@ -81,7 +81,7 @@ fn pop_before<T: Keyed>(rest: &mut VecDeque<T>, key: T::Key) -> Option<T>
     }
 }
 
-// Moves the items before the key.
+// Moves the items before the key to the end of `new`.
 fn move_before<T: Keyed + Drop>(rest: &mut VecDeque<T>, new: &mut Vec<T>, key: T::Key)
     requires rises { Rises T.Key.cmp T.key_of rest.old.items }
     requires room { vec_len new.old + deque_len rest.old ≤ vec_capacity new.old }
@@ -97,7 +97,7 @@ fn move_before<T: Keyed + Drop>(rest: &mut VecDeque<T>, new: &mut Vec<T>, key: T
     }
 }
 
-// Removes the item of the key, if there is one. No item comes before the key.
+// Removes the item of the key, if there is one. It could only be the first: no item comes before the key.
 fn remove_key<T: Keyed + Drop>(rest: &mut VecDeque<T>, key: T::Key)
     requires rises { Rises T.Key.cmp T.key_of rest.old.items }
     requires none { before T.Key.cmp T.key_of key rest.old.items ≡ [] }
@@ -123,7 +123,7 @@ fn move_all<T: Drop>(mut rest: VecDeque<T>, new: &mut Vec<T>)
 }
 
 // Moves the item that the edit puts to the end of `new`, if it puts one.
-fn move_put_item<T: Keyed + Drop>(new: &mut Vec<T>, edit: Edit<T, T::Key>)
+fn move_put_item<T: Keyed + Drop>(edit: Edit<T, T::Key>, new: &mut Vec<T>)
     requires { vec_len new.old < vec_capacity new.old }
     ensures items { new.new.items ≡ new.old.items ++ option_to_list (edit_put edit) }
     ensures len { vec_len new.new ≤ vec_len new.old + 1 }

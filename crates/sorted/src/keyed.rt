@@ -14,7 +14,7 @@ pub trait Keyed {
         ensures { result ≡ key_of self.now };
 }
 
-/// The place of the item with the key. If there is none, the error is the place where it would come in.
+/// The place of the item with the key. If there is none, the error is the place at which to insert it.
 pub fn place<T: Keyed>(items: &[T], key: T::Key) -> Result<usize, usize>
     requires { Rises T.Key.cmp T.key_of items.now }
     ensures found { IfOk result

@@ -4,12 +4,12 @@ ghost use Rattle.std.specs.Option.{option_to_list};
 ghost use Rattle.terms.specs.Rising.{Rises, before, behind};
 ghost use Rattle.sorted.specs.Edits.{edit_key, edit_put, edited};
 
-use crate::copies::TryClone;
+use crate::copies::{TryClone, append_clones};
 use crate::edits::Edit;
 use crate::keyed::Keyed;
 use std::alloc::{AllocError, Global};
 
-/// The items after the edits. It goes over both once, and copies the items that stay and those that are put.
+/// Copies of the items that stay and of those that the edits put, in order. It goes once over the items and the edits.
 pub(crate) fn edited_copy<T: Keyed + TryClone>(
     alloc: Global,
     items: &[T],
@@ -26,11 +26,11 @@ pub(crate) fn edited_copy<T: Keyed + TryClone>(
         rest = after_key(copy_before(alloc, rest, key, &mut new)?, key);
         copy_put_item(alloc, edit, &mut new)?;
     }
-    copy_all(alloc, rest, &mut new)?;
+    append_clones(alloc, rest, &mut new)?;
     Ok(new)
 }
 
-// Copies the items before the key, and returns those that are left.
+// Appends copies of the items before the key to `new`, and returns the other items.
 fn copy_before<'a, T: Keyed + TryClone>(
     alloc: Global,
     items: &'a [T],
@@ -55,7 +55,7 @@ fn copy_before<'a, T: Keyed + TryClone>(
     Ok(rest)
 }
 
-// The items without the one of the key. No item comes before the key.
+// The items after the key. No item comes before it, so only the first can have it.
 fn after_key<T: Keyed>(items: &[T], key: T::Key) -> &[T]
     requires rises { Rises T.Key.cmp T.key_of items.now }
     requires none { before T.Key.cmp T.key_of key items.now ≡ [] }
@@ -67,7 +67,7 @@ fn after_key<T: Keyed>(items: &[T], key: T::Key) -> &[T]
     if first.key() == key { others } else { items }
 }
 
-// Copies the item that the edit puts, if it puts one.
+// Appends a copy of the item that the edit puts to `new`, if it puts one.
 fn copy_put_item<T: Keyed + TryClone>(
     alloc: Global,
     edit: &Edit<T, T::Key>,
@@ -76,16 +76,6 @@ fn copy_put_item<T: Keyed + TryClone>(
     ensures { OnOk result (new.new.items ≡ new.old.items ++ option_to_list (edit_put edit.now)) }
 {
     if let Edit::Put(item) = edit {
-        new.push(item.try_clone(alloc)?)?;
-    }
-    Ok(())
-}
-
-// Copies all items that are left.
-fn copy_all<T: TryClone>(alloc: Global, items: &[T], new: &mut Vec<T>) -> Result<(), AllocError>
-    ensures { OnOk result (new.new.items ≡ new.old.items ++ items.now) }
-{
-    for item in items {
         new.push(item.try_clone(alloc)?)?;
     }
     Ok(())

@@ -30,7 +30,7 @@ impl<T: Keyed + Drop> Model for Table<T> {
     ghost invariant = { λ a. Rises T.Key.cmp T.key_of a.items.items };
 }
 
-/// Edits that can be made of a table without memory: copies of them, and room for the result.
+/// Edits that a table takes without allocating: copies of the edits, and room for the items that result.
 #[derive(Drop)]
 pub struct Prepared<T: Keyed + Drop> {
     edits: Table<Edit<T, T::Key>>,
@@ -98,7 +98,7 @@ impl<T: Keyed + Drop> Table<T> {
         }
     }
 
-    /// Puts the item at its place, instead of one of the same key.
+    /// Puts the item at its place, and replaces one of the same key.
     pub fn put(&mut self, item: T) -> Result<(), AllocError>
         ensures ok { OnOk result (self.new ≡ with_item T.Key.cmp T.key_of self.old item) }
         ensures err { OnErr result (self.new ≡ self.old) }
@@ -116,7 +116,7 @@ impl<T: Keyed + Drop> Table<T> {
         }
     }
 
-    /// Adds an item whose key comes after all others. Returns whether it does.
+    /// Appends the item if its key comes after all others, and returns whether it does.
     pub fn push_last(&mut self, item: T) -> Result<bool, AllocError>
         ensures fits { IfOk result
             (λ fits. IsTrue fits
@@ -152,7 +152,7 @@ impl<T: Keyed + TryClone> Table<T> {
         Ok(Table { items })
     }
 
-    /// These edits, ready to be made of this table.
+    /// Copies these edits and reserves room for their result, so that [`Table::edit`] allocates nothing.
     pub fn prepare(
         &self,
         alloc: Global,
@@ -160,15 +160,15 @@ impl<T: Keyed + TryClone> Table<T> {
     ) -> Result<Prepared<T>, AllocError>
         ensures { IfOk result (λ made. (made.edits ≡ edits.now) × (length self.now + length edits.now ≤ made.room)) }
     {
-        let most = self.items.len().checked_add(edits.items.len());
+        let most_items = self.items.len().checked_add(edits.items.len());
         Ok(Prepared {
             edits: edits.try_clone(alloc)?,
-            room: Vec::with_capacity(alloc, most.ok_or(AllocError)?)?,
+            room: Vec::with_capacity(alloc, most_items.ok_or(AllocError)?)?,
         })
     }
 
-    /// Makes the edits, in time proportional to the number of items and edits. Items that stay or are put are moved, so
-    /// this takes no memory.
+    /// Makes the edits, in time proportional to the number of items and edits. It moves the items that stay and those
+    /// that are put, so it allocates nothing.
     pub fn edit(&mut self, prepared: Prepared<T>)
         requires { length self.old + length prepared.edits ≤ prepared.room }
         ensures items { self.new ≡ edited T.Key.cmp T.key_of self.old prepared.edits }

@@ -26,56 +26,57 @@ use zones_maps::{Element, Entry, ZoneDelta};
 
 // ---- entries
 
-// Makes the edit, unless it puts a new entry. `stood` has the number of the `++VER` that installed the entry which the
-// zone has at its key, or none if there is no such entry.
-fn edit_old_entry<S: Alter>(
+// Makes the edit, unless it puts a new entry. `number_before` is the number of the `++VER` that installed the entry
+// which the zone has at its key, or none if there is no such entry.
+fn replace_or_remove_entry<S: Alter>(
     alloc: Global,
     tx: &mut Transaction<'_, S>,
     name: ZoneName,
     edit: &Edit<Entry, Id>,
-    stood: Option<VerNumber>,
+    number_before: Option<VerNumber>,
 ) -> Result<(), Error>
     ensures continues { Continues S.Store tx.old tx.new }
-    ensures calls { RunsInside S.Store (entry_calls name (edit.now, stood)) tx.old.conn.now tx.new.conn.now result }
-    ensures ok { OnOk result ((zone : Zone) → entry_stood zone edit.now ≡ stood
-        → ChangesZone S.Store tx.old.conn.now tx.new.conn.now name (EditsOldEntry zone (edit.now, stood))) }
+    ensures calls { RunsInside S.Store (entry_calls name (edit.now, number_before))
+        tx.old.conn.now tx.new.conn.now result }
+    ensures ok { OnOk result ((zone : Zone) → entry_stood zone edit.now ≡ number_before
+        → ChangesZone S.Store tx.old.conn.now tx.new.conn.now name (EditsOldEntry zone (edit.now, number_before))) }
 {
     match edit {
-        Edit::Put(entry) => match stood {
-            Some(_) => put_entry(alloc, tx, name, stood, entry),
+        Edit::Put(entry) => match number_before {
+            Some(_) => put_entry(alloc, tx, name, number_before, entry),
             None => Ok(()),
         },
-        Edit::Remove(id) => remove_entry(tx, name, stood, *id),
+        Edit::Remove(id) => remove_entry(tx, name, number_before, *id),
     }
 }
 
-// Makes each edit that does not put a new entry. `stood` says for each what the zone has at its key.
-fn edit_old_entries<S: Alter>(
+// Makes each edit that does not put a new entry. `numbers_before` has the number before each, as above.
+fn replace_or_remove_entries<S: Alter>(
     alloc: Global,
     tx: &mut Transaction<'_, S>,
     name: ZoneName,
     edits: &[Edit<Entry, Id>],
-    stood: &[Option<VerNumber>],
+    numbers_before: &[Option<VerNumber>],
 ) -> Result<(), Error>
     ensures continues { Continues S.Store tx.old tx.new }
-    ensures calls { RunsInside S.Store (flat_map (entry_calls name) (zip edits.now stood.now))
+    ensures calls { RunsInside S.Store (flat_map (entry_calls name) (zip edits.now numbers_before.now))
         tx.old.conn.now tx.new.conn.now result }
-    ensures ok { OnOk result ((zone : Zone) → stood.now ≡ map (entry_stood zone) edits.now
+    ensures ok { OnOk result ((zone : Zone) → numbers_before.now ≡ map (entry_stood zone) edits.now
         → ChangesZone S.Store tx.old.conn.now tx.new.conn.now name
-        (EditsEntries zone (others new_entry_of (zip edits.now stood.now)))) }
+        (EditsEntries zone (others new_entry_of (zip edits.now numbers_before.now)))) }
 {
-    for (edit, before) in edits.iter().zip(stood) {
-        edit_old_entry(alloc, tx, name, edit, *before)?;
+    for (edit, number_before) in edits.iter().zip(numbers_before) {
+        replace_or_remove_entry(alloc, tx, name, edit, *number_before)?;
     }
     Ok(())
 }
 
 // The new entry that the edit puts, or `None` if it removes an entry or puts one in place of another.
-fn new_entry(edit: &Edit<Entry, Id>, stood: Option<VerNumber>) -> Option<&Entry>
-    ensures { option_copied result ≡ new_entry_of (edit.now, stood) }
+fn new_entry(edit: &Edit<Entry, Id>, number_before: Option<VerNumber>) -> Option<&Entry>
+    ensures { option_copied result ≡ new_entry_of (edit.now, number_before) }
 {
     match edit {
-        Edit::Put(entry) => match stood {
+        Edit::Put(entry) => match number_before {
             Some(_) => None,
             None => Some(entry),
         },
@@ -87,14 +88,14 @@ fn new_entry(edit: &Edit<Entry, Id>, stood: Option<VerNumber>) -> Option<&Entry>
 fn new_entries<'a>(
     alloc: Global,
     edits: &'a [Edit<Entry, Id>],
-    stood: &[Option<VerNumber>],
+    numbers_before: &[Option<VerNumber>],
 ) -> Result<Vec<&'a Entry>, AllocError>
     ensures { IfOk result (λ news. map (λ e. e.now) news.items
-        ≡ filter_map new_entry_of (zip edits.entry.now stood.now)) }
+        ≡ filter_map new_entry_of (zip edits.entry.now numbers_before.now)) }
 {
     let mut news: Vec<&'a Entry> = Vec::new(alloc);
-    for (edit, before) in edits.iter().zip(stood) {
-        let Some(entry) = new_entry(edit, *before) else {
+    for (edit, number_before) in edits.iter().zip(numbers_before) {
+        let Some(entry) = new_entry(edit, *number_before) else {
             continue;
         };
         news.push(entry)?;
@@ -102,79 +103,81 @@ fn new_entries<'a>(
     Ok(news)
 }
 
-// Makes the edits of entries. `stood` says for each what the zone has at its key.
+// Makes the edits of entries. `numbers_before` has for each the number of the `++VER` that installed the entry which
+// the zone has at its key, or none if there is no such entry.
 fn edit_entries<S: Alter>(
     alloc: Global,
     tx: &mut Transaction<'_, S>,
     name: ZoneName,
     edits: &[Edit<Entry, Id>],
-    stood: &[Option<VerNumber>],
+    numbers_before: &[Option<VerNumber>],
 ) -> Result<(), Error>
     ensures continues { Continues S.Store tx.old tx.new }
-    ensures calls { RunsInside S.Store (entries_calls name (zip edits.now stood.now))
+    ensures calls { RunsInside S.Store (entries_calls name (zip edits.now numbers_before.now))
         tx.old.conn.now tx.new.conn.now result }
-    ensures ok { OnOk result ((zone : Zone) → stood.now ≡ map (entry_stood zone) edits.now
+    ensures ok { OnOk result ((zone : Zone) → numbers_before.now ≡ map (entry_stood zone) edits.now
         → ChangesZone S.Store tx.old.conn.now tx.new.conn.now name (EditsEntries zone edits.now)) }
 {
-    edit_old_entries(alloc, tx, name, edits, stood)?;
-    let news = new_entries(alloc, edits, stood)?;
+    replace_or_remove_entries(alloc, tx, name, edits, numbers_before)?;
+    let news = new_entries(alloc, edits, numbers_before)?;
     insert_entries(alloc, tx, name, news.as_slice())
 }
 
 // ---- elements
 
-// Makes the edit, unless it puts a new element. `stood` says whether the zone has an element at its key.
-fn edit_old_element<S: Alter>(
+// Makes the edit, unless it puts a new element. `existed` says whether the zone has an element at its key.
+fn replace_or_remove_element<S: Alter>(
     alloc: Global,
     tx: &mut Transaction<'_, S>,
     name: ZoneName,
     edit: &Edit<Element, (ElemType, Name)>,
-    stood: bool,
+    existed: bool,
 ) -> Result<(), Error>
     ensures continues { Continues S.Store tx.old tx.new }
-    ensures calls { RunsInside S.Store (element_calls name (edit.now, stood)) tx.old.conn.now tx.new.conn.now result }
-    ensures ok { OnOk result ((zone : Zone) → element_stood zone edit.now ≡ stood
-        → ChangesZone S.Store tx.old.conn.now tx.new.conn.now name (EditsOldElement zone (edit.now, stood))) }
+    ensures calls { RunsInside S.Store (element_calls name (edit.now, existed)) tx.old.conn.now tx.new.conn.now result }
+    ensures ok { OnOk result ((zone : Zone) → element_stood zone edit.now ≡ existed
+        → ChangesZone S.Store tx.old.conn.now tx.new.conn.now name (EditsOldElement zone (edit.now, existed))) }
 {
     match edit {
         Edit::Put(element) => {
-            if !stood {
+            if !existed {
                 return Ok(());
             }
-            put_element(alloc, tx, name, stood, element)
+            put_element(alloc, tx, name, existed, element)
         }
         Edit::Remove((elem_type, element)) => remove_element(tx, name, *elem_type, *element),
     }
 }
 
-// Makes each edit that does not put a new element. `stood` says for each whether the zone has one at its key.
-fn edit_old_elements<S: Alter>(
+// Makes each edit that does not put a new element. `elements_existed` says for each whether the zone has an element at
+// its key.
+fn replace_or_remove_elements<S: Alter>(
     alloc: Global,
     tx: &mut Transaction<'_, S>,
     name: ZoneName,
     edits: &[Edit<Element, (ElemType, Name)>],
-    stood: &[bool],
+    elements_existed: &[bool],
 ) -> Result<(), Error>
     ensures continues { Continues S.Store tx.old tx.new }
-    ensures calls { RunsInside S.Store (flat_map (element_calls name) (zip edits.now stood.now))
+    ensures calls { RunsInside S.Store (flat_map (element_calls name) (zip edits.now elements_existed.now))
         tx.old.conn.now tx.new.conn.now result }
-    ensures ok { OnOk result ((zone : Zone) → stood.now ≡ map (element_stood zone) edits.now
+    ensures ok { OnOk result ((zone : Zone) → elements_existed.now ≡ map (element_stood zone) edits.now
         → ChangesZone S.Store tx.old.conn.now tx.new.conn.now name
-        (EditsElements zone (others new_element_of (zip edits.now stood.now)))) }
+        (EditsElements zone (others new_element_of (zip edits.now elements_existed.now)))) }
 {
-    for (edit, before) in edits.iter().zip(stood) {
-        edit_old_element(alloc, tx, name, edit, *before)?;
+    for (edit, existed) in edits.iter().zip(elements_existed) {
+        replace_or_remove_element(alloc, tx, name, edit, *existed)?;
     }
     Ok(())
 }
 
 // The new element that the edit puts, or `None` if it removes an element or puts one in place of another.
-fn new_element(edit: &Edit<Element, (ElemType, Name)>, stood: bool) -> Option<&Element>
-    ensures { option_copied result ≡ new_element_of (edit.now, stood) }
+fn new_element(edit: &Edit<Element, (ElemType, Name)>, existed: bool) -> Option<&Element>
+    ensures { option_copied result ≡ new_element_of (edit.now, existed) }
 {
     match edit {
         Edit::Put(element) => {
-            if stood {
+            if existed {
                 return None;
             }
             Some(element)
@@ -187,14 +190,14 @@ fn new_element(edit: &Edit<Element, (ElemType, Name)>, stood: bool) -> Option<&E
 fn new_elements<'a>(
     alloc: Global,
     edits: &'a [Edit<Element, (ElemType, Name)>],
-    stood: &[bool],
+    elements_existed: &[bool],
 ) -> Result<Vec<&'a Element>, AllocError>
     ensures { IfOk result (λ news. map (λ e. e.now) news.items
-        ≡ filter_map new_element_of (zip edits.entry.now stood.now)) }
+        ≡ filter_map new_element_of (zip edits.entry.now elements_existed.now)) }
 {
     let mut news: Vec<&'a Element> = Vec::new(alloc);
-    for (edit, before) in edits.iter().zip(stood) {
-        let Some(element) = new_element(edit, *before) else {
+    for (edit, existed) in edits.iter().zip(elements_existed) {
+        let Some(element) = new_element(edit, *existed) else {
             continue;
         };
         news.push(element)?;
@@ -202,22 +205,22 @@ fn new_elements<'a>(
     Ok(news)
 }
 
-// Makes the edits of elements. `stood` says for each whether the zone has one at its key.
+// Makes the edits of elements. `elements_existed` says for each whether the zone has an element at its key.
 fn edit_elements<S: Alter>(
     alloc: Global,
     tx: &mut Transaction<'_, S>,
     name: ZoneName,
     edits: &[Edit<Element, (ElemType, Name)>],
-    stood: &[bool],
+    elements_existed: &[bool],
 ) -> Result<(), Error>
     ensures continues { Continues S.Store tx.old tx.new }
-    ensures calls { RunsInside S.Store (elements_calls name (zip edits.now stood.now))
+    ensures calls { RunsInside S.Store (elements_calls name (zip edits.now elements_existed.now))
         tx.old.conn.now tx.new.conn.now result }
-    ensures ok { OnOk result ((zone : Zone) → stood.now ≡ map (element_stood zone) edits.now
+    ensures ok { OnOk result ((zone : Zone) → elements_existed.now ≡ map (element_stood zone) edits.now
         → ChangesZone S.Store tx.old.conn.now tx.new.conn.now name (EditsElements zone edits.now)) }
 {
-    edit_old_elements(alloc, tx, name, edits, stood)?;
-    let news = new_elements(alloc, edits, stood)?;
+    replace_or_remove_elements(alloc, tx, name, edits, elements_existed)?;
+    let news = new_elements(alloc, edits, elements_existed)?;
     insert_elements(alloc, tx, name, news.as_slice())
 }
 

@@ -15,7 +15,7 @@ ghost use Rattle.terms.specs.Types as terms;
 ghost use Rattle.store_migration.specs.Checked.{Checks, ChecksZones};
 ghost use Rattle.store.specs.Whole.{HoldsGlobal, HoldsZones};
 
-use crate::head::{Head, moving_heads};
+use crate::head::{Head, heads_with_moving_sources};
 use fields::ZoneName;
 use sqlite::{Alter, Connection};
 use std::alloc::Global;
@@ -42,7 +42,7 @@ fn check_global<S: Alter>(
     ensures reads { OnlyReads S.Store (schema_under schema) ReadError.BadRow ReadError.Fault conn.old conn.new result }
 {
     let lists = load_global_lists(alloc, conn, schema)?;
-    let heads = moving_heads(alloc, schema, lists.sysmods.as_slice())?;
+    let heads = heads_with_moving_sources(alloc, schema, lists.sysmods.as_slice())?;
     assemble_global(alloc, lists)?;
     Ok(heads)
 }

@@ -42,7 +42,7 @@ fn copy_heads(alloc: Global, sysmods: &[Sysmod]) -> Result<Vec<Head>, AllocError
 }
 
 /// The heads of these SYSMODs whose sources move to a table of their own: all of schema 1, and none of a later schema.
-pub fn moving_heads(
+pub fn heads_with_moving_sources(
     alloc: Global,
     schema: Schema,
     sysmods: &[Sysmod],

@@ -5,12 +5,12 @@
 #![tactic(auto)]
 
 mod check;
+mod conversion;
 mod head;
 mod law;
 mod migration;
 mod number;
 mod sources;
-mod taking;
 
 pub use law::next_finds;
 pub use migration::migrate;

@@ -6,7 +6,7 @@ ghost use Rattle.sqlite.specs.State.{IsLive};
 ghost use Rattle.store_migration.specs.Migrated.{Migrated, Unmigrated, Migrates};
 
 use crate::check::check_all;
-use crate::taking::convert_and_commit;
+use crate::conversion::convert_and_commit;
 use sqlite::{Alter, Connection};
 use std::alloc::Global;
 use store::{Store, map_read_error};

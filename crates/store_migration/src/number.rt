@@ -12,7 +12,7 @@ use store_rows::replace;
 
 const REPLACE: &str = "UPDATE meta SET k = ?1, v = ?2 WHERE k = ?1";
 
-/// Writes the number of the store's schema, which is 3, in place of the one that `meta` has. Returns an error if the
+/// Writes the number of the store's schema, 3, in place of the one that `meta` has. Returns an error if the
 /// database refuses the row, if the disk fails or if memory runs out.
 pub(crate) fn write_number<S: Alter>(tx: &mut Transaction<'_, S>) -> Result<(), Error>
     ensures continues { Continues S.Store tx.old tx.new }

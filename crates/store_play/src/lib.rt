@@ -11,7 +11,7 @@ pub use rows::{
     run_doubling,
 };
 pub use stores::{
-    close, commit_edits, commit_zone, in_memory, known_rows_with, load_zone, new_files, open_store,
-    reopen, zone_name,
+    close, commit_edits, commit_zone, load_zone, open_in_memory, open_known_rows, open_new_files,
+    open_store, reopen, zone_name,
 };
 pub use texts::{compare, first_difference};

@@ -127,7 +127,7 @@ pub fn run<S: Alter>(
     Ok(())
 }
 
-/// Runs the statement so many times: first with the parameter 1, and then each time with twice the number.
+/// Runs the statement so many times, with the parameters 1, 2, 4 and so on.
 pub fn run_doubling<S: Alter>(conn: &mut Connection<S>, sql: &str, times: u32) -> Result<(), Fail> {
     let mut number = 1_i64;
     for _ in 0..times {
@@ -138,8 +138,8 @@ pub fn run_doubling<S: Alter>(conn: &mut Connection<S>, sql: &str, times: u32) -
 }
 
 /// Runs the statements, each of which must change some row.
-pub fn run_all<S: Alter>(conn: &mut Connection<S>, all: &[&str]) -> Result<(), Fail> {
-    for sql in all {
+pub fn run_all<S: Alter>(conn: &mut Connection<S>, statements: &[&str]) -> Result<(), Fail> {
+    for sql in statements {
         run(conn, sql, &[])?;
     }
     Ok(())

@@ -47,11 +47,11 @@ pub fn open_store<S: Alter + Drop>(alloc: Global, conn: Connection<S>) -> Result
     }
     match Store::open(alloc, conn) {
         Ok(store) => Ok(store),
-        Err((_conn, error)) => Err(Fail::from(error)),
+        Err((_, error)) => Err(Fail::from(error)),
     }
 }
 
-// Creates the tables in a database that has none, and writes the known rows into them.
+// Creates the tables in a database that has none, and fills them with the known rows.
 fn fill_known_rows<S: Alter + Drop>(
     alloc: Global,
     conn: Connection<S>,
@@ -63,18 +63,18 @@ fn fill_known_rows<S: Alter + Drop>(
 }
 
 /// A connection to a new database in memory.
-pub fn in_memory(alloc: Global) -> Result<Connection<MemStore>, Fail> {
+pub fn open_in_memory(alloc: Global) -> Result<Connection<MemStore>, Fail> {
     Ok(Connection::open_in_memory(alloc)?)
 }
 
-/// The known rows in memory, and these as well.
-pub fn known_rows_with(alloc: Global, more: &[&str]) -> Result<Connection<MemStore>, Fail> {
-    let mut conn = fill_known_rows(alloc, in_memory(alloc)?)?;
-    run_all(&mut conn, more)?;
+/// A connection to a database in memory with the known rows, and those that these statements insert.
+pub fn open_known_rows(alloc: Global, statements: &[&str]) -> Result<Connection<MemStore>, Fail> {
+    let mut conn = fill_known_rows(alloc, open_in_memory(alloc)?)?;
+    run_all(&mut conn, statements)?;
     Ok(conn)
 }
 
-/// The name of a zone that this text is, which must be one.
+/// The text as the name of a zone, which it must be.
 pub fn zone_name(text: &[u8]) -> Result<ZoneName, Fail> {
     Ok(ZoneName::read(text).ok_or("no name of a zone")?)
 }
@@ -94,7 +94,7 @@ fn open_files(
 }
 
 /// A connection to a new database in files.
-pub fn new_files(alloc: Global) -> Result<Connection<FileStore<Memory>>, Error> {
+pub fn open_new_files(alloc: Global) -> Result<Connection<FileStore<Memory>>, Error> {
     open_files(alloc, Memory::new(alloc), Memory::new(alloc))
 }
 
@@ -108,7 +108,7 @@ pub fn close(conn: Connection<FileStore<Memory>>) -> Result<Files<Memory>, Error
     }
 }
 
-/// Closes the connection, and opens one to the files that it has written.
+/// Closes the connection, and opens another one to its files.
 pub fn reopen(
     alloc: Global,
     conn: Connection<FileStore<Memory>>,

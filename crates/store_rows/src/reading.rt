@@ -58,7 +58,7 @@ pub fn load<S: Alter, T: FromRow>(
 {
     let mut items = Vec::new(alloc);
     let mut rows = conn.query(sql, key)?;
-    // The bound shows that the loop ends. No table has so many rows.
+    // The bound shows that the loop ends, since no table has so many rows. The proof calls the loop by its label.
     'rows: for _ in 0..u64::MAX {
         rows.advance()?;
         let Some(row) = rows.get() else {

@@ -18,10 +18,10 @@ use sqlite_value::row::Row as Cells;
 use sqlite_value::value::ValueRef;
 use std::alloc::{AllocError, Global};
 
-/// How many rows one statement adds at most.
+/// How many rows an INSERT of many rows adds.
 const MANY: usize = 16;
 
-// Runs a statement that shows no rows.
+// Runs a statement that returns no rows.
 fn run_statement<S: Alter>(
     tx: &mut Transaction<'_, S>,
     sql: &str,
@@ -37,7 +37,7 @@ fn run_statement<S: Alter>(
     Ok(())
 }
 
-// The columns of the rows, row after row.
+// The values of all columns of the rows, row after row.
 fn columns_of_rows<'a>(alloc: Global, rows: &'a [Cells]) -> Result<Vec<ValueRef<'a>>, AllocError>
     ensures { IfOk result (λ values. bound values.items ≡ columns_of (map as_bound rows.now)) }
 {
@@ -156,9 +156,9 @@ pub fn put<S: Alter>(
     run_statement(tx, sql, row)
 }
 
-/// Puts the parameters, as the columns of a row, in place of each row of the table that the text names whose first
-/// columns are so many of the parameters. Rows that refer to it stay; a removal would take them along. Returns an error
-/// if the database refuses the statement, if the disk fails or if memory runs out.
+/// Updates each row of the table that the text names whose first columns are the first parameters, so that its columns
+/// are the parameters. Rows of other tables that refer to it stay, while a removal would remove them too. Returns an
+/// error if the database refuses the statement, if the disk fails or if memory runs out.
 pub fn replace<S: Alter>(
     tx: &mut Transaction<'_, S>,
     sql: &str,
@@ -174,9 +174,8 @@ pub fn replace<S: Alter>(
     run_statement(tx, sql, columns)
 }
 
-/// Removes from the table that the text names the rows whose first column is the one parameter, if the tables that
-/// refer to it hold no row of theirs. Returns an error if the database refuses the statement, if the disk fails or if
-/// memory runs out.
+/// Removes from the table that the text names the rows whose first column is the parameter, to which no row of another
+/// table may refer. Returns an error if the database refuses the statement, if the disk fails or if memory runs out.
 pub fn remove_parent<S: Alter>(
     tx: &mut Transaction<'_, S>,
     sql: &str,

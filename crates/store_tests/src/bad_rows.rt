@@ -14,7 +14,7 @@ use sqlite_value::value::ValueRef;
 use std::alloc::Global;
 use std::test::Fail;
 use store::Store;
-use store_play::{FURTHER, known_rows_with, run, zone_name};
+use store_play::{FURTHER, open_known_rows, run, zone_name};
 use store_schema::StoreError;
 
 /// What is loaded from a store.
@@ -58,8 +58,8 @@ fn fault<S: Alter + Drop>(
 // The known rows, including those of further `++VER`s if the part needs them.
 fn known_for(alloc: Global, part: Part) -> Result<Connection<MemStore>, Fail> {
     match part {
-        Part::Further => known_rows_with(alloc, FURTHER),
-        _ => known_rows_with(alloc, &[]),
+        Part::Further => open_known_rows(alloc, FURTHER),
+        _ => open_known_rows(alloc, &[]),
     }
 }
 

@@ -7,7 +7,7 @@ use std::alloc::Global;
 use std::test::Fail;
 use store::{Change, Store};
 use store_play::{
-    all_lines, commit_edits, commit_zone, compare, known_rows_with, load_zone, open_store,
+    all_lines, commit_edits, commit_zone, compare, load_zone, open_known_rows, open_store,
     query_lines, run, run_all, run_doubling, zone_name,
 };
 use store_schema::StoreError;
@@ -73,7 +73,7 @@ const LEFT_LINES: &str =
 
 #[test]
 fn rows_go_and_are_replaced(rt: HostRuntime) -> Result<(), Fail> {
-    let got = left(rt.alloc(), known_rows_with(rt.alloc(), &[])?)?;
+    let got = left(rt.alloc(), open_known_rows(rt.alloc(), &[])?)?;
     compare("what is left", got.as_str(), LEFT_LINES)
 }
 
@@ -89,7 +89,7 @@ fn told_of_no_zone<S: Alter>(
 
 #[test]
 fn a_zone_that_is_not_there_takes_no_entries(rt: HostRuntime) -> Result<(), Fail> {
-    let mut store = open_store(rt.alloc(), known_rows_with(rt.alloc(), &[])?)?;
+    let mut store = open_store(rt.alloc(), open_known_rows(rt.alloc(), &[])?)?;
     let told = told_of_no_zone(rt.alloc(), &mut store)?;
     assert_eq!(rt; told, Err(StoreError::Fault));
     Ok(())
@@ -151,7 +151,7 @@ fn with_entry<S: Alter + Drop>(alloc: Global, conn: Connection<S>) -> Result<Con
 
 #[test]
 fn other_rows_stay(rt: HostRuntime) -> Result<(), Fail> {
-    let mut conn = known_rows_with(rt.alloc(), &[])?;
+    let mut conn = open_known_rows(rt.alloc(), &[])?;
     add_many(&mut conn)?;
     let before = query_lines(rt.alloc(), &mut conn, OTHERS)?;
     let mut conn = with_entry(rt.alloc(), conn)?;
@@ -214,7 +214,7 @@ fn numbers_after(
     alloc: Global,
     numbers: &[Option<usize>],
 ) -> Result<(String, Option<usize>), Fail> {
-    let mut store = open_store(alloc, known_rows_with(alloc, &[])?)?;
+    let mut store = open_store(alloc, open_known_rows(alloc, &[])?)?;
     let loaded = number_after(alloc, &mut store, numbers)?;
     Ok((query_lines(alloc, &mut store.close(), NUMBERS)?, loaded))
 }
@@ -280,7 +280,7 @@ fn commit_two<S: Alter>(alloc: Global, store: &mut Store<S>, zone: &Zone) -> Res
 
 // All rows once one is bad and both are committed. The zone is as it was before.
 fn rows_committed(alloc: Global, bad: &str) -> Result<String, Fail> {
-    let mut store = open_store(alloc, known_rows_with(alloc, &[])?)?;
+    let mut store = open_store(alloc, open_known_rows(alloc, &[])?)?;
     let zone = load_zone(&mut store, zone_name(b"TGT1")?)?;
     let mut conn = store.close();
     run(&mut conn, bad, &[])?;
@@ -291,7 +291,7 @@ fn rows_committed(alloc: Global, bad: &str) -> Result<String, Fail> {
 
 // All rows once one is bad and these statements are run.
 fn rows_written(alloc: Global, bad: &str) -> Result<String, Fail> {
-    let mut conn = known_rows_with(alloc, &[bad])?;
+    let mut conn = open_known_rows(alloc, &[bad])?;
     run_all(&mut conn, WRITTEN)?;
     all_lines(alloc, &mut conn)
 }

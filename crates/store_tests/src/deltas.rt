@@ -6,10 +6,10 @@ use sqlite::{Connection, MemStore};
 use std::alloc::Global;
 use std::test::Fail;
 use store::{Change, Store};
-use store_play::{CHOSEN, compare, known_rows_with, load_zone, open_store, query_lines, zone_name};
+use store_play::{CHOSEN, compare, load_zone, open_known_rows, open_store, query_lines, zone_name};
 use terms::ElemType;
 use zones_maps::{
-    Applied, Element, Entry, Zone, ZoneDelta, ZoneEdits, are_same_elements, is_same_entry,
+    Applied, Element, Entry, Zone, ZoneDelta, ZoneEdits, are_same_elements, are_same_entries,
 };
 
 fn id(text: &[u8]) -> Result<Id, Fail> {
@@ -97,7 +97,7 @@ fn committed(alloc: Global, store: &mut Store<MemStore>) -> Result<Zone, Fail> {
 }
 
 fn store(alloc: Global) -> Result<Store<MemStore>, Fail> {
-    open_store(alloc, known_rows_with(alloc, CHOSEN)?)
+    open_store(alloc, open_known_rows(alloc, CHOSEN)?)
 }
 
 // The connection once the edits are committed.
@@ -114,7 +114,7 @@ fn a_delta_writes_its_rows(rt: HostRuntime) -> Result<(), Fail> {
 }
 
 fn have_same_entries(a: &[Entry], b: &[Entry]) -> bool {
-    a.len() == b.len() && a.iter().zip(b).all(|(x, y)| is_same_entry(x, y))
+    a.len() == b.len() && a.iter().zip(b).all(|(x, y)| are_same_entries(x, y))
 }
 
 fn have_same_elements(a: &[Element], b: &[Element]) -> bool {

@@ -8,8 +8,8 @@ use std::alloc::Global;
 use std::test::Fail;
 use store_migration::migrate;
 use store_play::{
-    SOURCES, all_lines, close, compare, fill_without_sources, first_difference, in_memory,
-    known_rows_with, new_files, query_lines, reopen, run_all,
+    SOURCES, all_lines, close, compare, fill_without_sources, first_difference, open_in_memory,
+    open_known_rows, open_new_files, query_lines, reopen, run_all,
 };
 use store_schema::StoreError;
 
@@ -89,7 +89,7 @@ fn rows_taken<S: Alter + Drop>(alloc: Global, conn: Connection<S>) -> Result<Str
 
 // All rows that the store itself writes.
 fn own_rows(alloc: Global) -> Result<String, Fail> {
-    let mut conn = known_rows_with(alloc, &[])?;
+    let mut conn = open_known_rows(alloc, &[])?;
     all_lines(alloc, &mut conn)
 }
 
@@ -106,22 +106,22 @@ fn check_taken<S: Alter + Drop>(
 #[test]
 fn earlier_rows_become_the_stores_own(rt: HostRuntime) -> Result<(), Fail> {
     let alloc = rt.alloc();
-    check_taken(alloc, "schema 1", first(alloc, in_memory(alloc)?)?)?;
-    let second = earlier(alloc, in_memory(alloc)?, &[FIRST, SECOND], SOURCES)?;
+    check_taken(alloc, "schema 1", first(alloc, open_in_memory(alloc)?)?)?;
+    let second = earlier(alloc, open_in_memory(alloc)?, &[FIRST, SECOND], SOURCES)?;
     check_taken(alloc, "schema 2", second)?;
-    check_taken(alloc, "schema 3", known_rows_with(alloc, &[])?)
+    check_taken(alloc, "schema 3", open_known_rows(alloc, &[])?)
 }
 
 #[test]
 fn a_blank_database_gets_tables(rt: HostRuntime) -> Result<(), Fail> {
-    let rows = rows_taken(rt.alloc(), in_memory(rt.alloc())?)?;
+    let rows = rows_taken(rt.alloc(), open_in_memory(rt.alloc())?)?;
     compare("a blank database", rows.as_str(), "schema/3\n")
 }
 
 #[test]
 fn files_are_closed_and_opened_between(rt: HostRuntime) -> Result<(), Fail> {
     let alloc = rt.alloc();
-    let earlier = reopen(alloc, first(alloc, new_files(alloc)?)?)?;
+    let earlier = reopen(alloc, first(alloc, open_new_files(alloc)?)?)?;
     let (conn, fault) = migrated(alloc, earlier)?;
     assert_eq!(rt; fault, None);
     check_taken(alloc, "migrated twice", reopen(alloc, conn)?)
@@ -158,7 +158,7 @@ const LEFT: &str =
 
 // The answer for the database with this edit, and whether its rows stay.
 fn told_of(alloc: Global, sql: &str) -> Result<(Option<StoreError>, bool), Fail> {
-    let mut conn = first(alloc, in_memory(alloc)?)?;
+    let mut conn = first(alloc, open_in_memory(alloc)?)?;
     conn.execute_batch(sql)?;
     let before = query_lines(alloc, &mut conn, LEFT)?;
     let (mut conn, fault) = migrated(alloc, conn)?;
@@ -211,7 +211,7 @@ fn rows_behind<D: Crash + Drop>(alloc: Global, mut files: Files<D>) -> Result<St
 
 // The rows after a migration over disks that fail at the next of so many calls, and whether it succeeded.
 fn over_fused(alloc: Global, in_log: u64, in_db: u64) -> Result<(String, bool), Fail> {
-    let Files { log, db } = close(first(alloc, new_files(alloc)?)?)?;
+    let Files { log, db } = close(first(alloc, open_new_files(alloc)?)?)?;
     let log = Fuse::new(log, in_log);
     let db = Fuse::new(db, in_db);
     let (files, went_well) = migrated_on(alloc, Files { log, db })?;
@@ -246,7 +246,7 @@ fn no_row_is_lost_where_a_disk_fails(rt: HostRuntime) -> Result<(), Fail> {
 // The rows once a migration with so many steps for each query has ended, and another without a limit, and whether the
 // first one succeeded.
 fn with_limit(alloc: Global, steps: u64) -> Result<(String, bool), Fail> {
-    let mut conn = first(alloc, in_memory(alloc)?)?;
+    let mut conn = first(alloc, open_in_memory(alloc)?)?;
     conn.set_step_limit(Some(steps));
     let (mut conn, fault) = migrated(alloc, conn)?;
     conn.set_step_limit(None);

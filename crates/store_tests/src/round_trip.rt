@@ -8,8 +8,8 @@ use std::alloc::Global;
 use std::test::Fail;
 use store::{Change, Store};
 use store_play::{
-    CHOSEN, FURTHER, all_lines, commit_edits, commit_zone, compare, in_memory, known_rows_with,
-    load_zone, new_files, open_store, query_lines, reopen, run_doubling,
+    CHOSEN, FURTHER, all_lines, commit_edits, commit_zone, compare, load_zone, open_in_memory,
+    open_known_rows, open_new_files, open_store, query_lines, reopen, run_doubling,
 };
 use sysmods::{GlobalEdit, GlobalZone};
 use sysmods_values::{Hold, Sysmod};
@@ -127,12 +127,12 @@ fn in_files<S: Alter + Drop>(
     alloc: Global,
     from: Connection<S>,
 ) -> Result<Connection<FileStore<Memory>>, Fail> {
-    Ok(reopen(alloc, copied(alloc, from, new_files(alloc)?)?)?)
+    Ok(reopen(alloc, copied(alloc, from, open_new_files(alloc)?)?)?)
 }
 
 // The rows of the copy in memory.
 fn rows_of_copy<S: Alter + Drop>(alloc: Global, from: Connection<S>) -> Result<String, Fail> {
-    let mut conn = copied(alloc, from, in_memory(alloc)?)?;
+    let mut conn = copied(alloc, from, open_in_memory(alloc)?)?;
     all_lines(alloc, &mut conn)
 }
 
@@ -149,12 +149,12 @@ fn all_is_loaded_again(rt: HostRuntime) -> Result<(), Fail> {
     copy_twice(
         alloc,
         "with the number of a ++VER",
-        known_rows_with(alloc, CHOSEN)?,
+        open_known_rows(alloc, CHOSEN)?,
     )?;
     copy_twice(
         alloc,
         "with further ++VERs",
-        known_rows_with(alloc, FURTHER)?,
+        open_known_rows(alloc, FURTHER)?,
     )
 }
 
@@ -195,7 +195,7 @@ const AGAIN: &[&str] = &[
 
 // The known rows, and 512 SYSMODs in addition.
 fn many_sysmods(alloc: Global) -> Result<Connection<MemStore>, Fail> {
-    let mut conn = known_rows_with(alloc, FIRST)?;
+    let mut conn = open_known_rows(alloc, FIRST)?;
     for sql in AGAIN {
         run_doubling(&mut conn, sql, 9)?;
     }
@@ -238,7 +238,7 @@ fn come_and_change(
 
 fn rows_behind(alloc: Global, goes: bool) -> Result<String, Fail> {
     let global = open_store(alloc, many_sysmods(alloc)?)?.load_global()?;
-    let mut store = open_store(alloc, in_memory(alloc)?)?;
+    let mut store = open_store(alloc, open_in_memory(alloc)?)?;
     store.commit(&Change::Global(&global, come_and_change(alloc, &global, goes)?))?;
     query_lines(alloc, &mut store.close(), BESIDE)
 }
@@ -277,7 +277,7 @@ fn rejection(alloc: Global) -> Result<Vec<GlobalEdit>, Fail> {
 
 // The rows of further `++VER`s that are left when their SYSMOD is removed.
 fn left_of_further(alloc: Global) -> Result<String, Fail> {
-    let mut store = open_store(alloc, known_rows_with(alloc, FURTHER)?)?;
+    let mut store = open_store(alloc, open_known_rows(alloc, FURTHER)?)?;
     commit_edits(alloc, &mut store, rejection(alloc)?)?;
     query_lines(alloc, &mut store.close(), FURTHER_LINES)
 }

@@ -61,27 +61,34 @@ pub fn insert_elements<S: Alter>(
     insert_items(alloc, tx, &zone, INSERT_MANY, INSERT, elements)
 }
 
-/// Puts the element into the zone, in place of the one of its type and name. `stood` says whether there is one. Returns
-/// an error if the zone has one although `stood` says no, if there is no such zone, if the disk fails or if memory runs
-/// out.
+/// Puts the element into the zone, in place of the one of its type and name. `existed` says whether there is one.
+/// Returns an error if the zone has one although `existed` says no, if there is no such zone, if the disk fails or if
+/// memory runs out.
 pub fn put_element<S: Alter>(
     alloc: Global,
     tx: &mut Transaction<'_, S>,
     zone: ZoneName,
-    stood: bool,
+    existed: bool,
     element: &Element,
 ) -> Result<(), Error>
     ensures continues { Continues S.Store tx.old tx.new }
-    ensures calls { RunsInside S.Store (put_element_calls zone stood element.now)
+    ensures calls { RunsInside S.Store (put_element_calls zone existed element.now)
         tx.old.conn.now tx.new.conn.now result }
     ensures ok { OnOk result (Turns S.Store tx.old.conn.now tx.new.conn.now (HasContents store_schema)
-        (with_element zone stood element.now)) }
-    ensures stands { OnOk result ((old : Option ElementTerm) → is_some old ≡ stood
+        (with_element zone existed element.now)) }
+    ensures stands { OnOk result ((old : Option ElementTerm) → is_some old ≡ existed
         → ChangesZone S.Store tx.old.conn.now tx.new.conn.now zone (HasPutElement old element.now)) }
 {
     let umids = joined_ids(alloc, element.umids.as_slice())?;
     let text = bytes_of(alloc, element.text.as_slice())?;
-    put_element_row(tx, &zone, stood, element, umids.as_slice(), text.as_slice())
+    put_element_row(
+        tx,
+        &zone,
+        existed,
+        element,
+        umids.as_slice(),
+        text.as_slice(),
+    )
 }
 
 // The columns of the element's row, with these bytes of its UMIDs and records.
@@ -108,11 +115,11 @@ fn element_values<'a>(
     ]
 }
 
-// Puts the element's row, with these bytes of its UMIDs and records, in place of the one that stood, if one did.
+// Puts the element's row, with these bytes of its UMIDs and records, in place of the one that existed, if one did.
 fn put_element_row<S: Alter>(
     tx: &mut Transaction<'_, S>,
     zone: &ZoneName,
-    stood: bool,
+    existed: bool,
     element: &Element,
     umids: &[u8],
     text: &[u8],
@@ -120,13 +127,13 @@ fn put_element_row<S: Alter>(
     requires umids { umids.now ≡ join_with_byte 44 element.now.umids }
     requires text { HasLines text.now element.now.text }
     ensures continues { Continues S.Store tx.old tx.new }
-    ensures calls { RunsInside S.Store (put_element_calls zone.now stood element.now)
+    ensures calls { RunsInside S.Store (put_element_calls zone.now existed element.now)
         tx.old.conn.now tx.new.conn.now result }
     ensures ok { OnOk result (Turns S.Store tx.old.conn.now tx.new.conn.now (HasContents store_schema)
-        (with_element zone.now stood element.now)) }
+        (with_element zone.now existed element.now)) }
 {
     let row = element_values(zone, element, umids, text);
-    if stood {
+    if existed {
         return put(tx, PUT, &row);
     }
     insert(tx, INSERT, &row)

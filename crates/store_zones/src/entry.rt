@@ -21,7 +21,7 @@ ghost use Rattle.store_schema.specs.Forms.{HasAppliedForms};
 ghost use Rattle.store_zones.specs.declared.zone_rows.ZoneRow.{ZoneRow as AZoneRow};
 ghost use Rattle.zones_maps.specs.Delta.{number_of};
 
-use crate::installed_vers::{change_number, insert_numbers, number_before};
+use crate::installed_vers::{change_number, insert_numbers, number_or_first};
 use crate::items::{ZoneItem, insert_items};
 use crate::zone_rows::ZoneRow;
 use fields::{Id, VerNumber, ZoneName};
@@ -64,22 +64,22 @@ pub fn insert_entries<S: Alter>(
     insert_numbers(alloc, tx, &zone, entries)
 }
 
-/// Puts the entry into the zone, in place of the one of its id. `stood` has the number of the `++VER` that installed
-/// the old entry, or none if there is no old entry. Returns an error if the zone has one although `stood` says no, if
-/// there is no such zone, if the disk fails or if memory runs out.
+/// Puts the entry into the zone, in place of the one of its id. `number_before` is the number of the `++VER` that
+/// installed the old entry, or none if there is no old entry. Returns an error if the zone has one although
+/// `number_before` says no, if there is no such zone, if the disk fails or if memory runs out.
 pub fn put_entry<S: Alter>(
     alloc: Global,
     tx: &mut Transaction<'_, S>,
     zone: ZoneName,
-    stood: Option<VerNumber>,
+    number_before: Option<VerNumber>,
     entry: &Entry,
 ) -> Result<(), Error>
     ensures continues { Continues S.Store tx.old tx.new }
-    ensures calls { RunsInside S.Store (put_entry_calls zone stood entry.now)
+    ensures calls { RunsInside S.Store (put_entry_calls zone number_before entry.now)
         tx.old.conn.now tx.new.conn.now result }
     ensures ok { OnOk result (Turns S.Store tx.old.conn.now tx.new.conn.now (HasContents store_schema)
-        (with_entry zone stood entry.now)) }
-    ensures stands { OnOk result ((old : Option EntryTerm) → option_map number_of old ≡ stood
+        (with_entry zone number_before entry.now)) }
+    ensures stands { OnOk result ((old : Option EntryTerm) → option_map number_of old ≡ number_before
         → ChangesZone S.Store tx.old.conn.now tx.new.conn.now zone (HasPutEntry old entry.now)) }
 {
     let supby = joined_ids(alloc, entry.supby.as_slice())?;
@@ -87,7 +87,7 @@ pub fn put_entry<S: Alter>(
     put_entry_row(
         tx,
         &zone,
-        stood.is_some(),
+        number_before.is_some(),
         entry,
         supby.as_slice(),
         waived.as_slice(),
@@ -96,7 +96,7 @@ pub fn put_entry<S: Alter>(
         tx,
         &zone,
         &entry.id,
-        number_before(stood),
+        number_or_first(number_before),
         entry.number().get(),
     )
 }
@@ -132,11 +132,11 @@ fn entry_values<'a>(
     ]
 }
 
-// Puts the entry's row, with these texts of its lists, in place of the one that stood, if one did.
+// Puts the entry's row, with these texts of its lists, in place of the one that existed, if one did.
 fn put_entry_row<S: Alter>(
     tx: &mut Transaction<'_, S>,
     zone: &ZoneName,
-    stood: bool,
+    existed: bool,
     entry: &Entry,
     supby: &[u8],
     waived: &[u8],
@@ -145,14 +145,14 @@ fn put_entry_row<S: Alter>(
     requires waived { waived.now ≡ join_with_byte 44 entry.now.waived }
     ensures continues { Continues S.Store tx.old tx.new }
     ensures calls { RunsInside S.Store ((
-      if stood then into_entry else insert_entry,
+      if existed then into_entry else insert_entry,
       entry_row zone.now entry.now,
     ) ∷ []) tx.old.conn.now tx.new.conn.now result }
     ensures ok { OnOk result (Turns S.Store tx.old.conn.now tx.new.conn.now (HasContents store_schema)
-        (in_table entry_table (rows_with stood (entry_key zone.now entry.now.id) (entry_row zone.now entry.now)))) }
+        (in_table entry_table (rows_with existed (entry_key zone.now entry.now.id) (entry_row zone.now entry.now)))) }
 {
     let row = entry_values(zone, entry, supby, waived);
-    if stood {
+    if existed {
         return put(tx, PUT, &row);
     }
     insert(tx, INSERT, &row)
@@ -177,24 +177,24 @@ fn remove_entry_row<S: Alter>(
     remove(tx, DELETE, &key)
 }
 
-/// Removes the entry of the id from the zone. `stood` has the number of the `++VER` that installed it, or none if there
-/// is no such entry. Returns an error if the disk fails or memory runs out.
+/// Removes the entry of the id from the zone. `number_before` is the number of the `++VER` that installed it, or none
+/// if there is no such entry. Returns an error if the disk fails or memory runs out.
 pub fn remove_entry<S: Alter>(
     tx: &mut Transaction<'_, S>,
     zone: ZoneName,
-    stood: Option<VerNumber>,
+    number_before: Option<VerNumber>,
     id: Id,
 ) -> Result<(), Error>
     ensures continues { Continues S.Store tx.old tx.new }
-    ensures calls { RunsInside S.Store (remove_entry_calls zone stood id)
+    ensures calls { RunsInside S.Store (remove_entry_calls zone number_before id)
         tx.old.conn.now tx.new.conn.now result }
     ensures ok { OnOk result (Turns S.Store tx.old.conn.now tx.new.conn.now (HasContents store_schema)
-        (without_entry zone stood id)) }
-    ensures stands { OnOk result ((old : Option EntryTerm) → option_map number_of old ≡ stood
+        (without_entry zone number_before id)) }
+    ensures stands { OnOk result ((old : Option EntryTerm) → option_map number_of old ≡ number_before
         → ChangesZone S.Store tx.old.conn.now tx.new.conn.now zone (HasRemovedEntry old id)) }
 {
     remove_entry_row(tx, &zone, &id)?;
-    change_number(tx, &zone, &id, number_before(stood), 1)
+    change_number(tx, &zone, &id, number_or_first(number_before), 1)
 }
 
 /// Reads the rows of entries.

@@ -41,11 +41,11 @@ const PUT: &str = chosen_columns!(put_text);
 
 const DELETE: &str = "DELETE FROM chosen WHERE zone = ?1 AND id = ?2";
 
-/// The number of the `++VER` that installed the old entry of an id, or 1 if there was no old entry.
-pub(crate) fn number_before(stood: Option<VerNumber>) -> usize
-    ensures { result ≡ number_before stood }
+/// The number as an integer, or that of the first `++VER` if there is none.
+pub(crate) fn number_or_first(number: Option<VerNumber>) -> usize
+    ensures { result ≡ number_before number }
 {
-    stood.unwrap_or(VerNumber::FIRST).get()
+    number.unwrap_or(VerNumber::FIRST).get()
 }
 
 // The columns of the row that gives the entry of this id its number.

@@ -17,7 +17,7 @@ fn is_distribution_zone(head: &ZoneHead, name: ZoneName, srel: Srel) -> bool
 }
 
 // Whether one of these is the head of the distribution zone of this name and SREL.
-fn lists_distribution_zone(heads: &[ZoneHead], name: ZoneName, srel: Srel) -> bool
+fn contain_distribution_zone(heads: &[ZoneHead], name: ZoneName, srel: Srel) -> bool
     ensures { IsTrue result ↔ Any (IsDistributionOf name srel) heads.now }
 {
     heads
@@ -26,24 +26,24 @@ fn lists_distribution_zone(heads: &[ZoneHead], name: ZoneName, srel: Srel) -> bo
 }
 
 // Whether the distribution zone that this head names is among the heads, or the head names none.
-fn lists_related_zone(heads: &[ZoneHead], head: &ZoneHead) -> bool
+fn contain_related_zone(heads: &[ZoneHead], head: &ZoneHead) -> bool
     ensures { IsTrue result ↔ IsRelatedAmong heads.now head.now }
 {
     match head.related {
-        Some(name) => lists_distribution_zone(heads, name, head.srel),
+        Some(name) => contain_distribution_zone(heads, name, head.srel),
         None => true,
     }
 }
 
 // Whether each distribution zone that one of the heads names is among them.
-fn lists_all_related_zones(heads: &[ZoneHead]) -> bool
+fn contain_all_related_zones(heads: &[ZoneHead]) -> bool
     ensures { IsTrue result ↔ All (IsRelatedAmong heads.now) heads.now }
 {
-    heads.iter().all(|head| lists_related_zone(heads, head))
+    heads.iter().all(|head| contain_related_zone(heads, head))
 }
 
 // Whether the two heads do not name the same related zone.
-fn name_different_zones(head: &ZoneHead, other: &ZoneHead) -> bool
+fn have_different_related_zones(head: &ZoneHead, other: &ZoneHead) -> bool
     ensures { IsTrue result ↔ HeadsAreApart head.now other.now }
 {
     match head.related {
@@ -53,18 +53,20 @@ fn name_different_zones(head: &ZoneHead, other: &ZoneHead) -> bool
 }
 
 // Whether none of these heads names the same related zone as the other head.
-fn names_zone_of_none(heads: &[ZoneHead], other: &ZoneHead) -> bool
+fn share_related_zone_with_none(heads: &[ZoneHead], other: &ZoneHead) -> bool
     ensures { IsTrue result ↔ All (λ head. HeadsAreApart head other.now) heads.now }
 {
-    heads.iter().all(|head| name_different_zones(head, other))
+    heads
+        .iter()
+        .all(|head| have_different_related_zones(head, other))
 }
 
 // Whether no two heads name the same related zone.
-fn each_has_own_related_zone(heads: &[ZoneHead]) -> bool
+fn have_distinct_related_zones(heads: &[ZoneHead]) -> bool
     ensures { IsTrue result ↔ AllPairs HeadsAreApart heads.now }
 {
     for i in 0..heads.len() {
-        if !names_zone_of_none(&heads[..i], &heads[i]) {
+        if !share_related_zone_with_none(&heads[..i], &heads[i]) {
             return false;
         }
     }
@@ -79,10 +81,10 @@ pub(crate) fn require_related(heads: Vec<ZoneHead>) -> Result<Vec<ZoneHead>, Rea
     ensures none { IsErrOf result ReadError.BadRow → ¬ AreRelated heads.items }
     ensures fault { IsErrOf result ReadError.Fault → ⊥ }
 {
-    if !lists_all_related_zones(heads.as_slice()) {
+    if !contain_all_related_zones(heads.as_slice()) {
         return Err(ReadError::BadRow);
     }
-    if !each_has_own_related_zone(heads.as_slice()) {
+    if !have_distinct_related_zones(heads.as_slice()) {
         return Err(ReadError::BadRow);
     }
     Ok(heads)

@@ -14,12 +14,12 @@ abbrev pub AreOver : Choice → List (Id × Id) → Type 0
 AreOver c pairs = All (λ p. IsOver c p.0 p.1) pairs
 
 -- whether the pair is one of them
-abbrev pub is_known : List (Id × Id) → Id → Id → Bool
-is_known pairs x z = list_any (λ p. bytes_eq x p.0 && bytes_eq z p.1) pairs
+abbrev pub is_known_over : List (Id × Id) → Id → Id → Bool
+is_known_over pairs x z = list_any (λ p. bytes_eq x p.0 && bytes_eq z p.1) pairs
 
 -- whether one of these is known to be over z
-abbrev pub is_one_known : List (Id × Id) → List Id → Id → Bool
-is_one_known pairs ys z = list_any (λ y. is_known pairs y z) ys
+abbrev pub is_any_known_over : List (Id × Id) → List Id → Id → Bool
+is_any_known_over pairs ys z = list_any (λ y. is_known_over pairs y z) ys
 
 -- what an `Overs` keeps: pairs that it has found, and a graph of what it has gone through
 pub record IsKept (c : Choice) (pairs : List (Id × Id)) (nodes : List (Id × Vec ℕ AnyGlobal)) : Type 0 where

@@ -14,42 +14,42 @@ fn mark_numbers(numbers: &[usize], marks: &mut Vec<bool>)
     }
 }
 
-// Marks the numbers that a marked number names. For a number without a mark it does nothing.
-fn mark_successors(lists: &[Vec<usize>], number: usize, marks: &mut Vec<bool>)
-    requires number { number < length lists.now }
+// Marks the successors of the number, if it is marked itself.
+fn mark_successors(successors: &[Vec<usize>], number: usize, marks: &mut Vec<bool>)
+    requires number { number < length successors.now }
     requires marks { number < length marks.old.items }
-    requires falling { IsFalling (list_at lists.now) }
-    ensures { (high : ℕ) → IsSearchDown (list_at lists.now) high (number + 1) marks.old.items
-        → IsSearchDown (list_at lists.now) high number marks.new.items }
+    requires falling { IsFalling (list_at successors.now) }
+    ensures { (high : ℕ) → IsSearchDown (list_at successors.now) high (number + 1) marks.old.items
+        → IsSearchDown (list_at successors.now) high number marks.new.items }
 {
     if !marks[number] {
         return;
     }
-    mark_numbers(lists[number].as_slice(), marks);
+    mark_numbers(successors[number].as_slice(), marks);
 }
 
-/// Whether the number `high` leads to the lower number `low`: `lists` has for each number the lower ones to which it
-/// leads in one step. It goes through the numbers between the two, from the highest down.
+/// Whether the number `high` leads to the lower number `low`. `successors` has for each number the lower ones to which
+/// it leads in one step. The search goes through the numbers between the two, from the highest down.
 pub(crate) fn leads_down(
     alloc: Global,
-    lists: &[Vec<usize>],
+    successors: &[Vec<usize>],
     high: usize,
     low: usize,
 ) -> Result<bool, AllocError>
-    requires high { high < length lists.now }
+    requires high { high < length successors.now }
     requires low { low < high }
-    requires falling { IsFalling (list_at lists.now) }
-    ensures { IfOk result (λ found. IsTrue found ↔ LeadsDown (list_at lists.now) high low) }
+    requires falling { IsFalling (list_at successors.now) }
+    ensures { IfOk result (λ found. IsTrue found ↔ LeadsDown (list_at successors.now) high low) }
 {
     let mut marks = vec![in alloc; false; high]?;
-    mark_numbers(lists[high].as_slice(), &mut marks);
+    mark_numbers(successors[high].as_slice(), &mut marks);
     let mut next = high;
     while low + 1 < next {
         if marks[low] {
             return Ok(true);
         }
         next -= 1;
-        mark_successors(lists, next, &mut marks);
+        mark_successors(successors, next, &mut marks);
     }
     Ok(marks[low])
 }

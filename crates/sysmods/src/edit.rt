@@ -8,14 +8,14 @@ use terms::HoldKind;
 /// in the global zone to which all the edits lead.
 #[derive(Drop)]
 pub enum GlobalEdit {
-    /// Puts the hold, instead of one of the same key.
+    /// Puts the hold instead of one of the same key.
     PutHold(Hold),
     /// Removes the hold of this key.
     RemoveHold(Id, HoldKind, Reason),
-    /// The SYSMOD of this id is received, with these sources. Other edits put its holds.
+    /// Inserts the received SYSMOD of this id, which has these sources. Other edits put its holds.
     InsertSysmod(Id, Vec<Source>),
-    /// The received SYSMOD of this id, which has this kind, gets these sources.
+    /// Replaces the sources of a received SYSMOD. The value has only its id, its kind and its new sources.
     ReplaceSources(Sysmod),
-    /// The SYSMOD goes, but the holds on it stay.
+    /// Removes the SYSMOD of this id. Other edits remove the internal holds on it.
     RemoveSysmod(Id),
 }

@@ -63,6 +63,7 @@ impl Attest for GlobalZone {
     ghost form = { IsGlobal };
 
     fn attest(&self) {
+        // Reading any field is enough: the checker then has the invariant of the whole zone.
         let _ = &self.sysmods;
     }
 }
@@ -79,7 +80,7 @@ impl GlobalZone {
         }
     }
 
-    /// The global zone of these SYSMODs and holds, if they are those of one.
+    /// The global zone of just these SYSMODs and holds, or `None` if there is none.
     pub fn from_parts(
         alloc: Global,
         sysmods: Vec<Sysmod>,
@@ -160,7 +161,7 @@ impl GlobalZone {
         self.sysmods.append_function_namers(id, found)
     }
 
-    /// Its `++VER`s for all SRELs, if it is received.
+    /// The `++VER`s of the SYSMOD for all SRELs, or none if it is not received.
     pub fn vers_of(&self, id: Id) -> &[Ver]
         ensures { result.now ≡ option_map_or (λ s. s.vers) (sysmod_of self.now id) [] }
     {
@@ -170,7 +171,7 @@ impl GlobalZone {
         }
     }
 
-    /// Its element statements, if it is received.
+    /// The element statements of the SYSMOD, or none if it is not received.
     pub fn changes_of(&self, id: Id) -> &[ElemChange]
         ensures { result.now ≡ changes_of self.now id }
     {
@@ -180,7 +181,7 @@ impl GlobalZone {
         }
     }
 
-    /// What the SYSMOD does to the element of this type and name, if it is received and does anything to it.
+    /// The SYSMOD's statement about the element of this type and name, if it is received and has one.
     pub fn change_of(&self, id: Id, elem_type: ElemType, name: Name) -> Option<&ElemChange>
         ensures { option_copied result ≡ change_of self.now id elem_type name }
     {
@@ -231,8 +232,8 @@ impl GlobalZone {
         self.holds.holds_on(id, kind)
     }
 
-    /// RECEIVE of a SYSMOD. It takes the SYSMOD in, with its holds, unless a fault refuses it. The error is the first
-    /// fault, or that memory ran out, and then nothing changes.
+    /// Receives the SYSMOD with its holds. Returns the first fault for which RECEIVE refuses it, or `Memory`, and then
+    /// changes nothing.
     pub fn receive(&mut self, alloc: Global, sysmod: Sysmod) -> Result<(), Refused>
         ensures ok { OnOk result (Receives self.old sysmod (Ok self.new)) }
         ensures refused { IfErr result (IsRefused self.old sysmod) }
@@ -240,11 +241,11 @@ impl GlobalZone {
     {
         check_receivable(alloc, &self.sysmods, &sysmod)?;
         sysmod.attest();
-        insert_with_holds(&mut self.sysmods, &mut self.holds, alloc, sysmod)?;
+        insert_with_holds(alloc, &mut self.sysmods, &mut self.holds, sysmod)?;
         Ok(())
     }
 
-    /// Puts a hold instead of one of the same key, whose mark as internal stays.
+    /// Puts the hold instead of one of the same key. If that one was internal, the new one is internal too.
     pub fn hold(&mut self, hold: Hold) -> Result<Placed, AllocError>
         requires { IsTrue hold.internal → (hold.kind ≡ System) × IsTrue (is_received self.old hold.id) }
         ensures placed { IfOk result
@@ -255,8 +256,8 @@ impl GlobalZone {
         self.holds.put(hold)
     }
 
-    /// Takes away a hold that is not internal. Returns `NoHold` if no hold has the key, and `Internal` if the hold is
-    /// internal, and then changes nothing.
+    /// Removes the hold of this key, unless it is internal. Returns `NoHold` if no hold has the key, and `Internal` if
+    /// the hold is internal. After an error nothing has changed.
     pub fn release(&mut self, id: Id, kind: HoldKind, reason: Reason) -> Result<(), ReleaseError>
         ensures ok { OnOk result
             ((fmid : AnId) → released self.old (a_release id kind reason fmid) ≡ Ok self.new) }
@@ -268,19 +269,19 @@ impl GlobalZone {
         self.holds.release(id, kind, reason)
     }
 
-    /// Gives a received SYSMOD the source, and returns whether the id is received. If it is not, nothing changes.
+    /// Gives the SYSMOD of this id the source, and returns whether it is received. If it is not, nothing changes.
     pub fn assign(&mut self, source: Source, id: Id) -> Result<bool, AllocError>
-        ensures received { IfOk result (λ there. there ≡ is_received self.old id) }
+        ensures received { IfOk result (λ received. received ≡ is_received self.old id) }
         ensures ok { OnOk result (self.new ≡ assigned self.old source id) }
         ensures err { OnErr result (self.new ≡ self.old) }
     {
-        let there = self.is_received(id);
+        let received = self.is_received(id);
         self.sysmods.insert_source(id, source)?;
-        Ok(there)
+        Ok(received)
     }
 
-    /// Takes a received SYSMOD out, and with it the holds on it that are marked as internal. Returns `NotReceived`, and
-    /// changes nothing, if no SYSMOD of the id is received.
+    /// Removes the SYSMOD of this id, with the holds on it that are internal. Returns `NotReceived`, and changes
+    /// nothing, if no such SYSMOD is received.
     pub fn reject(&mut self, id: Id) -> Result<(), RejectError>
         ensures received { IsOk result ↔ IsTrue (is_received self.old id) }
         ensures ok { OnOk result (self.new ≡ without_sysmod self.old id) }

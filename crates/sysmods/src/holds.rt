@@ -127,7 +127,7 @@ impl Holds {
         Iter::new(self.map.range(first..last))
     }
 
-    /// Puts a hold instead of one of the same key, whose mark as internal stays.
+    /// Puts the hold instead of one of the same key. If that one was internal, the new one is internal too.
     pub fn put(&mut self, hold: Hold) -> Result<Placed, AllocError>
         ensures placed { IfOk result
             (λ placed. placed ≡ (if is_some (held self.old hold.id hold.kind hold.reason) then Placed.Replaced else
@@ -135,13 +135,13 @@ impl Holds {
         ensures ok { OnOk result (self.new ≡ with_hold self.old hold) }
         ensures err { OnErr result (self.new ≡ self.old) }
     {
-        match self.exchange(hold)? {
+        match self.put_with_undo(hold)? {
             Undo::Remove(_) => Ok(Placed::New),
             Undo::Restore(_) => Ok(Placed::Replaced),
         }
     }
 
-    /// Puts one hold after another. If memory runs out, it puts none.
+    /// Puts one hold after another, as `put` does. If memory runs out, it puts none.
     pub fn put_all(&mut self, alloc: Global, holds: Vec<Hold>) -> Result<(), AllocError>
         ensures ok { OnOk result (self.new ≡ with_holds self.old holds.items) }
         ensures err { OnErr result (self.new ≡ self.old) }
@@ -149,15 +149,15 @@ impl Holds {
         let mut log = Vec::new(alloc);
         match put_each(self, holds, &mut log) {
             Ok(()) => Ok(()),
-            Err(refused) => {
+            Err(error) => {
                 take_back_all(self, log);
-                Err(refused)
+                Err(error)
             }
         }
     }
 
-    /// Takes away a hold that is not internal. Returns `NoHold` if no hold has the key, and `Internal` if the hold is
-    /// internal, and then changes nothing.
+    /// Removes the hold of this key, unless it is internal. Returns `NoHold` if no hold has the key, and `Internal` if
+    /// the hold is internal. After an error nothing has changed.
     pub fn release(&mut self, id: Id, kind: HoldKind, reason: Reason) -> Result<(), ReleaseError>
         ensures no_hold { (result ≡ Err ReleaseError.NoHold) ↔ (held self.old id kind reason ≡ None) }
         ensures internal { (result ≡ Err ReleaseError.Internal)
@@ -175,11 +175,11 @@ impl Holds {
         }
     }
 
-    /// Takes away the internal holds on an id.
+    /// Removes the internal holds on an id.
     pub fn drop_internal(&mut self, id: Id)
         ensures { self.new ≡ filter (λ h. not (is_internal_on id h)) self.old }
     {
-        // ERROR is the lowest kind.
+        // ERROR is the lowest kind, so this is before all holds on the id.
         let mut from = HoldKey {
             id,
             kind: HoldKind::Error,
@@ -191,8 +191,8 @@ impl Holds {
         }
     }
 
-    /// Puts a hold instead of one of the same key, and returns what undoes that.
-    pub(crate) fn exchange(&mut self, hold: Hold) -> Result<Undo, AllocError>
+    /// Puts the hold as `put` does, and returns what undoes the change.
+    pub(crate) fn put_with_undo(&mut self, hold: Hold) -> Result<Undo, AllocError>
         ensures undo { IfOk result (λ undo. is_restoring undo ≡ is_some (held self.old hold.id hold.kind hold.reason)) }
         ensures back { IfOk result (Undoes self.old self.new) }
         ensures ok { OnOk result (self.new ≡ with_hold self.old hold) }
@@ -206,7 +206,7 @@ impl Holds {
         Ok(Undo::Restore(old))
     }
 
-    /// Undoes one change. It takes no memory, because a hold comes back under a key that is present.
+    /// Undoes the last change. This takes no memory, because a replaced hold comes back under a key that is present.
     pub(crate) fn take_back(&mut self, undo: Undo)
         ensures { (old : List terms.Hold) → Undoes old self.old undo → self.new ≡ old }
     {
@@ -222,7 +222,7 @@ fn next_internal(map: &BTreeMap<HoldKey, Hold>, from: HoldKey) -> Option<HoldKey
     requires { IsByKey map.now.entries }
     ensures { IsNextInternal map.now.entries from result }
 {
-    // USER is the highest kind.
+    // USER is the highest kind, so this is after all holds on the id.
     let end = HoldKey {
         id: from.id,
         kind: HoldKind::User,
@@ -236,12 +236,12 @@ fn next_internal(map: &BTreeMap<HoldKey, Hold>, from: HoldKey) -> Option<HoldKey
     None
 }
 
-// The hold, marked as internal if `was`, the hold that it replaces, is internal.
-fn with_internal_mark(mut hold: Hold, was: Option<&Hold>) -> Hold
-    ensures { result ≡ marked (option_copied was.entry) hold }
+// The hold, marked as internal also if the hold that it replaces is internal.
+fn with_internal_mark(mut hold: Hold, replaced: Option<&Hold>) -> Hold
+    ensures { result ≡ marked (option_copied replaced.entry) hold }
 {
-    if let Some(was) = was {
-        hold.internal = hold.internal || was.internal;
+    if let Some(replaced) = replaced {
+        hold.internal = hold.internal || replaced.internal;
     }
     hold
 }

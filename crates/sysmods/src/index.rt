@@ -48,7 +48,7 @@ impl IndexEntry {
         Ok(())
     }
 
-    // Removes the namer from a set. A single id stays, because an entry may contain too many.
+    // Removes the namer from a set. A single id stays: an entry may contain ids that do not belong to it.
     fn remove(&mut self, namer: Id)
         ensures { KeepsMembersBut namer self.old self.new }
     {
@@ -58,7 +58,8 @@ impl IndexEntry {
     }
 }
 
-/// The entry of an id may contain more ids than those that name it, so a user of the index looks at each of them.
+/// For each id, the ids of the SYSMODs that name it. An entry may also contain others, so a user of the index tests
+/// each of them.
 #[derive(Drop)]
 pub(crate) struct Index {
     pub(crate) sets: BTreeMap<Id, IndexEntry>,
@@ -133,7 +134,8 @@ impl Index {
         Ok(())
     }
 
-    /// Adds the SYSMOD to the entry of each id that it names. If memory runs out, it has added some of them.
+    /// Adds the SYSMOD to the entry of each id that it names. If memory runs out, it may have been added to some of
+    /// them.
     pub(crate) fn insert_sysmod(&mut self, sysmod: &Sysmod) -> Result<(), AllocError>
         ensures has { OnOk result (IsIndexed self.new.sets sysmod.now) }
         ensures grows { Grows self.old.sets self.new.sets }

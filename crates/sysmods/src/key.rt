@@ -8,7 +8,8 @@ use std::cmp::Ordering;
 use sysmods_values::Hold;
 use terms::HoldKind;
 
-/// A place among the holds of an id and a kind: that of a reason, or one of the two ends, where there is no hold.
+/// A place among the holds of one id and kind: that of a reason, or one of the two ends, which bound a range and are
+/// the place of no hold.
 #[derive(Clone, Copy, Debug, PartialEq, Eq, PartialOrd, Ord)]
 pub(crate) enum HoldPlace {
     First,

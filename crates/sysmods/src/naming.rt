@@ -1,15 +1,15 @@
-//! What the received SYSMODs name in the `++VER`s of one SREL, and one more among them.
+//! What SYSMODs name in their `++VER`s for one SREL, once one more is received.
 ghost use Rattle.terms.specs.Global.{names_for, with_sysmod};
 ghost use Rattle.sysmods.specs.Held.{zone_of};
 ghost use Rattle.sysmods.specs.Namers.{namers_with};
 
 use crate::received::Received;
-use crate::search::Names;
+use crate::search::IdGraph;
 use fields::{Id, Srel};
 use std::alloc::AllocError;
 use sysmods_values::Sysmod;
 
-/// The received SYSMODs, and one more instead of one of its id.
+/// What each SYSMOD names in its `++VER`s for the SREL: the received ones, and `sysmod` as if it were received too.
 #[derive(Clone, Copy)]
 pub(crate) struct Naming<'a> {
     pub(crate) received: &'a Received,
@@ -17,7 +17,7 @@ pub(crate) struct Naming<'a> {
     pub(crate) srel: Srel,
 }
 
-impl Names for Naming<'_> {
+impl IdGraph for Naming<'_> {
     ghost named = { λ n x. names_for (with_sysmod (zone_of n.received.now) n.sysmod.now) n.srel x };
 
     fn append_named(&self, id: Id, found: &mut Vec<Id>) -> Result<(), AllocError> {
@@ -34,7 +34,7 @@ impl Names for Naming<'_> {
     }
 }
 
-/// The SYSMODs that name an id, among the received ones and one more.
+/// The same graph in the other direction: for each id the SYSMODs that name it.
 #[derive(Clone, Copy)]
 pub(crate) struct Namers<'a> {
     pub(crate) received: &'a Received,
@@ -42,7 +42,7 @@ pub(crate) struct Namers<'a> {
     pub(crate) srel: Srel,
 }
 
-impl Names for Namers<'_> {
+impl IdGraph for Namers<'_> {
     ghost named = { λ n z. namers_with n.received.now n.sysmod.now n.srel z };
 
     fn append_named(&self, id: Id, found: &mut Vec<Id>) -> Result<(), AllocError> {

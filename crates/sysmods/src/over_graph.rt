@@ -11,14 +11,15 @@ use fields::Id;
 use indexmap::IndexMap;
 use std::alloc::{AllocError, Global};
 
-/// Ids in an order such that each comes after all that it names. An id's number is its place, and its value has the
-/// numbers of what it names. So a search touches no id, and goes from each number to lower ones.
+/// Ids in an order such that each comes after all that it names. An id's number is its place in this order, and its
+/// value has the numbers of the ids that it names. So a search compares no ids, and goes from each number to lower
+/// ones.
 #[derive(Drop)]
 pub(crate) struct OverGraph {
     nodes: IndexMap<Id, Vec<usize>>,
 }
 
-/// The numbers of some ids, or one of these that has no number.
+/// The numbers of some ids, or the first of these ids that has no number.
 #[derive(Drop)]
 enum NumbersFound {
     Known(Vec<usize>),
@@ -26,7 +27,7 @@ enum NumbersFound {
 }
 
 // The numbers of these ids, or the first of them that has none.
-fn numbers_of(
+fn find_numbers(
     alloc: Global,
     nodes: &IndexMap<Id, Vec<usize>>,
     ids: &[Id],
@@ -53,9 +54,14 @@ impl OverGraph {
         }
     }
 
-    // Gives the id a number if it has none and all that it names have one. Then it returns `None`. Otherwise it returns
-    // the first named id without a number, which has to come first.
-    fn add(&mut self, alloc: Global, vers: &VerChoice<'_>, id: Id) -> Result<Option<Id>, AllocError>
+    // Gives the id a number, if it has none and all ids that it names have one. If one of these is missing, the call
+    // returns it, and it has to be added before.
+    fn add_unless_missing(
+        &mut self,
+        alloc: Global,
+        vers: &VerChoice<'_>,
+        id: Id,
+    ) -> Result<Option<Id>, AllocError>
         requires { IsGraph (choice vers.now) (keys self.old.nodes) (values self.old.nodes) }
         ensures { IsGraph (choice vers.now) (keys self.new.nodes) (values self.new.nodes) }
     {
@@ -64,7 +70,7 @@ impl OverGraph {
         }
         let mut named = Vec::new(alloc);
         vers.append_named(id, &mut named)?;
-        match numbers_of(alloc, &self.nodes, named.as_slice())? {
+        match find_numbers(alloc, &self.nodes, named.as_slice())? {
             NumbersFound::Known(numbers) => {
                 drop(self.nodes.insert(id, numbers)?);
                 Ok(None)
@@ -73,9 +79,9 @@ impl OverGraph {
         }
     }
 
-    /// Gives the id a number, after all to which it leads. The path from the id to one without a number has no id
-    /// twice, because SYSMODs make no loop. No clause says that the id has a number then: `over` searches without
-    /// numbers if it has none.
+    /// Gives the id a number, after all ids to which it leads. The path from the id to one without a number has no id
+    /// twice, because SYSMODs make no loop. No clause says that the id has a number afterwards, so `over` searches
+    /// without numbers if it has none.
     pub(crate) fn add_with_named(
         &mut self,
         alloc: Global,
@@ -91,7 +97,7 @@ impl OverGraph {
             let Some(last) = path.last() else {
                 break;
             };
-            match self.add(alloc, vers, *last)? {
+            match self.add_unless_missing(alloc, vers, *last)? {
                 Some(named) => path.push(named)?,
                 None => drop(path.pop()),
             }

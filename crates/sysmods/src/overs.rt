@@ -5,7 +5,7 @@ ghost use Rattle.terms.specs.Choice.{pre_of, sup_of};
 ghost use Rattle.terms.specs.Over.{IsOver};
 ghost use Rattle.sysmods.specs.Choices.{choice};
 ghost use Rattle.sysmods.specs.Graphs.{IsGraph};
-ghost use Rattle.sysmods.specs.Overs.{AreOver, is_known, is_one_known};
+ghost use Rattle.sysmods.specs.Overs.{AreOver, is_known_over, is_any_known_over};
 
 use crate::over_graph::OverGraph;
 use crate::ver_choice::VerChoice;
@@ -23,8 +23,8 @@ pub struct Overs<'a, 'b> {
     graph: OverGraph,
 }
 
-/// The pairs of ids that an `Overs` has found, the first over the second, without the choice of `++VER`s by which they
-/// are. A contract sees their list.
+/// The pairs of ids that an `Overs` has found, the first over the second, without the choice of `++VER`s that makes
+/// them so. A contract sees their list.
 #[derive(Drop)]
 pub struct KnownOvers {
     pairs: IndexSet<(Id, Id)>,
@@ -53,7 +53,7 @@ impl<'a, 'b> Model for Overs<'a, 'b> {
 }
 
 impl<'a, 'b> Overs<'a, 'b> {
-    /// Nothing is found yet.
+    /// An `Overs` of this choice that has found no pairs yet.
     pub fn new(alloc: Global, vers: &'a VerChoice<'b>) -> Self
         ensures { result ≡ vers.now }
     {
@@ -96,10 +96,10 @@ impl<'a, 'b> Overs<'a, 'b> {
         ensures over { IfOk result (λ over. IsTrue over ↔ IsOver (choice self.old) x z) }
         ensures same { self.new ≡ self.old }
     {
-        if is_known(&self.known, x, z) {
+        if is_known_over(&self.known, x, z) {
             return Ok(true);
         }
-        if !find_over(alloc, self.vers, &self.known, &mut self.graph, x, z)? {
+        if !is_over(alloc, self.vers, &self.known, &mut self.graph, x, z)? {
             return Ok(false);
         }
         self.known.insert((x, z))?;
@@ -108,35 +108,36 @@ impl<'a, 'b> Overs<'a, 'b> {
 }
 
 // Whether x is known to be over z.
-fn is_known(known: &IndexSet<(Id, Id)>, x: Id, z: Id) -> bool
-    ensures { result ≡ is_known known.now.keys x z }
+fn is_known_over(known: &IndexSet<(Id, Id)>, x: Id, z: Id) -> bool
+    ensures { result ≡ is_known_over known.now.keys x z }
 {
     known.contains(&(x, z))
 }
 
 // Whether one of these ids is known to be over z.
-fn is_one_known(known: &IndexSet<(Id, Id)>, ids: &[Id], z: Id) -> bool
-    ensures { result ≡ is_one_known known.now.keys ids.now z }
+fn is_any_known_over(known: &IndexSet<(Id, Id)>, ids: &[Id], z: Id) -> bool
+    ensures { result ≡ is_any_known_over known.now.keys ids.now z }
 {
-    ids.iter().any(|id| is_known(known, *id, z))
+    ids.iter().any(|id| is_known_over(known, *id, z))
 }
 
 // Whether x names in PRE or SUP an id that is known to be over z.
-fn names_known_over(vers: &VerChoice<'_>, known: &IndexSet<(Id, Id)>, x: Id, z: Id) -> bool
-    ensures { result ≡ (is_one_known known.now.keys (pre_of (choice vers.now) x) z
-        || is_one_known known.now.keys (sup_of (choice vers.now) x) z) }
+fn names_any_known_over(vers: &VerChoice<'_>, known: &IndexSet<(Id, Id)>, x: Id, z: Id) -> bool
+    ensures { result ≡ (is_any_known_over known.now.keys (pre_of (choice vers.now) x) z
+        || is_any_known_over known.now.keys (sup_of (choice vers.now) x) z) }
 {
     match vers.ver(x) {
         Some(ver) => {
-            is_one_known(known, ver.pre.as_slice(), z) || is_one_known(known, ver.sup.as_slice(), z)
+            is_any_known_over(known, ver.pre.as_slice(), z)
+                || is_any_known_over(known, ver.sup.as_slice(), z)
         }
         None => false,
     }
 }
 
-// Whether x is over z. The graph grows by all to which x leads, unless x names z itself or an id that is known to be
-// over z: then no search is needed.
-fn find_over(
+// Whether x is over z. No search is needed if x names z itself or an id that is known to be over z. Otherwise the graph
+// grows by x and all ids to which x leads.
+fn is_over(
     alloc: Global,
     vers: &VerChoice<'_>,
     known: &IndexSet<(Id, Id)>,
@@ -152,7 +153,7 @@ fn find_over(
     if vers.names(x, z) {
         return Ok(true);
     }
-    if names_known_over(vers, known, x, z) {
+    if names_any_known_over(vers, known, x, z) {
         return Ok(true);
     }
     graph.add_with_named(alloc, vers, x)?;

@@ -18,8 +18,8 @@ use std::alloc::{AllocError, Global};
 use sysmods_values::{Hold, Sysmod};
 use terms::HoldKind;
 
-/// The received SYSMODs made of this list, if a global zone may have just these: they rise by id and carry no holds,
-/// there is no loop, roles fit, and they are not too many.
+/// These SYSMODs as received ones, or `None` if no global zone has just these. They have to rise by id and carry no
+/// holds, make no loop, have the roles in which they name each other, and be at most 65,535.
 pub(crate) fn build_received(
     alloc: Global,
     sysmods: Vec<Sysmod>,
@@ -32,16 +32,20 @@ pub(crate) fn build_received(
     }
     let mut received = Received::new(alloc);
     for sysmod in sysmods {
-        if !push_last(alloc, &mut received, sysmod)? {
+        if !try_insert_last(alloc, &mut received, sysmod)? {
             return Ok(None);
         }
     }
     Ok(Some(received))
 }
 
-// Takes in a SYSMOD whose id is after all others, and returns `true`. If no global zone has them all, it returns
-// `false` and takes in nothing.
-fn push_last(alloc: Global, received: &mut Received, sysmod: Sysmod) -> Result<bool, AllocError>
+// Inserts a SYSMOD whose id is after all others, and returns `true`. If no global zone may have them all, the call
+// inserts nothing and returns `false`.
+fn try_insert_last(
+    alloc: Global,
+    received: &mut Received,
+    sysmod: Sysmod,
+) -> Result<bool, AllocError>
     requires global { IsGlobal (zone_of received.old) }
     requires last { All (λ s. IsTrue (is_lt (slice_cmp nat_cmp s.id sysmod.id))) received.old }
     ensures fits { IfOk result (λ fits. IsTrue fits ↔ IsGlobal (zone_of (received.old ++ sysmod ∷ []))) }
@@ -59,7 +63,7 @@ fn push_last(alloc: Global, received: &mut Received, sysmod: Sysmod) -> Result<b
     Ok(true)
 }
 
-// `false` if the SYSMOD has a fault, and an error if memory ran out.
+// What `try_insert_last` returns for a refusal: `false` for a fault of the SYSMOD, and an error if memory ran out.
 fn refusal_as_false(why: Refused) -> Result<bool, AllocError>
     ensures { IfOk result (λ fits. (fits ≡ false) × IsTrue (is_some (fault_of why))) }
 {
@@ -79,7 +83,7 @@ fn has_no_holds(sysmod: &Sysmod) -> bool
     sysmod.holds.is_empty()
 }
 
-/// Whether each internal hold is a SYSTEM hold of a received SYSMOD.
+/// Whether each internal hold is a SYSTEM hold on a received SYSMOD.
 pub(crate) fn have_owners_if_internal(received: &Received, holds: &[Hold]) -> bool
     ensures { IsTrue result ↔ All (IsOwned (zone_of received.now)) holds.now }
 {
@@ -88,15 +92,15 @@ pub(crate) fn have_owners_if_internal(received: &Received, holds: &[Hold]) -> bo
         .all(|hold| has_owner_if_internal(received, hold))
 }
 
-// Whether the hold is not internal, or is a SYSTEM hold of a received SYSMOD.
+// Whether the hold is not internal, or is a SYSTEM hold on a received SYSMOD.
 fn has_owner_if_internal(received: &Received, hold: &Hold) -> bool
     ensures { IsTrue result ↔ IsOwned (zone_of received.now) hold.now }
 {
-    !hold.internal || is_system_hold(received, hold)
+    !hold.internal || is_system_hold_on_received(received, hold)
 }
 
-// Whether it is a SYSTEM hold of a received SYSMOD.
-fn is_system_hold(received: &Received, hold: &Hold) -> bool
+// Whether the hold is a SYSTEM hold on a received SYSMOD.
+fn is_system_hold_on_received(received: &Received, hold: &Hold) -> bool
     ensures { IsTrue result ↔ (hold.now.kind ≡ System) × IsTrue (is_received (zone_of received.now) hold.now.id) }
 {
     hold.kind == HoldKind::System && received.contains(hold.id)

@@ -19,8 +19,8 @@ use sysmods_values::Sysmod;
 /// The most SYSMODs that a global zone may have received.
 const MOST_SYSMODS: usize = 65_535;
 
-/// Returns an error if the SYSMOD may not be received: the first fault for which RECEIVE refuses it. The caller ensures
-/// that the received SYSMODs have no loop and that their roles fit. A SYSMOD without a fault preserves both.
+/// Returns the first fault for which RECEIVE refuses the SYSMOD, if it has one. The caller ensures that the received
+/// SYSMODs have no loop and that their roles fit. A SYSMOD without a fault preserves both.
 pub(crate) fn check_receivable(
     alloc: Global,
     received: &Received,
@@ -46,12 +46,12 @@ pub(crate) fn check_receivable(
     Ok(())
 }
 
-/// Inserts a new SYSMOD, and the holds that came inside it among the other holds. After an error it has inserted
-/// neither. It inserts the SYSMOD first, because taking that out again needs no memory.
+/// Inserts a new SYSMOD, and puts the holds that came inside it among the other holds. After an error nothing has
+/// changed. The SYSMOD comes first, because removing it again needs no memory.
 pub(crate) fn insert_with_holds(
+    alloc: Global,
     sysmods: &mut Received,
     holds: &mut Holds,
-    alloc: Global,
     mut sysmod: Sysmod,
 ) -> Result<(), AllocError>
     requires { found sysmods.old sysmod.id ≡ None }
@@ -65,9 +65,9 @@ pub(crate) fn insert_with_holds(
     drop(sysmods.insert(sysmod)?);
     match holds.put_all(alloc, inside) {
         Ok(()) => Ok(()),
-        Err(refused) => {
+        Err(error) => {
             drop(sysmods.remove(id));
-            Err(refused)
+            Err(error)
         }
     }
 }

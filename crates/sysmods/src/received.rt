@@ -84,8 +84,8 @@ impl Received {
         self.by_id.values()
     }
 
-    /// Takes a SYSMOD in and returns `None`. If one of its id is received already, it changes nothing and gives the
-    /// new one back.
+    /// Inserts the SYSMOD and returns `None`. If one of its id is received already, nothing changes and the call
+    /// returns the new one.
     pub fn insert(&mut self, sysmod: Sysmod) -> Result<Option<Sysmod>, AllocError>
         ensures back { IfOk result (λ back. back ≡ (if is_some (found self.old sysmod.id) then Some sysmod else None)) }
         ensures ok { OnOk result (self.new ≡ (if is_some (found self.old sysmod.id) then self.old else with_item
@@ -103,7 +103,7 @@ impl Received {
         Ok(None)
     }
 
-    /// Takes the SYSMOD of this id out and returns it.
+    /// Removes the SYSMOD of this id and returns it.
     pub fn remove(&mut self, id: Id) -> Option<Sysmod>
         ensures was { result ≡ found self.old id }
         ensures after { self.new ≡ filter (λ s. not (bytes_eq s.id id)) self.old }
@@ -117,7 +117,7 @@ impl Received {
         }
     }
 
-    /// Adds the source to the SYSMOD of this id. If none is received, nothing changes.
+    /// Adds the source to the SYSMOD of this id. If no such SYSMOD is received, nothing changes.
     pub fn insert_source(&mut self, id: Id, source: Source) -> Result<(), AllocError>
         ensures ok { OnOk result (self.new ≡ map (λ s. if bytes_eq s.id id then with_source source s else s) self.old) }
         ensures err { OnErr result (self.new ≡ self.old) }
@@ -178,37 +178,37 @@ impl Received {
         }
     }
 
-    // Appends the id of the namer, if it names the id in PRE, SUP or FMID of a `++VER` for the SREL.
-    fn append_namer(
+    // Appends the candidate, if its SYSMOD names the id in PRE, SUP or FMID of a `++VER` for the SREL.
+    fn append_if_namer(
         &self,
-        namer: Id,
+        candidate: Id,
         srel: Srel,
         id: Id,
         found: &mut Vec<Id>,
     ) -> Result<(), AllocError>
         ensures { OnOk result (found.new.items ≡ found.old.items
-            ++ filter (λ y. is_in (names_for (zone_of self.now) srel y) id) (namer ∷ [])) }
+            ++ filter (λ y. is_in (names_for (zone_of self.now) srel y) id) (candidate ∷ [])) }
     {
-        if self.names_for(namer, srel, id) {
-            found.push(namer)?;
+        if self.names_for(candidate, srel, id) {
+            found.push(candidate)?;
         }
         Ok(())
     }
 
-    // Appends those of these ids whose SYSMODs name the id in PRE, SUP or FMID of a `++VER` for the SREL.
+    // Appends the candidates whose SYSMODs name the id in PRE, SUP or FMID of a `++VER` for the SREL.
     fn append_namers_among(
         &self,
-        namers: &BTreeSet<Id>,
+        candidates: &BTreeSet<Id>,
         srel: Srel,
         id: Id,
         found: &mut Vec<Id>,
     ) -> Result<(), AllocError>
         ensures ok { OnOk result (found.new.items ≡ found.old.items
-            ++ filter (λ y. is_in (names_for (zone_of self.now) srel y) id) namers.now.keys) }
-        ensures ordered { IsOrdered (slice_cmp nat_cmp) namers.now }
+            ++ filter (λ y. is_in (names_for (zone_of self.now) srel y) id) candidates.now.keys) }
+        ensures ordered { IsOrdered (slice_cmp nat_cmp) candidates.now }
     {
-        for namer in namers.iter() {
-            self.append_namer(*namer, srel, id, found)?;
+        for candidate in candidates.iter() {
+            self.append_if_namer(*candidate, srel, id, found)?;
         }
         Ok(())
     }
@@ -219,41 +219,41 @@ impl Received {
         ensures { OnOk result (found.new.items ≡ found.old.items ++ namers_for self.now srel id) }
     {
         match self.index.sets.get(&id) {
-            Some(IndexEntry::One(namer)) => self.append_namer(*namer, srel, id, found),
+            Some(IndexEntry::One(namer)) => self.append_if_namer(*namer, srel, id, found),
             Some(IndexEntry::More(namers)) => self.append_namers_among(namers, srel, id, found),
             None => Ok(()),
         }
     }
 
-    // Appends the id of the namer, if it names the id as a function.
-    fn append_function_namer(
+    // Appends the candidate, if its SYSMOD names the id as a function.
+    fn append_if_function_namer(
         &self,
-        namer: Id,
+        candidate: Id,
         id: Id,
         found: &mut Vec<Id>,
     ) -> Result<(), AllocError>
         ensures { OnOk result (found.new.items ≡ found.old.items
-            ++ filter (names_as_function self.now id) (namer ∷ [])) }
+            ++ filter (names_as_function self.now id) (candidate ∷ [])) }
     {
-        if self.names_in_way(namer, Way::AsFunction, id) {
-            found.push(namer)?;
+        if self.names_in_way(candidate, Way::AsFunction, id) {
+            found.push(candidate)?;
         }
         Ok(())
     }
 
-    // Appends those of these ids whose SYSMODs name the id as a function.
+    // Appends the candidates whose SYSMODs name the id as a function.
     fn append_function_namers_among(
         &self,
-        namers: &BTreeSet<Id>,
+        candidates: &BTreeSet<Id>,
         id: Id,
         found: &mut Vec<Id>,
     ) -> Result<(), AllocError>
         ensures ok { OnOk result (found.new.items ≡ found.old.items
-            ++ filter (names_as_function self.now id) namers.now.keys) }
-        ensures ordered { IsOrdered (slice_cmp nat_cmp) namers.now }
+            ++ filter (names_as_function self.now id) candidates.now.keys) }
+        ensures ordered { IsOrdered (slice_cmp nat_cmp) candidates.now }
     {
-        for namer in namers.iter() {
-            self.append_function_namer(*namer, id, found)?;
+        for candidate in candidates.iter() {
+            self.append_if_function_namer(*candidate, id, found)?;
         }
         Ok(())
     }
@@ -264,7 +264,7 @@ impl Received {
         ensures { OnOk result (found.new.items ≡ found.old.items ++ function_namers self.now id) }
     {
         match self.index.sets.get(&id) {
-            Some(IndexEntry::One(namer)) => self.append_function_namer(*namer, id, found),
+            Some(IndexEntry::One(namer)) => self.append_if_function_namer(*namer, id, found),
             Some(IndexEntry::More(namers)) => self.append_function_namers_among(namers, id, found),
             None => Ok(()),
         }

@@ -31,7 +31,7 @@ fn is_function(received: &Received, sysmod: &Sysmod, id: Id) -> bool
     }
 }
 
-// Whether the id is service, and no function, among the received SYSMODs and the new one.
+// Whether the id is service and not a function, among the received SYSMODs and the new one.
 fn is_service(received: &Received, sysmod: &Sysmod, id: Id) -> bool
     ensures { result ≡ is_service (with_sysmod (zone_of received.now) sysmod.now) id }
 {
@@ -96,7 +96,7 @@ fn ver_fits(received: &Received, sysmod: &Sysmod, ver: &Ver) -> bool
     !any_is_function(received, sysmod, ver.sup.as_slice()) && !names_service(received, sysmod, ver)
 }
 
-// Whether what the `++VER`s of the new SYSMOD name has the role in which they name it.
+// Whether each id that the new SYSMOD names has the role in which one of its `++VER`s names it.
 fn own_roles_fit(received: &Received, sysmod: &Sysmod) -> bool
     ensures { IsTrue result ↔ All (λ v. IsTrue (fits_roles (with_sysmod (zone_of received.now) sysmod.now) v))
         sysmod.now.vers }
@@ -120,7 +120,7 @@ fn namers_roles_fit(received: &Received, sysmod: &Sysmod) -> bool
     }
 }
 
-/// Whether roles fit with the SYSMOD, if they fitted without it.
+/// Whether all roles fit once the new SYSMOD is received, if those of the received ones fit without it.
 pub(crate) fn roles_fit(received: &Received, sysmod: &Sysmod) -> bool
     requires new { found received.now sysmod.now.id ≡ None }
     requires fit { RolesFit (zone_of received.now) }

@@ -10,7 +10,7 @@ use indexmap::IndexSet;
 use std::alloc::{AllocError, Global};
 
 /// A graph of ids, given by the ids that each one names.
-pub trait Names {
+pub trait IdGraph {
     ghost named: { Self → List ℕ → List (List ℕ) };
 
     /// Appends the ids that this one names. An unknown id names none.
@@ -19,23 +19,23 @@ pub trait Names {
 }
 
 // Adds the ids that this one names to those seen. `found` is working space, which the call empties first.
-fn see_named<N: Names>(
-    names: &N,
+fn see_named<N: IdGraph>(
+    graph: &N,
     id: Id,
     found: &mut Vec<Id>,
     seen: &mut IndexSet<Id>,
 ) -> Result<(), AllocError>
-    ensures { OnOk result (AddsAll seen.old.keys (N.named names.now id) seen.new.keys) }
+    ensures { OnOk result (AddsAll seen.old.keys (N.named graph.now id) seen.new.keys) }
 {
     found.clear();
-    names.append_named(id, found)?;
+    graph.append_named(id, found)?;
     for next in found.iter() {
         seen.insert(*next)?;
     }
     Ok(())
 }
 
-// Whether there is an id at which the search stops, and the search has seen it.
+// Whether the search has seen the id at which it stops, if there is one.
 fn is_stop_seen(seen: &IndexSet<Id>, stop: Option<&Id>) -> bool
     ensures { IsTrue result ↔ IsSomeAnd stop.entry (λ z. Contains seen.now.keys z.now) }
 {
@@ -45,42 +45,42 @@ fn is_stop_seen(seen: &IndexSet<Id>, stop: Option<&Id>) -> bool
     }
 }
 
-// Visits the id at this place among those seen: adds the ids that it names to them.
-fn visit_seen<N: Names>(
-    names: &N,
+// Visits the id at this place among those seen, by adding the ids that it names to them.
+fn visit<N: IdGraph>(
+    graph: &N,
     place: usize,
     found: &mut Vec<Id>,
     seen: &mut IndexSet<Id>,
 ) -> Result<(), AllocError>
     requires { place < length seen.old.keys }
-    ensures { OnOk result (GoesOn (N.named names.now) place seen.old.keys seen.new.keys) }
+    ensures { OnOk result (GoesOn (N.named graph.now) place seen.old.keys seen.new.keys) }
 {
     let id = seen.as_slice()[place];
-    see_named(names, id, found, seen)?;
+    see_named(graph, id, found, seen)?;
     Ok(())
 }
 
 // The ids that x reaches, in the order in which the search meets them: the set serves both as marks and as a queue.
 // Once the search has seen the id `stop`, it goes no further, and may not have met all.
-fn search_reachable<N: Names>(
+fn search_reachable<N: IdGraph>(
     alloc: Global,
-    names: &N,
+    graph: &N,
     x: Id,
     stop: Option<&Id>,
 ) -> Result<IndexSet<Id>, AllocError>
-    ensures sound { IfOk result (λ seen. (z : List ℕ) → Contains seen.keys z → Reaches (N.named names.now) x z) }
+    ensures sound { IfOk result (λ seen. (z : List ℕ) → Contains seen.keys z → Reaches (N.named graph.now) x z) }
     ensures all { IfOk result (λ seen. ¬ IsSomeAnd stop.entry (λ z. Contains seen.keys z.now) →
-        (z : List ℕ) → Reaches (N.named names.now) x z → Contains seen.keys z) }
+        (z : List ℕ) → Reaches (N.named graph.now) x z → Contains seen.keys z) }
 {
     let mut seen = IndexSet::new(alloc);
     let mut found = Vec::new(alloc);
-    see_named(names, x, &mut found, &mut seen)?;
+    see_named(graph, x, &mut found, &mut seen)?;
     let mut i = 0;
     while i < seen.len() {
         if is_stop_seen(&seen, stop) {
             return Ok(seen);
         }
-        visit_seen(names, i, &mut found, &mut seen)?;
+        visit(graph, i, &mut found, &mut seen)?;
         i += 1;
     }
     Ok(seen)
@@ -88,10 +88,15 @@ fn search_reachable<N: Names>(
 
 /// Whether x leads to z: each id on the way names the next, in one step or more. If z is x, this says whether x is on a
 /// loop.
-pub(crate) fn leads_to<N: Names>(alloc: Global, names: &N, x: Id, z: Id) -> Result<bool, AllocError>
-    ensures { IfOk result (λ found. IsTrue found ↔ Reaches (N.named names.now) x z) }
+pub(crate) fn leads_to<N: IdGraph>(
+    alloc: Global,
+    graph: &N,
+    x: Id,
+    z: Id,
+) -> Result<bool, AllocError>
+    ensures { IfOk result (λ found. IsTrue found ↔ Reaches (N.named graph.now) x z) }
 {
-    let seen = search_reachable(alloc, names, x, Some(&z))?;
+    let seen = search_reachable(alloc, graph, x, Some(&z))?;
     Ok(seen.contains(&z))
 }
 
@@ -102,23 +107,24 @@ fn either_has_arrived(ahead: &IndexSet<Id>, behind: &IndexSet<Id>, x: Id, z: Id)
     ahead.contains(&z) || behind.contains(&x)
 }
 
-/// Whether x leads to z. `namers` gives for each id those that name it. The search continues from the end that has seen
-/// less, and stops once either end has seen the other one or has nothing left.
-pub(crate) fn leads_to_from_both_ends<F: Names, B: Names>(
+/// Whether x leads to z. `reversed` gives for each id those that name it in `graph`. One search goes on from x and one
+/// goes back from z. The one that has seen less takes the next step, and they stop once either has seen the other's end
+/// or has nothing left.
+pub(crate) fn leads_to_from_both_ends<F: IdGraph, B: IdGraph>(
     alloc: Global,
-    names: &F,
-    namers: &B,
+    graph: &F,
+    reversed: &B,
     x: Id,
     z: Id,
 ) -> Result<bool, AllocError>
-    requires { IsTurned (F.named names.now) (B.named namers.now) }
-    ensures { IfOk result (λ found. IsTrue found ↔ Reaches (F.named names.now) x z) }
+    requires { IsTurned (F.named graph.now) (B.named reversed.now) }
+    ensures { IfOk result (λ found. IsTrue found ↔ Reaches (F.named graph.now) x z) }
 {
     let mut found = Vec::new(alloc);
     let mut ahead = IndexSet::new(alloc);
     let mut behind = IndexSet::new(alloc);
-    see_named(names, x, &mut found, &mut ahead)?;
-    see_named(namers, z, &mut found, &mut behind)?;
+    see_named(graph, x, &mut found, &mut ahead)?;
+    see_named(reversed, z, &mut found, &mut behind)?;
     let mut i = 0;
     let mut j = 0;
     while i < ahead.len() && j < behind.len() {
@@ -126,10 +132,10 @@ pub(crate) fn leads_to_from_both_ends<F: Names, B: Names>(
             return Ok(true);
         }
         if ahead.len() <= behind.len() {
-            visit_seen(names, i, &mut found, &mut ahead)?;
+            visit(graph, i, &mut found, &mut ahead)?;
             i += 1;
         } else {
-            visit_seen(namers, j, &mut found, &mut behind)?;
+            visit(reversed, j, &mut found, &mut behind)?;
             j += 1;
         }
     }
@@ -137,10 +143,14 @@ pub(crate) fn leads_to_from_both_ends<F: Names, B: Names>(
 }
 
 /// The ids to which x leads, in one step or more.
-pub(crate) fn reachable_ids<N: Names>(alloc: Global, names: &N, x: Id) -> Result<IdList, AllocError>
-    ensures { IfOk result (λ ends. (z : List ℕ) → Contains ends z ↔ Reaches (N.named names.now) x z) }
+pub(crate) fn reachable_ids<N: IdGraph>(
+    alloc: Global,
+    graph: &N,
+    x: Id,
+) -> Result<IdList, AllocError>
+    ensures { IfOk result (λ ends. (z : List ℕ) → Contains ends z ↔ Reaches (N.named graph.now) x z) }
 {
-    let seen = search_reachable(alloc, names, x, None)?;
+    let seen = search_reachable(alloc, graph, x, None)?;
     let ends = Vec::from_slice(alloc, seen.as_slice())?;
     Ok(IdList::from_vec(ends))
 }

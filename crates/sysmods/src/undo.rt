@@ -9,7 +9,7 @@ use crate::key::HoldKey;
 use std::alloc::AllocError;
 use sysmods_values::Hold;
 
-/// What undoes the putting of a hold: the new one goes, or the old one comes back.
+/// What undoes the putting of a hold: to remove the new one, or to restore the one that it replaced.
 #[derive(Drop)]
 pub(crate) enum Undo {
     Remove(HoldKey),
@@ -28,7 +28,7 @@ pub(crate) fn put_each(
 {
     for hold in holds {
         log.reserve(1)?;
-        let undo = to.exchange(hold)?;
+        let undo = to.put_with_undo(hold)?;
         log.push_reserved(undo);
     }
     Ok(())

@@ -9,7 +9,7 @@ ghost use Rattle.sysmods.specs.Choices.{has_ver, picked, number_in, choice};
 
 use crate::chain::Chain;
 use crate::global_zone::GlobalZone;
-use crate::search::{Names, leads_to, reachable_ids};
+use crate::search::{IdGraph, leads_to, reachable_ids};
 use fields::{Id, IdList, Srel, VerNumber};
 use sorted::{Keyed, Table};
 use std::alloc::{AllocError, Global};
@@ -32,8 +32,8 @@ impl Keyed for Pick {
     }
 }
 
-/// Gives each id its `++VER` that counts for a zone, among those for the zone's SREL: the one by which it was
-/// installed, or otherwise one that fits. If no number is picked, it is the first.
+/// Which `++VER` of each id counts for a zone, among those for the zone's SREL: the one by which the SYSMOD was
+/// installed, otherwise the first one that fits the zone, and otherwise the first one.
 #[derive(Drop)]
 pub struct VerChoice<'a> {
     global: &'a GlobalZone,
@@ -91,7 +91,7 @@ impl<'a> VerChoice<'a> {
         numbered_ver(self.global, self.srel, id, self.number(id))
     }
 
-    /// Whether the `++VER` that counts names z in PRE, SUP or FMID.
+    /// Whether the `++VER` of x that counts names z in PRE, SUP or FMID.
     pub(crate) fn names(&self, x: Id, z: Id) -> bool
         ensures { result ≡ is_in (names (choice self.now) x) z }
     {
@@ -101,7 +101,7 @@ impl<'a> VerChoice<'a> {
         }
     }
 
-    /// Appends what the `++VER` that counts names in PRE, SUP and FMID.
+    /// Appends the ids that the `++VER` of the id that counts names in PRE, SUP and FMID.
     pub(crate) fn append_named(&self, id: Id, found: &mut Vec<Id>) -> Result<(), AllocError>
         ensures { OnOk result (found.new.items ≡ found.old.items ++ names (choice self.now) id) }
     {
@@ -159,14 +159,14 @@ impl<'a> VerChoice<'a> {
         self.fmid(id).unwrap_or(id)
     }
 
-    /// The id, and all ids on the walk from FMID to FMID.
+    /// The id itself, its FMID, the FMID of that one, and so on.
     pub fn chain(&self, id: Id) -> Chain<'_, 'a>
         ensures { result ≡ chain self.now.global.now (choice self.now) id }
     {
         Chain::new(self, id)
     }
 
-    /// Whether the chain of the id contains one of these ids. If there are none, it does not walk the chain.
+    /// Whether the chain of the id contains one of these ids. If `ids` is empty, the call does not walk the chain.
     pub fn chain_contains_any(&self, id: Id, ids: &[Id]) -> bool
         ensures { result ≡ meets (chain self.now.global.now (choice self.now) id) ids.now }
     {
@@ -198,7 +198,7 @@ fn is_in(ids: &[Id], id: Id) -> bool
     ids.contains(&id)
 }
 
-// The number that is picked for the id.
+// The number that these picks have for the id.
 fn picked_number(picks: &Table<Pick>, id: Id) -> Option<VerNumber>
     ensures { result ≡ picked picks.now id }
 {
@@ -234,7 +234,7 @@ struct AllNames<'a, 'b> {
     choice: &'a VerChoice<'b>,
 }
 
-impl Names for AllNames<'_, '_> {
+impl IdGraph for AllNames<'_, '_> {
     ghost use Rattle.terms.specs.Over.{names};
     ghost use Rattle.sysmods.specs.Choices.{choice};
 
@@ -251,7 +251,7 @@ struct Superseded<'a, 'b> {
     choice: &'a VerChoice<'b>,
 }
 
-impl Names for Superseded<'_, '_> {
+impl IdGraph for Superseded<'_, '_> {
     ghost use Rattle.terms.specs.Choice.{sup_of};
     ghost use Rattle.sysmods.specs.Choices.{choice};
 

@@ -65,7 +65,7 @@ impl ElemChange {
         self.elem_type == elem_type && self.name == name
     }
 
-    /// Whether it replaces its element; any other one updates it.
+    /// Whether it replaces its element. If not, it updates the element.
     pub fn is_replacement(&self) -> bool
         ensures { result ≡ is_replacement self.now.action }
     {

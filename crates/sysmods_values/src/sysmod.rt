@@ -43,6 +43,7 @@ impl Attest for Sysmod {
     ghost form = { IsSysmod };
 
     fn attest(&self) {
+        // Reading a field makes the invariant known.
         let _ = &self.id;
     }
 }

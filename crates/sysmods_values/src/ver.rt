@@ -88,8 +88,8 @@ impl Ver {
         self.pre.contains(id) || self.sup.contains(id)
     }
 
-    // Whether one of its `++IF`s asks whether this function is installed.
-    fn is_function_of_if(&self, id: Id) -> bool
+    // Whether one of its `++IF`s has this function as its condition.
+    fn has_if_for_function(&self, id: Id) -> bool
         ensures { result ≡ is_in (map (λ i. i.function) self.now.ifs) id }
     {
         self.ifs
@@ -118,6 +118,6 @@ impl Ver {
     pub fn names_function(&self, id: Id) -> bool
         ensures { result ≡ is_in (named_functions self.now) id }
     {
-        self.del.contains(id) || self.is_fmid(id) || self.is_function_of_if(id)
+        self.del.contains(id) || self.is_fmid(id) || self.has_if_for_function(id)
     }
 }

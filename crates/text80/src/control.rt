@@ -3,7 +3,7 @@ ghost use Rattle.std.specs.Prelude.{◌≡◌, ◌≢◌, ◌==◌, ◌++◌, �
 ghost use Rattle.terms.specs.Texts.{IsControl, IsChange, IsRange, IsDelete, IsSomeDelete};
 ghost use Rattle.text80.specs.Cuts.{IsCut};
 
-use crate::line::{FRONT, Line, number_in};
+use crate::line::{Line, NUMBER_DIGITS, TEXT_COLUMNS, number_in};
 
 /// The numbers that a DELETE record deletes.
 #[derive(Clone, Copy, Debug, PartialEq, Eq)]
@@ -12,7 +12,7 @@ pub struct Range {
     pub high: u32,
 }
 
-// The text after the prefix, if it begins with that.
+// The rest of the text after the prefix, if the text begins with the prefix.
 fn text_after<'a>(text: &'a [u8], prefix: &[u8]) -> Option<&'a [u8]>
     ensures some { IfSome result (λ rest. text.now ≡ prefix.now ++ rest.now) }
     ensures none { IfNone result ((rest : List ℕ) → text.now ≢ prefix.now ++ rest) }
@@ -44,7 +44,7 @@ fn control_parts(line: &Line) -> Option<(&[u8], &[u8])>
     ensures some { IfSome result (λ found. IsControl found.0.now found.1.now line.now) }
     ensures none { IfNone result ((word operand : List ℕ) → ¬ IsControl word operand line.now) }
 {
-    let (front, _) = line.bytes().split_at(FRONT);
+    let (front, _) = line.bytes().split_at(TEXT_COLUMNS);
     let text = text_after(front, b"./")?;
     let (gap, text) = split_blanks(text);
     let (word, text) = split_solid(text);
@@ -80,10 +80,10 @@ fn range_in(operand: &[u8]) -> Option<Range>
     ensures none { IfNone result ((low high : ℕ) → ¬ IsRange operand.now low high) }
 {
     let text = text_after(operand, b"SEQ1=")?;
-    if text.len() < 8 {
+    if text.len() < NUMBER_DIGITS {
         return None;
     }
-    let (from, text) = text.split_at(8);
+    let (from, text) = text.split_at(NUMBER_DIGITS);
     let to = text_after(text, b",SEQ2=")?;
     let low = number_in(from)?;
     let high = number_in(to)?;

@@ -9,8 +9,11 @@ use std::marker::Model;
 /// The length of a record.
 pub const RECORD: usize = 80;
 
-/// The columns of a record that hold its text. The others hold its number.
-pub(crate) const FRONT: usize = 72;
+/// How many columns of a record hold its text. The others, at its end, hold its number.
+pub(crate) const TEXT_COLUMNS: usize = 72;
+
+/// How many digits a number has.
+pub(crate) const NUMBER_DIGITS: usize = 8;
 
 /// A record of a text.
 #[derive(Clone, Copy, Debug, PartialEq, Eq)]
@@ -48,11 +51,11 @@ impl Line {
         ensures bound { IfSome result (λ n. n < 100000000) }
         ensures none { IfNone result (¬ IsNumberedLine self.now) }
     {
-        let (_, number) = self.0.split_at(FRONT);
+        let (_, number) = self.0.split_at(TEXT_COLUMNS);
         number_in(number)
     }
 
-    /// The number of a numbered record.
+    /// The number of a record that is known to have one.
     pub(crate) fn known_number(&self) -> u32
         requires { IsNumberedLine self.now }
         ensures { result ≡ number_of self.now }
@@ -74,7 +77,7 @@ pub(crate) fn number_in(text: &[u8]) -> Option<u32>
     ensures bound { IfSome result (λ n. n < 100000000) }
     ensures none { IfNone result (¬ IsNumber text.now) }
 {
-    if text.len() != 8 {
+    if text.len() != NUMBER_DIGITS {
         return None;
     }
     let mut number = 0;

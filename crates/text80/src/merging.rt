@@ -10,8 +10,8 @@ use crate::numbered::Numbered;
 use crate::update::Update;
 use std::alloc::{AllocError, Global};
 
-/// The text after the update. At each number that the update gives it has the update's record, at the others that the
-/// update deletes none, and elsewhere the old record.
+/// The text after the update. At each number that the update gives it has the update's record, at the other numbers
+/// that the update deletes it has none, and elsewhere it has the old record.
 pub fn merge(alloc: Global, old: &Numbered, update: &Update) -> Result<Numbered, AllocError>
     ensures { IfOk result (IsMerge old.now update.now) }
 {
@@ -64,8 +64,9 @@ fn split_number(lines: &[Line], number: u32) -> (Option<&Line>, &[Line])
     }
 }
 
-// Passes the ranges that begin at or below the number. Returns those that are left, and the new reach: a number from
-// this one on is deleted if it is below the reach or in a range that is left.
+// Passes the ranges that begin at or below the number. Returns the ranges that are left, and the new reach: the end of
+// all ranges passed so far. The update deletes this or a later number if it is below the reach or in a range that is
+// left.
 fn sweep(ranges: &[Range], reach: u64, number: u32) -> (&[Range], u64)
     ensures swept { (all : List DeletedRange) → IsSwept all number ranges.now reach
         → IsSwept all number result.0.now result.1 }

@@ -54,7 +54,7 @@ impl Numbered {
         Ok(Numbered { lines })
     }
 
-    /// The records of a numbered text. It does not check them again.
+    /// A numbered text of records that are known to be one, without a check.
     pub fn known(lines: Vec<Line>) -> Numbered
         requires { IsNumbered lines.items }
         ensures { result ≡ lines.items }
@@ -70,7 +70,7 @@ impl Numbered {
         &self.lines
     }
 
-    /// The records, no longer as a text.
+    /// The records, by value.
     pub fn into_lines(self) -> Vec<Line>
         ensures lines { result.items ≡ self }
         ensures numbered { IsNumbered result.items }

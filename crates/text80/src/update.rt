@@ -91,23 +91,15 @@ fn records_after_change<'a>(records: &'a [Line], name: &[u8]) -> Result<&'a [Lin
     ensures rest { IfOk result (λ rest. StandsBefore name.now records.now rest.now) }
     ensures fault { IfErr result (IsUpdateFault name.now records.now) }
 {
-    let Some((first, rest)) = records.split_first() else {
-        return Err(TextFault {
-            number: 1,
-            code: TextCode::NoChangeRecord,
-        });
+    let code = match records.split_first() {
+        None => TextCode::NoChangeRecord,
+        Some((first, rest)) => match changed_name(first) {
+            None => TextCode::NoChangeRecord,
+            Some(found) if found != name => TextCode::OtherElement,
+            Some(_) => return Ok(rest),
+        },
     };
-    match changed_name(first) {
-        None => Err(TextFault {
-            number: 1,
-            code: TextCode::NoChangeRecord,
-        }),
-        Some(found) if found != name => Err(TextFault {
-            number: 1,
-            code: TextCode::OtherElement,
-        }),
-        Some(_) => Ok(rest),
-    }
+    Err(TextFault { number: 1, code })
 }
 
 // The ranges that the records after the CHANGE record delete. These records count from 2.

@@ -16,7 +16,7 @@ use sysmods::VerChoice;
 use zones::Zone;
 
 /// Tests these applied SYSMODs by the `++VER`s that count, and finds what they need. No SYSMOD supersedes what a
-/// RESTORE needs, and BYPASS covers none of it. The assessment holds for each list of which they are the candidates.
+/// RESTORE needs, and BYPASS covers none of it. They may be the candidates of any list.
 pub(crate) fn assess(
     alloc: Global,
     vers: &VerChoice<'_>,

@@ -1,47 +1,19 @@
 //! Which SYSMODs change which element.
 ghost use Rattle.std.specs.Prelude.{◌≡◌, IfOk};
-ghost use Rattle.sorted.specs.ElementKeys.{key_cmp};
-ghost use Rattle.undo.specs.Elements.{AreChangers, changed_keys, sharers};
+ghost use Rattle.undo.specs.Elements.{sharers};
 ghost use Rattle.undo.specs.Needed.{HaveElem};
 ghost use Rattle.undo.specs.Scopes.{restoring_of};
 
 use crate::scope::{RestoreScope, unaccepted_among};
 use fields::{Id, IdList, Name};
-use sorted::lists::{Lists, add_to_all, listed};
+use sorted::lists::{Lists, listed};
 use std::alloc::{AllocError, Global};
-use std::collections::BTreeMap;
 use sysmods::GlobalZone;
 use terms::ElemType;
+use zones::changers_by_element;
 
 /// For each element those of some SYSMODs that change it.
 type Changers = Lists<(ElemType, Name), Id>;
-
-// The types and names of the elements that the SYSMOD changes.
-fn changed_keys(
-    alloc: Global,
-    global: &GlobalZone,
-    id: Id,
-) -> Result<Vec<(ElemType, Name)>, AllocError>
-    ensures { IfOk result (λ keys. keys.items ≡ changed_keys global.now id) }
-{
-    global
-        .changes_of(id)
-        .iter()
-        .map(|change| (change.elem_type, change.name))
-        .collect(alloc)
-}
-
-// Lists for each element those of the SYSMODs that change it.
-fn index_changers(alloc: Global, global: &GlobalZone, ids: &[Id]) -> Result<Changers, AllocError>
-    ensures { IfOk result (AreChangers global.now ids.now) }
-{
-    let mut changers = BTreeMap::new(alloc);
-    for id in ids {
-        let keys = changed_keys(alloc, global, *id)?;
-        add_to_all(alloc, &mut changers, keys.as_slice(), *id)?;
-    }
-    Ok(changers)
-}
 
 // The listed SYSMODs that change an element that this one changes too. One is repeated for each shared element.
 fn sharers_of(
@@ -70,7 +42,7 @@ pub(crate) fn element_pairs(
 {
     let global = scope.vers.global();
     let others = unaccepted_among(alloc, scope.accepted, scope.applied)?;
-    let changers = index_changers(alloc, global, others.as_slice())?;
+    let changers = changers_by_element(alloc, global, others.as_slice())?;
     let mut pairs = Vec::new(alloc);
     for id in candidates.as_slice() {
         let sharers = sharers_of(alloc, global, &changers, *id)?;

@@ -14,7 +14,7 @@ use sysmods::{GlobalZone, Overs};
 use zones::{Candidates, Zone, choose};
 
 /// Judges the candidates of a RESTORE of this target zone from its distribution zone. The command takes off the
-/// candidates that a `Solver` keeps of the system. This holds for each list of which they are the candidates.
+/// candidates that a `Solver` keeps of the system. They may be the candidates of any list.
 pub fn restore_system<'a>(
     alloc: Global,
     global: &'a GlobalZone,
@@ -32,6 +32,5 @@ pub fn restore_system<'a>(
     let vers = choose(alloc, global, zone, &none)?;
     let assessment = assess(alloc, &vers, zone, accepted, ids)?;
     let overs = Overs::new(alloc, &vers).into_known();
-    let judged = Judged::new(alloc, ids, assessment, vers, overs)?;
-    Ok(judged)
+    Judged::new(alloc, ids, assessment, vers, overs)
 }

@@ -52,8 +52,8 @@ fn rules_of_steps(
 {
     let start = start_flags(alloc, ids, table.as_slice())?;
     let mut rules = Rules::new(alloc, start.as_slice())?;
-    // For the proofs only: `size` is a `u32`, so all places in the table fit into 32 bits. The call does nothing.
-    let _ = rules.size();
+    // (so each place of the table fits into 32 bits)
+    prove!(rules.size() <= u32::MAX);
     for step in steps {
         rules.add_rule(rule_of(alloc, table, step)?)?;
     }

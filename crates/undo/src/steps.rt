@@ -44,17 +44,17 @@ pub(crate) fn all_steps(
         }
     }
     let unaccepted = unaccepted_among(alloc, scope.accepted, scope.applied)?;
-    for other in unaccepted.as_slice() {
-        let shared = global.changes_of(*other);
-        for change in shared {
+    for changer in unaccepted.as_slice() {
+        let its_changes = global.changes_of(*changer);
+        for change in its_changes {
             let these = vec![in alloc; element_node(change)]?;
-            push_step(&mut steps, these, Node::Sysmod(*other))?;
+            push_step(&mut steps, these, Node::Sysmod(*changer))?;
         }
     }
-    for by in scope.applied {
-        let groups = dependences_of(alloc, scope, *by)?;
+    for dependent in scope.applied {
+        let groups = dependences_of(alloc, scope, *dependent)?;
         for group in groups.as_slice() {
-            push_step_from_group(alloc, group.as_slice(), *by, &mut steps)?;
+            push_step_from_group(alloc, group.as_slice(), *dependent, &mut steps)?;
         }
     }
     Ok(steps)

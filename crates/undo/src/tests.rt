@@ -26,7 +26,7 @@ fn is_alike(zone: &Zone, other: &Zone, id: Id) -> bool
 }
 
 // Whether one of the SYSMODs is not applied in both zones by the `++VER` of one number.
-fn is_any_unlike(zone: &Zone, other: &Zone, ids: &[Id]) -> bool
+fn any_unlike(zone: &Zone, other: &Zone, ids: &[Id]) -> bool
     ensures { result ≡ list_any (λ y. not (is_alike zone.now other.now y)) ids.now }
 {
     ids.iter().any(|id| !is_alike(zone, other, *id))
@@ -36,7 +36,7 @@ fn is_any_unlike(zone: &Zone, other: &Zone, ids: &[Id]) -> bool
 fn are_alike(zone: &Zone, other: &Zone, element: &Element) -> bool
     ensures { result ≡ are_alike zone.now other.now element.now }
 {
-    is_alike(zone, other, element.rmid) && !is_any_unlike(zone, other, element.umids.as_slice())
+    is_alike(zone, other, element.rmid) && !any_unlike(zone, other, element.umids.as_slice())
 }
 
 // Whether the element of the distribution zone may come back to the target zone. An RMID or UMID that is alike in both
@@ -58,8 +58,8 @@ fn is_at_other_level(scope: &RestoreScope<'_, '_>, change: &ElemChange) -> bool
     }
 }
 
-// Whether one of these statements is for an element at such a level.
-fn is_any_at_other_level(scope: &RestoreScope<'_, '_>, changes: &[ElemChange]) -> bool
+// Whether the distribution zone has an element of one of these statements at such a level.
+fn any_at_other_level(scope: &RestoreScope<'_, '_>, changes: &[ElemChange]) -> bool
     ensures { result ≡ list_any (is_behind (restoring_of scope.now)) changes.now }
 {
     changes
@@ -74,7 +74,7 @@ fn failed_tests(scope: &RestoreScope<'_, '_>, id: Id) -> TestSet
     TestSet {
         already_accepted: scope.accepted.supplies(id),
         has_delete: !scope.vers.del(id).is_empty(),
-        other_level: is_any_at_other_level(scope, scope.vers.global().changes_of(id)),
+        other_level: any_at_other_level(scope, scope.vers.global().changes_of(id)),
         ..TestSet::none()
     }
 }

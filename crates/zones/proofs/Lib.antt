@@ -6,3 +6,4 @@ pub mod Requisites
 pub mod Lost
 pub mod Picking
 pub mod NoDeletions
+pub mod Grouped

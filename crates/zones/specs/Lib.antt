@@ -1,3 +1,4 @@
 pub mod Gone
 pub mod Picks
 pub mod Scopes
+pub mod Grouping

@@ -23,12 +23,12 @@ pub fn binding_requisites(
     ensures { IfOk result (λ ids. ids.items ≡ binding_ids (choice vers.now) zone.now (is_applied zone.now) id) }
 {
     zone.attest();
-    let all = ZoneLess {
+    let whole = ZoneLess {
         vers,
         dels: &[],
         zone,
     };
-    binding_ids(alloc, &all, id)
+    binding_ids(alloc, &whole, id)
 }
 
 /// The requisites that bind the SYSMOD in what is left of the zone: its PRE and REQ and those by `++IF` whose function
@@ -58,7 +58,7 @@ fn all_requisites(alloc: Global, left: &ZoneLess, ver: &Ver) -> Result<Vec<Id>, 
     Ok(asked)
 }
 
-// Adds the ids of the `++IF` that its function does not waive, if the function stays.
+// Adds the requisites of the `++IF` that its function does not waive, if the function stays.
 fn push_requisites_of_if(
     left: &ZoneLess,
     condition: &IfReq,
@@ -79,16 +79,16 @@ fn push_requisites_of_if(
 }
 
 // The requisites that the SYSMOD waives, because they were bypassed when it was installed.
-fn waived_ids(zone: &Zone, by: Id) -> &[Id]
-    ensures { result.now ≡ waived_of zone.now by }
+fn waived_ids(zone: &Zone, id: Id) -> &[Id]
+    ensures { result.now ≡ waived_of zone.now id }
 {
-    match zone.entry(by) {
+    match zone.entry(id) {
         Some(entry) => entry.waived.as_slice(),
         None => &[],
     }
 }
 
-// Adds the ids that the SYSMOD does not waive.
+// Adds the ids that the SYSMOD `by` does not waive.
 fn push_unwaived(zone: &Zone, by: Id, ids: &[Id], found: &mut Vec<Id>) -> Result<(), AllocError>
     ensures { OnOk result (found.new.items ≡ found.old.items ++ unwaived zone.now by ids.now) }
 {

@@ -3,7 +3,8 @@
 //! the first that fits; one pass over entries and received SYSMODs finds all of them. What is left answers the same
 //! questions as a zone, without a copy. From it follow the requisites that the remaining SYSMODs lose by a DELETE. An
 //! install's `Scope` is the `++VER`s that count, the zone, the candidates and BYPASS, with the requisites and holds
-//! that it covers. `entry_less` takes SYSMODs out of one entry, whatever test names them. All of this is as the
+//! that it covers. `entry_less` takes SYSMODs out of one entry, whatever test names them, and
+//! `changers_by_element` lists the SYSMODs that change each element. All of this is as the
 //! definitions have it. No contract says that no zone is copied. Every call that allocates returns `AllocError` if
 //! memory runs out.
 #![tactic(auto)]
@@ -11,6 +12,7 @@
 mod binding;
 mod bypassing;
 mod candidates;
+mod changers;
 mod counting_vers;
 mod deleting;
 mod entry;
@@ -21,6 +23,7 @@ mod zone_less;
 pub use binding::binding_requisites;
 pub use bypassing::is_bypassed_hold;
 pub use candidates::Candidates;
+pub use changers::changers_by_element;
 pub use counting_vers::{choose, fits};
 pub use deleting::deletions;
 pub use entry::{TakesOut, entry_less};
@@ -31,5 +34,5 @@ pub use terms::ZoneKind;
 pub use zone_less::ZoneLess;
 pub use zones_maps::{
     Applied, Element, Entry, PreparedZone, Zone, ZoneDelta, ZoneEdits, are_same_elements,
-    is_same_as_existing, is_same_entry,
+    are_same_entries, is_same_as_existing,
 };

@@ -11,7 +11,7 @@ use std::alloc::{AllocError, Global};
 use std::marker::Model;
 use terms::ElemType;
 
-/// Edits of a zone, with what the zone had at the key of each. To write them out one needs no zone.
+/// Edits of a zone, with what the zone had at the key of each. So the store can write them without the zone.
 #[derive(Drop)]
 pub struct ZoneDelta {
     edits: ZoneEdits,
@@ -46,8 +46,8 @@ impl ZoneDelta {
     pub fn from_edits(alloc: Global, edits: ZoneEdits, zone: &Zone) -> Result<ZoneDelta, AllocError>
         ensures { IfOk result (λ d. (d.edits ≡ edits) × KnowsStood zone.now d) }
     {
-        let numbers_before = old_numbers(alloc, edits.entries(), zone)?;
-        let elements_existed = old_elements_exist(alloc, edits.elements(), zone)?;
+        let numbers_before = numbers_before(alloc, edits.entries(), zone)?;
+        let elements_existed = elements_existed(alloc, edits.elements(), zone)?;
         Ok(ZoneDelta {
             edits,
             numbers_before,
@@ -55,28 +55,28 @@ impl ZoneDelta {
         })
     }
 
-    /// What it puts and removes of entries, rising by id.
+    /// The edits of entries, rising by id.
     pub fn entries(&self) -> &[Edit<Entry, Id>]
         ensures { result.now ≡ self.now.edits.entries }
     {
         self.edits.entries()
     }
 
-    /// What it puts and removes of elements, rising by type and name.
+    /// The edits of elements, rising by type and name.
     pub fn elements(&self) -> &[Edit<Element, (ElemType, Name)>]
         ensures { result.now ≡ self.now.edits.elements }
     {
         self.edits.elements()
     }
 
-    /// For each edit of an entry, the number of the `++VER` of the old entry, if there was one.
+    /// For each edit of an entry, the number of the `++VER` by which the old entry was installed, if there was one.
     pub fn numbers_before(&self) -> &[Option<VerNumber>]
         ensures { result.now ≡ self.now.numbers_before }
     {
         self.numbers_before.as_slice()
     }
 
-    /// For each edit of an element, whether there was an old one.
+    /// For each edit of an element, whether the zone had the element before.
     pub fn elements_existed(&self) -> &[bool]
         ensures { result.now ≡ self.now.elements_existed }
     {
@@ -91,7 +91,7 @@ impl ZoneDelta {
         zone.with_edits(alloc, &self.edits)
     }
 
-    /// The edits by themselves.
+    /// The edits, without what the zone had before.
     pub(crate) fn edits(&self) -> &ZoneEdits
         ensures { result.now ≡ self.now.edits }
     {
@@ -99,43 +99,43 @@ impl ZoneDelta {
     }
 }
 
-// For each edit, the number of the `++VER` by which the zone has the entry, if it has one.
-fn old_numbers(
+// For each edit, the number of the `++VER` of the entry that the zone has at its key, if it has one.
+fn numbers_before(
     alloc: Global,
     edits: &[Edit<Entry, Id>],
     zone: &Zone,
 ) -> Result<Vec<Option<VerNumber>>, AllocError>
-    ensures { IfOk result (λ stood. stood.items ≡ map (entry_stood zone.now) edits.now) }
+    ensures { IfOk result (λ numbers. numbers.items ≡ map (entry_stood zone.now) edits.now) }
 {
     edits
         .iter()
-        .map(|edit| old_number(edit, zone))
+        .map(|edit| number_before(edit, zone))
         .collect(alloc)
 }
 
-// The number of the `++VER` by which the zone has the entry of this edit's id.
-fn old_number(edit: &Edit<Entry, Id>, zone: &Zone) -> Option<VerNumber>
+// The number of the `++VER` of the entry that the zone has at the key of this edit, if it has one.
+fn number_before(edit: &Edit<Entry, Id>, zone: &Zone) -> Option<VerNumber>
     ensures { result ≡ entry_stood zone.now edit.now }
 {
     Some(zone.entry(edit.key())?.number())
 }
 
-// For each edit, whether the zone has the element.
-fn old_elements_exist(
+// For each edit, whether the zone has an element at its key.
+fn elements_existed(
     alloc: Global,
     edits: &[Edit<Element, (ElemType, Name)>],
     zone: &Zone,
 ) -> Result<Vec<bool>, AllocError>
-    ensures { IfOk result (λ stood. stood.items ≡ map (element_stood zone.now) edits.now) }
+    ensures { IfOk result (λ existed. existed.items ≡ map (element_stood zone.now) edits.now) }
 {
     edits
         .iter()
-        .map(|edit| old_element_exists(edit, zone))
+        .map(|edit| element_existed(edit, zone))
         .collect(alloc)
 }
 
-// Whether the zone has the element of this edit's type and name.
-fn old_element_exists(edit: &Edit<Element, (ElemType, Name)>, zone: &Zone) -> bool
+// Whether the zone has an element at the key of this edit.
+fn element_existed(edit: &Edit<Element, (ElemType, Name)>, zone: &Zone) -> bool
     ensures { result ≡ element_stood zone.now edit.now }
 {
     let (elem_type, name) = edit.key();

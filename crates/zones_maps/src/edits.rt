@@ -15,7 +15,7 @@ use std::alloc::{AllocError, Global};
 use std::marker::Model;
 use terms::ElemType;
 
-/// What is put and removed of entries and elements, one edit for a key.
+/// Which entries and elements are put and which are removed: at most one edit for each key.
 #[derive(Drop)]
 pub struct ZoneEdits {
     entries: Table<Edit<Entry, Id>>,
@@ -55,21 +55,22 @@ impl ZoneEdits {
         }
     }
 
-    /// What they put and remove of entries, rising by id.
+    /// The edits of entries, rising by id.
     pub fn entries(&self) -> &[Edit<Entry, Id>]
         ensures { result.now ≡ self.now.entries }
     {
         self.entries.as_slice()
     }
 
-    /// What they put and remove of elements, rising by type and name.
+    /// The edits of elements, rising by type and name.
     pub fn elements(&self) -> &[Edit<Element, (ElemType, Name)>]
         ensures { result.now ≡ self.now.elements }
     {
         self.elements.as_slice()
     }
 
-    /// What they put and remove of entries, as a table. The call also gives a proof the form of all edits.
+    /// The edits of entries as a table, which `Table::edited` and `Table::prepare` take. The call also gives a proof
+    /// the form of all edits.
     pub(crate) fn entry_edits(&self) -> &Table<Edit<Entry, Id>>
         ensures same { result.now ≡ self.now.entries }
         ensures form { AreEdits self.now }
@@ -77,14 +78,14 @@ impl ZoneEdits {
         &self.entries
     }
 
-    /// What they put and remove of elements, as a table.
+    /// The edits of elements as a table.
     pub(crate) fn element_edits(&self) -> &Table<Edit<Element, (ElemType, Name)>>
         ensures { result.now ≡ self.now.elements }
     {
         &self.elements
     }
 
-    /// Puts an entry instead of the one of its id. It takes the least time if ids rise.
+    /// Puts an entry instead of the one of its id. The call is fastest if the ids of successive calls rise.
     pub fn put_entry(&mut self, entry: Entry) -> Result<(), AllocError>
         requires held { IsTrue (has_content entry) }
         requires waived { IsTrue (waives_applied entry) }

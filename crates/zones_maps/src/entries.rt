@@ -11,7 +11,7 @@ use std::marker::Model;
 use terms::ElemType;
 use text80::Line;
 
-/// A zone has applied a SYSMOD: when, and by which of its `++VER`s for the zone's SREL, counted from 1.
+/// When a zone applied a SYSMOD, and by which of its `++VER`s for the zone's SREL, counted from 1.
 #[derive(Clone, Copy, Debug, PartialEq, Eq)]
 pub struct Applied {
     pub date: YyDdd,
@@ -66,14 +66,14 @@ impl Model for Entry {
 }
 
 impl Entry {
-    /// Whether it has a date, SUPBY or DELBY.
+    /// Whether the SYSMOD is applied, superseded or deleted. A zone has no entries of other SYSMODs.
     pub fn has_content(&self) -> bool
         ensures { result ≡ has_content self.now }
     {
         self.applied.is_some() || !self.supby.is_empty() || self.delby.is_some()
     }
 
-    /// The number of the `++VER` by which it is installed: 1 if it is not applied.
+    /// The number of the `++VER` by which the SYSMOD is installed, or 1 if it is not applied.
     pub fn number(&self) -> VerNumber
         ensures { result ≡ number_of self.now }
     {
@@ -83,7 +83,7 @@ impl Entry {
         }
     }
 
-    /// Whether it waives requisites only if it is applied.
+    /// Whether the SYSMOD is applied, or none of its requisites were bypassed. In a zone this holds of each entry.
     pub fn waives_only_if_applied(&self) -> bool
         ensures { result ≡ waives_applied self.now }
     {

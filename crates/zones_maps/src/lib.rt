@@ -13,5 +13,5 @@ mod zone;
 pub use delta::ZoneDelta;
 pub use edits::ZoneEdits;
 pub use entries::{Applied, Element, Entry};
-pub use equal::{are_same_elements, is_same_as_existing, is_same_entry};
+pub use equal::{are_same_elements, are_same_entries, is_same_as_existing};
 pub use zone::{PreparedZone, Zone};

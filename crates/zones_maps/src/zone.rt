@@ -94,9 +94,7 @@ impl Zone {
             × (is_some related ≡ is_target kind)) }
         ensures same { IfSome result (λ zone. zone ≡ a_zone kind srel related entries elements) }
     {
-        if related.is_some() != (kind == ZoneKind::Target)
-            || !may_all_be_in_zone(entries.as_slice())
-        {
+        if related.is_some() != (kind == ZoneKind::Target) || !may_be_in_zone(entries.as_slice()) {
             return None;
         }
         // The call adds the fact that the elements rise, which the new zone's invariant needs.
@@ -179,7 +177,7 @@ impl Zone {
         self.entry(id)?.applied
     }
 
-    /// Whether the id is applied, in a distribution zone accepted. Only an applied id supplies an FMID.
+    /// Whether the id is applied, or in a distribution zone accepted. Only an applied id supplies an FMID.
     pub fn is_applied(&self, id: Id) -> bool
         ensures same { result ≡ is_applied self.now id }
         ensures form { IsZone self.now }
@@ -200,7 +198,7 @@ impl Zone {
         }
     }
 
-    /// Whether a function that was applied deleted it.
+    /// Whether an applied function deleted the SYSMOD.
     pub fn is_deleted(&self, id: Id) -> bool
         ensures { result ≡ is_some (delby_of self.now id) }
     {
@@ -233,7 +231,7 @@ impl Zone {
         })
     }
 
-    /// Memory for this change of the zone, so that `edit` takes none. It copies only what the delta puts.
+    /// Takes the memory for this change of the zone, so that `edit` needs none. It copies only what the delta puts.
     pub fn prepare(&self, alloc: Global, delta: &ZoneDelta) -> Result<PreparedZone, AllocError>
         ensures { IfOk result (IsReady self.now delta.now.edits) }
     {
@@ -255,8 +253,8 @@ impl Zone {
     }
 }
 
-// Whether each entry has a date, SUPBY or DELBY, and waives requisites only if it is applied.
-fn may_all_be_in_zone(entries: &[Entry]) -> bool
+// Whether these entries keep the rules of a zone.
+fn may_be_in_zone(entries: &[Entry]) -> bool
     ensures { IsTrue result
         ↔ (All (λ e. IsTrue (has_content e)) entries.now
         × All (λ e. IsTrue (waives_applied e)) entries.now) }

@@ -5,24 +5,21 @@ ghost use Rattle.std.specs.List.{AllByRecursion};
 ghost use Rattle.sqlite_value.specs.declared.value.Value.TheVariants.{Null};
 ghost use Rattle.store_schema.specs.Plain.{HasNoDefault};
 
-use crate::same::key::same_name;
+use crate::same::part::Same;
 use sqlite_schema::schema::Column;
 use sqlite_value::value::Value;
 
 fn is_null(value: &Value) -> bool
     ensures { IsTrue result ↔ (value.now ≡ Null) }
 {
-    match value {
-        Value::Null => true,
-        _ => false,
-    }
+    matches!(value, Value::Null)
 }
 
 // Whether the two columns are the same, and have no default.
 fn same_column(a: &Column, b: &Column) -> bool
     ensures { IsTrue result ↔ (a.now ≡ b.now) × HasNoDefault a.now }
 {
-    same_name(&a.name, &b.name)
+    a.name.is_same(&b.name)
         && a.kind == b.kind
         && a.is_strict == b.is_strict
         && a.not_null == b.not_null

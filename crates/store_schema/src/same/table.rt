@@ -5,9 +5,8 @@ ghost use Rattle.std.specs.List.{AllByRecursion};
 ghost use Rattle.store_schema.specs.Plain.{HasNoDefault, IsPlainTable, no_stamps};
 
 use crate::same::column::same_columns;
-use crate::same::key::{
-    same_keys, same_name, same_order, same_orders, same_places, same_references, same_rowid,
-};
+use crate::same::key::same_rowid;
+use crate::same::part::{Same, all_same};
 use sqlite_schema::code::Terms;
 use sqlite_schema::schema::{Index, Stamps, Table};
 
@@ -36,8 +35,7 @@ fn has_no_expression(table: &Table) -> bool
 fn same_rules(a: &Table, b: &Table) -> bool
     ensures { IsTrue result ↔ (a.now.computed ≡ b.now.computed) × (a.now.references ≡ b.now.references) }
 {
-    same_places(&a.computed, &b.computed)
-        && same_references(a.references.as_slice(), b.references.as_slice())
+    a.computed.is_same(&b.computed) && all_same(a.references.as_slice(), b.references.as_slice())
 }
 
 // Whether names, trees and columns are the same, and no column has a default.
@@ -46,7 +44,7 @@ fn same_heading(a: &Table, b: &Table) -> bool
         × (a.now.columns ≡ b.now.columns) × (a.now.is_counted ≡ b.now.is_counted) }
     ensures found { AllByRecursion HasNoDefault a.now.columns → a.now ≡ b.now → IsTrue result }
 {
-    same_name(&a.name, &b.name)
+    a.name.is_same(&b.name)
         && a.tree == b.tree
         && same_columns(a.columns.as_slice(), b.columns.as_slice())
         && a.is_counted == b.is_counted
@@ -58,9 +56,9 @@ fn same_uniques(a: &Table, b: &Table) -> bool
         × (a.now.uniques ≡ b.now.uniques) × (a.now.orders ≡ b.now.orders) }
 {
     same_rowid(&a.key, &b.key)
-        && same_places(&a.primary, &b.primary)
-        && same_keys(a.uniques.as_slice(), b.uniques.as_slice())
-        && same_orders(a.orders.as_slice(), b.orders.as_slice())
+        && a.primary.is_same(&b.primary)
+        && all_same(a.uniques.as_slice(), b.uniques.as_slice())
+        && all_same(a.orders.as_slice(), b.orders.as_slice())
 }
 
 // Whether the two tables are the same, and have neither an expression nor a default.
@@ -91,29 +89,13 @@ pub(crate) fn same_tables(a: &[Table], b: &[Table]) -> bool
     true
 }
 
-// Whether the two indexes are the same.
-fn same_index(a: &Index, b: &Index) -> bool
-    ensures { IsTrue result ↔ (a.now ≡ b.now) }
-{
-    same_name(&a.name, &b.name)
-        && a.tree == b.tree
-        && a.table == b.table
-        && same_places(&a.columns, &b.columns)
-        && a.order == b.order
-        && a.is_unique == b.is_unique
-}
-
-/// Whether the indexes are the same in the same order.
-pub(crate) fn same_indexes(a: &[Index], b: &[Index]) -> bool
-    ensures { IsTrue result ↔ (a.now ≡ b.now) }
-{
-    if a.len() != b.len() {
-        return false;
+impl Same for Index {
+    fn is_same(&self, other: &Index) -> bool {
+        self.name.is_same(&other.name)
+            && self.tree == other.tree
+            && self.table == other.table
+            && self.columns.is_same(&other.columns)
+            && self.order.is_same(&other.order)
+            && self.is_unique == other.is_unique
     }
-    for at in 0..a.len() {
-        if !same_index(&a[at], &b[at]) {
-            return false;
-        }
-    }
-    true
 }

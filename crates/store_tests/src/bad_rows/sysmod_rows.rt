@@ -4,7 +4,7 @@ use crate::bad_rows::{NO_STATE, Part, check};
 use sqlite::{Alter, Connection, MemStore};
 use std::alloc::Global;
 use std::test::Fail;
-use store_play::{known_rows_with, open_store, run, run_doubling};
+use store_play::{open_known_rows, open_store, run, run_doubling};
 use store_schema::StoreError;
 
 /// SYSMODs.
@@ -68,7 +68,7 @@ const AS_MANY: &str = "DELETE FROM sysmod WHERE id > 'M' AND id < 'M100006'";
 
 // The known rows and 65,536 further SYSMODs, once the statement has removed some.
 fn many_without(alloc: Global, sql: &str) -> Result<Connection<MemStore>, Fail> {
-    let mut conn = known_rows_with(alloc, &[FIRST])?;
+    let mut conn = open_known_rows(alloc, &[FIRST])?;
     run_doubling(&mut conn, AGAIN, 16)?;
     run(&mut conn, THEIR_VERS, &[])?;
     run(&mut conn, sql, &[])?;

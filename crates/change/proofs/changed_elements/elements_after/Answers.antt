@@ -9,7 +9,7 @@ use Rattle.terms.specs.Install.{HasElementAfter, Installation}
 use Rattle.terms.specs.Lookups.{element_of, has_change}
 use Rattle.terms.specs.Over.{IsOver}
 use Rattle.change.specs.Folding.{AreChangers}
-use Rattle.change.specs.Grouping.{AreByElement}
+use Rattle.zones.specs.Grouping.{AreByElement}
 use Rattle.change.proofs.AllElements.{all_change, all_ordered, all_based, first_listed, first_some, made_none}
 use Rattle.change.proofs.AllElements.{made_next, made_all, one_after, key_of_found, permuted_any, permuted_changers}
 use Rattle.change.proofs.changed_elements.elements_after.Goals.{After-deref, After-deref-in-loop-element}

@@ -28,15 +28,16 @@ loop-edit-preserved c =
     let all = at.invariant.all in
     record {
       all = one_more at.yielded _ _ _ all at.invariant.count x _ steps;
-      entries = entries_stay c.args.zone.now x at.zone_edits c.edit_element.new.zone_edits c.in_ok-edit_element.ensures
+      entries = entries_stay c.args.zone.now x at.zone_edits c.add_differing_edit.new.zone_edits
+          c.in_ok-add_differing_edit.ensures
           ∙ at.invariant.entries;
       done = done_next c.args.zone.now (into_iter_items c.into_iter-edit-iterator.result)
           (subst (Rises element_cmp (edit_key element_key)) (sym c.into_iter-edit-iterator.ensures.into_iter_gives.0)
           c.requires.rising)
-          at.yielded x at.zone_edits c.edit_element.new.zone_edits
+          at.yielded x at.zone_edits c.add_differing_edit.new.zone_edits
           (subst (λ es. Contains es x) all (Contains-append_right at.yielded (into_iter_items at.edit-iterator) x
           (subst (λ es. Contains es x) (sym steps) (here x _))))
-          at.invariant.done c.in_ok-edit_element.ensures;
+          at.invariant.done c.in_ok-add_differing_edit.ensures;
       count = let gone = c.in-Some.ensures.steps.1 in
           one_less at.yielded _ _ _ all at.invariant.count x _ steps _ (omega (arith, gone));
     }

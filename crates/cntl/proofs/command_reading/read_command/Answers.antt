@@ -16,11 +16,11 @@ returns-then-has_double-clause-fault c = λ pieces h.
     let r = c.in-Ok.ensures t.0 t.2 in
     (c.in-Some.word, t.0, t.1, sym (c.has_double.ensures t.0 r) ∙ c.if-has_double.true)
 
-pub returns-then-is_unchosen-clause-fault : goal.returns-then-is_unchosen-clause-fault
-returns-then-is_unchosen-clause-fault c = λ pieces h.
+pub returns-then-lacks_single_list-clause-fault : goal.returns-then-lacks_single_list-clause-fault
+returns-then-lacks_single_list-clause-fault c = λ pieces h.
     let t = c.in-Some.ensures.word pieces h in
     let r = c.in-Ok.ensures t.0 t.2 in
-    (c.in-Some.word, t.0, t.1, cc (c.has_double.ensures t.0 r), cc (c.is_unchosen.ensures t.0 r))
+    (c.in-Some.word, t.0, t.1, cc (c.has_double.ensures t.0 r), cc (c.lacks_single_list.ensures t.0 r))
 
 pub returns-in_default-words_named-clause-fault : goal.returns-in_default-words_named-clause-fault
 returns-in_default-words_named-clause-fault c = λ pieces h.
@@ -32,7 +32,7 @@ returns-in_default-words_named-clause-fault c = λ pieces h.
     c.in_default-words_named.ensures.none t.0 r o.1.0 o.1.1
     (subst (λ names. AreOperands names o.1.0) (sym c.operands_of.ensures)
     (are_operands c.in-Some.word t.0 o.1.0 o.1.1 o.1.2 single)) in
-    (c.in-Some.word, t.0, t.1, single, cc (c.is_unchosen.ensures t.0 r), none)
+    (c.in-Some.word, t.0, t.1, single, cc (c.lacks_single_list.ensures t.0 r), none)
 
 pub returns-clause-fault : goal.returns-clause-fault
 returns-clause-fault c = λ pieces h.
@@ -50,7 +50,7 @@ returns-clause-fault c = λ pieces h.
             o.1.3,
       ),
     ) in
-    (c.in-Some.word, t.0, t.1, cc (c.has_double.ensures t.0 r), cc (c.is_unchosen.ensures t.0 r), none)
+    (c.in-Some.word, t.0, t.1, cc (c.has_double.ensures t.0 r), cc (c.lacks_single_list.ensures t.0 r), none)
 
 pub returns-in-Ok-read_operands-clause-command : goal.returns-in-Ok-read_operands-clause-command
 returns-in-Ok-read_operands-clause-command c = λ pieces h.

@@ -27,7 +27,7 @@ returns-in-Some c = λ pieces h.
     let is = rw c.in-Some.is at c.list_after.ensures pieces h in
     let some = All_unmap (λ t. 0 < length t) (λ name. name.now) c.members_of.result.now
     (subst (All (λ t. 0 < length t)) (sym c.members_of.ensures) (names_some w)) in
-    c.any_run_twice.ensures some
+    c.any_occurs_twice.ensures some
     ∙ any_named (is_often 2 runs) (λ name. name.now) c.members_of.result.now (members_of w) c.members_of.ensures
     ∙ ap (λ l. list_any (is_often 2 (runs_in l)) (members_of w)) is
     ∙ sym (ap (λ b. b || list_any (is_often 2 (runs_in (list_behind (codes "BYPASS") pieces))) (members_of w))

@@ -29,14 +29,14 @@ loop-module-preserved c =
     record {
       grows = λ kind.
           grows_then decide kind c.args.element.now c.args.sysmod.now at.sysmod new (at.invariant.grows kind)
-          (c.in_ok-put.ensures.grows kind);
+          (c.in_ok-added.ensures.grows kind);
       there = λ t.
-          let b = c.are_both-all.ensures t in
+          let b = c.are_both-added_all.ensures t in
           more_seen (λ m. m.now) (λ m. IsChanged decide new.changes Mac (module_name m) false) c.args.modules.now
-          at.module-index _ c.loop-module-test.true (c.in_ok-put.ensures.there b.1)
+          at.module-index _ c.loop-module-test.true (c.in_ok-added.ensures.there b.1)
           (All-weaker (λ m. IsChanged decide at.sysmod.changes Mac (module_name m.now) false)
           (λ m. IsChanged decide new.changes Mac (module_name m.now) false)
-          (λ m any. (c.in_ok-put.ensures.grows Ptf).kept Mac (module_name m.now) false any)
+          (λ m any. (c.in_ok-added.ensures.grows Ptf).kept Mac (module_name m.now) false any)
           (take at.module-index c.args.modules.now) (at.invariant.there b.0));
     }
 

@@ -9,6 +9,6 @@ use Rattle.intake_sysmod.proofs.changes.add_modules.Given as goal
 abbrev pub invariant-loop-module : goal.invariant-loop-module
 invariant-loop-module l = record {
   grows : (kind : Kind) → Grows l.options.decide kind l.element l.fn.sysmod l.sysmod;
-  there : IsTrue l.all → All (λ m. IsChanged l.options.decide l.sysmod.changes Mac (module_name m.now) false)
+  there : IsTrue l.added_all → All (λ m. IsChanged l.options.decide l.sysmod.changes Mac (module_name m.now) false)
       (take l.module-index l.modules);
 }

@@ -13,13 +13,13 @@ returns-clause-grows c =
     let kind = c.args.stated.now.kind in
     grows_then decide kind c.args.element.now c.args.sysmod.now c.add_change.new.sysmod c.add_modules.new.sysmod
     (grows_join decide kind c.args.element.now c.in-Some.change c.args.sysmod.now c.add_change.new.sysmod
-    c.in_ok-joined.joined c.in_ok-joined.ensures (inl (rw c.in-Some.is at c.in_ok-change.ensures)))
-    (c.in_ok-put.ensures.grows kind)
+    c.in_ok-added.added c.in_ok-added.ensures (inl (rw c.in-Some.is at c.in_ok-change.ensures)))
+    (c.in_ok-added_modules.ensures.grows kind)
 
 pub returns-clause-changed : goal.returns-clause-changed
 returns-clause-changed c = λ t.
     let b = c.are_both.ensures t in
     element_changed c.args.options.now.decide c.args.stated.now.kind c.args.element.now c.in-Some.change
-    c.args.sysmod.now c.add_change.new.sysmod c.add_modules.new.sysmod c.in_ok-joined.joined
-    (rw c.in-Some.is at c.in_ok-change.ensures) c.in_ok-joined.ensures b.0
-    ((c.in_ok-put.ensures.grows Ptf).kept) (λ asked. c.in_ok-put.ensures.there b.1)
+    c.args.sysmod.now c.add_change.new.sysmod c.add_modules.new.sysmod c.in_ok-added.added
+    (rw c.in-Some.is at c.in_ok-change.ensures) c.in_ok-added.ensures b.0
+    ((c.in_ok-added_modules.ensures.grows Ptf).kept) (λ asked. c.in_ok-added_modules.ensures.there b.1)

@@ -1,7 +1,8 @@
+use Rattle.std.proofs.lemmas.Result.{IfOk-weaker}
 use Rattle.intake_sysmod.proofs.passing.is_passed_over.Goals as goal
 
 pub returns : goal.returns
-returns c = λ t.
+returns c =
+    IfOk-weaker c.is_alone.result _ _ (λ passed found t.
     let may = c.may_pass_over.ensures c.if-not-may_pass_over.false in
-    let found = c.in_ok-passed.ensures t in
-    record { asked = may.0; many = may.1; level_free = found.0; alone = found.1 }
+    record { asked = may.0; many = may.1; level_free = (found t).0; alone = (found t).1 }) c.is_alone.ensures

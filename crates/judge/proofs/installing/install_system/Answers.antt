@@ -1,7 +1,9 @@
 use Rattle.std.proofs.Common.{◌∙◌, ap, List, sym, subst, subst₂}
 use Rattle.std.proofs.lemmas.List.{length-map}
+use Rattle.std.proofs.lemmas.Result.{IfOk-weaker}
 use Rattle.std.specs.Prelude.{option_copied}
 use Rattle.terms.specs.Types.{Id}
+use Rattle.terms.proofs.Results.{if_ok_both}
 use Rattle.sysmods.specs.declared.ver_choice.VerChoice.{VerChoice}
 use Rattle.sysmods.specs.Choices.{choice, number_in}
 use Rattle.sysmods.specs.Overs.{AreOver}
@@ -23,17 +25,29 @@ returns-clause-judged c =
     let zone = c.args.zone.now in
     let related = option_copied c.args.related in
     let ids = c.args.candidates.now.ids in
-    let j = c.in_ok-judged.judged in
-    subst (λ s. IsInstallJudged s j)
+    IfOk-weaker c.new.result _ _
+    (λ j numbered. subst (λ s. IsInstallJudged s j)
     (same_setting zone related ids c.args.bypass.now c.args.global.now c.in_ok-vers.vers.global.now
     (choice c.in_ok-vers.vers) c.in_ok-vers.ensures.global c.in_ok-vers.ensures.counting)
     (install_numbered _ c.in_ok-assessment.field-0.assessment c.in_ok-assessment.ensures.assessment
-    (rw c.as_slice.ensures.items at c.as_slice.ensures.rising) j c.in_ok-judged.ensures.numbered)
+    (rw c.as_slice.ensures.items at c.as_slice.ensures.rising) j numbered))
+    c.new.ensures.numbered
+
+pub returns-clause-global : goal.returns-clause-global
+returns-clause-global c =
+    IfOk-weaker c.new.result _ _
+    (λ j is. ap (λ (v : VerChoice). v.global.now) is ∙ c.in_ok-vers.ensures.global) c.new.ensures.vers
+
+pub returns-clause-counting : goal.returns-clause-counting
+returns-clause-counting c =
+    IfOk-weaker c.new.result _ _ (λ j is. ap choice is ∙ c.in_ok-vers.ensures.counting) c.new.ensures.vers
 
 pub returns-clause-numbers : goal.returns-clause-numbers
-returns-clause-numbers c = ap number_in c.in_ok-judged.ensures.vers ∙ c.in_ok-vers.ensures.numbers
+returns-clause-numbers c =
+    IfOk-weaker c.new.result _ _ (λ j is. ap number_in is ∙ c.in_ok-vers.ensures.numbers) c.new.ensures.vers
 
 pub returns-clause-overs : goal.returns-clause-overs
 returns-clause-overs c =
-    subst₂ (λ (v : VerChoice) (known : List (Id × Id)). AreOver (choice v) known) (sym c.in_ok-judged.ensures.vers)
-    (sym c.in_ok-judged.ensures.overs) c.in_ok-assessment.ensures.overs
+    if_ok_both c.new.result _ _ _
+    (λ j vers overs. subst₂ (λ (v : VerChoice) (known : List (Id × Id)). AreOver (choice v) known) (sym vers)
+    (sym overs) c.in_ok-assessment.ensures.overs) c.new.ensures.vers c.new.ensures.overs

@@ -6,4 +6,4 @@ use Rattle.judge.proofs.surviving.survivors.Given as goal
 
 abbrev pub invariant-loop-i : goal.invariant-loop-i
 invariant-loop-i l =
-    (x : Id) → Contains l.found.items x ↔ SurvivesIn l.ids (map tests_of l.sets) l.i x
+    (x : Id) → Contains l.found.items x ↔ SurvivesIn l.ids (map tests_of l.tests) l.i x

@@ -8,9 +8,9 @@ use Rattle.judge_faults.proofs.claims.claims_of.Goals as goal
 
 pub loop-i-preserved-then-not-passes : goal.loop-i-preserved-then-not-passes
 loop-i-preserved-then-not-passes c =
-    claims_skip c.args.global.now c.args.ids.now c.args.faults.now c.loop-i.i c.own_faults_at.result
+    claims_skip c.args.global.now c.args.ids.now c.args.faults.now c.loop-i.i c.item_at.result
     c.loop-i.claims.items
-    c.own_faults_at.ensures (sym c.passes.ensures ∙ c.if-not-passes.true) c.loop-i.invariant
+    c.item_at.ensures (sym c.passes.ensures ∙ c.if-not-passes.true) c.loop-i.invariant
 
 pub loop-i-preserved : goal.loop-i-preserved
 loop-i-preserved c =
@@ -23,8 +23,8 @@ loop-i-preserved c =
     subst (AreClaims g ids faults (i + 1)) (sym (c.loop-change.invariant
     ∙ ap (λ hs. old ++ map (λ h. a_claim (change_key h) id i) hs)
     (take_all c.loop-change.change-index c.changes_of-changes.result.now (omega arith) ∙ c.changes_of-changes.ensures)))
-    (claims_more g ids faults i id c.own_faults_at.result old
-    (slice_get_read ids (length ids) i id refl (omega arith) c.index-ids-i.is) c.own_faults_at.ensures
+    (claims_more g ids faults i id c.item_at.result old
+    (slice_get_read ids (length ids) i id refl (omega arith) c.index-ids-i.is) c.item_at.ensures
     (sym c.passes.ensures ∙ c.if-not-passes.false) c.loop-i.invariant)
 
 pub returns-clause-are : goal.returns-clause-are

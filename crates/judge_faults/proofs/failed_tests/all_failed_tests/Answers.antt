@@ -8,11 +8,11 @@ use Rattle.judge_faults.proofs.failed_tests.all_failed_tests.Goals as goal
 pub loop-i-preserved : goal.loop-i-preserved
 loop-i-preserved c =
     beside_at (λ n own tests. tests_of tests ≡ row_of c.args.clashing.now.keys n own) c.args.faults.now
-    c.loop-i.sets.items c.push.new.self.items c.loop-i.i-counter c.own_faults_at.result
-    c.failed_test_set-tests.result c.own_faults_at.ensures
+    c.loop-i.sets.items c.push.new.self.items c.loop-i.i-counter c.item_at.result
+    c.failed_test_set-tests.result c.item_at.ensures
     c.in_ok-push.ensures.items
     (c.failed_test_set-tests.ensures
-    ∙ ap (λ b. filter (fails_test c.own_faults_at.result b) all_tests) c.contains-clashes.ensures)
+    ∙ ap (λ b. filter (fails_test c.item_at.result b) all_tests) c.contains-clashes.ensures)
     c.loop-i.invariant
 
 pub returns : goal.returns

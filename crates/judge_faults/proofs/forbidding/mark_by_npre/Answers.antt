@@ -6,8 +6,8 @@ use Rattle.judge_faults.specs.Forbidding.{IsOfOne}
 use Rattle.judge_faults.proofs.Naming.{by_this, one_next}
 use Rattle.judge_faults.proofs.forbidding.mark_by_npre.Goals as goal
 
-pub own_faults_at-requires : goal.own_faults_at-requires
-own_faults_at-requires c = omega (arith, c.requires.below, c.requires.are.lengths)
+pub item_at-requires : goal.item_at-requires
+item_at-requires c = omega (arith, c.requires.below, c.requires.are.lengths)
 
 pub loop-other-preserved : goal.loop-other-preserved
 loop-other-preserved c =
@@ -25,8 +25,8 @@ returns c =
     let new = c.loop-other.marked.keys in
     let named = c.npre-named.result.now in
     let whole : length named ≤ c.loop-other.other-index = omega arith in
-    by_this ids faults (choice c.args.vers.now) place id c.own_faults_at.result old new
-    (slice_get_read ids (length ids) place id refl c.requires.below c.index-ids-place.is) c.own_faults_at.ensures
+    by_this ids faults (choice c.args.vers.now) place id c.item_at.result old new
+    (slice_get_read ids (length ids) place id refl c.requires.below c.index-ids-place.is) c.item_at.ensures
     (sym c.passes.ensures ∙ c.if-not-passes.false)
     (subst (λ l. Marks (IsOfOne ids faults place id l) old new)
     (take_all c.loop-other.other-index named whole ∙ c.npre-named.ensures) c.loop-other.invariant)

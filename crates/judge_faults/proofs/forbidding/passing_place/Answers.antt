@@ -16,8 +16,8 @@ returns-in_default c =
     c.binary_search.result c.binary_search.ensures.bound c.binary_search.ensures.position in
     none_passing ids c.args.faults.now c.args.id (place_none ids c.args.id (sym told ∙ ap is_ok c.in_default.is))
 
-pub own_faults_at-requires : goal.own_faults_at-requires
-own_faults_at-requires c =
+pub item_at-requires : goal.item_at-requires
+item_at-requires c =
     let ids = c.args.ids.now in
     let place = c.in-Ok.place in
     let found = rw c.in-Ok.is at (found_search nat_list_cmp_total (λ x. x) c.args.id ids c.requires.rising
@@ -32,8 +32,8 @@ returns-then-not-passes c =
     let found = rw c.in-Ok.is at (found_search nat_list_cmp_total (λ x. x) c.args.id ids c.requires.rising
     c.binary_search.result c.binary_search.ensures.bound c.binary_search.ensures.position) in
     let at = stands_at ids c.args.id place found.0 found.1.0 found.1.1 in
-    one_failing ids c.args.faults.now place c.args.id c.own_faults_at.result
-    (only_place ids c.requires.rising c.args.id found.1.0 place at.0 at.1) c.own_faults_at.ensures
+    one_failing ids c.args.faults.now place c.args.id c.item_at.result
+    (only_place ids c.requires.rising c.args.id found.1.0 place at.0 at.1) c.item_at.ensures
     (sym c.passes.ensures ∙ c.if-not-passes.true)
 
 pub returns : goal.returns
@@ -43,6 +43,6 @@ returns c =
     let found = rw c.in-Ok.is at (found_search nat_list_cmp_total (λ x. x) c.args.id ids c.requires.rising
     c.binary_search.result c.binary_search.ensures.bound c.binary_search.ensures.position) in
     let at = stands_at ids c.args.id place found.0 found.1.0 found.1.1 in
-    one_passing ids c.args.faults.now place c.args.id c.own_faults_at.result
-    (only_place ids c.requires.rising c.args.id found.1.0 place at.0 at.1) c.own_faults_at.ensures
+    one_passing ids c.args.faults.now place c.args.id c.item_at.result
+    (only_place ids c.requires.rising c.args.id found.1.0 place at.0 at.1) c.item_at.ensures
     (sym c.passes.ensures ∙ c.if-not-passes.false)

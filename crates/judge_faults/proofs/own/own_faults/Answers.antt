@@ -12,12 +12,12 @@ returns-clause-faults c =
     (c.as_slice.ensures.value ∙ c.in_ok-dels.ensures) c.owner.ensures c.fmid.ensures
     (rw c.global-global.ensures at c.changes_of-changes.ensures)
     (record {
-      system_held = rw c.global-global.ensures at c.has_standing_hold.ensures;
-      user_held = rw c.global-global.ensures at c.has_standing_hold-2.ensures;
-      forbidden = c.is_forbidden.ensures;
-      foreign = c.is_foreign.ensures;
-      lower = rw c.requires.overs at c.in_ok-lower.ensures.lower;
-      bare = rw c.global-global.ensures at c.has_bare_update.ensures;
-      unapplied = c.is_unapplied.ensures;
-      ambiguous = c.is_ambiguous.ensures;
+      held_by_system = rw c.global-global.ensures at c.has_standing_hold.ensures;
+      held_by_user = rw c.global-global.ensures at c.has_standing_hold-2.ensures;
+      forbidden_by_npre = c.is_forbidden.ensures;
+      owned_by_another = c.any_owned_by_another.ensures;
+      regression = rw c.requires.overs at c.in_ok-regression.ensures.lower;
+      nothing_to_update = rw c.global-global.ensures at c.any_updates_nothing.ensures;
+      not_in_target = c.fails_applycheck.ensures;
+      several_fit = c.several_vers_fit.ensures;
     })

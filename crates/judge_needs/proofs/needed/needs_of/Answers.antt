@@ -21,7 +21,7 @@ returns c =
     let needs = AreNeedsOf (setting_of scope) c.args.survivors.now in
     let left = λ (ds : List Id). zone_less (global_of scope) (choice_of scope) ds scope.zone.now in
     let dels : c.as_slice-dels.result.now ≡ deletions (choice_of scope) c.args.survivors.now =
-    c.as_slice-dels.ensures.value ∙ rw c.as_slice.ensures.items at c.in_ok-deleted.ensures in
+    c.as_slice-dels.ensures.value ∙ rw c.as_slice.ensures.items at c.in_ok-dels.ensures in
     let whole : length c.as_slice-id-items.result.now ≤ c.loop-id.id-index = omega arith in
     subst (λ ds. needs (left ds) scope.ids.now c.loop-id.needs.items) dels
     (subst (λ ids. needs (left c.as_slice-dels.result.now) ids c.loop-id.needs.items)

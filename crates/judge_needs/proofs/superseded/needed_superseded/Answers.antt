@@ -11,8 +11,8 @@ loop-other-init c = below_none (choice c.args.vers.now) c.args.needed.now c.in_o
 pub loop-other-preserved : goal.loop-other-preserved
 loop-other-preserved c =
     below_next (choice c.args.vers.now) c.args.needed.now c.as_slice-other-items.result.now c.loop-other.other-index
-    c.other-item.result c.in_ok-found.found.items c.loop-other.found.items c.append_needed_below.new.found.items
-    (omega arith) c.other-item.is c.loop-other.invariant c.in_ok-append_needed_below.ensures
+    c.other-item.result c.in_ok-found.found.items c.loop-other.found.items c.append_needed_superseded.new.found.items
+    (omega arith) c.other-item.is c.loop-other.invariant c.in_ok-append_needed_superseded.ensures
 
 pub returns : goal.returns
 returns c z =

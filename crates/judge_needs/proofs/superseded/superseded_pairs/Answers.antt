@@ -25,12 +25,12 @@ loop-id-preserved c =
     let ch = choice c.args.vers.now in
     let needed = c.needed.inside.items.items in
     let x = c.id-item.result in
-    let below = c.in_ok-below.below in
+    let below = c.in_ok-superseded.superseded in
     let old = c.loop-id.pairs.items in
     let new = c.add_pairs.new.pairs.items in
     let own : (z : Id) → Contains below z ↔ SupersedesOne ch needed x z =
     subst (λ ids. (z : Id) → Contains below z ↔ SupersedesOne ch ids x z) (sym c.needed.view_is)
-    c.in_ok-below.ensures in
+    c.in_ok-superseded.ensures in
     record {
       known = known_more ch needed c.loop-id.known c.push_last.new.self (record { id = x; ids = below })
           c.in_ok-push_last.field-0 c.loop-id.invariant.known own c.in_ok-push_last.ensures.ok;

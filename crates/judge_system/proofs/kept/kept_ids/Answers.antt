@@ -1,15 +1,21 @@
-use Rattle.std.proofs.Common.{length, refl, arith}
-use Rattle.std.proofs.lemmas.Option.{slice_get_read, slice_get_within}
+use Rattle.std.proofs.Common.{[], append-nil, arith, false, get_or, length, refl, sym, true}
+use Rattle.std.proofs.lemmas.Option.{slice_get-get_or, slice_get_read, slice_get_within}
 use Rattle.solve.proofs.Choosing.{flagged_next}
 use Rattle.judge_system.proofs.kept.kept_ids.Goals as goal
 
+pub loop-i-preserved-then-not-flags-i : goal.loop-i-preserved-then-not-flags-i
+loop-i-preserved-then-not-flags-i c =
+    let ids = c.args.ids.now in
+    let old = c.loop-i.kept.items in
+    flagged_next ids c.args.flags.now c.loop-i.i (get_or ids c.loop-i.i []) false old old
+    (slice_get-get_or ids c.loop-i.i [] (omega arith)) c.if-not-flags-i.true (sym (append-nil old)) c.loop-i.invariant
+
 pub loop-i-preserved : goal.loop-i-preserved
 loop-i-preserved c =
-    flagged_next c.args.ids.now c.args.flags.now c.loop-i.i c.index-ids-i.result _ c.loop-i.kept.items
-    c.add_if_kept.new.ids.items
-    (slice_get_read c.args.ids.now (length c.args.ids.now) c.loop-i.i c.index-ids-i.result refl (omega arith)
-    c.index-ids-i.is)
-    refl c.in_ok-add_if_kept.ensures c.loop-i.invariant
+    let ids = c.args.ids.now in
+    flagged_next ids c.args.flags.now c.loop-i.i c.index-ids-i.result true c.loop-i.kept.items c.push.new.self.items
+    (slice_get_read ids (length ids) c.loop-i.i c.index-ids-i.result refl (omega arith) c.index-ids-i.is)
+    c.if-not-flags-i.false c.in_ok-push.ensures.items c.loop-i.invariant
 
 pub returns : goal.returns
 returns c x =

@@ -17,7 +17,7 @@ loop-i-preserved c =
     let i = c.loop-i.i in
     let n = c.index-needs-i.result in
     let rows = c.loop-i.rows.items in
-    let new = c.add_if_open.new.rows in
+    let new = c.push_unless_served.new.rows in
     let own = c.needs-needs.ensures.needs in
     let many : length given ≡ length stated = omega (
       arith,
@@ -31,12 +31,12 @@ loop-i-preserved c =
     let at_d : slice_get needs i ≡ Some (numbered n) = ap (λ l. slice_get l i) (sym own)
     ∙ slice_get-map numbered given i
     ∙ ap (option_map numbered) at_need in
-    let at_meant = slice_get-map need_of stated i ∙ ap (option_map need_of) c.need_at-need.ensures in
+    let at_meant = slice_get-map need_of stated i ∙ ap (option_map need_of) c.item_at-need.ensures in
     rw whole (record {
-      size = omega (arith, c.add_if_open.auto.rows, c.deref_mut.ensures.len, c.loop-i.invariant.size);
+      size = omega (arith, c.push_unless_served.auto.rows, c.deref_mut.ensures.len, c.loop-i.invariant.size);
       unserved = open_next c.args.kept.now needs (map need_of stated) i (numbered n)
-          (need_of c.need_at-need.result) rows new at_d at_meant
-          (rw c.deref_mut.ensures.value at c.in_ok-add_if_open.ensures) c.loop-i.invariant.unserved;
+          (need_of c.item_at-need.result) rows new at_d at_meant
+          (rw c.deref_mut.ensures.value at c.in_ok-push_unless_served.ensures) c.loop-i.invariant.unserved;
     })
 
 pub returns-clause-unserved : goal.returns-clause-unserved

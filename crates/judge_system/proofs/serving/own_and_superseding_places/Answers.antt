@@ -14,9 +14,9 @@ ranged c =
     ∙ c.loop-pair.invariant
 
 pub returns-clause-places : goal.returns-clause-places
-returns-clause-places c =
-    served_places_holds c.args.ids.now.keys c.args.kind c.args.id c.args.served.now.keys c.loop-pair.places.items
-    c.requires.takes (ranged c)
+returns-clause-places c kind takes =
+    served_places_holds c.args.ids.now.keys kind c.args.id c.args.served.now.keys c.loop-pair.places.items takes
+    (ranged c)
 
 pub returns-clause-below : goal.returns-clause-below
 returns-clause-below c =

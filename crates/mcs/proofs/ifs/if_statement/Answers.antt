@@ -21,15 +21,15 @@ returns-in_err-condition-clause-fault c = λ rest h.
     c.args.known.now.inline.now (words_of c.in-Some.words.now) c.in_err-condition.field-0.0 refl c.requires
     (c.in-Some.ensures.some rest h) c.in_err-condition.ensures.bad)
 
-pub returns-then-not-is_within-clause-fault : goal.returns-then-not-is_within-clause-fault
-returns-then-not-is_within-clause-fault c = λ rest h.
+pub returns-then-not-is_within_limits-clause-fault : goal.returns-then-not-is_within_limits-clause-fault
+returns-then-not-is_within_limits-clause-fault c = λ rest h.
     let b = begun_of c.args.begun.now in
     let inline = c.args.known.now.inline.now in (
       SaysIf c.in_ok-condition.condition,
       if_value (Some b) b c.args.known.now.word (own_list c.args.known.now) rest inline c.in_ok-condition.condition refl
           c.requires (words_of c.in-Some.words.now, c.in-Some.ensures.some rest h, c.in_ok-condition.ensures.ok),
-      λ within. true≢false (sym (c.is_within.ensures.1 (if_within (Some b) b c.in_ok-condition.condition inline refl within))
-          ∙ c.if-not-is_within.true),
+      λ within. true≢false (sym (c.is_within_limits.ensures.1
+          (if_within (Some b) b c.in_ok-condition.condition inline refl within)) ∙ c.if-not-is_within_limits.true),
     )
 
 pub returns-clause-said : goal.returns-clause-said
@@ -38,4 +38,4 @@ returns-clause-said c = λ rest h.
     if_said (Some b) b c.args.known.now.word (own_list c.args.known.now) rest c.args.known.now.inline.now
     c.in_ok-condition.condition refl c.requires
     (words_of c.in-Some.words.now, c.in-Some.ensures.some rest h, c.in_ok-condition.ensures.ok)
-    (c.is_within.ensures.0 c.if-not-is_within.false)
+    (c.is_within_limits.ensures.0 c.if-not-is_within_limits.false)

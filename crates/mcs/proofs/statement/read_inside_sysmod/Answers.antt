@@ -20,7 +20,7 @@ pub returns-in-Assign-clause-fault : goal.returns-in-Assign-clause-fault
 returns-in-Assign-clause-fault c = λ rest h printable. c.assign_statement.ensures.fault (Some c.args.begun.now) rest h
 
 pub returns-in-Replace-clause-fault : goal.returns-in-Replace-clause-fault
-returns-in-Replace-clause-fault c = λ rest h printable. c.change_statement.ensures.fault rest h
+returns-in-Replace-clause-fault c = λ rest h printable. c.replacement_statement.ensures.fault rest h
 
 pub returns-in-UpdateMac-clause-fault : goal.returns-in-UpdateMac-clause-fault
 returns-in-UpdateMac-clause-fault c = λ rest h printable. c.update_statement.ensures.fault rest h

@@ -23,16 +23,16 @@ returns-in_err-ver-clause-fault c = λ rest h.
     c.args.known.now.inline.now (words_of c.in-Some.words.now) c.in_err-ver.field-0.0 refl c.requires
     (c.in-Some.ensures.words rest h) c.in_err-ver.ensures.bad)
 
-pub returns-then-not-is_within-clause-fault : goal.returns-then-not-is_within-clause-fault
-returns-then-not-is_within-clause-fault c = λ rest h.
+pub returns-then-not-is_within_limits-clause-fault : goal.returns-then-not-is_within_limits-clause-fault
+returns-then-not-is_within_limits-clause-fault c = λ rest h.
     let b = begun_of c.args.begun.now in
     let inline = c.args.known.now.inline.now in (
       SaysVer c.in_ok-ver.ver,
       ver_value (Some b) b c.args.known.now.word (own_list c.args.known.now) rest inline
           (words_of c.in-Some.words.now) c.in_ok-ver.ver refl c.requires (c.in-Some.ensures.words rest h)
           c.in_ok-ver.ensures.ok,
-      λ within. true≢false (sym (c.is_within.ensures.1 (ver_within (Some b) b c.in_ok-ver.ver inline refl within))
-          ∙ c.if-not-is_within.true),
+      λ within. true≢false (sym (c.is_within_limits.ensures.1
+          (ver_within (Some b) b c.in_ok-ver.ver inline refl within)) ∙ c.if-not-is_within_limits.true),
     )
 
 pub returns-clause-said : goal.returns-clause-said
@@ -40,4 +40,4 @@ returns-clause-said c = λ rest h.
     let b = begun_of c.args.begun.now in
     ver_said (Some b) b c.args.known.now.word (own_list c.args.known.now) rest c.args.known.now.inline.now
     (words_of c.in-Some.words.now) c.in_ok-ver.ver refl c.requires (c.in-Some.ensures.words rest h)
-    c.in_ok-ver.ensures.ok (c.is_within.ensures.0 c.if-not-is_within.false)
+    c.in_ok-ver.ensures.ok (c.is_within_limits.ensures.0 c.if-not-is_within_limits.false)

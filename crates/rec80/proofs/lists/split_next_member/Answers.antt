@@ -14,5 +14,5 @@ returns-in_err-word-clause-none c =
 pub returns-in_err-list-clause-none : goal.returns-in_err-list-clause-none
 returns-in_err-list-clause-none c =
     rw c.from_residual-in_err-list.ensures (none_closes c.args.first (text_of c.args.rest.now) (text_of c.in_ok-start.start)
-    c.in_ok-word.word.now (text_of c.in_ok-word.behind) c.in_ok-start.ensures.only
+    c.in_ok-word.word.now (text_of c.in_ok-word.after_name) c.in_ok-start.ensures.only
     c.in_ok-word.ensures.run c.in_err-list.ensures.none)

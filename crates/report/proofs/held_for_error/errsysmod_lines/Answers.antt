@@ -22,7 +22,7 @@ loop-error-preserved c resolvers are =
     let below : i < length errors = omega arith in
     let told =
     resolves_as g zone c.in_ok-vers.vers o.reason c.in_ok-vers.ensures.global c.in_ok-vers.ensures.srel
-    (c.in_ok-vers.ensures.counting ∙ ap (counting g zone) c.new-none.ensures) in
+    (c.in_ok-vers.ensures.counting ∙ ap (counting g zone) c.new-no_candidates.ensures) in
     let reason_is : c.unwrap.result ≡ o.reason = search rules in
     let same : items ≡ resolvers o.reason =
     rises_only nat_list_cmp_total (λ x. x) items (resolvers o.reason) c.as_slice.ensures.rising (are o.reason).0

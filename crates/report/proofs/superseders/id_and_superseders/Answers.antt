@@ -1,5 +1,6 @@
 use Rattle.std.proofs.Common.{◌∙◌, subst, sym, take_all, arith, Contains}
 use Rattle.std.specs.Prelude.{◌↔◌}
+use Rattle.std.proofs.lemmas.Result.{IfOk-weaker}
 use Rattle.sysmods.specs.Seen.{AddsAll}
 use Rattle.sysmods.proofs.Growth.{adds_next}
 use Rattle.report.proofs.Superseding.{searching_next, searching_last, Belongs}
@@ -17,11 +18,11 @@ loop-searched-preserved c =
     (omega arith)
     (rw c.as_slice.ensures.keys at c.index-as_slice-searched.is)
     (subst (λ l. AddsAll old l new) (take_all c.loop-by.by-index c.as_slice-by-items.result.now (omega arith)
-    ∙ c.as_slice-by-items.ensures.value ∙ c.in_ok-above.ensures) c.loop-by.invariant) c.loop-searched.invariant
+    ∙ c.as_slice-by-items.ensures.value ∙ c.in_ok-superseders.ensures) c.loop-by.invariant) c.loop-searched.invariant
 
 pub returns : goal.returns
-returns c = λ y.
-    subst (λ l. Contains l y ↔ Belongs c.args.vers.now c.args.id y)
-    (sym (c.in_ok-ids.ensures.items ∙ c.as_slice-2.ensures.keys))
+returns c =
+    IfOk-weaker c.from_slice.result _ _ (λ ids are y.
+    subst (λ l. Contains l y ↔ Belongs c.args.vers.now c.args.id y) (sym (are ∙ c.as_slice-2.ensures.keys))
     (searching_last c.args.vers.now c.args.id c.loop-searched.seen.keys c.loop-searched.searched (omega arith)
-    c.loop-searched.invariant y)
+    c.loop-searched.invariant y)) c.from_slice.ensures.items

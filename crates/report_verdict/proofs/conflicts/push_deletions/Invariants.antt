@@ -7,4 +7,4 @@ use Rattle.report_verdict.proofs.conflicts.push_deletions.Given as goal
 abbrev pub invariant-loop-del : goal.invariant-loop-del
 invariant-loop-del l =
     l.found.items ≡ l.initial.found.items ++ flat_map (deletion_of (setting_of l.scope) l.id l.by) (take l.del-index
-    l.named)
+    l.del-items)

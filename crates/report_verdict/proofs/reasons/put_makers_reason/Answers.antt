@@ -10,7 +10,8 @@ use Rattle.report_verdict.proofs.reasons.put_makers_reason.Goals as goal
 
 pub loop-umid-preserved : goal.loop-umid-preserved
 loop-umid-preserved c =
-    flat_more (λ m. maker_reason c.args.test c.args.elem_type c.args.name.now (codes "UMID") (maker_view m))
+    let element = c.args.element.now in
+    flat_more (λ m. maker_reason c.args.test element.elem_type element.name (codes "UMID") (maker_view m))
     c.as_slice-umid-items.result.now c.loop-umid.umid-index c.umid-item.result c.put_maker_reason.new.text.items
     c.loop-umid.text.items c.put_maker_reason-in-loop-umid.new.text.items (omega arith) c.umid-item.is
     c.loop-umid.invariant
@@ -18,9 +19,10 @@ loop-umid-preserved c =
 
 pub returns : goal.returns
 returns c =
-    let told : Maker → List ℕ = maker_reason c.args.test c.args.elem_type c.args.name.now (codes "UMID") in
+    let element = c.args.element.now in
+    let told : Maker → List ℕ = maker_reason c.args.test element.elem_type element.name (codes "UMID") in
     let found = c.args.found.now in
-    let rmid : List ℕ = maker_reason c.args.test c.args.elem_type c.args.name.now (codes "RMID")
+    let rmid : List ℕ = maker_reason c.args.test element.elem_type element.name (codes "RMID")
     (maker_view found.rmid) in
     let umids : List ℕ = flat_map told (map maker_view found.umids.items) in
     c.loop-umid.invariant

@@ -8,5 +8,5 @@ use Rattle.report_verdict.proofs.reasons.put_makers_reason.Given as goal
 abbrev pub invariant-loop-umid : goal.invariant-loop-umid
 invariant-loop-umid l =
     l.text.items ≡ l.initial.text.items
-    ++ flat_map (λ m. maker_reason l.test l.elem_type l.name (codes "UMID") (maker_view m)) (take l.umid-index
-    l.umid-items)
+    ++ flat_map (λ m. maker_reason l.test l.element.elem_type l.element.name (codes "UMID") (maker_view m))
+    (take l.umid-index l.umid-items)

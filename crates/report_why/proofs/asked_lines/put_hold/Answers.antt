@@ -5,13 +5,13 @@ use Rattle.terms.specs.Types.{Hold}
 use Rattle.report.specs.Facts.{HoldFact}
 use Rattle.sysmods_values.specs.contracts.hold.Hold.{the_view}
 use Rattle.report_why.specs.FactText.{fact_text}
-use Rattle.report.specs.FactViews.{answer_view}
+use Rattle.report.specs.FactViews.{resolution_view}
 use Rattle.report_why.proofs.TextParts.{hold_answered, hold_unanswered}
 use Rattle.report_why.proofs.asked_lines.put_hold.Goals as goal
 
 pub returns-in_ok-put_comment-in-Some : goal.returns-in_ok-put_comment-in-Some
 returns-in_ok-put_comment-in-Some c =
-    let a = answer_view c.in-Some.answer in
+    let a = resolution_view c.in-Some.resolution in
     rw c.in-Some.is (subst (λ (h : Hold). OnOk c.put_resolution.result
     (c.put_resolution.new.text.items ≡ c.args.text.now.items ++ fact_text (HoldFact h (Some a)))) c.hold.view_is
     (IfOk-equal c.put_resolution.result c.put_resolution.new.text.items _ _ c.put_resolution.ensures

@@ -3,14 +3,14 @@ use Rattle.std.specs.Prelude.{OnOk}
 use Rattle.std.proofs.lemmas.Result.{IfOk-equal}
 use Rattle.report.specs.Facts.{Requisite, RequisiteFact, a_requisite}
 use Rattle.report_why.specs.FactText.{fact_text}
-use Rattle.report.specs.FactViews.{answer_view}
+use Rattle.report.specs.FactViews.{resolution_view}
 use Rattle.report_why.proofs.TextParts.{requisite_by_if, requisite_by_itself}
 use Rattle.report_why.proofs.asked_lines.put_requisite.Goals as goal
 
 pub returns-in_ok-append_words-in-Some : goal.returns-in_ok-append_words-in-Some
 returns-in_ok-append_words-in-Some c =
     let i = c.requisite.inside in
-    let a = answer_view c.args.answer.now in
+    let a = resolution_view c.args.resolution.now in
     subst (λ (r : Requisite). OnOk c.put_resolution.result
     (c.put_resolution.new.text.items ≡ c.args.text.now.items ++ fact_text (RequisiteFact r a))) c.requisite.view_is
     (IfOk-equal c.put_resolution.result c.put_resolution.new.text.items _ _ c.put_resolution.ensures
@@ -21,7 +21,7 @@ returns-in_ok-append_words-in-Some c =
 pub returns-in_ok-append_words-in-None : goal.returns-in_ok-append_words-in-None
 returns-in_ok-append_words-in-None c =
     let i = c.requisite.inside in
-    let a = answer_view c.args.answer.now in
+    let a = resolution_view c.args.resolution.now in
     subst (λ (r : Requisite). OnOk c.put_resolution-in-None.result
     (c.put_resolution-in-None.new.text.items ≡ c.args.text.now.items ++ fact_text (RequisiteFact r a)))
     c.requisite.view_is

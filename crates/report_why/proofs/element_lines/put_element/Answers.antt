@@ -12,7 +12,8 @@ use Rattle.report_why.proofs.element_lines.put_element.Goals as goal
 pub returns-in_default : goal.returns-in_default
 returns-in_default c =
     rw c.in_default.is (IfOk-weaker c.append_words.result _ _
-    (λ done put. element_missing c.args.elem_type c.args.name.now c.args.replaces c.args.text.now.items
+    (λ done put. element_missing c.args.element.now.elem_type c.args.element.now.name c.args.element.now.replaces
+    c.args.text.now.items
     c.type_text.ensures
     c.as_bytes.ensures.same put) c.append_words.ensures)
 
@@ -32,5 +33,6 @@ returns c =
     ∙ c.as_slice-umid-items.ensures.value)
     ∙ ap (λ l. c.put_maker.new.text.items ++ l)
     (sym (flat_map-map (maker_line (codes "UMID")) maker_view found.umids.items))
-    ∙ element_there c.args.elem_type c.args.name.now c.args.replaces f c.args.text.now.items c.type_text.ensures
+    ∙ element_there c.args.element.now.elem_type c.args.element.now.name c.args.element.now.replaces f
+    c.args.text.now.items c.type_text.ensures
     c.as_bytes.ensures.same c.as_bytes-2.ensures.same c.in_ok-append_words.ensures c.in_ok-put_maker.ensures)

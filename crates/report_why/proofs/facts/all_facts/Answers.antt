@@ -19,9 +19,9 @@ returns c =
     let changes = c.in_ok-changes.changes.items in
     let needed = c.in_ok-needed.needed.items in
     IfOk-weaker c.join_facts-3.result _ _
-    (λ all is. are_facts s x all.items c.in_ok-own.own.items c.in_ok-asked.asked.items changes needed
-    (is ∙ ap (λ l. l ++ needed) (c.in_ok-changed.ensures ∙ ap (λ l. l ++ changes) c.in_ok-facts.ensures))
-    (c.in_ok-own.ensures
+    (λ all is. are_facts s x all.items c.in_ok-first.first.items c.in_ok-asked.asked.items changes needed
+    (is ∙ ap (λ l. l ++ needed) (c.in_ok-up_to_changes.ensures ∙ ap (λ l. l ++ changes) c.in_ok-up_to_holds.ensures))
+    (c.in_ok-first.ensures
     ∙ ap (λ g. standing_facts g zone x ++ ver_facts s x) (sym c.requires.global)
     ∙ ap (λ (zone : Zone). standing_facts s.global zone x ++ ver_facts s x) (sym c.requires.zone))
     c.in_ok-asked.ensures

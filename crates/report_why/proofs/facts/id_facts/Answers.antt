@@ -13,13 +13,13 @@ pub invariant_of-asking-clause-seen_is : goal.invariant_of-asking-clause-seen_is
 invariant_of-asking-clause-seen_is c =
     let scope = c.args.scope.now in
     ap (λ dels. zone_less (global_of scope) (choice_of scope) dels scope.zone.now)
-    (c.as_slice.ensures.value ∙ c.in_ok-seen.ensures)
+    (c.as_slice.ensures.value ∙ c.in_ok-view_dels.ensures)
 
 pub invariant_of-asking-clause-left_is : goal.invariant_of-asking-clause-left_is
 invariant_of-asking-clause-left_is c =
     let scope = c.args.scope.now in
     ap (λ dels. zone_less (global_of scope) (choice_of scope) dels scope.zone.now)
-    (c.as_slice-2.ensures.value ∙ c.in_ok-dropped.ensures)
+    (c.as_slice-2.ensures.value ∙ c.in_ok-own_dels.ensures)
 
 pub invariant_of-asking-clause-applied_is : goal.invariant_of-asking-clause-applied_is
 invariant_of-asking-clause-applied_is c =

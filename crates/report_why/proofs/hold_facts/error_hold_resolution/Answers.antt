@@ -3,13 +3,13 @@ use Rattle.terms.specs.declared.codes.NeedKind.TheVariants.{HoldError}
 use Rattle.terms.specs.Types.{Hold}
 use Rattle.report.specs.Facts.{a_requisite, IsResolution}
 use Rattle.report_why.specs.Asking.{setting_in}
-use Rattle.report.specs.FactViews.{answer_view}
+use Rattle.report.specs.FactViews.{resolution_view}
 use Rattle.report_why.proofs.hold_facts.error_hold_resolution.Goals as goal
 
 pub returns-in_ok-resolve_requisite-in-Some : goal.returns-in_ok-resolve_requisite-in-Some
 returns-in_ok-resolve_requisite-in-Some c =
     let a = c.args.asking.now in
-    let answer = answer_view c.in_ok-resolve_requisite-in-Some.field-0 in (
+    let answer = resolution_view c.in_ok-resolve_requisite-in-Some.field-0 in (
       answer,
       refl,
       subst (λ reason. IsResolution (setting_in a) a.id (a_requisite HoldError a.id None reason) answer)

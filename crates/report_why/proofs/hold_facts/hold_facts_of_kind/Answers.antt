@@ -4,7 +4,7 @@ use Rattle.terms.specs.Lookups.{holds_of}
 use Rattle.zones.specs.Scopes.{global_of}
 use Rattle.report.specs.Facts.{IsHoldFact}
 use Rattle.report_why.specs.Asking.{setting_in}
-use Rattle.report.specs.FactViews.{answer_view, fact_view}
+use Rattle.report.specs.FactViews.{resolution_view, fact_view}
 use Rattle.report_why.proofs.Besides.{BesideFront, front_nil, front_next, front_all}
 use Rattle.report_why.proofs.hold_facts.hold_facts_of_kind.Goals as goal
 
@@ -25,7 +25,7 @@ loop-hold-preserved c =
     (holds_of (global_of asking.scope) c.args.kind asking.id) c.loop-hold.hold-iterator c.next.new.self
     c.loop-hold.facts.items c.push.new.self.items c.in-Some.hold.now _ c.loop-hold.invariant
     c.in-Some.ensures.steps c.in_ok-push.ensures.items
-    (option_map answer_view c.in_ok-resolution.resolution, refl, c.in_ok-resolution.ensures)
+    (option_map resolution_view c.in_ok-resolution.resolution, refl, c.in_ok-resolution.ensures)
 
 pub returns : goal.returns
 returns c =

@@ -6,8 +6,8 @@ use Rattle.zones.specs.Scopes.{choice_of}
 use Rattle.report.specs.Facts.{stated_by, conditions_of}
 use Rattle.report_why.specs.Asking.{view_in}
 use Rattle.report_why.proofs.Growing.{kept_more, grown_then, grown_else}
-use Rattle.report_why.proofs.requisites.push_ifreqs_of_others.Goals.{then-is_other_applied+in_ok-push_ifreqs_for}
-use Rattle.report_why.proofs.requisites.push_ifreqs_of_others.Goals.{else-is_other_applied}
+use Rattle.report_why.proofs.requisites.push_ifreqs_of_others.Goals.{then-is_another_applied+in_ok-push_ifreqs_for}
+use Rattle.report_why.proofs.requisites.push_ifreqs_of_others.Goals.{else-is_another_applied}
 use Rattle.report_why.proofs.requisites.push_ifreqs_of_others.Goals as goal
 
 pub loop-by-preserved : goal.loop-by-preserved
@@ -17,14 +17,14 @@ loop-by-preserved c =
     let more = kept_more (λ y. is_applied (view_in a) y && not (bytes_eq a.id y)) (conditions_of (choice_of a.scope)
     (bytes_eq a.id)) c.args.ids.now
     c.loop-by.by-index by (omega arith) c.by-item.is in
-    elim c.if-is_other_applied.branch [
-      | then-is_other_applied+in_ok-push_ifreqs_for w ↦
+    elim c.if-is_another_applied.branch [
+      | then-is_another_applied+in_ok-push_ifreqs_for w ↦
           rw w.found-is (grown_then c.args.found.now.items _ _ _ _ _ _ c.loop-by.invariant more
-          (sym c.is_other_applied.ensures ∙ w.if-is_other_applied.true)
+          (sym c.is_another_applied.ensures ∙ w.if-is_another_applied.true)
           (w.in_ok-push_ifreqs_for.ensures
           ∙ ap (λ ifs. c.loop-by.found.items ++ flat_map (stated_by by) (filter (λ i. bytes_eq a.id i.function) ifs))
           w.ifs.ensures))
-      | else-is_other_applied w ↦
+      | else-is_another_applied w ↦
           rw w.found-is (grown_else c.args.found.now.items _ _ _ _ _ _ c.loop-by.invariant more
-          (sym c.is_other_applied.ensures ∙ w.if-is_other_applied.false) refl)
+          (sym c.is_another_applied.ensures ∙ w.if-is_another_applied.false) refl)
     ]

@@ -3,7 +3,7 @@ use Rattle.terms.specs.Beside.{Beside}
 use Rattle.terms.proofs.BesideLists.{beside_next, beside_through}
 use Rattle.report.specs.Facts.{IsRequisiteFact}
 use Rattle.report_why.specs.Asking.{setting_in}
-use Rattle.report.specs.FactViews.{answer_view, fact_view}
+use Rattle.report.specs.FactViews.{resolution_view, fact_view}
 use Rattle.report_why.proofs.requisites.requisite_facts.Goals as goal
 
 pub loop-requisite-preserved : goal.loop-requisite-preserved
@@ -13,7 +13,7 @@ loop-requisite-preserved c =
     c.as_slice-requisite-items.result.now c.loop-requisite.facts.items c.push.new.self.items
     c.loop-requisite.requisite-index
     c.requisite-item.result _ (omega arith) c.requisite-item.is c.in_ok-push.ensures.items
-    (answer_view c.in_ok-answer.answer, refl, c.in_ok-answer.ensures) c.loop-requisite.invariant
+    (resolution_view c.in_ok-resolution.resolution, refl, c.in_ok-resolution.ensures) c.loop-requisite.invariant
 
 pub returns : goal.returns
 returns c =

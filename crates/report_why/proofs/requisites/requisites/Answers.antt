@@ -16,11 +16,12 @@ pub returns : goal.returns
 returns c =
     let s = setting_in c.args.asking.now in
     let x = c.args.asking.now.id in (
-      c.from_vec-lost.result,
+      c.from_vec-orphans.result,
       record {
         rising = subst (λ l. IsRising l) c.as_slice-2.ensures.items c.as_slice-2.ensures.rising;
-        members = λ z. subst (λ ids. Contains c.from_vec-lost.result z ↔ Contains ids z)
-            (c.in_ok-losses.ensures s refl refl refl ∙ rw (same_itself x) refl) (c.from_vec-lost.ensures.members z);
+        members = λ z. subst (λ ids. Contains c.from_vec-orphans.result z ↔ Contains ids z)
+            (c.in_ok-unsorted_orphans.ensures s refl refl refl ∙ rw (same_itself x) refl)
+            (c.from_vec-orphans.ensures.members z);
       },
       five_parts c.new-found.ensures.items
           (c.in_ok-push_requisites_of_kind.ensures) (ap (map (a_requisite Fmid x None))

@@ -7,4 +7,8 @@ use Rattle.report_why.proofs.text.put_ver.Goals as goal
 pub returns : goal.returns
 returns c =
     IfOk-equal c.append_words.result c.append_words.new.text.items _ _ c.append_words.ensures
-    (rw (c.id_or_dash.ensures, flag_is c.args.fits (codes "FITS"), flag_is c.args.counts (codes "COUNTS")) refl)
+    (rw (
+      c.id_or_dash.ensures,
+      flag_is c.args.ver.now.fits (codes "FITS"),
+      flag_is c.args.ver.now.counts (codes "COUNTS"),
+    ) refl)

@@ -10,11 +10,11 @@ install-requires-clause-order c x y in_x in_y differ shares =
     let shared = subst (λ v. ShareElement v.global.now x y) c.new.ensures shares in
     absurd (no_change c.args.vers.now.global.now c.args.kept.now
     (subst₂ (λ g ids. list_all (λ z. is_nil (changes_of g z)) ids ≡ true) c.global.ensures c.as_slice.ensures.items
-    (sym c.change_nothing.ensures ∙ c.if-not-change_nothing.false)) x in_x shared.0 shared.1 shared.2)
+    (sym c.change_no_elements.ensures ∙ c.if-not-change_no_elements.false)) x in_x shared.0 shared.1 shared.2)
 
 pub install-requires-clause-base : goal.install-requires-clause-base
 install-requires-clause-base c x type name takes has =
     absurd (no_change c.args.vers.now.global.now c.args.kept.now
     (subst₂ (λ g ids. list_all (λ z. is_nil (changes_of g z)) ids ≡ true) c.global.ensures c.as_slice.ensures.items
-    (sym c.change_nothing.ensures ∙ c.if-not-change_nothing.false)) x takes.kept type name
+    (sym c.change_no_elements.ensures ∙ c.if-not-change_no_elements.false)) x takes.kept type name
     (subst (λ v. IsTrue (has_change v.global.now x type name)) c.new.ensures has))

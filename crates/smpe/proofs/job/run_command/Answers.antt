@@ -18,10 +18,10 @@ returns-in_err-performed-clause-ends g c clean s is keeps =
     let session = c.perform.new.session in
     let command = command_of c.args.command.now in
     let taken = g.W.Sink.taken c.args.w.now in
-    commands_err g.S.Store c.args.date c.args.files.now c.args.store.now at s session (command ∷ []) taken taken
+    commands_err g.S.Store c.args.input.now.date c.args.input.now.files c.args.store.now at s session (command ∷ []) taken taken
     c.from_residual.result
     (job_error c.in_err-performed.field-0.0) c.from_residual.ensures.1
-    (failed_first g.S.Store c.args.store.now at s (Perform c.args.date c.args.files.now command) [] taken
+    (failed_first g.S.Store c.args.store.now at s (Perform c.args.input.now.date c.args.input.now.files command) [] taken
     c.in_err-performed.field-0.0 (c.in_err-performed.ensures.uses.ends clean s keeps is))
 
 pub returns-in_err-write_report-in-Told-clause-ends : goal.returns-in_err-write_report-in-Told-clause-ends
@@ -32,16 +32,16 @@ returns-in_err-write_report-in-Told-clause-ends g c clean s is keeps =
     let old = g.W.Sink.taken c.args.w.now in
     let new = g.W.Sink.taken c.write_report.new.w in
     let p = rw c.in-Told.is at (c.in_ok-performed.ensures.uses.ends clean s keeps is) in
-    commands_err g.S.Store c.args.date c.args.files.now c.args.store.now at s session (command ∷ []) old new
+    commands_err g.S.Store c.args.input.now.date c.args.input.now.files c.args.store.now at s session (command ∷ []) old new
     c.from_residual-in_err-write_report-in-Told.result Write c.from_residual-in_err-write_report-in-Told.ensures.1
-    (broke_first g.S.Store c.args.store.now at s (Perform c.args.date c.args.files.now command) p.0
+    (broke_first g.S.Store c.args.store.now at s (Perform c.args.input.now.date c.args.input.now.files command) p.0
     (outcome_view c.in-Told.outcome) old new (outcome_view c.in-Told.outcome, p.1, refl) p.3
     (sent_part _ _ _ _ _ c.in_err-write_report-in-Told.ensures.sends c.in_err-write_report-in-Told.ensures.fault))
 
 pub returns-in_ok-write_report-in-Told-clause-ends : goal.returns-in_ok-write_report-in-Told-clause-ends
 returns-in_ok-write_report-in-Told-clause-ends g c clean s is keeps =
     let p = rw c.in-Told.is at (c.in_ok-performed.ensures.uses.ends clean s keeps is) in
-    reported g.S.Store c.args.date c.args.files.now c.args.store.now c.perform.new.store s p.0 c.perform.new.session
+    reported g.S.Store c.args.input.now.date c.args.input.now.files c.args.store.now c.perform.new.store s p.0 c.perform.new.session
     (command_of c.args.command.now) (outcome_view c.in-Told.outcome)
     (g.W.Sink.taken c.args.w.now) (g.W.Sink.taken c.write_report.new.w) _ p.1 p.2 p.3
     (sent_all _ _ _ _ _ c.in_ok-write_report-in-Told.ensures.sends c.in_ok-write_report-in-Told.ensures.fault)
@@ -55,20 +55,20 @@ returns-in_err-write_report-in-Lists-clause-ends g c clean s is keeps =
     let old = g.W.Sink.taken c.args.w.now in
     let new = g.W.Sink.taken c.write_report-in-Lists.new.w in
     let p = rw c.in-Lists.is at (c.in_ok-performed.ensures.uses.ends clean s keeps is) in
-    let performs = subst (λ d. Performs c.args.date c.args.files.now s d s (outcome_view c.list.result)) (sym p.0)
-    (c.list.ensures.performs s p.1 c.args.date c.args.files.now) in
-    commands_err g.S.Store c.args.date c.args.files.now c.args.store.now at s session (command ∷ []) old new
+    let performs = subst (λ d. Performs c.args.input.now.date c.args.input.now.files s d s (outcome_view c.list.result)) (sym p.0)
+    (c.list.ensures.performs s p.1 c.args.input.now.date c.args.input.now.files) in
+    commands_err g.S.Store c.args.input.now.date c.args.input.now.files c.args.store.now at s session (command ∷ []) old new
     c.from_residual-in_err-write_report-in-Lists.result Write c.from_residual-in_err-write_report-in-Lists.ensures.1
-    (broke_first g.S.Store c.args.store.now at s (Perform c.args.date c.args.files.now command) s
+    (broke_first g.S.Store c.args.store.now at s (Perform c.args.input.now.date c.args.input.now.files command) s
     (outcome_view c.list.result) old new (outcome_view c.list.result, performs, refl) p.2
     (sent_part _ _ _ _ _ c.in_err-write_report-in-Lists.ensures.sends c.in_err-write_report-in-Lists.ensures.fault))
 
 pub returns-in_ok-write_report-in-Lists-clause-ends : goal.returns-in_ok-write_report-in-Lists-clause-ends
 returns-in_ok-write_report-in-Lists-clause-ends g c clean s is keeps =
     let p = rw c.in-Lists.is at (c.in_ok-performed.ensures.uses.ends clean s keeps is) in
-    let performs = subst (λ d. Performs c.args.date c.args.files.now s d s (outcome_view c.list.result)) (sym p.0)
-    (c.list.ensures.performs s p.1 c.args.date c.args.files.now) in
-    reported g.S.Store c.args.date c.args.files.now c.args.store.now c.perform.new.store s s c.perform.new.session
+    let performs = subst (λ d. Performs c.args.input.now.date c.args.input.now.files s d s (outcome_view c.list.result)) (sym p.0)
+    (c.list.ensures.performs s p.1 c.args.input.now.date c.args.input.now.files) in
+    reported g.S.Store c.args.input.now.date c.args.input.now.files c.args.store.now c.perform.new.store s s c.perform.new.session
     (command_of c.args.command.now) (outcome_view c.list.result)
     (g.W.Sink.taken c.args.w.now) (g.W.Sink.taken c.write_report-in-Lists.new.w) _ performs p.1 p.2
     (sent_all _ _ _ _ _ c.in_ok-write_report-in-Lists.ensures.sends c.in_ok-write_report-in-Lists.ensures.fault)
@@ -81,7 +81,7 @@ returns-in_err-performed-clause-goes g c =
     let old = c.args.store.now in
     let new = c.perform.new.store in
     let command = command_of c.args.command.now in
-    let act = Perform c.args.date c.args.files.now command in
+    let act = Perform c.args.input.now.date c.args.input.now.files command in
     let taken = g.W.Sink.taken c.args.w.now in
     let e = c.in_err-performed.field-0.0 in
     let at = c.in_err-performed.ensures.uses.goes in
@@ -95,7 +95,7 @@ returns-in_err-write_report-in-Told-clause-goes g c =
     let old = c.args.store.now in
     let new = c.perform.new.store in
     let command = command_of c.args.command.now in
-    let act = Perform c.args.date c.args.files.now command in
+    let act = Perform c.args.input.now.date c.args.input.now.files command in
     let a = g.W.Sink.taken c.args.w.now in
     let b = g.W.Sink.taken c.write_report.new.w in
     let outcome = outcome_view c.in-Told.outcome in
@@ -103,7 +103,7 @@ returns-in_err-write_report-in-Told-clause-goes g c =
     c.from_residual-in_err-write_report-in-Told.ensures.1
     (early_first g.S.Store old new act [] a b Write
     (fails_told g.S.Store old new act outcome a b
-    (performs_passes g.S.Store old new c.args.date c.args.files.now command c.in_ok-performed.performed outcome
+    (performs_passes g.S.Store old new c.args.input.now.date c.args.input.now.files command c.in_ok-performed.performed outcome
     (subst (AnswersOf command) c.in-Told.is c.in_ok-performed.ensures.header)
     (λ change ran. subst (AnswersRun change) c.in-Told.is ran) c.in_ok-performed.ensures.uses.goes.over)
     (sent_part _ _ _ _ _ c.in_err-write_report-in-Told.ensures.sends c.in_err-write_report-in-Told.ensures.fault)))
@@ -114,9 +114,9 @@ returns-in_ok-write_report-in-Told-clause-goes g c =
     let new = c.perform.new.store in
     let command = command_of c.args.command.now in
     let outcome = outcome_view c.in-Told.outcome in
-    goes_one g.S.Store old new (Perform c.args.date c.args.files.now command) outcome (g.W.Sink.taken c.args.w.now)
+    goes_one g.S.Store old new (Perform c.args.input.now.date c.args.input.now.files command) outcome (g.W.Sink.taken c.args.w.now)
     (g.W.Sink.taken c.write_report.new.w) _
-    (performs_passes g.S.Store old new c.args.date c.args.files.now command c.in_ok-performed.performed outcome
+    (performs_passes g.S.Store old new c.args.input.now.date c.args.input.now.files command c.in_ok-performed.performed outcome
     (subst (AnswersOf command) c.in-Told.is c.in_ok-performed.ensures.header)
     (λ change ran. subst (AnswersRun change) c.in-Told.is ran) c.in_ok-performed.ensures.uses.goes.over)
     (sent_all _ _ _ _ _ c.in_ok-write_report-in-Told.ensures.sends c.in_ok-write_report-in-Told.ensures.fault)
@@ -127,7 +127,7 @@ returns-in_err-write_report-in-Lists-clause-goes g c =
     let old = c.args.store.now in
     let new = c.perform.new.store in
     let command = command_of c.args.command.now in
-    let act = Perform c.args.date c.args.files.now command in
+    let act = Perform c.args.input.now.date c.args.input.now.files command in
     let a = g.W.Sink.taken c.args.w.now in
     let b = g.W.Sink.taken c.write_report-in-Lists.new.w in
     let outcome = outcome_view c.list.result in
@@ -135,7 +135,7 @@ returns-in_err-write_report-in-Lists-clause-goes g c =
     c.from_residual-in_err-write_report-in-Lists.ensures.1
     (early_first g.S.Store old new act [] a b Write
     (fails_told g.S.Store old new act outcome a b
-    (performs_passes g.S.Store old new c.args.date c.args.files.now command c.in_ok-performed.performed outcome
+    (performs_passes g.S.Store old new c.args.input.now.date c.args.input.now.files command c.in_ok-performed.performed outcome
     (subst (λ d. IsOutcomeOf d outcome) (sym (subst (AnswersOf command) c.in-Lists.is c.in_ok-performed.ensures.header))
     c.list.ensures.header)
     (λ change ran. absurd (subst (AnswersRun change) c.in-Lists.is ran)) c.in_ok-performed.ensures.uses.goes.over)
@@ -147,9 +147,9 @@ returns-in_ok-write_report-in-Lists-clause-goes g c =
     let new = c.perform.new.store in
     let command = command_of c.args.command.now in
     let outcome = outcome_view c.list.result in
-    goes_one g.S.Store old new (Perform c.args.date c.args.files.now command) outcome (g.W.Sink.taken c.args.w.now)
+    goes_one g.S.Store old new (Perform c.args.input.now.date c.args.input.now.files command) outcome (g.W.Sink.taken c.args.w.now)
     (g.W.Sink.taken c.write_report-in-Lists.new.w) _
-    (performs_passes g.S.Store old new c.args.date c.args.files.now command c.in_ok-performed.performed outcome
+    (performs_passes g.S.Store old new c.args.input.now.date c.args.input.now.files command c.in_ok-performed.performed outcome
     (subst (λ d. IsOutcomeOf d outcome) (sym (subst (AnswersOf command) c.in-Lists.is c.in_ok-performed.ensures.header))
     c.list.ensures.header)
     (λ change ran. absurd (subst (AnswersRun change) c.in-Lists.is ran)) c.in_ok-performed.ensures.uses.goes.over)

@@ -29,11 +29,11 @@ loop-command-preserved g c = record {
       let new = g.W.Sink.taken c.run_command.new.w in
       let code = c.max-code.ensures in
       rw code (subst (λ cs. EndsCommands g.S.Store c.args.store.now c.run_command.new.store s c.run_command.new.session
-      c.args.date
-      c.args.files.now cs old new (Ok (max c.loop-command.code c.in_ok-next.next)))
+      c.args.input.now.date
+      c.args.input.now.files cs old new (Ok (max c.loop-command.code c.in_ok-next.next)))
       (sym (taken_more command_of c.args.commands.now c.loop-command.command-index c.command-item.result
       c.loop-command-test.true c.command-item.is))
-      (commands_more g.S.Store c.args.date c.args.files.now s c.args.store.now c.loop-command.store
+      (commands_more g.S.Store c.args.input.now.date c.args.input.now.files s c.args.store.now c.loop-command.store
       c.run_command.new.store
       c.loop-command.session c.run_command.new.session
       done (command_of c.command-item.result ∷ []) old (g.W.Sink.taken c.loop-command.w) new c.loop-command.code
@@ -42,7 +42,7 @@ loop-command-preserved g c = record {
       (λ t at stands. c.in_ok-next.ensures.ends clean t at stands)));
   goes =
       let done = map command_of (take c.loop-command.command-index c.args.commands.now) in
-      let perform = Perform c.args.date c.args.files.now in
+      let perform = Perform c.args.input.now.date c.args.input.now.files in
       let old = g.W.Sink.taken c.args.w.now in
       let new = g.W.Sink.taken c.run_command.new.w in
       let code = c.max-code.ensures in
@@ -50,7 +50,7 @@ loop-command-preserved g c = record {
       (Ok (max c.loop-command.code c.in_ok-next.next)))
       (sym (taken_more command_of c.args.commands.now c.loop-command.command-index c.command-item.result
       c.loop-command-test.true c.command-item.is))
-      (commands_passed g.S.Store c.args.date c.args.files.now c.args.store.now c.loop-command.store
+      (commands_passed g.S.Store c.args.input.now.date c.args.input.now.files c.args.store.now c.loop-command.store
       c.run_command.new.store done (command_of c.command-item.result ∷ []) old (g.W.Sink.taken c.loop-command.w) new
       c.loop-command.code c.loop-command.invariant.goes c.in_ok-next.next c.in_ok-next.ensures.goes));
   sound = λ none. c.in_ok-next.ensures.fault (c.loop-command.invariant.sound none);
@@ -64,16 +64,16 @@ returns-in_err-next-clause-ends g c clean s is keeps =
     let new = g.W.Sink.taken c.run_command.new.w in
     let at = c.run_command.new.store in
     let error = c.in_err-next.field-0.0 in
-    commands_err g.S.Store c.args.date c.args.files.now c.args.store.now at s c.run_command.new.session
+    commands_err g.S.Store c.args.input.now.date c.args.input.now.files c.args.store.now at s c.run_command.new.session
     (map command_of c.args.commands.now) old new c.from_residual.result error c.from_residual.ensures.1
-    (subst (λ cs. EndsEarly g.S.Store c.args.store.now at s (map (Perform c.args.date c.args.files.now) cs) old new
+    (subst (λ cs. EndsEarly g.S.Store c.args.store.now at s (map (Perform c.args.input.now.date c.args.input.now.files) cs) old new
     error)
     (sym (taken_split command_of c.args.commands.now c.loop-command.command-index c.command-item.result
     c.loop-command-test.true c.command-item.is))
-    (commands_early g.S.Store c.args.date c.args.files.now c.args.store.now at s (done ++ command_of
+    (commands_early g.S.Store c.args.input.now.date c.args.input.now.files c.args.store.now at s (done ++ command_of
     c.command-item.result ∷ []) rest old
     new error
-    (commands_stop g.S.Store c.args.date c.args.files.now s c.args.store.now c.loop-command.store at
+    (commands_stop g.S.Store c.args.input.now.date c.args.input.now.files s c.args.store.now c.loop-command.store at
     c.loop-command.session
     c.run_command.new.session
     done (command_of c.command-item.result ∷ []) old (g.W.Sink.taken c.loop-command.w) new c.loop-command.code error
@@ -86,7 +86,7 @@ returns-in_err-next-clause-goes g c =
     let done = map command_of (take c.loop-command.command-index c.args.commands.now) in
     let rest = map command_of (drop (c.loop-command.command-index + 1) c.args.commands.now) in
     let next = command_of c.command-item.result ∷ [] in
-    let perform = Perform c.args.date c.args.files.now in
+    let perform = Perform c.args.input.now.date c.args.input.now.files in
     let old = g.W.Sink.taken c.args.w.now in
     let new = g.W.Sink.taken c.run_command.new.w in
     let at = c.run_command.new.store in
@@ -96,22 +96,22 @@ returns-in_err-next-clause-goes g c =
     (subst (λ cs. GoesEarly g.S.Store c.args.store.now at (map perform cs) old new error)
     (sym (taken_split command_of c.args.commands.now c.loop-command.command-index c.command-item.result
     c.loop-command-test.true c.command-item.is))
-    (early_commands g.S.Store c.args.date c.args.files.now c.args.store.now c.loop-command.store at done next old
+    (early_commands g.S.Store c.args.input.now.date c.args.input.now.files c.args.store.now c.loop-command.store at done next old
     (g.W.Sink.taken c.loop-command.w) new c.loop-command.code c.loop-command.invariant.goes rest error
     c.in_err-next.ensures.goes))
 
 pub returns-clause-goes : goal.returns-clause-goes
 returns-clause-goes g c =
     subst (λ cs. GoesCommands g.S.Store c.args.store.now c.loop-command.store
-    (map (Perform c.args.date c.args.files.now) (map command_of cs)) (g.W.Sink.taken c.args.w.now)
+    (map (Perform c.args.input.now.date c.args.input.now.files) (map command_of cs)) (g.W.Sink.taken c.args.w.now)
     (g.W.Sink.taken c.loop-command.w) (Ok c.loop-command.code))
     (take_all c.loop-command.command-index c.args.commands.now (omega (arith, c.loop-command-test.false)))
     c.loop-command.invariant.goes
 
 pub returns-clause-ends : goal.returns-clause-ends
 returns-clause-ends g c clean s is keeps =
-    subst (λ cs. EndsCommands g.S.Store c.args.store.now c.loop-command.store s c.loop-command.session c.args.date
-    c.args.files.now (map command_of cs) (g.W.Sink.taken c.args.w.now) (g.W.Sink.taken c.loop-command.w)
+    subst (λ cs. EndsCommands g.S.Store c.args.store.now c.loop-command.store s c.loop-command.session c.args.input.now.date
+    c.args.input.now.files (map command_of cs) (g.W.Sink.taken c.args.w.now) (g.W.Sink.taken c.loop-command.w)
     (Ok c.loop-command.code))
     (take_all c.loop-command.command-index c.args.commands.now (omega (arith, c.loop-command-test.false)))
     (c.loop-command.invariant.ran clean s is keeps)

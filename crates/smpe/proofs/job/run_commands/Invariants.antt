@@ -16,11 +16,11 @@ invariant-loop-command g l = record {
   follows : Follows g.S.Store l.fn.store l.store;
   ran : HasCleanDisk (state g.S.Store l.store) → (s : State) → IsSessionOf s l.fn.session → Keeps g.S.Store l.fn.store s
       →
-      EndsCommands g.S.Store l.fn.store l.store s l.session l.fn.date l.fn.files (map command_of (take l.command-index
+      EndsCommands g.S.Store l.fn.store l.store s l.session l.fn.input.date l.fn.input.files (map command_of (take l.command-index
       l.commands))
       (g.W.Sink.taken l.fn.w) (g.W.Sink.taken l.w) (Ok l.code);
   goes : GoesCommands g.S.Store l.fn.store l.store
-      (map (Perform l.fn.date l.fn.files) (map command_of (take l.command-index l.commands)))
+      (map (Perform l.fn.input.date l.fn.input.files) (map command_of (take l.command-index l.commands)))
       (g.W.Sink.taken l.fn.w) (g.W.Sink.taken l.w) (Ok l.code);
   sound : g.W.Sink.has_failed l.fn.w ≡ false → g.W.Sink.has_failed l.w ≡ false;
 }

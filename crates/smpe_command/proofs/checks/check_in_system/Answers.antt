@@ -19,7 +19,7 @@ returns-in_err-answers-in-Empty g c =
             (Err error)
             (alike_err (λ v. map answer_of v.items) (λ all. all) c.rehearse_in_empty_system.result (Err error) error
             error c.in_err-answers-in-Empty.was refl refl)
-            c.in-Empty.srel c.args.commands.now c.args.files.now.cntl.items _ c.rehearse_in_empty_system.ensures,
+            c.in-Empty.srel c.args.commands.now c.args.files.cntl.items _ c.rehearse_in_empty_system.ensures,
         p.1 ∙ ap Err p.2,
       ),
       refl,
@@ -37,7 +37,7 @@ returns-in_ok-answers-in-Empty g c =
             (Ok all)
             (alike_ok (λ v. map answer_of v.items) (λ all. all) c.rehearse_in_empty_system.result (Ok all) answers all
             c.in_ok-answers-in-Empty.was refl refl)
-            c.in-Empty.srel c.args.commands.now c.args.files.now.cntl.items _ c.rehearse_in_empty_system.ensures,
+            c.in-Empty.srel c.args.commands.now c.args.files.cntl.items _ c.rehearse_in_empty_system.ensures,
         ap (λ n. Ok n) (c.greatest_status.ensures
             ∙ ap (λ (xs : List Answer). greatest (map answer_of xs)) c.as_slice.ensures.value),
       ),

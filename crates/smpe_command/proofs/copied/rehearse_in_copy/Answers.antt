@@ -1,4 +1,4 @@
-use Rattle.std.proofs.Common.{◌∙◌, List, inr, refl, subst}
+use Rattle.std.proofs.Common.{List, inr, refl, subst}
 use Rattle.sqlite_disk.specs.contracts.memory.MemoryDisk.TheImpl.{ghosts as memory_disk}
 use Rattle.smpe_command.specs.Copied.{TriesCopied, copy_jobs}
 use Rattle.smpe_command.proofs.copied.rehearse_in_copy.Goals as goal
@@ -7,21 +7,16 @@ pub returns-in-Some : goal.returns-in-Some
 returns-in-Some g c = rw c.in-Some.is (inr (
   c.in-Some.commands.date,
   refl,
-  subst (λ (cntl : List _). TriesCopied g.H.Host memory_disk g.O.Sink c.args.host.now c.args.copy.now
-      c.args.out.now (copy_jobs c.in-Some.commands.date cntl
-      (record { ptfin = c.args.files.now.ptfin.items; holds = c.args.files.now.hold.items }))
-      c.rehearse_commands_in_copy.result c.rehearse_commands_in_copy.new.host c.rehearse_commands_in_copy.new.out)
-      c.as_slice-cntl.ensures.value c.rehearse_commands_in_copy.ensures,
+  c.run_in_copy.ensures,
 ))
 
 pub returns : goal.returns
 returns g c = rw c.in-None.is (inr (
-  c.new-date.result,
+  c.any_date.result,
   tt,
   subst (λ (cntl : List _). TriesCopied g.H.Host memory_disk g.O.Sink c.args.host.now c.args.copy.now
-      c.args.out.now (copy_jobs c.new-date.result cntl
-      (record { ptfin = c.args.files.now.ptfin.items; holds = c.args.files.now.hold.items }))
-      c.rehearse_commands_in_copy-in-None.result c.rehearse_commands_in_copy-in-None.new.host
-      c.rehearse_commands_in_copy-in-None.new.out)
-      (c.as_slice.ensures.value ∙ c.in_ok-cntl-in-None.ensures) c.rehearse_commands_in_copy-in-None.ensures,
+      c.args.out.now (copy_jobs c.any_date.result cntl
+      (record { ptfin = c.args.files.ptfin.items; holds = c.args.files.hold.items }))
+      c.run_in_copy-in-None.result c.run_in_copy-in-None.new.host c.run_in_copy-in-None.new.out)
+      c.in_ok-cntl-in-None.ensures c.run_in_copy-in-None.ensures,
 ))

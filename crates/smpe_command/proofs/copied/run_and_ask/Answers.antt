@@ -29,12 +29,12 @@ returns-in_err-answer_status g c = λ conn over.
     let r = c.from_residual-in_err-answer_status in
     let p = err_from_is_err_and r.result r.ensures.1 in
     tried g.S.Store g.O.Sink c.args.zone c.args.ids.now (λ v. map answer_of v.items) (map job_of c.args.jobs.now) conn
-    c.args.store.now c.run_jobs.new.store c.args.out.now c.run_jobs.new.w c.ask_if_any.new.out c.run_jobs.result
+    c.args.store.now c.run_jobs.new.store c.args.out.now c.run_jobs.new.w c.ask_about_ids.new.out c.run_jobs.result
     (Ok all) r.result
     (alike_ok (λ v. map answer_of v.items) (λ all. all) c.run_jobs.result (Ok all) answers all c.in_ok-answers.was refl
     refl) over went.ends went.goes went.fault (
-      c.ask_if_any.result,
-      c.ask_if_any.ensures,
+      c.ask_about_ids.result,
+      c.ask_about_ids.ensures,
       p.1 ∙ ap Err p.2 ∙ sym (ap (at_least (greatest all)) c.in_err-answer_status.was),
     )
 
@@ -46,12 +46,12 @@ returns g c = λ conn over.
     let status : c.greatest_status-status.result ≡ greatest all = c.greatest_status-status.ensures
     ∙ ap (λ (xs : List Answer). greatest (map answer_of xs)) c.as_slice.ensures.value in
     tried g.S.Store g.O.Sink c.args.zone c.args.ids.now (λ v. map answer_of v.items) (map job_of c.args.jobs.now) conn
-    c.args.store.now c.run_jobs.new.store c.args.out.now c.run_jobs.new.w c.ask_if_any.new.out c.run_jobs.result
+    c.args.store.now c.run_jobs.new.store c.args.out.now c.run_jobs.new.w c.ask_about_ids.new.out c.run_jobs.result
     (Ok all) (Ok c.max.result)
     (alike_ok (λ v. map answer_of v.items) (λ all. all) c.run_jobs.result (Ok all) answers all c.in_ok-answers.was refl
     refl) over went.ends went.goes went.fault (
-      c.ask_if_any.result,
-      c.ask_if_any.ensures,
+      c.ask_about_ids.result,
+      c.ask_about_ids.ensures,
       ap (λ n. Ok n) (c.max.ensures ∙ ap (λ n. max n c.in_ok-answer_status.answer_status) status)
           ∙ sym (ap (at_least (greatest all)) c.in_ok-answer_status.was),
     )

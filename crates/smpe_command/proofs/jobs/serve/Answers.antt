@@ -1,7 +1,7 @@
-use Rattle.std.proofs.Common.{[], ◌∷◌, Some, option_map, sym, subst}
+use Rattle.std.proofs.Common.{sym, subst}
 use Rattle.std.specs.String.{string_bytes}
 use Rattle.sqlite_disk.specs.contracts.memory.MemoryDisk.TheImpl.{ghosts as memory_disk}
-use Rattle.smpe_command.specs.Serving.{Serves, ServesList, ServesRun, ServesWhy}
+use Rattle.smpe_command.specs.Serving.{Serves, ServesList}
 use Rattle.smpe_command.proofs.jobs.serve.Goals as goal
 
 pub returns-in-Zone : goal.returns-in-Zone
@@ -16,14 +16,9 @@ returns-in-Zone g c =
 
 pub returns-in-Run : goal.returns-in-Run
 returns-in-Run g c =
-    let w = c.in-Run in
-    let rest = option_map string_bytes w.ptfin ∷ option_map string_bytes w.hold ∷ [] in
     subst (λ asked. Serves g.H.Host g.H.Disk.Store memory_disk g.O.Sink c.args.host.now asked c.args.out.now
     c.serve_run.result
-    c.serve_run.new.host c.serve_run.new.out) (sym w.is)
-    (subst (λ cntl. ServesRun g.H.Host g.H.Disk.Store g.O.Sink c.args.host.now (string_bytes w.db.name) c.args.out.now
-    w.careful w.date (Some cntl ∷ rest) c.serve_run.result c.serve_run.new.host c.serve_run.new.out)
-    c.as_str.ensures.value c.serve_run.ensures)
+    c.serve_run.new.host c.serve_run.new.out) (sym c.in-Run.is) c.serve_run.ensures
 
 pub returns-in-List : goal.returns-in-List
 returns-in-List g c =
@@ -35,12 +30,8 @@ returns-in-List g c =
 
 pub returns-in-Why : goal.returns-in-Why
 returns-in-Why g c =
-    let w = c.in-Why in
     subst (λ asked. Serves g.H.Host g.H.Disk.Store memory_disk g.O.Sink c.args.host.now asked c.args.out.now
-    c.serve_why.result c.serve_why.new.host c.serve_why.new.out) (sym w.is)
-    (subst (λ ids. ServesWhy g.H.Host g.H.Disk.Store g.O.Sink c.args.host.now (string_bytes w.db.name) c.args.out.now
-    w.zone ids w.options c.serve_why.result c.serve_why.new.host c.serve_why.new.out) c.as_slice.ensures.value
-    c.serve_why.ensures)
+    c.serve_why.result c.serve_why.new.host c.serve_why.new.out) (sym c.in-Why.is) c.serve_why.ensures
 
 pub returns-in-Check : goal.returns-in-Check
 returns-in-Check g c =

@@ -19,8 +19,8 @@ receive_hold_item-requires c =
     let x = c.in-Some.item in
     let rest = into_iter_items c.next.new.self in
     let steps : into_iter_items at.item-iterator ≡ x ∷ rest = c.in-Some.ensures.steps.0 in
-    let all : into_iter_items c.into_iter-item-iterator.result ≡ c.args.found.items = search rules in
-    let whole : at.yielded ++ x ∷ rest ≡ c.args.found.items =
+    let all : into_iter_items c.into_iter-item-iterator.result ≡ c.args.hold_items.items = search rules in
+    let whole : at.yielded ++ x ∷ rest ≡ c.args.hold_items.items =
     ap (λ xs. at.yielded ++ xs) (sym steps) ∙ at.invariant.0 ∙ all in
     next_external at.yielded rest x (subst (λ xs. All IsExternal (items xs)) (sym whole) c.requires)
 

@@ -7,24 +7,24 @@ use Rattle.smpe_global.proofs.ptfin.receive_ptfin.Goals as goal
 pub returns-clause-runs : goal.returns-clause-runs
 returns-clause-runs c =
     let now = c.receive_items.new in
-    all_printed (Runs (TakesItem c.args.source) c.args.global.now (items c.args.found.items)) c.args.global.now
+    all_printed (Runs (TakesItem c.args.source) c.args.global.now (items c.args.ptfin_items.items)) c.args.global.now
     now.global c.new-change.result now.change c.in_ok-receive_items.ensures c.new-change.ensures.lines
 
 pub returns-clause-receives : goal.returns-clause-receives
 returns-clause-receives c =
     let now = c.receive_items.new in
-    all_receive (Runs (TakesItem c.args.source) c.args.global.now (items c.args.found.items)) c.args.global.now
+    all_receive (Runs (TakesItem c.args.source) c.args.global.now (items c.args.ptfin_items.items)) c.args.global.now
     now.global
     c.new-change.result now.change c.in_ok-receive_items.ensures c.new-change.ensures.edits
 
 pub returns-clause-fits : goal.returns-clause-fits
 returns-clause-fits c =
     let now = c.receive_items.new in
-    all_fit (Runs (TakesItem c.args.source) c.args.global.now (items c.args.found.items)) c.args.global.now now.global
-    c.new-change.result now.change c.in_ok-receive_items.ensures c.new-change.ensures.edits
+    all_fit (Runs (TakesItem c.args.source) c.args.global.now (items c.args.ptfin_items.items)) c.args.global.now
+    now.global c.new-change.result now.change c.in_ok-receive_items.ensures c.new-change.ensures.edits
 
 pub returns-clause-edits : goal.returns-clause-edits
 returns-clause-edits c =
     let now = c.receive_items.new in
-    all_after (Runs (TakesItem c.args.source) c.args.global.now (items c.args.found.items)) c.args.global.now now.global
-    c.new-change.result now.change c.in_ok-receive_items.ensures c.new-change.ensures.edits
+    all_after (Runs (TakesItem c.args.source) c.args.global.now (items c.args.ptfin_items.items)) c.args.global.now
+    now.global c.new-change.result now.change c.in_ok-receive_items.ensures c.new-change.ensures.edits

@@ -4,5 +4,5 @@ use Rattle.smpe_global.proofs.rejected.reject.Given as goal
 
 -- the ids so far
 abbrev pub invariant-loop-id : goal.invariant-loop-id
-invariant-loop-id l = AreRejected l.zones l.initial.global (take l.id-index l.all) l.global l.change.edits.items
+invariant-loop-id l = AreRejected l.zones l.initial.global (take l.id-index l.id-items) l.global l.change.edits.items
     l.change.lines.items

@@ -12,7 +12,7 @@ returns c =
     let at4 = one_more _ _ _ _ _ _ at3 c.in_ok-arg-4.ensures
     c.optional_arg-3.ensures.rule c.optional_arg-3.ensures.global in
     let at5 = one_more _ _ _ _ _ _ at4 c.in_ok-arg-5.ensures
-    c.optional_repeated_arg.ensures.rule c.optional_repeated_arg.ensures.global in
+    c.optional_repeatable_arg.ensures.rule c.optional_repeatable_arg.ensures.global in
     let at6 = one_more _ _ _ _ _ _ at5 c.in_ok-arg-6.ensures
     c.required_arg.ensures.rule c.required_arg.ensures.global in
     let at7 = one_more _ _ _ _ _ _ at6 c.in_ok-arg-7.ensures

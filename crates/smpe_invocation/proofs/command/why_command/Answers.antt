@@ -7,7 +7,7 @@ returns c =
     let at1 = one_more _ _ _ _ _ _ c.in_ok-database_command.ensures c.in_ok-arg.ensures
     c.required_arg.ensures.rule c.required_arg.ensures.global in
     let at2 = one_more _ _ _ _ _ _ at1 c.in_ok-arg-2.ensures
-    c.required_repeated_arg.ensures.rule c.required_repeated_arg.ensures.global in
+    c.required_repeatable_arg.ensures.rule c.required_repeatable_arg.ensures.global in
     let at3 = one_more _ _ _ _ _ _ at2 c.in_ok-arg-3.ensures c.flag_arg.ensures.rule c.flag_arg.ensures.global in
     let at4 = one_more _ _ _ _ _ _ at3 c.in_ok-arg-4.ensures c.flag_arg-2.ensures.rule c.flag_arg-2.ensures.global in
     IfOk-weaker c.arg-5.result _ _

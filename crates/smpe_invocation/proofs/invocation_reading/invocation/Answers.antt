@@ -33,17 +33,17 @@ returns-in_err-matches-clause-err c =
 pub returns-clause-ok : goal.returns-clause-ok
 returns-clause-ok c =
     let line = c.in_ok-command_line.ensures in
-    IfOk-weaker c.subcommand_invocation.result _ _
+    IfOk-weaker c.read_subcommand_options.result _ _
     (λ i h. (
       _,
       line,
       c.in_ok-matches.ensures.kinds (free _ line),
       subst (λ (o : Option (Text × List Row)). IsMet o i) (met_is c) h,
-    )) c.subcommand_invocation.ensures.ok
+    )) c.read_subcommand_options.ensures.ok
 
 pub returns-clause-err : goal.returns-clause-err
 returns-clause-err c =
     let line = c.in_ok-command_line.ensures in
-    IfErr-weaker c.subcommand_invocation.result _ _
+    IfErr-weaker c.read_subcommand_options.result _ _
     (λ e h. refused_by_value _ _ line (c.in_ok-matches.ensures.kinds (free _ line)) e (rw (met_is c) at h))
-    c.subcommand_invocation.ensures.err
+    c.read_subcommand_options.ensures.err

@@ -4,4 +4,4 @@ use Rattle.clap.proofs.WalkLemmas.{first_value-rows}
 use Rattle.smpe_invocation.proofs.option_values.option_text.Goals as goal
 
 pub returns : goal.returns
-returns c = c.get_str.ensures ∙ first_value-rows (found_of c.args.found.now) c.args.id.now
+returns c = c.get_str.ensures ∙ first_value-rows (found_of c.args.found.now) c.args.option.now

@@ -4,4 +4,4 @@ use Rattle.clap.proofs.WalkLemmas.{raw_values-rows}
 use Rattle.smpe_invocation.proofs.option_values.option_texts.Goals as goal
 
 pub returns : goal.returns
-returns c = c.get_strs.ensures ∙ raw_values-rows (found_of c.args.found.now) c.args.id.now
+returns c = c.get_strs.ensures ∙ raw_values-rows (found_of c.args.found.now) c.args.option.now

@@ -19,7 +19,7 @@ loop-text-preserved c =
     let texts = c.args.texts.now in
     let i = c.loop-text.text-index in
     let inv = c.loop-text.invariant in
-    let pushed = c.in_ok-push_id.ensures in
+    let pushed = c.in_ok-push.ensures.items in
     let id = c.in_ok-id.ensures.ok in (
       pushed ∙ ap (λ ids. ids ++ c.in_ok-id.id ∷ []) inv.0
           ∙ ap (λ (last : Text). map (λ (text : Bor Text). text.now) (take i texts) ++ last ∷ []) id.0

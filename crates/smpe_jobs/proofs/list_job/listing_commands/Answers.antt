@@ -1,21 +1,13 @@
-use Rattle.std.proofs.Common.{◌≡◌, ◌∙◌, ◌++◌, codes, append_assoc, ap, subst, sym, ◌∷◌, [], false}
+use Rattle.std.proofs.Common.{◌∷◌, [], subst, sym, false}
 use Rattle.std.proofs.lemmas.Result.{IfOk-weaker}
-use Rattle.terms.specs.Types.{Text, Set, ListZone}
-use Rattle.terms.specs.Forms.{IsZoneName}
+use Rattle.terms.specs.Types.{Set, ListZone}
 use Rattle.terms.specs.Commands.{IsCommandFile}
-use Rattle.smpe_jobs.specs.ListJob.{two_records}
 use Rattle.smpe_jobs.proofs.ListFile.{lists_zone}
 use Rattle.smpe_jobs.proofs.list_job.listing_commands.Goals as goal
 
 pub returns-clause-commands : goal.returns-clause-commands
 returns-clause-commands c =
     let zone = c.args.zone in
-    let set : c.extend_from_slice-3.new.self.items ≡ codes "SET BDY(" ++ zone ++ codes ")." =
-    c.in_ok-extend_from_slice-3.ensures.items ∙ ap (λ t. t ++ codes ").") (c.in_ok-extend_from_slice-2.ensures.items
-    ∙ ap (λ t. t ++ c.as_bytes.result.now) (c.in_ok-extend_from_slice.ensures.items
-    ∙ ap (λ t. t ++ codes "SET BDY(") c.new-set.ensures.items)
-    ∙ ap (λ z. codes "SET BDY(" ++ z) c.as_bytes.ensures.same) ∙ append_assoc (codes "SET BDY(") zone (codes ").") in
-    IfOk-weaker c.two_commands.result _ _
-    (λ file is. subst (λ bytes. IsCommandFile bytes (Set zone ∷ ListZone false ∷ []))
-    (sym (is ∙ ap (λ (t : Text). two_records t (codes "LIST.")) (c.as_slice.ensures.value ∙ set)))
-    (lists_zone zone (subst IsZoneName c.as_bytes.ensures.same c.as_bytes.ensures.form))) c.two_commands.ensures
+    IfOk-weaker c.commands_in_zone.result _ _
+    (λ file is. subst (λ bytes. IsCommandFile bytes (Set zone ∷ ListZone false ∷ [])) (sym is)
+    (lists_zone zone c.attest.ensures)) c.commands_in_zone.ensures

@@ -9,7 +9,7 @@ pub returns : goal.returns
 returns c =
     let failed = map why_failed c.args.decided.failed.items in
     subst (λ all. IfOk c.lines_by_id.result (λ lines. AreById c.args.global.now all (map line_view lines.items)))
-    (c.in_ok-found.ensures
+    (c.in_ok-statuses.ensures
     ∙ ap (λ kept. all_statuses c.args.kind c.args.effective.now kept failed c.args.left_out.now)
     c.as_slice.ensures.items)
     c.lines_by_id.ensures

@@ -7,8 +7,8 @@ use Rattle.report.specs.Views.{line_view}
 use Rattle.smpe_why.specs.Telling.{Inquiry, AreToldBy}
 use Rattle.smpe_why.proofs.told.describe_selected_ids.Goals as goal
 
-pub describe_each_id-requires : goal.describe_each_id-requires
-describe_each_id-requires c = record {
+pub describe_ids-requires : goal.describe_ids-requires
+describe_ids-requires c = record {
   global_is = c.in_ok-vers.ensures.global;
   zone_is = refl;
   rising = c.in_ok-candidates.ensures.members.rising;
@@ -25,9 +25,9 @@ returns c =
     let selection = c.in_ok-selection.selection in
     let bypass = c.question.inside.bypass.now in
     let lines : c.as_slice-lines.result.now ≡ c.in_ok-lines.lines.items = c.as_slice-lines.ensures.value in
-    subst (λ (a : Inquiry). IfOk c.describe_each_id.result (λ told. AreToldBy g zone related a c.args.ids.now
+    subst (λ (a : Inquiry). IfOk c.describe_ids.result (λ told. AreToldBy g zone related a c.args.ids.now
     told.text.items told.status)) c.question.view_is
-    (IfOk-weaker c.describe_each_id.result _ _ (λ told in_turn. record {
+    (IfOk-weaker c.describe_ids.result _ _ (λ told in_turn. record {
       cands = c.in_ok-candidates.field-0.ids;
       lines = map line_view c.as_slice-lines.result.now;
       prints = record {
@@ -40,4 +40,4 @@ returns c =
             c.in_ok-lines.ensures.1 l) (ap (map line_view) (sym lines)) c.in_ok-lines.ensures.2;
       };
       told = in_turn;
-    }) c.describe_each_id.ensures)
+    }) c.describe_ids.ensures)

@@ -8,5 +8,5 @@ returns-clause-exact c x =
     let needs = c.needs-need-items.result.now in
     let end : length needs ≤ c.loop-need.need-index = omega arith in
     let same = c.loop-need.invariant.exact x ∙ ap (list_any (is_bare x)) (take_all c.loop-need.need-index needs end) in
-    let iff = bare_exact c.args.s.now.needs needs x c.needs-need-items.ensures.needs in
+    let iff = bare_exact c.args.system.now.needs needs x c.needs-need-items.ensures.needs in
     (λ marked. iff.0 (sym same ∙ marked), λ bare. same ∙ iff.1 bare)

@@ -6,6 +6,6 @@ use Rattle.solve.proofs.causes.candidates_with_bare_need.Given as goal
 
 abbrev pub invariant-loop-need : goal.invariant-loop-need
 invariant-loop-need l = record {
-  size : length l.bare.items ≡ l.s.size;
+  size : length l.bare.items ≡ l.system.size;
   exact : (x : ℕ) → holds l.bare.items x ≡ list_any (is_bare x) (take l.need-index l.need-items);
 }

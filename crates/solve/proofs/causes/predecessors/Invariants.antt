@@ -5,6 +5,6 @@ use Rattle.solve.proofs.causes.predecessors.Given as goal
 
 abbrev pub invariant-loop-need : goal.invariant-loop-need
 invariant-loop-need l = record {
-  size : length l.leads.items ≡ l.s.size;
-  exact : AreLeadsBy l.s l.kept (map numbered (take l.need-index l.need-items)) l.leads.items;
+  size : length l.leads.items ≡ l.system.size;
+  exact : AreLeadsBy l.system l.kept (map numbered (take l.need-index l.need-items)) l.leads.items;
 }

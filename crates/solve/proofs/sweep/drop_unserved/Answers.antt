@@ -7,13 +7,13 @@ use Rattle.solve.specs.System.{holds}
 use Rattle.solve.proofs.PassingElements.{clash}
 use Rattle.solve.proofs.Drops.{swept_stay, swept_drop, Contains_need}
 use Rattle.solve.proofs.sweep.drop_unserved.Goals as goal
-use Rattle.solve.proofs.sweep.drop_unserved.Goals.{then-set-of+then-not-serves, else-set-of}
-use Rattle.solve.proofs.sweep.drop_unserved.Goals.{else-set-of-via-then-set-of+else-not-serves}
+use Rattle.solve.proofs.sweep.drop_unserved.Goals.{then-set-of+then-not-contains_any, else-set-of}
+use Rattle.solve.proofs.sweep.drop_unserved.Goals.{else-set-of-via-then-set-of+else-not-contains_any}
 use Rattle.solve.proofs.sweep.drop_unserved.Goals.{else-set-of-via-else-set-of}
 
 pub loop-need-preserved : goal.loop-need-preserved
 loop-need-preserved c =
-    let p = c.args.s.now in
+    let p = c.args.system.now in
     let old = c.args.set.now in
     let now = c.loop-need.set in
     let n = c.need-item.result in
@@ -25,8 +25,8 @@ loop-need-preserved c =
           ((c.needs-need-items.ensures.valid i n c.loop-need-test.true).of),
     ) in
     elim c.if-set-of.branch [
-      | then-set-of+then-not-serves w ↦
-          let none = rw w.deref.ensures.value at (w.serves.ensures.none w.if-not-serves.true) in
+      | then-set-of+then-not-contains_any w ↦
+          let none = rw w.deref.ensures.value at (w.contains_any.ensures.none w.if-not-contains_any.true) in
           rw (w.set-is, w.dropped-is) (swept_drop p old now c.loop-need.dropped (take i needs) (take (i + 1) needs)
           (numbered n)
           (Contains_need needs i n p.needs c.needs-need-items.ensures.needs c.loop-need-test.true c.need-item.is)
@@ -35,8 +35,8 @@ loop-need-preserved c =
           rw (w.set-is, w.dropped-is) (swept_stay p old now c.loop-need.dropped needs i n c.loop-need-test.true
           c.need-item.is
           (elim w.else-set-of.branch [
-            | else-set-of-via-then-set-of+else-not-serves v ↦ λ _.
-                rw v.deref.ensures.value at (v.serves.ensures.some v.if-not-serves.false)
+            | else-set-of-via-then-set-of+else-not-contains_any v ↦ λ _.
+                rw v.deref.ensures.value at (v.contains_any.ensures.some v.if-not-contains_any.false)
             | else-set-of-via-else-set-of v ↦ λ h. cc (h, v.if-set-of.false)
           ])
           c.loop-need.invariant)

@@ -9,7 +9,7 @@ use Rattle.solve.proofs.worklist.prepare_board.Goals as goal
 
 pub overflow_add-turns-in-loop-k : goal.overflow_add-turns-in-loop-k
 overflow_add-turns-in-loop-k c =
-    let p = c.args.s.now in
+    let p = c.args.system.now in
     let needs = c.needs-needs.result.now in
     let small : p.size < 2 ^ 63 = omega (arith, c.eligible.ensures.len, c.eligible.type_inv) in
     let short : length needs < 2 ^ 60 = omega (arith, c.needs-needs.type_inv) in
@@ -22,7 +22,7 @@ overflow_add-turns-in-loop-k c =
 
 pub index_need-requires-clause-room : goal.index_need-requires-clause-room
 index_need-requires-clause-room c =
-    let p = c.args.s.now in
+    let p = c.args.system.now in
     let needs = c.needs-needs.result.now in
     let small : p.size < 2 ^ 63 = omega (arith, c.eligible.ensures.len, c.eligible.type_inv) in
     let short : length needs < 2 ^ 60 = omega (arith, c.needs-needs.type_inv) in
@@ -36,7 +36,7 @@ index_need-requires-clause-room c =
 
 pub loop-k-preserved : goal.loop-k-preserved
 loop-k-preserved c =
-    let p = c.args.s.now in
+    let p = c.args.system.now in
     let needs = c.needs-needs.result.now in
     let k = c.loop-k.k in
     let n = c.index-needs-k.result in
@@ -68,7 +68,7 @@ loop-k-preserved c =
 
 pub returns-clause-board : goal.returns-clause-board
 returns-clause-board c =
-    let p = c.args.s.now in
+    let p = c.args.system.now in
     let needs = c.needs-needs.result.now in
     let end : length needs ≤ c.loop-k.k = omega arith in
     let all : c.loop-k.living.items ≡ map (eligible_in p) p.needs =
@@ -82,7 +82,7 @@ returns-clause-board c =
 
 pub returns-clause-few : goal.returns-clause-few
 returns-clause-few c =
-    let p = c.args.s.now in
+    let p = c.args.system.now in
     let needs = c.needs-needs.result.now in
     let small : p.size < 2 ^ 63 = omega (arith, c.eligible.ensures.len, c.eligible.type_inv) in
     let same : length p.needs ≡ length needs = ap length (sym c.needs-needs.ensures.needs) ∙ length-map needs numbered

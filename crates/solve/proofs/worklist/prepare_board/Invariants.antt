@@ -14,8 +14,8 @@ invariant-loop-candidate l = record {
 
 abbrev pub invariant-loop-k : goal.invariant-loop-k
 invariant-loop-k l = record {
-  living : l.living.items ≡ map (eligible_in l.s) (map numbered (take l.k l.needs));
+  living : l.living.items ≡ map (eligible_in l.system) (map numbered (take l.k l.needs));
   served : AreServed (map numbered (take l.k l.needs)) l.served.items;
-  size : length l.served.items ≡ l.s.size;
-  turns : l.turns ≡ l.s.size + l.k + pairs_of (map numbered (take l.k l.needs));
+  size : length l.served.items ≡ l.system.size;
+  turns : l.turns ≡ l.system.size + l.k + pairs_of (map numbered (take l.k l.needs));
 }

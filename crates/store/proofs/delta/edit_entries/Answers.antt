@@ -13,32 +13,35 @@ pub returns-clause-ok : goal.returns-clause-ok
 returns-clause-ok g c =
     let s = g.S.Store in
     let old = c.args.tx.now.conn.now in
-    let mid = c.edit_old_entries.new.tx.conn.now in
+    let mid = c.replace_or_remove_entries.new.tx.conn.now in
     let new = c.insert_entries.new.tx.conn.now in
     on_ok c.insert_entries.result _ _ (λ later zone known.
-    entries_end s c.args.name zone old mid new c.args.edits.now c.args.stood.now known
-    c.insert_entries.ensures.continues.inside (c.in_ok-edit_old_entries.ensures.ok zone known)
+    entries_end s c.args.name zone old mid new c.args.edits.now c.args.numbers_before.now known
+    c.insert_entries.ensures.continues.inside (c.in_ok-replace_or_remove_entries.ensures.ok zone known)
     (subst (λ es. ChangesZone s mid new c.args.name (HasMoreEntries es))
     (ap (map (λ e. e.now)) c.as_slice.ensures.value ∙ c.in_ok-news.ensures) later)) c.insert_entries.ensures.stands
 
 pub returns-clause-calls : goal.returns-clause-calls
 returns-clause-calls g c =
     let s = g.S.Store in
-    let ds = zip c.args.edits.now c.args.stood.now in
-    let mid = c.edit_old_entries.new.tx.conn.now in
+    let ds = zip c.args.edits.now c.args.numbers_before.now in
+    let mid = c.replace_or_remove_entries.new.tx.conn.now in
     let new = c.insert_entries.new.tx.conn.now in
     runs_then s (flat_map (entry_calls c.args.name) ds)
     (insert_entries_calls c.args.name (filter_map new_entry ds)) c.args.tx.now.conn.now mid new
-    c.edit_old_entries.result (tt {0}) c.insert_entries.result c.edit_old_entries.ensures.continues.inside
-    c.insert_entries.ensures.continues.inside c.in_ok-edit_old_entries.was c.edit_old_entries.ensures.calls
+    c.replace_or_remove_entries.result (tt {0}) c.insert_entries.result
+    c.replace_or_remove_entries.ensures.continues.inside
+    c.insert_entries.ensures.continues.inside c.in_ok-replace_or_remove_entries.was
+    c.replace_or_remove_entries.ensures.calls
     (subst (λ es. RunsInside s (insert_entries_calls c.args.name es) mid new c.insert_entries.result)
     (ap (map (λ e. e.now)) c.as_slice.ensures.value ∙ c.in_ok-news.ensures) c.insert_entries.ensures.calls)
 
-pub returns-in_err-edit_old_entries-clause-calls : goal.returns-in_err-edit_old_entries-clause-calls
-returns-in_err-edit_old_entries-clause-calls g c =
-    let ds = zip c.args.edits.now c.args.stood.now in
+pub returns-in_err-replace_or_remove_entries-clause-calls : goal.returns-in_err-replace_or_remove_entries-clause-calls
+returns-in_err-replace_or_remove_entries-clause-calls g c =
+    let ds = zip c.args.edits.now c.args.numbers_before.now in
     runs_err g.S.Store (flat_map (entry_calls c.args.name) ds)
     (insert_entries_calls c.args.name (filter_map new_entry ds)) c.args.tx.now.conn.now
-    c.edit_old_entries.new.tx.conn.now c.edit_old_entries.result c.from_residual.result (search rules)
-    (follows_err c.edit_old_entries.result _ _ c.in_err-edit_old_entries.was c.from_residual.ensures.1)
-    c.edit_old_entries.ensures.calls
+    c.replace_or_remove_entries.new.tx.conn.now c.replace_or_remove_entries.result c.from_residual.result (search rules)
+    (follows_err c.replace_or_remove_entries.result _ _ c.in_err-replace_or_remove_entries.was
+    c.from_residual.ensures.1)
+    c.replace_or_remove_entries.ensures.calls

@@ -11,30 +11,30 @@ use Rattle.store.proofs.delta.new_elements.Goals as goal
 pub loop-edit-preserved-in_default : goal.loop-edit-preserved-in_default
 loop-edit-preserved-in_default c =
     let edits = c.args.edits.now in
-    let stood = c.args.stood.now in
+    let stood = c.args.elements_existed.now in
     let edit = c.in-Some.edit.now in
-    let before = c.in-Some.before.now in
+    let before = c.in-Some.existed.now in
     let done = length c.loop-edit.yielded in
     let turn = zip_turn edits stood c.loop-edit.yielded c.into_iter-edit-iterator.result c.loop-edit.edit-iterator
     c.next.new.self c.next.result (search rules) (search rules) c.loop-edit.yielded_by
-    (c.in-Some.edit, c.in-Some.before) c.in-Some.is c.next.ensures.steps in
+    (c.in-Some.edit, c.in-Some.existed) c.in-Some.is c.next.ensures.steps in
     let pair = one_pair edits stood done edit before turn.0 turn.2 turn.1 turn.3 in
-    rw (length_push c.loop-edit.yielded (c.in-Some.edit, c.in-Some.before))
+    rw (length_push c.loop-edit.yielded (c.in-Some.edit, c.in-Some.existed))
     (none_more new_element (λ e. e.now) (zip edits stood) done c.loop-edit.news.items c.loop-edit.invariant
     (edit, before) pair.0 pair.1 (sym c.new_element.ensures ∙ ap option_copied c.in_default.is))
 
 pub loop-edit-preserved : goal.loop-edit-preserved
 loop-edit-preserved c =
     let edits = c.args.edits.now in
-    let stood = c.args.stood.now in
+    let stood = c.args.elements_existed.now in
     let edit = c.in-Some.edit.now in
-    let before = c.in-Some.before.now in
+    let before = c.in-Some.existed.now in
     let done = length c.loop-edit.yielded in
     let turn = zip_turn edits stood c.loop-edit.yielded c.into_iter-edit-iterator.result c.loop-edit.edit-iterator
     c.next.new.self c.next.result (search rules) (search rules) c.loop-edit.yielded_by
-    (c.in-Some.edit, c.in-Some.before) c.in-Some.is c.next.ensures.steps in
+    (c.in-Some.edit, c.in-Some.existed) c.in-Some.is c.next.ensures.steps in
     let pair = one_pair edits stood done edit before turn.0 turn.2 turn.1 turn.3 in
-    rw (length_push c.loop-edit.yielded (c.in-Some.edit, c.in-Some.before))
+    rw (length_push c.loop-edit.yielded (c.in-Some.edit, c.in-Some.existed))
     (ap (map (λ e. e.now)) c.in_ok-push.ensures.items
     ∙ one_more new_element (λ e. e.now) (zip edits stood) done c.loop-edit.news.items c.loop-edit.invariant
     (edit, before) pair.0 pair.1 c.in-Some-new_element.element
@@ -43,7 +43,7 @@ loop-edit-preserved c =
 pub returns : goal.returns
 returns c =
     let edits = c.args.edits.now in
-    let stood = c.args.stood.now in
+    let stood = c.args.elements_existed.now in
     let end = zip_end edits stood c.loop-edit.yielded c.into_iter-edit-iterator.result c.loop-edit.edit-iterator
     c.next.new.self c.next.result (search rules) (search rules) c.loop-edit.yielded_by c.in-None.is c.next.ensures.steps
     in

@@ -6,5 +6,5 @@ use Rattle.store_zones.proofs.element.put_element.Goals as goal
 pub returns-clause-stands : goal.returns-clause-stands
 returns-clause-stands g c =
     on_ok c.put_element_row.result _ _ (λ turned old same i j was is change put clean held.
-    element_put i j c.args.zone was is change old c.args.stood c.args.element.now _ same put
+    element_put i j c.args.zone was is change old c.args.existed c.args.element.now _ same put
     (turned clean (rows_of i) held)) c.put_element_row.ensures.ok

@@ -19,18 +19,18 @@ use Rattle.store_zones.proofs.entry.put_entry.Goals as goal
 
 changed : (g : Over) (c : After-change_number g) → Renumbers g.S.Store c.put_entry_row.new.tx.conn.now
     c.change_number.new.tx.conn.now c.change_number.result c.args.zone c.args.entry.now.id
-    (number_before c.args.stood) (number_of c.args.entry.now)
+    (number_before c.args.number_before) (number_of c.args.entry.now)
 changed g c =
     renumbers_as g.S.Store c.put_entry_row.new.tx.conn.now c.change_number.new.tx.conn.now c.change_number.result
     c.args.zone
-    _ c.args.entry.now.id _ (number_before c.args.stood) _ (number_of c.args.entry.now)
-    (ap (λ (x : Entry). x.id) c.entry.view_is) c.number_before.ensures (c.get.ensures.value ∙ c.number.ensures)
+    _ c.args.entry.now.id _ (number_before c.args.number_before) _ (number_of c.args.entry.now)
+    (ap (λ (x : Entry). x.id) c.entry.view_is) c.number_or_first.ensures (c.get.ensures.value ∙ c.number.ensures)
     (c.change_number.ensures.calls, c.change_number.ensures.ok)
 
 pub returns-clause-ok : goal.returns-clause-ok
 returns-clause-ok g c =
     let zone = c.args.zone in
-    let stood = c.args.stood in
+    let stood = c.args.number_before in
     let e = c.args.entry.now in
     on_ok c.change_number.result _ _
     (turns_then g.S.Store c.args.tx.now.conn.now c.put_entry_row.new.tx.conn.now c.change_number.new.tx.conn.now
@@ -43,13 +43,13 @@ returns-clause-ok g c =
 pub returns-clause-stands : goal.returns-clause-stands
 returns-clause-stands g c =
     on_ok c.change_number.result _ _ (λ turned old same i j was is change put clean held.
-    entry_put i j c.args.zone was is change old c.args.stood c.args.entry.now _ same put
+    entry_put i j c.args.zone was is change old c.args.number_before c.args.entry.now _ same put
     (turned clean (rows_of i) held)) (returns-clause-ok g c)
 
 pub returns-clause-calls : goal.returns-clause-calls
 returns-clause-calls g c =
     let zone = c.args.zone in
-    let stood = c.args.stood in
+    let stood = c.args.number_before in
     let e = c.args.entry.now in
     runs_then g.S.Store ((if is_some stood then put_entry else insert_entry, entry_row zone e) ∷ [])
     (number_calls zone e.id (number_before stood) (number_of e)) c.args.tx.now.conn.now
@@ -62,7 +62,7 @@ returns-clause-calls g c =
 pub returns-in_err-put_entry_row-clause-calls : goal.returns-in_err-put_entry_row-clause-calls
 returns-in_err-put_entry_row-clause-calls g c =
     let zone = c.args.zone in
-    let stood = c.args.stood in
+    let stood = c.args.number_before in
     let e = c.args.entry.now in
     runs_err g.S.Store ((if is_some stood then put_entry else insert_entry, entry_row zone e) ∷ [])
     (number_calls zone e.id (number_before stood) (number_of e)) c.args.tx.now.conn.now

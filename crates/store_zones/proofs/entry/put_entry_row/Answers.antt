@@ -12,7 +12,7 @@ use Rattle.store_zones.proofs.entry.put_entry_row.Goals as goal
 
 put : (g : Over) (c : After-put g) → WritesRow g.S.Store put_entry insert_entry entry 2 c.args.tx.now.conn.now
     c.put.new.tx.conn.now c.put.result (entry_row c.args.zone.now c.args.entry.now)
-    c.args.stood
+    c.args.existed
 put g c =
     let e = c.args.entry.now in
     let zone = c.args.zone.now in
@@ -23,7 +23,7 @@ put g c =
     (kept_entry zone e) c.put.ensures.calls (on_ok q _ _ (λ ran. ran store_schema 7 entry 2 puts_entry)
     c.put.ensures.ok) in
     subst (λ (b : Bool). WritesRow g.S.Store put_entry insert_entry entry 2 old new q (entry_row zone e) b)
-    (sym c.if-stood.true) (
+    (sym c.if-existed.true) (
       ran.0,
       on_ok q _ _ (λ put clean contents was.
           entry_rows_with (entry_key zone e.id) (entry_row zone e) contents _ (put clean contents was)) ran.1,
@@ -31,7 +31,7 @@ put g c =
 
 insert : (g : Over) (c : After-insert g) → WritesRow g.S.Store put_entry insert_entry entry 2 c.args.tx.now.conn.now
     c.insert.new.tx.conn.now c.insert.result (entry_row c.args.zone.now c.args.entry.now)
-    c.args.stood
+    c.args.existed
 insert g c =
     let e = c.args.entry.now in
     let zone = c.args.zone.now in
@@ -39,16 +39,16 @@ insert g c =
     let new = c.insert.new.tx.conn.now in
     let q = c.insert.result in
     subst (λ (b : Bool). WritesRow g.S.Store put_entry insert_entry entry 2 old new q (entry_row zone e) b)
-    (sym c.if-stood.false)
+    (sym c.if-existed.false)
     (inserts_row g.S.Store insert_entry entry old new q (entry_row zone e) _ c.entry_values-row.ensures (kept_entry zone
     e)
     c.insert.ensures.calls (on_ok q _ _ (λ ran. ran store_schema 7 entry adds_entry) c.insert.ensures.ok))
 
-pub returns-then-stood-clause-ok : goal.returns-then-stood-clause-ok
-returns-then-stood-clause-ok g c = (put g (goal.at.returns-then-stood-clause-ok g c).After-put).1
+pub returns-then-existed-clause-ok : goal.returns-then-existed-clause-ok
+returns-then-existed-clause-ok g c = (put g (goal.at.returns-then-existed-clause-ok g c).After-put).1
 
-pub returns-then-stood-clause-calls : goal.returns-then-stood-clause-calls
-returns-then-stood-clause-calls g c = (put g (goal.at.returns-then-stood-clause-calls g c).After-put).0
+pub returns-then-existed-clause-calls : goal.returns-then-existed-clause-calls
+returns-then-existed-clause-calls g c = (put g (goal.at.returns-then-existed-clause-calls g c).After-put).0
 
 pub returns-clause-ok : goal.returns-clause-ok
 returns-clause-ok g c = (insert g (goal.at.returns-clause-ok g c).After-insert).1

@@ -11,20 +11,20 @@ mark_numbers-requires c =
     let made : marks ≡ replicate c.args.high false = c.in_ok-marks.ensures.items_if_clones_equal search in
     let room : length marks ≡ c.args.high = ap length made ∙ length-replicate c.args.high false in
     subst (All (λ n. n < length marks)) (sym c.as_slice.ensures.value)
-    (all_within c.args.lists.now c.args.high (length marks) c.index-lists-high.result c.requires.falling
-    c.requires.high c.index-lists-high.is (omega (arith, room)))
+    (all_within c.args.successors.now c.args.high (length marks) c.index-successors-high.result c.requires.falling
+    c.requires.high c.index-successors-high.is (omega (arith, room)))
 
 pub loop-next-init : goal.loop-next-init
 loop-next-init c =
-    let lists = c.args.lists.now in
+    let successors = c.args.successors.now in
     let high = c.args.high in
     let old = c.in_ok-marks.marks.items in
     let new = c.mark_numbers.new.marks.items in
     let made : old ≡ replicate high false = c.in_ok-marks.ensures.items_if_clones_equal search in
     let same = c.as_slice.ensures.value
-    ∙ sym (list_is lists high c.index-lists-high.result c.requires.high c.index-lists-high.is) in
+    ∙ sym (list_is successors high c.index-successors-high.result c.requires.high c.index-successors-high.is) in
     record {
-      search = search_start (list_at lists) high new
+      search = search_start (list_at successors) high new
           (subst (λ l. Marks l (replicate high false) new) same
           (subst (λ o. Marks c.as_slice.result.now o new) made c.mark_numbers.ensures));
       within = omega arith;
@@ -36,7 +36,7 @@ loop-next-preserved c =
     let same : next ≡ next - 1 + 1 = omega (arith, c.loop-next-test.true) in
     record {
       search = c.mark_successors.ensures c.args.high
-          (subst (λ n. IsSearchDown (list_at c.args.lists.now) c.args.high n c.loop-next.marks.items) same
+          (subst (λ n. IsSearchDown (list_at c.args.successors.now) c.args.high n c.loop-next.marks.items) same
           c.loop-next.invariant.search);
       within = omega (arith, c.loop-next.invariant.within);
     }
@@ -47,6 +47,6 @@ returns c =
     let s = c.loop-next.invariant.search in
     let told = mark_read marks c.args.low c.index-2.result.now (omega (arith, s.room, c.requires.low))
     c.index-2.ensures in
-    let end = search_end (list_at c.args.lists.now) c.requires.falling c.args.high c.args.low c.loop-next.next marks
-    (omega (arith, c.loop-next-test.false)) s in
+    let end = search_end (list_at c.args.successors.now) c.requires.falling c.args.high c.args.low c.loop-next.next
+    marks (omega (arith, c.loop-next-test.false)) s in
     (λ on. end.0 (told ∙ on), λ down. sym told ∙ end.1 down)

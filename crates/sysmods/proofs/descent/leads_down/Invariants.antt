@@ -4,7 +4,7 @@ use Rattle.sysmods.proofs.descent.leads_down.Given as goal
 
 abbrev pub invariant-loop-next : goal.invariant-loop-next
 invariant-loop-next l = record {
-  search : IsSearchDown (list_at l.lists) l.high l.next l.marks.items;
+  search : IsSearchDown (list_at l.successors) l.high l.next l.marks.items;
   within : l.next ≤ l.high;
 }
 

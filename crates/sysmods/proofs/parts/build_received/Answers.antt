@@ -17,8 +17,8 @@ loop-sysmod-init c = record {
   rest = search;
 }
 
-pub push_last-requires-clause-last : goal.push_last-requires-clause-last
-push_last-requires-clause-last c =
+pub try_insert_last-requires-clause-last : goal.try_insert_last-requires-clause-last
+try_insert_last-requires-clause-last c =
     let at = c.loop-sysmod in
     let s = c.in-Some.sysmod in
     let rest = into_iter_items c.next.new.self in
@@ -42,7 +42,7 @@ returns-then-not-branch-clause-none c =
       λ e. absurd (true≢false (sym e)),
       λ g.
           let front = global_front (at.yielded ++ s ∷ []) rest (subst (λ xs. IsGlobal (zone_of xs)) (sym all) g) in
-          let fits = c.in_ok-push_last.ensures.fits.1 (subst (λ xs. IsGlobal (zone_of (xs ++ s ∷ [])))
+          let fits = c.in_ok-try_insert_last.ensures.fits.1 (subst (λ xs. IsGlobal (zone_of (xs ++ s ∷ [])))
           (sym at.invariant.taken) front) in
           absurd (true≢false (sym fits ∙ c.if-not-branch.true)),
     )

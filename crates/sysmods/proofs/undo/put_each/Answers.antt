@@ -9,6 +9,6 @@ loop-hold-preserved c = record {
   so_far = c.in_ok-undo.ensures.ok ∙ ap (λ xs. with_hold xs c.in-Some.hold) c.loop-hold.invariant.so_far
       ∙ sym (fold-append with_hold c.args.to.now c.loop-hold.yielded (c.in-Some.hold ∷ []));
   undo = rw (c.push_reserved.ensures.items, c.reserve.ensures.items)
-      (undoes_more c.args.to.now c.loop-hold.to c.exchange.new.self c.loop-hold.log.items c.in_ok-undo.undo
+      (undoes_more c.args.to.now c.loop-hold.to c.put_with_undo.new.self c.loop-hold.log.items c.in_ok-undo.undo
       c.loop-hold.invariant.undo c.in_ok-undo.ensures.back);
 }

@@ -3,6 +3,7 @@ use Rattle.std.specs.List.{flat_map}
 use Rattle.undo.specs.Elements.{beside}
 use Rattle.undo.specs.Scopes.{restoring_of}
 use Rattle.undo.proofs.AllNeeds.{have_elem_holds}
+use Rattle.undo.proofs.Changed.{changers_are}
 use Rattle.undo.proofs.Needing.{flat_more}
 use Rattle.undo.proofs.element_changers.element_pairs.Goals as goal
 
@@ -25,7 +26,8 @@ returns c =
     let candidates = c.args.candidates.now in
     have_elem_holds (restoring_of c.args.scope.now) c.args.scope.now.form c.in_ok-others.others.items
     (rw c.args.scope.now.has_applied at c.in_ok-others.ensures) all
-    (rw (c.as_slice.ensures.value, c.global-global.ensures) at c.in_ok-changers.ensures) candidates found
+    (changers_are (restoring_of c.args.scope.now).global c.in_ok-others.others.items all
+    (rw (c.as_slice.ensures.value, c.global-global.ensures) at c.in_ok-changers.ensures)) candidates found
     (subst (λ g. found ≡ flat_map (beside g all) candidates) c.global-global.ensures
     (c.loop-id.invariant ∙ ap (flat_map (beside c.global-global.result.now all))
     (take_all c.loop-id.id-index c.as_slice-id-items.result.now (omega arith) ∙ c.as_slice-id-items.ensures.items)))

@@ -12,23 +12,25 @@ abbrev pub invariant-loop-change : goal.invariant-loop-change
 invariant-loop-change l =
     as_steps l.steps.items ≡ as_steps l.initial.steps.items ++ map (to_element l.id) (take l.change-index l.changes)
 
-abbrev pub invariant-loop-other : goal.invariant-loop-other
-invariant-loop-other l =
+abbrev pub invariant-loop-changer : goal.invariant-loop-changer
+invariant-loop-changer l =
     as_steps l.steps.items
     ≡ as_steps l.initial.steps.items
-    ++ flat_map (from_elements (restoring_of l.scope)) (take l.other-index l.other-items)
+    ++ flat_map (from_elements (restoring_of l.scope)) (take l.changer-index l.changer-items)
 
 abbrev pub invariant-loop-change-2 : goal.invariant-loop-change-2
 invariant-loop-change-2 l =
-    as_steps l.steps.items ≡ as_steps l.initial.steps.items ++ map (from_element l.other) (take l.change-index l.shared)
+    as_steps l.steps.items ≡ as_steps l.initial.steps.items ++ map (from_element l.changer) (take l.change-index
+    l.its_changes)
 
-abbrev pub invariant-loop-by : goal.invariant-loop-by
-invariant-loop-by l =
+abbrev pub invariant-loop-dependent : goal.invariant-loop-dependent
+invariant-loop-dependent l =
     as_steps l.steps.items
-    ≡ as_steps l.initial.steps.items ++ flat_map (from_groups (restoring_of l.scope)) (take l.by-index l.by-items)
+    ≡ as_steps l.initial.steps.items ++ flat_map (from_groups (restoring_of l.scope)) (take l.dependent-index
+    l.dependent-items)
 
 abbrev pub invariant-loop-group : goal.invariant-loop-group
 invariant-loop-group l =
     as_steps l.steps.items
     ≡ as_steps l.initial.steps.items
-    ++ flat_map (λ group. from_all l.by group.items) (take l.group-index l.group-items)
+    ++ flat_map (λ group. from_all l.dependent group.items) (take l.group-index l.group-items)

@@ -24,7 +24,7 @@ returns c =
     let left = zone_less g ch dels zone in
     let own = if_reqs ch (is_there left ids) x in
     let seen : dels ≡ deletions ch (filter (is_in ids) (chain g ch x)) = c.as_slice-dels.ensures.value
-    ∙ c.in_ok-deleted.ensures in
+    ∙ c.in_ok-dels.ensures in
     subst (λ l. (z : Id) → Contains c.from_vec.result z ↔ Contains l z)
     (c.in_ok-extend_from_slice.ensures.items
     ∙ ap (λ l. l ++ c.as_slice.result.now) c.in_ok-found.ensures

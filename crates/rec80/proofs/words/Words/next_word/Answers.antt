@@ -23,24 +23,24 @@ returns-in_default-piece c =
 
 pub returns-in-Some-clause-word : goal.returns-in-Some-clause-word
 returns-in-Some-clause-word c = λ pieces h.
-    reads_word _ (rest_of c.skip_gaps-at.result) (rest_of c.in-Ok.next) (rest_of c.skip_gaps-behind.result)
+    reads_word _ (rest_of c.skip_gaps-at.result) (rest_of c.in-Ok.next) (rest_of c.skip_gaps-after_gaps.result)
     (rest_of c.in-Some.after) c.in-Word.word.now (text_of c.in-Some.list) pieces c.skip_gaps-at.ensures.gaps
     (subst (λ p. TakesPiece (rest_of c.skip_gaps-at.result) (piece_of p) (rest_of c.in-Ok.next)) c.in-Word.is
-    c.in-Ok.ensures.piece) c.skip_gaps-behind.ensures.gaps c.in-Some.ensures.list h
+    c.in-Ok.ensures.piece) c.skip_gaps-after_gaps.ensures.gaps c.in-Some.ensures.list h
 
 pub returns-clause-word : goal.returns-clause-word
 returns-clause-word c = λ pieces h.
-    reads_plain _ (rest_of c.skip_gaps-at.result) (rest_of c.in-Ok.next) (rest_of c.skip_gaps-behind.result)
+    reads_plain _ (rest_of c.skip_gaps-at.result) (rest_of c.in-Ok.next) (rest_of c.skip_gaps-after_gaps.result)
     c.in-Word.word.now pieces c.skip_gaps-at.ensures.gaps
     (subst (λ p. TakesPiece (rest_of c.skip_gaps-at.result) (piece_of p) (rest_of c.in-Ok.next)) c.in-Word.is
-    c.in-Ok.ensures.piece) c.skip_gaps-behind.ensures.gaps c.in_default-list_at.ensures.none h
+    c.in-Ok.ensures.piece) c.skip_gaps-after_gaps.ensures.gaps c.in_default-list_at.ensures.none h
 
 pub returns-in-Some-clause-shorter : goal.returns-in-Some-clause-shorter
 returns-in-Some-clause-shorter c =
     let a = behind_shorter _ (rest_of c.skip_gaps-at.result) (rest_of c.in-Ok.next) (piece_of c.in-Ok.piece)
     c.skip_gaps-at.ensures.gaps c.in-Ok.ensures.piece in
-    let b = behind_shorter (rest_of c.in-Ok.next) (rest_of c.skip_gaps-behind.result) (rest_of c.in-Some.after)
-    (TheList (text_of c.in-Some.list)) c.skip_gaps-behind.ensures.gaps c.in-Some.ensures.list in
+    let b = behind_shorter (rest_of c.in-Ok.next) (rest_of c.skip_gaps-after_gaps.result) (rest_of c.in-Some.after)
+    (TheList (text_of c.in-Some.list)) c.skip_gaps-after_gaps.ensures.gaps c.in-Some.ensures.list in
     omega (arith, a, b)
 
 pub returns-clause-shorter : goal.returns-clause-shorter
@@ -50,6 +50,6 @@ returns-clause-shorter c =
     omega (
       arith,
       a,
-      gaps_shorter (rest_of c.in-Ok.next) (rest_of c.skip_gaps-behind.result)
-          c.skip_gaps-behind.ensures.gaps,
+      gaps_shorter (rest_of c.in-Ok.next) (rest_of c.skip_gaps-after_gaps.result)
+          c.skip_gaps-after_gaps.ensures.gaps,
     )

@@ -13,8 +13,8 @@ loop-found-preserved c = λ pieces h.
 
 pub returns : goal.returns
 returns c = λ pieces h. record {
-  words_are = reads_words (left_of c.loop-found.left) (words_of c.loop-found.read.words.items) c.loop-found.read.alone
+  words_are = reads_words (left_of c.loop-found.left) (words_of c.loop-found.read.words.items) c.loop-found.read.only_words
       pieces (c.loop-found.invariant pieces h) c.in_default.ensures.end;
-  alone_is = reads_alone (left_of c.loop-found.left) (words_of c.loop-found.read.words.items) c.loop-found.read.alone
+  only_words_is = reads_alone (left_of c.loop-found.left) (words_of c.loop-found.read.words.items) c.loop-found.read.only_words
       pieces (c.loop-found.invariant pieces h) c.in_default.ensures.end;
 }

@@ -23,7 +23,7 @@ pub returns-then-header-clause-uses : goal.returns-then-header-clause-uses
 returns-then-header-clause-uses g c = answered nothing (λ own none. absurd none)
     (λ s inventory keeps is date files command planned. (
       s,
-      checks date files command s c.args.self.now c.args.name c.args.delta c.args.header.check
+      checks date files command s c.args.self.now c.args.change.name c.args.change.delta c.args.header.check
           (Ran (header_view c.args.header) (map line_view c.args.lines.items)) planned inventory c.attest.ensures
           c.if-header.true,
       is,
@@ -32,7 +32,7 @@ returns-then-header-clause-uses g c = answered nothing (λ own none. absurd none
 
 pub returns-in_default-clause-uses : goal.returns-in_default-clause-uses
 returns-in_default-clause-uses g c =
-    let none : get bytes_eq c.args.self.now.zones c.args.name ≡ None = search rules in
+    let none : get bytes_eq c.args.self.now.zones c.args.change.name ≡ None = search rules in
     weaker c.commit_change.ensures.uses
     (λ own is. (
       subst IsOfZone (sym is) (c.requires.knows.0, c.attest.ensures, c.requires.knows.1),
@@ -57,7 +57,7 @@ returns-in_err-outcome-clause-uses g c = handed c.from_residual-in_err-outcome.e
       no_answer c.from_residual-in_err-outcome.result _ _ c.from_residual-in_err-outcome.ensures.1,
     ))
     (λ s inventory ended is date files command planned.
-    fails date files command s c.args.self.now c.args.name c.args.delta c.args.header.check
+    fails date files command s c.args.self.now c.args.change.name c.args.change.delta c.args.header.check
     (Ran (header_view c.args.header) (map line_view c.args.lines.items)) planned inventory c.if-header.false
     g.S.Store c.args.store.now c.commit_change-2.new.store
     (report.Ran c.args.header c.args.lines) refl
@@ -73,7 +73,7 @@ returns-clause-uses g c = answered c.in_ok-outcome.ensures.uses
           (subst (λ (change : Change). IsAtBoundary change (header_view c.args.header)) (sym is) c.requires.boundary),
     ))
     (λ s inventory ended is date files command planned.
-    let name = c.args.name in
+    let name = c.args.change.name in
     let new = c.edit.new.self in
     let session = record c.args.self.now { zones = c.get_mut.follows.lender new } in
     let here : get bytes_eq c.args.self.now.zones name ≡ Some c.in-Some.zone.now = sym c.in-Some.ensures.value in
@@ -81,7 +81,7 @@ returns-clause-uses g c = answered c.in_ok-outcome.ensures.uses
     let same : c.in-Some.zone.now ≡ planned.zone = cc both in
     let changed = subst (λ edits. IsEdited edits planned.zone new) c.in_ok-prepared.ensures.is_delta
     (subst (λ (zone : Zone). IsEdited (delta_of c.in_ok-prepared.prepared) zone new) same c.edit.ensures) in
-    carries date files command s c.args.self.now name c.args.delta c.args.header.check
+    carries date files command s c.args.self.now name c.args.change.delta c.args.header.check
     (Ran (header_view c.args.header) (map line_view c.args.lines.items)) planned inventory c.if-header.false
     g.S.Store c.args.store.now c.commit_change-2.new.store
     (report.Ran c.args.header c.args.lines) refl session new changed c.attest.ensures

@@ -8,7 +8,7 @@ use Rattle.solve.proofs.worklist.Board.drop_unserved.Goals.{then-index-eq0, else
 
 pub loop-k-preserved : goal.loop-k-preserved
 loop-k-preserved c =
-    let p = c.args.s.now in
+    let p = c.args.system.now in
     let k = c.loop-k.k in
     let b = c.loop-k.self in
     let before = c.loop-k.invariant.board in

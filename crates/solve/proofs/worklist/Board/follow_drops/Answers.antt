@@ -13,7 +13,7 @@ room c =
       arith,
       c.loop-x.invariant.turns,
       c.loop-x.invariant.board.struck,
-      eligible_le_pairs c.args.s.now,
+      eligible_le_pairs c.args.system.now,
       c.requires.few,
       c.requires.turns,
       c.requires.board.total,
@@ -24,7 +24,7 @@ overflow_add-self c = omega (arith, room (goal.at.overflow_add-self c).In-Some)
 
 row : (c : After-deref) → row_at c.args.served.now c.in-Some.x ≡ c.deref.result.now
 row c =
-    let p = c.args.s.now in
+    let p = c.args.system.now in
     let x = c.in-Some.x in
     let members = subst (All (λ y. y < p.size)) c.in-Some.ensures.items c.loop-x.invariant.board.members in
     let small = last_small p c.pop.new.self.items x members in
@@ -33,13 +33,13 @@ row c =
 
 pub strike_row-requires-clause-row : goal.strike_row-requires-clause-row
 strike_row-requires-clause-row c =
-    let p = c.args.s.now in
+    let p = c.args.system.now in
     subst (All (λ k. k < length p.needs)) (row (goal.at.strike_row-requires-clause-row c).After-deref)
     (served_small p c.args.served.now c.requires.served c.in-Some.x)
 
 pub strike_row-requires-clause-board : goal.strike_row-requires-clause-board
 strike_row-requires-clause-board c =
-    let p = c.args.s.now in
+    let p = c.args.system.now in
     let b = c.loop-x.self in
     let left = c.pop.new.self.items in
     let at : List ℕ → Type 0 = λ dropped. IsSearch p [] (λ k. Unit {0}) b.standing.items b.living.items dropped

@@ -4,7 +4,7 @@ use Rattle.solve.proofs.worklist.Board.follow_drops.Given as goal
 
 abbrev pub invariant-loop-x : goal.invariant-loop-x
 invariant-loop-x l = record {
-  board : AtRest l.s [] l.self;
+  board : AtRest l.system [] l.self;
   turns : l.self.count.turns + open_in l.self + l.initial.self.count.strikes ≡ l.initial.self.count.turns + open_in
       l.initial.self + l.self.count.strikes;
 }

@@ -15,13 +15,13 @@ overflow_sub-left c =
     omega (
       arith,
       read,
-      due_living c.args.s.now c.args.need c.requires.due.0 (λ j. Unit {0}) b.standing.items
+      due_living c.args.system.now c.args.need c.requires.due.0 (λ j. Unit {0}) b.standing.items
           b.living.items b.dropped.items b.count.strikes b.dropped.cap c.requires.need before,
     )
 
 pub returns-then-left-eq0-clause-board : goal.returns-then-left-eq0-clause-board
 returns-then-left-eq0-clause-board c rest before =
-    let p = c.args.s.now in
+    let p = c.args.system.now in
     let k = c.args.need in
     let b = c.args.self.now in
     let living = b.living.items in
@@ -57,5 +57,5 @@ returns-else-left-eq0-clause-board c rest before =
     c.index.ensures ∙ get_or_default living c.args.need c.index.result.now 0
     (omega (arith, before.needs, c.requires.need)) in
     let some : get_or living c.args.need 0 - 1 ≡ 0 → ⊥ = λ none. c.if-left-eq0.false (ap (λ m. m - 1) read ∙ none) in
-    rw read (strike_pass c.args.s.now c.args.need rest b.standing.items living b.dropped.items b.count.strikes
+    rw read (strike_pass c.args.system.now c.args.need rest b.standing.items living b.dropped.items b.count.strikes
     b.dropped.cap c.requires.need some before)

@@ -8,7 +8,7 @@ pub strike-requires-clause-strikes : goal.strike-requires-clause-strikes
 strike-requires-clause-strikes c = omega (
   arith,
   c.loop-need.invariant.board.struck,
-  eligible_le_pairs c.args.s.now,
+  eligible_le_pairs c.args.system.now,
   c.requires.few,
 )
 
@@ -16,7 +16,7 @@ pub loop-need-preserved : goal.loop-need-preserved
 loop-need-preserved c =
     let row = c.args.row.now in
     let i = c.loop-need.need-index in
-    let due : List ℕ → Type 0 = λ ks. AtRest c.args.s.now ks c.loop-need.self in
+    let due : List ℕ → Type 0 = λ ks. AtRest c.args.system.now ks c.loop-need.self in
     record {
       board = c.strike.ensures.board (drop (i + 1) row) (subst due (drop_more row i 0 c.loop-need-test.true)
           c.loop-need.invariant.board);

@@ -15,8 +15,8 @@ pub returns-in-Some-One : goal.returns-in-Some-One
 returns-in-Some-One c =
     let sets = c.self.inside.index.sets in
     let y = c.in-Some-One.namer in
-    let found = c.append_function_namer.new.found.items in
-    subst (λ (ids : List Id). OnOk c.append_function_namer.result (found ≡ c.args.found.now.items ++ ids))
+    let found = c.append_if_function_namer.new.found.items in
+    subst (λ (ids : List Id). OnOk c.append_if_function_namer.result (found ≡ c.args.found.now.items ++ ids))
     (function_namers_among c.args.self.now c.args.id sets (y ∷ [])
     (subst (All (IsIndexed sets)) c.self.view_is c.self.invariant.indexed)
     (subst (Rises (slice_cmp nat_cmp) (λ s. s.id)) c.self.view_is
@@ -24,7 +24,7 @@ returns-in-Some-One c =
     (λ i j d before below. absurd (omega (arith, before, below)))
     (complete_at sets c.args.id (One y) (sym c.in-Some-One.ensures.value
     ∙ ap (λ n. Some n) c.in-Some-One.field-0-is)))
-    c.append_function_namer.ensures
+    c.append_if_function_namer.ensures
 
 pub returns-in-Some-More : goal.returns-in-Some-More
 returns-in-Some-More c =

@@ -4,7 +4,7 @@ use Rattle.terms.specs.Global.{names_for}
 use Rattle.sysmods.specs.Held.{zone_of}
 use Rattle.sysmods.proofs.received.Received.append_namers_among.Given as goal
 
-abbrev pub invariant-loop-namer : goal.invariant-loop-namer
-invariant-loop-namer l =
-    l.found.items ++ filter (λ y. is_in (names_for (zone_of l.self) l.srel y) l.id) l.namer-iterator
-    ≡ l.fn.found.items ++ filter (λ y. is_in (names_for (zone_of l.self) l.srel y) l.id) l.namers.keys
+abbrev pub invariant-loop-candidate : goal.invariant-loop-candidate
+invariant-loop-candidate l =
+    l.found.items ++ filter (λ y. is_in (names_for (zone_of l.self) l.srel y) l.id) l.candidate-iterator
+    ≡ l.fn.found.items ++ filter (λ y. is_in (names_for (zone_of l.self) l.srel y) l.id) l.candidates.keys

@@ -1,7 +1,0 @@
-use Rattle.std.proofs.Common.{take, IsTrue}
-use Rattle.std.specs.Prelude.{All}
-use Rattle.intake_elements.specs.Elements.{HasNoLevel}
-use Rattle.intake_elements.proofs.elements.drop_or_leave_out_each.Given as goal
-
-abbrev pub invariant-loop-operand : goal.invariant-loop-operand
-invariant-loop-operand l = IsTrue l.all → All HasNoLevel (take l.operand-index l.operands)

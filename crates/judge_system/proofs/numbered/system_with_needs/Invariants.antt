@@ -1,6 +1,0 @@
-use Rattle.std.proofs.Common.{take}
-use Rattle.judge_system.specs.Numbered.{HasNeeds}
-use Rattle.judge_system.proofs.numbered.system_with_needs.Given as goal
-
-abbrev pub invariant-loop-i : goal.invariant-loop-i
-invariant-loop-i l = HasNeeds l.ids.keys l.served.keys l.fn.eligible.items (take l.i l.stated) l.system
