@@ -17,7 +17,7 @@ use crate::names::{known_members, known_operands};
 use crate::operands::{
     has_operand, has_operand_without_list, have_only_names, members_of_operands,
 };
-use crate::same::{are_none, are_wanted_texts, is_only_wanted_text};
+use crate::same::{are_wanted_texts, has_no_texts, is_only_wanted_text};
 use crate::scan::WideCommand;
 use crate::selections::says_selection;
 use cntl::{Command, Install};
@@ -59,8 +59,8 @@ fn says_check(operands: &[WideOperand], check: bool) -> bool
     check == has_operand_without_list(&[b"CHECK", b"C"], operands)
 }
 
-// Whether an APPLY or an ACCEPT chooses and bypasses exactly what the shop's command asks for, and checks only if it
-// does.
+// Whether an APPLY or an ACCEPT chooses and bypasses exactly what the shop's command asks for, and has CHECK if and
+// only if that command has it.
 fn says_install(
     alloc: Global,
     known: &Option<Vec<KnownSysmod>>,
@@ -73,12 +73,12 @@ fn says_install(
     if !says_check(operands, install.check) {
         return Ok(false);
     }
-    let selection = says_selection(alloc, known, operands, &install.selection)?;
-    if !selection {
+    let chooses_same = says_selection(alloc, known, operands, &install.selection)?;
+    if !chooses_same {
         return Ok(false);
     }
-    let bypass = says_bypass(alloc, wide.bypassed.as_slice(), &install.bypass)?;
-    Ok(bypass)
+    let bypasses_same = says_bypass(alloc, wide.bypassed.as_slice(), &install.bypass)?;
+    Ok(bypasses_same)
 }
 
 // Whether the RECEIVE takes SYSMODs if and only if the operands have SYSMODS or lack HOLDDATA, and holds if and only if
@@ -108,7 +108,7 @@ fn says_receive(
     says_source(alloc, operands, &receive.source)
 }
 
-// Whether the source id is the only one that SOURCEID names, or SOURCEID names none and there is none.
+// Whether the source id is the only one that SOURCEID names. Without a source id: whether SOURCEID names none.
 fn says_source(
     alloc: Global,
     operands: &[WideOperand],
@@ -119,7 +119,7 @@ fn says_source(
 {
     let wanted = members_of_operands(alloc, &[b"SOURCEID"], operands)?;
     let Some(source) = source_id else {
-        return Ok(are_none(&wanted));
+        return Ok(has_no_texts(&wanted));
     };
     is_only_wanted_text(alloc, source, &wanted)
 }
@@ -156,7 +156,7 @@ fn says_single_list(
     ensures { IfOk result (λ are. IsTrue are → AreThese ids.now (map (λ id. id.now) stated.now)
         × (map (λ id. id.now) other.now ≡ [])) }
 {
-    if !are_none(other) {
+    if !has_no_texts(other) {
         return Ok(false);
     }
     are_wanted_texts(alloc, ids, stated)

@@ -108,8 +108,9 @@ pub(crate) fn is_only_wanted_text<T: Worded>(
     Ok(have_same_texts(words.as_slice(), wanted))
 }
 
-/// Whether there are no texts. `is_empty` says this of the references, its contract here says it of the texts.
-pub(crate) fn are_none(texts: &[&[u8]]) -> bool
+/// Whether there are no texts. The contract of `is_empty` says this of the references, and the contract here says it of
+/// the texts.
+pub(crate) fn has_no_texts(texts: &[&[u8]]) -> bool
     ensures { IsTrue result → map (λ text. text.now) texts.now ≡ [] }
 {
     texts.is_empty()

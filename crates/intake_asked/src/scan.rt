@@ -74,7 +74,7 @@ struct CommandScanner {
     words: Vec<WideOperand>,
     within: Within,
     /// Where the last comment opens.
-    comment: CardPlace,
+    comment_place: CardPlace,
     /// What this comment has on later cards, if it is inside a command.
     swallowed: Vec<u8>,
     comments: Vec<CommandComment>,
@@ -86,7 +86,7 @@ struct CommandScanner {
     in_word: bool,
     has_lower_case: bool,
     /// The card on which the last command ended.
-    ended: Option<CardPlace>,
+    last_end: Option<CardPlace>,
 }
 
 /// The commands of the cards. The last one may have no end, and their words need not be commands of SMP/E.
@@ -137,14 +137,14 @@ impl CommandScanner {
             commands: Vec::new(alloc),
             words: Vec::new(alloc),
             within: Within::Words,
-            comment: CardPlace { file: 0, card: 1 },
+            comment_place: CardPlace { file: 0, card: 1 },
             swallowed: Vec::new(alloc),
             comments: Vec::new(alloc),
             cut: Vec::new(alloc),
             depth: 0,
             in_word: false,
             has_lower_case: false,
-            ended: None,
+            last_end: None,
         }
     }
 
@@ -195,7 +195,7 @@ impl CommandScanner {
         };
         let text = std::mem::replace(&mut self.swallowed, Vec::new(self.alloc));
         self.comments.push(CommandComment {
-            place: self.comment,
+            place: self.comment_place,
             command,
             text,
         })?;
@@ -209,7 +209,7 @@ impl CommandScanner {
             Within::Comment | Within::Star => self.within = after_comment_byte(byte),
             Within::Slash if byte == b'*' => {
                 self.within = Within::Comment;
-                self.comment = place;
+                self.comment_place = place;
                 self.add_byte(b' ', place)?;
             }
             Within::Slash => {
@@ -323,7 +323,7 @@ impl CommandScanner {
     fn end_command(&mut self, place: CardPlace) -> Result<(), AllocError> {
         self.in_word = false;
         self.end_begun_command(CommandEnd::Period)?;
-        self.ended = Some(place);
+        self.last_end = Some(place);
         Ok(())
     }
 
@@ -335,8 +335,8 @@ impl CommandScanner {
         let Some(head) = words.next() else {
             return Ok(());
         };
-        let begins = head.place;
-        let shares_card = self.ended == Some(begins);
+        let place = head.place;
+        let shares_card = self.last_end == Some(place);
         let mut operands = Vec::new(self.alloc);
         for word in words {
             operands.push(word)?;
@@ -344,7 +344,7 @@ impl CommandScanner {
         let has_lower_case = self.has_lower_case;
         self.has_lower_case = false;
         self.commands.push(WideCommand {
-            place: begins,
+            place,
             head,
             operands,
             bypassed: Vec::new(self.alloc),
@@ -358,13 +358,13 @@ impl CommandScanner {
     // Ends the last command, and returns what was read. The members of BYPASS are not read yet.
     fn finish(mut self) -> Result<WideCommands, AllocError> {
         let end = match self.within {
-            Within::Comment | Within::Star => CommandEnd::OpenComment(self.comment),
+            Within::Comment | Within::Star => CommandEnd::OpenComment(self.comment_place),
             _ if self.depth > 0 => CommandEnd::OpenParenthesis,
             _ => CommandEnd::NoPeriod,
         };
         if self.is_in_comment() && self.words.is_empty() {
-            let comment = self.comment;
-            self.begin_word(comment)?;
+            let place = self.comment_place;
+            self.begin_word(place)?;
         }
         self.end_begun_command(end)?;
         Ok(WideCommands {
@@ -386,12 +386,9 @@ fn after_comment_byte(byte: u8) -> Within {
 
 // The text before the end of a comment, or the whole text if no comment ends in it, without blanks at either end.
 fn without_comment_end(text: &[u8]) -> &[u8] {
-    for place in 0..text.len() {
-        if let Some((front, rest)) = text.split_at_checked(place) {
-            if rest.starts_with(b"*/") {
-                return front.trim_ascii();
-            }
-        }
+    let end = text.windows(2).position(|pair| pair == b"*/".as_slice());
+    match end.and_then(|end| text.split_at_checked(end)) {
+        Some((front, _)) => front.trim_ascii(),
+        None => text.trim_ascii(),
     }
-    text.trim_ascii()
 }

@@ -13,8 +13,8 @@ use fields::{Id, Selection, Source};
 use intake_read::WideOperand;
 use std::alloc::{AllocError, Global};
 
-/// The known SYSMODs, or an empty list if none are given.
-pub(crate) fn known_sysmods(known: &Option<Vec<KnownSysmod>>) -> &[KnownSysmod]
+// The known SYSMODs, or an empty list if none are given.
+fn known_sysmods(known: &Option<Vec<KnownSysmod>>) -> &[KnownSysmod]
     ensures { result.now ≡ known_in known.now }
 {
     match known {
@@ -102,7 +102,7 @@ fn knows_kept_out_ids(
     known: &Option<Vec<KnownSysmod>>,
     operands: &[WideOperand],
 ) -> Result<bool, AllocError>
-    ensures { IfOk result (λ enough. IsTrue enough → (known.now ≡ None) → listed groupextend_names operands.now ≡ []) }
+    ensures { IfOk result (λ knows. IsTrue knows → (known.now ≡ None) → listed groupextend_names operands.now ≡ []) }
 {
     if known.is_some() {
         return Ok(true);
@@ -110,7 +110,7 @@ fn knows_kept_out_ids(
     Ok(members_of_operands(alloc, groupextend_names(), operands)?.is_empty())
 }
 
-// Whether SELECT, GROUP, EXCLUDE and FORFMID have exactly the ids that the operands ask for.
+// Whether SELECT, GROUP, EXCLUDE and FORFMID of the selection have exactly the ids that the operands ask for.
 fn says_lists(
     alloc: Global,
     known: &[KnownSysmod],

@@ -30,7 +30,7 @@ fn known_sources(alloc: Global, known: &[KnownSysmod]) -> Result<Vec<&[u8]>, All
     Ok(all)
 }
 
-// Those of the source ids that begin with the text before the asterisk.
+// The source ids that begin with the prefix.
 fn sources_with_prefix<'a>(
     alloc: Global,
     all: &[&'a [u8]],

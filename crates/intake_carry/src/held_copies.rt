@@ -69,7 +69,7 @@ fn is_held(keys: &BTreeSet<HoldKey>, item: &HoldItem) -> bool
     }
 }
 
-// Whether it was an internal hold and has one of the keys.
+// Whether the item is a hold that was internal and has one of the keys.
 fn is_held_by_copy(keys: &BTreeSet<HoldKey>, placed: &PlacedItem) -> bool
     ensures { (items : List AnItem) → AreKeysOf keys.now (flat_map holds_of items)
         → result ≡ is_held_by_copy items placed.now }
@@ -77,7 +77,7 @@ fn is_held_by_copy(keys: &BTreeSet<HoldKey>, placed: &PlacedItem) -> bool
     placed.was_internal && is_held(keys, &placed.item)
 }
 
-// The holds and releases without those that were internal holds and have one of the keys.
+// The holds and releases without the holds that were internal and have one of the keys.
 fn keep_unheld(keys: &BTreeSet<HoldKey>, mut placed: Vec<PlacedItem>) -> Vec<PlacedItem>
     ensures { (items : List AnItem) → AreKeysOf keys.now (flat_map holds_of items)
         → result.items ≡ filter (λ p. not (is_held_by_copy items p)) placed.items }

@@ -31,6 +31,14 @@ impl CarriedOperand {
     pub(crate) fn is_select_or_group(&self) -> bool {
         matches!(self.word, b"SELECT" | b"GROUP")
     }
+
+    /// The members of its list, or none if it has no list or is a BYPASS.
+    pub(crate) fn list(&self) -> &[Vec<u8>] {
+        match &self.value {
+            CarriedValue::List(members) => members.as_slice(),
+            CarriedValue::Nothing | CarriedValue::BypassMembers(_) => &[],
+        }
+    }
 }
 
 /// What follows the word of an operand.

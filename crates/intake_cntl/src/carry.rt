@@ -120,11 +120,11 @@ fn carry_operands(
             replace_select_by_group(remarks, group, &mut carried)?;
         }
     }
-    for context in contexts {
-        if context.has_form(OperandForm::GroupExtend) && context.operand.value.is_some() {
-            exclude_kinds(alloc, remarks, context, &mut carried)?;
-            break;
-        }
+    let group_extend = contexts.iter().find(|context| {
+        context.has_form(OperandForm::GroupExtend) && context.operand.value.is_some()
+    });
+    if let Some(group_extend) = group_extend {
+        exclude_kinds(alloc, remarks, group_extend, &mut carried)?;
     }
     Ok(carried)
 }

@@ -201,7 +201,8 @@ fn unread_reason(
     }
 }
 
-// Remarks that a command is refused because its records are not read. If it lacks an operand, the remark names that.
+// Remarks that a command is refused because its records are not read. If it lacks an operand, the remark names that
+// operand.
 fn remark_on_unread(
     remarks: &mut CommandRemarks,
     command: &CarriedCommand,

@@ -2,7 +2,7 @@
 
 use crate::carried::{CarriedOperand, CarriedValue, has_word};
 use crate::command_remarks::CommandRemarks;
-use crate::lists::{MOST_MEMBERS, push_if_absent};
+use crate::lists::{MOST_MEMBERS, has_member, push_if_absent};
 use crate::operand_context::OperandContext;
 use intake_asked::KnownSysmod;
 use intake_cards::{Deed, RemarkReason};
@@ -87,11 +87,7 @@ fn append_ids_of_kind(
 
 // Whether SELECT or GROUP names the id.
 fn is_selected(carried: &[CarriedOperand], id: &[u8]) -> bool {
-    carried.iter().any(|operand| match &operand.value {
-        CarriedValue::List(ids) => operand.is_select_or_group()
-            && ids.iter().any(|other| other.as_slice() == id),
-        _ => false,
-    })
+    carried.iter().any(|operand| operand.is_select_or_group() && has_member(operand.list(), id))
 }
 
 // Adds the ids to EXCLUDE, which is appended if the command has none.
@@ -122,9 +118,6 @@ fn add_to_exclude(
 
 // Whether EXCLUDE has more members than a list may have.
 fn has_long_exclude(carried: &[CarriedOperand]) -> bool {
-    carried.iter().any(|operand| match &operand.value {
-        CarriedValue::List(ids) => operand.word == b"EXCLUDE".as_slice()
-            && ids.len() > MOST_MEMBERS,
-        _ => false,
-    })
+    carried.iter().any(|operand| operand.word == b"EXCLUDE".as_slice()
+        && operand.list().len() > MOST_MEMBERS)
 }

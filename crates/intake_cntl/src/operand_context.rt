@@ -39,7 +39,8 @@ pub(crate) fn operand_contexts<'a>(
 }
 
 impl OperandContext<'_> {
-    /// How the operand's word is spelled, or `None` if the command has no such operand. C with a list is COMPRESS.
+    /// How the operand's word is spelled, or `None` if the command may not have the operand. C with a list is
+    /// COMPRESS.
     pub(crate) fn spelling(&self) -> Option<Spelling> {
         let word = self.operand.name.as_slice();
         if word == b"C".as_slice() && self.operand.value.is_some() {
@@ -48,14 +49,14 @@ impl OperandContext<'_> {
         spelling_of(self.vocabulary.operands, word)
     }
 
-    /// Whether the command has such an operand, and it is of this form.
+    /// Whether the command may have the operand, and the operand's form is this one.
     pub(crate) fn has_form(&self, form: OperandForm) -> bool {
         self.spelling()
             .is_some_and(|spelling| spelling.form == form)
     }
 
-    /// Returns the spelling if the operand is carried, and remarks on it if the word is an abbreviation. Otherwise a
-    /// remark drops the operand, or refuses it if it has no spelling.
+    /// Returns the spelling if the operand is carried, with a remark if its word is spelled out. Otherwise a remark
+    /// drops the operand, or refuses it if it has no spelling.
     pub(crate) fn check_spelling(
         &self,
         remarks: &mut CommandRemarks,

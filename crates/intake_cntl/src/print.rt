@@ -69,9 +69,10 @@ fn print_bypass_members(
     Ok(())
 }
 
-// What follows the member at this place of a list: a comma, but the closing parenthesis after the last one.
-fn separator_after(place: usize, members: usize) -> &'static [u8] {
-    if place.saturating_add(1) < members {
+// What follows the member at this place of a list of this length: a comma, or after the last member the closing
+// parenthesis.
+fn separator_after(place: usize, length: usize) -> &'static [u8] {
+    if place.saturating_add(1) < length {
         b","
     } else {
         b")"

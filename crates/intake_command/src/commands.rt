@@ -47,7 +47,7 @@ pub(crate) fn serve_commands<H: IntakeHost>(
     ensures err { OnErr result (HasDone H.IntakeHost (All (IsWithin (folder_of asked.now))) host.old host.new) }
 {
     let bytes = read_input(alloc, host, name)?;
-    let known = known_sysmods(alloc, host, &asked.known)?;
+    let known = read_known_sysmods(alloc, host, &asked.known)?;
     let made = commands_output(alloc, asked, name, bytes, &known)?;
     let summary = made.summary.clone()?;
     let folder = asked.out.as_str();
@@ -58,7 +58,7 @@ pub(crate) fn serve_commands<H: IntakeHost>(
 
 // The SYSMODs of the list, or `None` if no list is named. Returns `CannotRead` if the host cannot read it, `KnownLine`
 // if a line is not in form, `Memory` if memory runs out.
-fn known_sysmods<H: IntakeHost>(
+fn read_known_sysmods<H: IntakeHost>(
     alloc: Global,
     host: &mut H,
     name: &Option<String>,

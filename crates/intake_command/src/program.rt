@@ -27,13 +27,13 @@ pub fn command<H: IntakeHost>(
     ensures { HasDone H.IntakeHost (Ends result) host.old host.new }
 {
     match words {
-        Ok(words) => answer_words(alloc, host, words.as_slice()),
+        Ok(words) => serve_words(alloc, host, words.as_slice()),
         Err(_) => tell_fault(alloc, host, "", &IntakeFault::Memory),
     }
 }
 
 // Reads the words, and then serves what they ask for: help, or files if they are in order. Returns the status.
-fn answer_words<H: IntakeHost>(alloc: Global, host: &mut H, words: &[Vec<u8>]) -> u8
+fn serve_words<H: IntakeHost>(alloc: Global, host: &mut H, words: &[Vec<u8>]) -> u8
     ensures { HasDone H.IntakeHost (Ends result) host.old host.new }
 {
     match read_options(alloc, words) {

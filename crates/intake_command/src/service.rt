@@ -75,16 +75,11 @@ fn exit_status(remarks: &RemarkList) -> u8
     }
 }
 
-// Whether something is left out that may be asked for.
+// Whether one of the remarks matters: it says that something is left out that may be asked for.
 fn has_remark_that_matters(remarks: &RemarkList) -> bool {
-    for place in 0..remarks.len() {
-        if let Some(remark) = remarks.get(place) {
-            if remark.matters() {
-                return true;
-            }
-        }
-    }
-    false
+    (0..remarks.len())
+        .filter_map(|place| remarks.get(place))
+        .any(|remark| remark.matters())
 }
 
 // The statements of all files. Their holds outside SYSMODs are carried as they are read. Returns `NoStatement` if there
@@ -183,11 +178,11 @@ fn service_output(
         Err(NarrowError::Memory) => return Err(IntakeFault::Memory),
         Err(NarrowError::Refused(remarks)) => return Err(refusal_fault(alloc, inputs, &remarks)),
     };
-    Ok(add_summary(alloc, asked, narrowed)?)
+    Ok(narrowed_output(alloc, asked, narrowed)?)
 }
 
-// The items and remarks, with their summary and the file of stand-ins.
-fn add_summary(
+// The output of items that RECEIVE takes, with the summary and the file of stand-ins made of them.
+fn narrowed_output(
     alloc: Global,
     asked: &IntakeOptions,
     narrowed: Narrowed,
@@ -218,9 +213,8 @@ fn stand_ins_if_asked(
     Ok(Some(stand_ins_file(alloc, &narrowed.named)?))
 }
 
-// Drafts the remarks, and then puts all files into the folder.
-// Returns `NotReadBack` if the records of a file are not read back as its items, `CannotWrite` if the folder does not
-// take the files, `Memory` if memory runs out.
+// Drafts the remarks, and then puts all files into the folder. Returns `NotReadBack` if the records of a file are not
+// read back as its items, `CannotWrite` if the files cannot be written into the folder, `Memory` if memory runs out.
 fn keep_files<H: IntakeHost>(
     alloc: Global,
     host: &mut H,
@@ -257,12 +251,11 @@ fn draft_remarks<H: IntakeHost>(
     folder: &str,
     inputs: &InputFiles,
     remarks: RemarkList,
-    lines: Vec<u8>,
+    mut lines: Vec<u8>,
 ) -> Result<Vec<u8>, IntakeFault>
     ensures ok { OnOk result (HasDone H.IntakeHost (All (DraftsRemarks folder.now)) host.old host.new) }
     ensures err { OnErr result (HasDone H.IntakeHost (All (IsWithin folder.now)) host.old host.new) }
 {
-    let mut lines = lines;
     for place in 0..remarks.len() {
         let Some(remark) = remarks.get(place) else {
             continue;

@@ -85,7 +85,7 @@ impl IntakeFault {
         }
     }
 
-    /// The fault of a file with a statement that no SYSMOD can be left out for.
+    /// The fault of a statement that cannot be read, and that belongs to no SYSMOD that could be left out.
     pub fn of_statement(alloc: Global, inputs: &InputFiles, error: &WideError) -> IntakeFault {
         match statement_fault(alloc, inputs, error) {
             Ok(fault) => fault,
@@ -94,7 +94,8 @@ impl IntakeFault {
     }
 }
 
-// The fault of a statement that no SYSMOD can be left out for.
+// The fault of a statement that cannot be read: a line with its file and card, its word and name, and what the error
+// says.
 fn statement_fault(
     alloc: Global,
     inputs: &InputFiles,

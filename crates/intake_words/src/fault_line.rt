@@ -8,8 +8,8 @@ use std::alloc::{AllocError, Global};
 const PROGRAM: &[u8] = b"smpe-intake: ";
 
 impl IntakeFault {
-    /// The lines that report it: one, or one for each statement. A fault that `clap` found has none, since the host
-    /// prints its text. `folder` is the folder of the files that are written.
+    /// The lines that report the fault: one, or one for each statement. A fault that `clap` found has none, since the
+    /// host prints its text. `folder` is the folder of the files that are written.
     pub fn lines(&self, alloc: Global, folder: &str) -> Result<Vec<u8>, AllocError> {
         let mut lines = Vec::new(alloc);
         let text = match self {

@@ -87,7 +87,7 @@ impl InputFiles {
         }
     }
 
-    /// The cards of the file of this name, which becomes the next one. Returns `NoCards` if the bytes cannot be read as
+    /// The cards of the file of this name, which is added to the list. Returns `NoCards` if the bytes cannot be read as
     /// cards, `Memory` if memory runs out.
     pub fn read_cards(
         &mut self,
@@ -105,8 +105,8 @@ impl InputFiles {
         Ok(read.cards)
     }
 
-    /// A reader of the cards of the file of this name, which becomes the next one. The notes on its cards are
-    /// known only after they are read. Returns `NoCards` if the bytes cannot be read as cards, `Memory` if memory runs
+    /// A reader of the cards of the file of this name, which is added to the list. The notes on its cards are known
+    /// only after all cards are read. Returns `NoCards` if the bytes cannot be read as cards, `Memory` if memory runs
     /// out.
     pub fn open_cards<'a>(
         &mut self,

@@ -95,7 +95,7 @@ pub fn read_options(alloc: Global, words: &[Vec<u8>]) -> Result<IntakeOptions, W
     options_of_matches(alloc, &matches)
 }
 
-/// The texts, lent one by one.
+/// The texts as string slices.
 pub fn text_views(alloc: Global, texts: &[String]) -> Result<Vec<&str>, AllocError>
     ensures { IfOk result (λ views. map (λ view. view.now) views.items ≡ map string_bytes texts.now) }
 {
@@ -213,6 +213,7 @@ fn options_of_matches(
     matches: &ArgMatches<'_>,
 ) -> Result<IntakeOptions, WordsFault> {
     Ok(IntakeOptions {
+        // `clap` refuses a command line without --out.
         out: option_text(alloc, matches, "out")?.unwrap_or(String::new(alloc)),
         files: option_texts(alloc, matches, "file")?,
         cntl: option_text(alloc, matches, "cntl")?,

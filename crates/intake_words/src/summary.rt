@@ -78,10 +78,10 @@ pub(crate) fn cause_of<'a>(
     place: usize,
     header: Remark<'a>,
 ) -> Remark<'a> {
-    let mut cause = header;
     if header.reason != RemarkReason::WholeSysmod {
-        return cause;
+        return header;
     }
+    let mut cause = header;
     for before in (0..place).rev() {
         let Some(remark) = remarks.get(before) else {
             return cause;
@@ -161,15 +161,10 @@ fn append_left_out_line(
 
 /// How many remarks have the reason.
 pub(crate) fn count_with_reason(remarks: &RemarkList, reason: RemarkReason) -> usize {
-    let mut count = 0usize;
-    for place in 0..remarks.len() {
-        if let Some(remark) = remarks.get(place) {
-            if remark.reason == reason {
-                count = count.saturating_add(1);
-            }
-        }
-    }
-    count
+    (0..remarks.len())
+        .filter_map(|place| remarks.get(place))
+        .filter(|remark| remark.reason == reason)
+        .count()
 }
 
 // Appends a line with its label, the count and the text, unless the count is 0.

@@ -133,13 +133,11 @@ impl<'a> FileSystem<'a> {
         }
         fs::create_dir_all(self.rt, folder)?;
         self.write_draft(folder, name, bytes)?;
-        for slot in self.drafts.iter_mut() {
-            if slot.is_none() {
-                *slot = Some(name);
-                return Ok(());
-            }
-        }
-        Err(io::Error::from(ErrorKind::Other))
+        let Some(free) = self.drafts.iter_mut().find(|slot| slot.is_none()) else {
+            return Err(io::Error::from(ErrorKind::Other));
+        };
+        *free = Some(name);
+        Ok(())
     }
 
     // Writes the draft of the file, or appends to it if it is of this run.

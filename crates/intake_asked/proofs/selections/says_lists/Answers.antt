@@ -20,7 +20,8 @@ returns c =
           (subst (λ l. AreThese l (grouped ops)) c.as_slice-2.ensures.items
           (c.in_ok-says_group.ensures c.if-not-branch-2.false));
       exclude = subst (λ (s : Selection). AreThese s.exclude exclude) seen
-          (subst (λ l. AreThese l exclude) c.as_slice-3.ensures.items (c.in_ok-says_exclude.ensures c.if-not-branch-3.false));
+          (subst (λ l. AreThese l exclude) c.as_slice-3.ensures.items
+          (c.in_ok-says_exclude.ensures c.if-not-branch-3.false));
       forfmid = subst (λ (s : Selection). AreThese s.forfmid fmids) seen
           (subst (λ l. AreThese l fmids) c.as_slice-4.ensures.items (said t));
     }) c.says_forfmid.ensures

@@ -4,7 +4,7 @@ use Rattle.intake_command.specs.Acts.{Gives}
 use Rattle.intake_command.specs.Done.{HasDone}
 use Rattle.intake_command.specs.Serving.{IsKnownList}
 use Rattle.intake_command.proofs.Doing.{did, on_err, quiet_did}
-use Rattle.intake_command.proofs.commands.known_sysmods.Goals as goal
+use Rattle.intake_command.proofs.commands.read_known_sysmods.Goals as goal
 
 pub returns-in_err-read_known_list-clause-err : goal.returns-in_err-read_known_list-clause-err
 returns-in_err-read_known_list-clause-err g c = on_err _ (quiet_did g.H.IntakeHost _ _ _ c.in_ok-bytes.ensures.ok tt)
