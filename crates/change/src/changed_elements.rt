@@ -47,10 +47,10 @@ pub(crate) fn elements_after(
     };
     let by_element = changers_by_element(alloc, vers.global(), effective)?;
     let mut elements = Vec::new(alloc);
-    for (element, changers) in &by_element {
-        let base = left.element(element.0, element.1);
+    for (key, changers) in &by_element {
+        let base = left.element(key.0, key.1);
         let ordered = sort_by_over(alloc, overs, changers)?;
-        let changed = element_after(alloc, vers, base, *element, &ordered)?;
+        let changed = element_after(alloc, vers, base, *key, &ordered)?;
         elements.push(changed)?;
     }
     Ok(elements)

@@ -17,7 +17,8 @@ pub(crate) struct Deleting<'a, 'b> {
 }
 
 impl<'a, 'b> Deleting<'a, 'b> {
-    /// The DELBY of the id after the install: the one that the zone has, otherwise the first SYSMOD that deletes it.
+    /// The DELBY of the id after the install: the one that the zone has, otherwise the first kept SYSMOD that
+    /// deletes the id.
     pub(crate) fn delby(&self, id: Id) -> Option<Id>
         requires { AreDeletions self.now }
         ensures { result ≡ delby_left self.now id }
@@ -28,8 +29,8 @@ impl<'a, 'b> Deleting<'a, 'b> {
         }
     }
 
-    // For a function that DELETE takes out, the first kept SYSMOD whose DELETE meets its chain. For any other id, the
-    // first kept SYSMOD that names the id in DELETE.
+    // For a function that DELETE takes out, the first kept SYSMOD whose DELETE names an id of the function's chain. For
+    // any other id, the first kept SYSMOD whose DELETE names the id.
     fn first_deleter(&self, id: Id) -> Option<Id>
         requires { AreDeletions self.now }
         ensures { result ≡ first_deleter self.now id }
@@ -53,7 +54,7 @@ impl<'a, 'b> Deleting<'a, 'b> {
     }
 }
 
-/// The id's entry in the zone less the deletions. It is empty if the zone has none.
+/// The id's entry in the zone less the deletions, or an empty entry if the zone has none for the id.
 pub(crate) fn entry_left(alloc: Global, left: &ZoneLess, id: Id) -> Result<Entry, AllocError>
     ensures entry { IfOk result (λ e. e ≡ old_entry (left_of left.now) id) }
     ensures form { IsZone left.now.zone.now }

@@ -41,8 +41,8 @@ pub(crate) fn put_entries(
     Ok(())
 }
 
-// The entry of a SYSMOD that takes effect: what is left of it, applied on this date. It waives its bypassed requisites
-// that nothing supplies.
+// The entry of a SYSMOD that takes effect: what is left of the old entry, applied on the date of the install. The entry
+// waives those bypassed requisites that nothing supplies.
 fn applied_entry(
     alloc: Global,
     deleting: &Deleting,
@@ -92,7 +92,8 @@ fn is_unsupplied(deleting: &Deleting, plan: &Plan, id: Id) -> bool
         && !deleting.left.supplies(id)
 }
 
-// The entry of any other id: what is left of it, with the SYSMODs that take effect and supersede it added to SUPBY.
+// The entry of an id that does not take effect: what is left of the old entry, with the SYSMODs that take effect and
+// supersede the id added to SUPBY.
 fn other_entry(alloc: Global, deleting: &Deleting, plan: &Plan, id: Id) -> Result<Entry, AllocError>
     requires { AreDeletions deleting.now }
     ensures entry { IfOk result (IsOtherEntry deleting.now plan.now id) }

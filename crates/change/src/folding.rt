@@ -106,7 +106,8 @@ fn known_change(global: &GlobalZone, id: Id, elem_type: ElemType, name: Name) ->
     global.change_of(id, elem_type, name).unwrap()
 }
 
-// The element after one statement that changes it. `old` is the element before. Without it, an update makes none.
+// The element after the statement of the SYSMOD `id`, which the function `owner` owns. `old` is the element before. If
+// there is none, an update makes none.
 fn apply_change(
     alloc: Global,
     owner: Id,
@@ -142,7 +143,7 @@ fn apply_change(
     }
 }
 
-// The element after an update by the SYSMOD.
+// The element after an update by the SYSMOD, which becomes one of the element's UMIDs.
 fn apply_update(alloc: Global, id: Id, update: &Update, old: Element) -> Result<Element, AllocError>
     requires { IsNumbered old.text }
     ensures { IfOk result (IsUpdateOf id update.now old) }

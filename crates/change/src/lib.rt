@@ -21,5 +21,5 @@ mod plan;
 mod restoring;
 
 pub use installing::{Installed, Installing, install};
-pub use pairs::pairs_of;
+pub use pairs::pairs_with_first_in;
 pub use restoring::restore;

@@ -7,8 +7,8 @@ use fields::Id;
 use std::alloc::{AllocError, Global};
 use sysmods::Overs;
 
-/// Sorts ids so that each later one is over each earlier one. Of any two, one is over the other. An id that is over all
-/// before it takes one comparison, any other a binary search.
+/// Sorts ids so that each later one is over each earlier one. Of any two, one has to be over the other. An id that is
+/// over all ids before it takes one comparison, any other a binary search.
 pub(crate) fn sort_by_over(
     alloc: Global,
     overs: &mut Overs<'_, '_>,
@@ -27,8 +27,8 @@ pub(crate) fn sort_by_over(
     Ok(ordered)
 }
 
-// The place of an id among sorted ones: after the last one that it is over. It compares with the last one first, and
-// then searches the rest by halves.
+// The place of the id among sorted ones: after the last one that the id is over. The search begins with the last one,
+// which usually decides, and then halves the rest.
 fn find_place(
     alloc: Global,
     overs: &mut Overs<'_, '_>,

@@ -1,4 +1,4 @@
-//! Pairs of ids, selected or grouped by their first ids.
+//! Pairs of ids, chosen or grouped by their first ids.
 ghost use Rattle.std.specs.Prelude.{◌≡◌, IfOk, filter};
 ghost use Rattle.terms.specs.Lookups.{is_in};
 ghost use Rattle.change.specs.Pairs.{AreGrouped};
@@ -8,8 +8,8 @@ use sorted::lists::{Lists, add};
 use std::alloc::{AllocError, Global};
 use std::collections::BTreeMap;
 
-/// The pairs whose first id is among these.
-pub fn pairs_of(
+/// The pairs whose first id is one of these.
+pub fn pairs_with_first_in(
     alloc: Global,
     ids: &IdList,
     pairs: &[(Id, Id)],
@@ -23,7 +23,7 @@ pub fn pairs_of(
         .collect(alloc)
 }
 
-/// Lists for each first id its second ids.
+/// For each first id, the list of its second ids.
 pub(crate) fn group_pairs(alloc: Global, pairs: &[(Id, Id)]) -> Result<Lists<Id, Id>, AllocError>
     ensures { IfOk result (AreGrouped pairs.now) }
 {

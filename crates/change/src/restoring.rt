@@ -37,7 +37,8 @@ pub fn restore(
     ZoneDelta::from_edits(alloc, zone_edits, zone)
 }
 
-// The types and names of the elements that the SYSMODs change, in order, as often as one changes them.
+// The types and names of the elements that the SYSMODs change, sorted. An element that several of them change occurs
+// several times.
 fn changed_keys_in_order(
     alloc: Global,
     global: &GlobalZone,
@@ -56,7 +57,8 @@ fn changed_keys_in_order(
     Ok(changed)
 }
 
-// Whether the entry loses something: its SYSMOD is applied and taken off, or one of those that supersede it is.
+// Whether the restore takes something out of the entry: its own SYSMOD is applied and is taken off, or a SYSMOD in its
+// SUPBY is taken off.
 fn loses_kept(kept: &IdList, entry: &Entry) -> bool
     ensures { result ≡ loses (is_in kept.now) entry.now }
 {
@@ -106,7 +108,7 @@ fn take_off(
     zone_edits.put_entry(less)
 }
 
-// The elements of these types and names become those of the distribution zone.
+// Makes the elements of these types and names those of the distribution zone.
 fn put_all_back(
     alloc: Global,
     zone: &Zone,
@@ -123,8 +125,8 @@ fn put_all_back(
     Ok(())
 }
 
-// The element becomes that of the distribution zone, or is removed if that zone has none. Nothing is edited if the two
-// are the same.
+// Makes the element that of the distribution zone, or removes it if that zone has none. If both zones have the same
+// element, this adds no edit.
 fn put_back(
     alloc: Global,
     zone: &Zone,

@@ -164,11 +164,11 @@ pub fn narrow(
     ensures { (holds : List WideHold) → AreCarried holds held → IfOk result (λ narrowed. FilesBecome options.decide
         files.now holds narrowed.items.items narrowed.hold_items.items) }
 {
-    options.sort();
+    options.sort_members();
     let users = Users::of_files(alloc, &options, files)?;
     let copies = OtherCopies::of_files(alloc, files)?;
     let mut remarks = Remarks::new(alloc);
-    if held.refuse_all(alloc, &mut remarks, files)? {
+    if held.refuse_bad_statements(alloc, &mut remarks, files)? {
         return Err(NarrowError::Refused(remarks.list));
     }
     let mut held_remarks = held.remarks;

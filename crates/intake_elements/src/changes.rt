@@ -5,7 +5,7 @@ ghost use Rattle.intake_elements.specs.Elements.{IsProfileType, IsLacked, IsMade
 use crate::element_words::profile_type;
 use crate::elements::{tell_dropped_operand, whole_change};
 use crate::levels::first_level_operand;
-use crate::modules::{has_faulty_modules, is_module_operand, tell_dropped_modules};
+use crate::modules::{has_faulty_module_operand, is_module_operand, tell_dropped_module_operands};
 use crate::options::Options;
 use crate::stand_ins::{one_record_change, stand_in_change, tell_stand_in};
 use crate::subjects::element_subject;
@@ -55,7 +55,7 @@ fn meets_stand_in_rules(
         return Ok(false);
     }
     tell_faulty_modules(alloc, remarks, subject, element)?;
-    Ok(!has_faulty_modules(element))
+    Ok(!has_faulty_module_operand(element))
 }
 
 // Remarks, for each operand of the element, that it is dropped, because a stand-in is carried.
@@ -68,7 +68,7 @@ fn tell_all_operands_dropped(
 ) -> Result<(), AllocError> {
     let faulty = element.faulty.as_slice();
     tell_faulty_operands(alloc, remarks, subject, faulty, Deed::Dropped)?;
-    tell_dropped_modules(alloc, options, remarks, subject, element)?;
+    tell_dropped_module_operands(alloc, options, remarks, subject, element)?;
     for operand in element.operands.iter() {
         tell_dropped_operand(alloc, remarks, subject, operand)?;
     }

@@ -5,7 +5,7 @@ ghost use Rattle.intake_elements.specs.Elements.{is_level_operand, HasNoLevel, i
 
 use crate::element_words::{is_update, is_update_word};
 use crate::levels::is_level_operand;
-use crate::modules::tell_dropped_modules;
+use crate::modules::tell_dropped_module_operands;
 use crate::options::{Libraries, Options};
 use crate::subjects::element_subject;
 use crate::texts::{
@@ -112,9 +112,9 @@ fn tell_text_libraries(
     Ok(())
 }
 
-// Remarks on all operands of the element: on those that are dropped, and on those for which the SYSMOD is left out.
-// Returns whether it can be carried.
-fn drop_all_operands(
+// Whether the SYSMOD can be carried without the operands of the element. Remarks name those that are dropped, and those
+// for which the SYSMOD is left out.
+fn can_drop_all_operands(
     alloc: Global,
     options: &Options,
     remarks: &mut Remarks,
@@ -123,7 +123,7 @@ fn drop_all_operands(
 ) -> Result<bool, AllocError>
     ensures { IfOk result (λ good. IsTrue good → All HasNoLevel element.now.operands.items) }
 {
-    tell_dropped_modules(alloc, options, remarks, subject, element)?;
+    tell_dropped_module_operands(alloc, options, remarks, subject, element)?;
     let faulty = element.faulty.as_slice();
     tell_faulty_operands(alloc, remarks, subject, faulty, Deed::LeftOut)?;
     let dropped = drop_operands(alloc, remarks, subject, element.operands.as_slice())?;
@@ -248,7 +248,7 @@ fn text_fault(cards: &[Card]) -> Option<RemarkReason> {
     None
 }
 
-// Remarks that the blank cards at the end of the text are dropped, if there are any: if fewer cards are kept.
+// Remarks that the blank cards at the end of the text are dropped, if there are any. `kept` are the cards before them.
 fn tell_blank_end(
     alloc: Global,
     remarks: &mut Remarks,
@@ -435,7 +435,7 @@ pub(crate) fn whole_change(
         (is_update kind element.now.word.items) c × All HasNoLevel element.now.operands.items)) }
 {
     let subject = element_subject(element);
-    if !drop_all_operands(alloc, options, remarks, &subject, element)? {
+    if !can_drop_all_operands(alloc, options, remarks, &subject, element)? {
         return Ok(None);
     }
     let change = stated_change(alloc, options, remarks, kind, element, elem_type, name)?;

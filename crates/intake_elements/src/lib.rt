@@ -17,7 +17,7 @@ mod updates;
 pub use changes::change_of;
 pub use elements::are_both;
 pub use levels::has_level_operand;
-pub use modules::{has_faulty_modules, keys_of, modules_of};
+pub use modules::{has_faulty_module_operand, keys_of, modules_of};
 pub use options::{Options, RelfileMember, Syslib};
 pub use stand_ins::module_change;
 pub use subjects::element_subject;

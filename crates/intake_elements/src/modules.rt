@@ -18,8 +18,8 @@ fn has_own_module(element: &WideElement) -> bool
     element.distmod.is_some() && is_source(element.word.as_slice())
 }
 
-// The module that has the name of the source, if the element has such a module, as a list.
-fn own_module<'a>(alloc: Global, element: &'a WideElement) -> Result<Vec<&'a [u8]>, AllocError>
+// The module that has the name of the source, as a list, which is empty if the element has no such module.
+fn own_modules<'a>(alloc: Global, element: &'a WideElement) -> Result<Vec<&'a [u8]>, AllocError>
     ensures { IfOk result (λ modules. map (λ m. m.now) modules.items ≡ own_modules element.now) }
 {
     let mut modules = Vec::new(alloc);
@@ -35,7 +35,7 @@ fn own_module<'a>(alloc: Global, element: &'a WideElement) -> Result<Vec<&'a [u8
 pub fn modules_of<'a>(alloc: Global, element: &'a WideElement) -> Result<Vec<&'a [u8]>, AllocError>
     ensures { IfOk result (λ modules. map (λ m. m.now) modules.items ≡ modules_of element.now) }
 {
-    let mut modules = own_module(alloc, element)?;
+    let mut modules = own_modules(alloc, element)?;
     for module in element.assem.iter() {
         modules.push(module.as_slice())?;
     }
@@ -76,16 +76,16 @@ pub(crate) fn is_module_operand(name: &[u8]) -> bool {
 }
 
 /// Whether an operand that states the modules that are assembled, or their library, is faulty.
-pub fn has_faulty_modules(element: &WideElement) -> bool {
+pub fn has_faulty_module_operand(element: &WideElement) -> bool {
     element
         .faulty
         .iter()
         .any(|entry| is_module_operand(entry.operand.name.as_slice()))
 }
 
-/// Remarks that DISTMOD and ASSEM are dropped. If stand-ins are asked for, those of the modules are carried, so only a
-/// DISTMOD without modules is dropped.
-pub(crate) fn tell_dropped_modules(
+/// Remarks that DISTMOD and ASSEM are dropped. If stand-ins are asked for, modules have stand-ins, so only a DISTMOD of
+/// an element without modules is dropped.
+pub(crate) fn tell_dropped_module_operands(
     alloc: Global,
     options: &Options,
     remarks: &mut Remarks,

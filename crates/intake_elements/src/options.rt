@@ -47,7 +47,7 @@ impl Options {
     }
 
     /// The file with the text of the element whose statement begins at this place, or `None` if there is none. Call
-    /// `sort` first.
+    /// `sort_members` first.
     pub(crate) fn relfile_member(&self, element: CardPlace) -> Option<&RelfileMember> {
         let place = self
             .members
@@ -57,7 +57,7 @@ impl Options {
     }
 
     /// Sorts the members by the places of their elements, so that the text of an element is found.
-    pub fn sort(&mut self)
+    pub fn sort_members(&mut self)
         ensures { self.new.decide ≡ self.old.decide }
     {
         self.members

@@ -83,18 +83,18 @@ fn name_of(hash: u64) -> [u8; 8]
 }
 
 // The name of the stand-in of an element of this name in a statement of this word, as bytes.
-fn stand_in_text(word: &[u8], name: &[u8]) -> [u8; 8]
+fn stand_in_name_bytes(word: &[u8], name: &[u8]) -> [u8; 8]
     ensures { result ≡ stand_in_name word.now name.now }
 {
     name_of(hash_of(owner_word(word), name))
 }
 
-/// The name of the stand-in of an element of this name in a statement of this word, or `None` if it has not the form of
-/// a name.
+/// The name of the stand-in of an element of this name in a statement of this word, or `None` if it does not
+/// have the form of a name.
 pub(crate) fn stand_in_name(word: &[u8], name: &[u8]) -> Option<Name>
     ensures { IfSome result (λ found. found ≡ stand_in_name word.now name.now) }
 {
-    Name::read(stand_in_text(word, name).as_slice())
+    Name::read(stand_in_name_bytes(word, name).as_slice())
 }
 
 // The key of the element of this type and name: a hash, so others may have it too.
@@ -114,13 +114,19 @@ pub(crate) fn element_key(element: &WideElement) -> u64
     let name = element.name.as_slice();
     match profile_type(word) {
         Some(elem_type) => key_of(elem_type, name),
-        None => key_of(stand_in_type(word), stand_in_text(word, name).as_slice()),
+        None => key_of(
+            stand_in_type(word),
+            stand_in_name_bytes(word, name).as_slice(),
+        ),
     }
 }
 
-/// The key of the stand-in of a module that is assembled.
-pub(crate) fn module_key(assembled: &[u8]) -> u64
-    ensures { result ≡ key_of Mac (module_name assembled.now) }
+/// The key of the stand-in of the module of this name.
+pub(crate) fn module_key(module: &[u8]) -> u64
+    ensures { result ≡ key_of Mac (module_name module.now) }
 {
-    key_of(ElemType::Mac, stand_in_text(b"MOD", assembled).as_slice())
+    key_of(
+        ElemType::Mac,
+        stand_in_name_bytes(b"MOD", module).as_slice(),
+    )
 }

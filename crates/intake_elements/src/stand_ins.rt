@@ -20,7 +20,7 @@ use terms::{ElemType, Kind};
 use text80::{Line, TextError, Update};
 
 // The byte, or a question mark if a record may not have it.
-fn printable_or_mark(byte: u8) -> u8 {
+fn printable_or_question_mark(byte: u8) -> u8 {
     if is_printable_byte(byte) { byte } else { b'?' }
 }
 
@@ -30,7 +30,7 @@ fn stand_in_card(place: CardPlace, word: &[u8], name: &[u8]) -> Card {
     let parts = b"* ++".iter().chain(word.iter()).chain(b"(".iter());
     let parts = parts.chain(name.iter()).chain(b")".iter());
     for (to, from) in text.iter_mut().take(TEXT_COLUMNS).zip(parts) {
-        *to = printable_or_mark(*from);
+        *to = printable_or_question_mark(*from);
     }
     let (_, number) = text.split_at_mut(TEXT_COLUMNS);
     number.copy_from_slice(b"00000100");
@@ -221,27 +221,27 @@ pub fn module_change(
     remarks: &mut Remarks,
     subject: &Subject<'_>,
     element: &WideElement,
-    assembled: &[u8],
+    module: &[u8],
 ) -> Result<Option<ElemChange>, AllocError>
-    ensures { IfOk result (λ found. IfSome found (IsChangeOf Mac (module_name assembled.now) false)) }
+    ensures { IfOk result (λ found. IfSome found (IsChangeOf Mac (module_name module.now) false)) }
 {
-    let Some(name) = stand_in_name(b"MOD", assembled) else {
-        remarks.tell_left_out(alloc, subject, b"", RemarkReason::BadName, assembled)?;
+    let Some(name) = stand_in_name(b"MOD", module) else {
+        remarks.tell_left_out(alloc, subject, b"", RemarkReason::BadName, module)?;
         return Ok(None);
     };
-    let card = stand_in_card(element.place, b"MOD", assembled);
+    let card = stand_in_card(element.place, b"MOD", module);
     let libraries = module_libraries(element, name);
     let Some(change) = stand_in_replacement(alloc, ElemType::Mac, name, libraries, &card)? else {
-        remarks.tell_left_out(alloc, subject, b"", RemarkReason::BadText, assembled)?;
+        remarks.tell_left_out(alloc, subject, b"", RemarkReason::BadText, module)?;
         return Ok(None);
     };
-    remarks.tell_carried(alloc, subject, b"", RemarkReason::Assembled, assembled)?;
+    remarks.tell_carried(alloc, subject, b"", RemarkReason::Assembled, module)?;
     remarks.named.push(StandIn {
         place: element.place,
         elem_type: type_text(ElemType::Mac),
         stand_in: name,
         word: Vec::from_slice(alloc, b"MOD")?,
-        name: Vec::from_slice(alloc, assembled)?,
+        name: Vec::from_slice(alloc, module)?,
         library: library_text(alloc, &element.distmod)?,
     })?;
     Ok(Some(change))

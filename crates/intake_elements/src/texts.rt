@@ -49,13 +49,13 @@ pub(crate) fn without_blank_end_if_numbered(elem_type: ElemType, cards: &[Card])
 /// The first card whose columns 73 to 80 are not eight digits, or not a number that is higher than that of the card
 /// before. Returns `None` if all cards are in order.
 pub(crate) fn first_misnumbered(cards: &[Card]) -> Option<&Card> {
-    let mut before = [b' '; 8];
+    let mut previous = [b' '; 8];
     for card in cards {
         let number = card.number_columns();
-        if !number.iter().all(|byte| byte.is_ascii_digit()) || number <= before {
+        if !number.iter().all(|byte| byte.is_ascii_digit()) || number <= previous {
             return Some(card);
         }
-        before = number;
+        previous = number;
     }
     None
 }

@@ -11,7 +11,8 @@ const LIST_OPERAND: &[u8] = b",LIST=";
 enum Control<'a> {
     /// CHANGE of the element of this name. Its other operands change nothing.
     Change(&'a [u8]),
-    Delete(Number, Number),
+    /// DELETE of the records with these numbers and of those between them.
+    Delete { first: Number, last: Number },
     EndOfUpdate,
     /// Any other record, or one of these with a fault.
     Other,
@@ -86,7 +87,7 @@ fn read_delete(list: &[u8]) -> Control<'_> {
         return Control::Other;
     };
     match (read_number(from), read_number(to)) {
-        (Some(low), Some(high)) => Control::Delete(low, high),
+        (Some(first), Some(last)) => Control::Delete { first, last },
         _ => Control::Other,
     }
 }
@@ -107,6 +108,11 @@ fn record_of_parts(alloc: Global, parts: &[&[u8]]) -> Result<Line, AllocError> {
 /// The CHANGE record of an element.
 pub(crate) fn change_record(alloc: Global, name: &[u8]) -> Result<Line, AllocError> {
     record_of_parts(alloc, &[b"./ CHANGE NAME=", name])
+}
+
+// The text of the card, without the blanks at its end, as a remark quotes it.
+fn quoted_text(card: &Card) -> &[u8] {
+    card.text.as_slice().trim_ascii_end()
 }
 
 // Whether the card and the record have the same columns 1 to 72.
@@ -131,8 +137,13 @@ fn tell_dropped_list(
     if !has_list_operand(card) {
         return Ok(());
     }
-    let text = card.text.as_slice().trim_ascii_end();
-    remarks.tell_dropped(alloc, subject, b"LIST", RemarkReason::NoDecision, text)
+    remarks.tell_dropped(
+        alloc,
+        subject,
+        b"LIST",
+        RemarkReason::NoDecision,
+        quoted_text(card),
+    )
 }
 
 // The DELETE record of these numbers, with a remark if the card does not have eight digits of each.
@@ -141,26 +152,25 @@ fn delete_record(
     remarks: &mut Remarks,
     subject: &Subject<'_>,
     card: &Card,
-    low: Number,
-    high: Number,
+    first: Number,
+    last: Number,
 ) -> Result<Line, AllocError> {
     let line = record_of_parts(
         alloc,
         &[
             b"./ DELETE SEQ1=",
-            low.as_slice(),
+            first.as_slice(),
             b",SEQ2=",
-            high.as_slice(),
+            last.as_slice(),
         ],
     )?;
     if !has_same_columns(card, &line) {
-        let text = card.text.as_slice().trim_ascii_end();
         remarks.tell_carried(
             alloc,
             subject,
             b"./ DELETE",
             RemarkReason::EightDigits,
-            text,
+            quoted_text(card),
         )?;
     }
     Ok(line)
@@ -180,15 +190,20 @@ fn add_control_record(
             lines.push(change_record(alloc, name)?)?;
             tell_dropped_list(alloc, remarks, subject, card)?;
         }
-        Control::Delete(low, high) => {
-            lines.push(delete_record(alloc, remarks, subject, card, low, high)?)?;
+        Control::Delete { first, last } => {
+            lines.push(delete_record(alloc, remarks, subject, card, first, last)?)?;
         }
         Control::EndOfUpdate => {
             remarks.tell_dropped(alloc, subject, b"./ ENDUP", RemarkReason::EndOfUpdate, b"")?;
         }
         Control::Other => {
-            let text = card.text.as_slice().trim_ascii_end();
-            remarks.tell_left_out(alloc, subject, b"./", RemarkReason::BadText, text)?;
+            remarks.tell_left_out(
+                alloc,
+                subject,
+                b"./",
+                RemarkReason::BadText,
+                quoted_text(card),
+            )?;
             return Ok(false);
         }
     }

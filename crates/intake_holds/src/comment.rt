@@ -17,7 +17,7 @@ fn allowed_character(byte: u8) -> u8 {
     }
 }
 
-// The text, or, if it is longer than 200 characters, these without the blanks at their end.
+// The text. If it is longer than `MOST_CHARACTERS`, the rest of it is cut off, with the blanks before the cut.
 fn cut_at_limit(text: &[u8]) -> &[u8] {
     match text.split_at_checked(MOST_CHARACTERS) {
         Some((front, _)) => front.trim_ascii_end(),

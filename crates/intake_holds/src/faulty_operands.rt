@@ -4,8 +4,8 @@ use intake_cards::{RemarkReason, Remarks, Subject};
 use intake_read::{FaultyOperand, OperandFault};
 use std::alloc::{AllocError, Global};
 
-/// What is wrong with an operand without which its statement cannot be carried. If the operand lacks its value, it is
-/// missing (`tell_faulty_operands` says that its value is bad).
+/// What is wrong with an operand without which its statement cannot be carried. Here an operand without its value
+/// counts as missing, whereas `tell_faulty_operands` calls the value bad.
 pub(crate) fn fault_of_needed_operand(faulty: &FaultyOperand) -> RemarkReason {
     if faulty.reason == OperandFault::BadValue && faulty.operand.text().is_empty() {
         RemarkReason::Missing

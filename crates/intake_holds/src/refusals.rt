@@ -42,20 +42,18 @@ fn refuse_if_faulty(
         )?;
         return Ok(true);
     }
-    match fault {
-        Some(fault) => {
-            remarks.tell(
-                alloc,
-                subject,
-                fault.operand(),
-                Deed::Refused,
-                fault.reason(),
-                b"",
-            )?;
-            Ok(true)
-        }
-        None => Ok(false),
-    }
+    let Some(fault) = fault else {
+        return Ok(false);
+    };
+    remarks.tell(
+        alloc,
+        subject,
+        fault.operand(),
+        Deed::Refused,
+        fault.reason(),
+        b"",
+    )?;
+    Ok(true)
 }
 
 /// Refuses the hold, with a remark, if it cannot be carried. Returns whether it is refused.
@@ -153,7 +151,7 @@ fn refuse_broken_holds(
 
 /// Refuses, with remarks, the releases of a file and the holds in its SYSMODs that cannot be carried: a part of the key
 /// is missing or is stated twice, or the statement is broken. Returns whether there are any.
-pub(crate) fn refuse_statements(
+pub(crate) fn refuse_bad_statements(
     alloc: Global,
     remarks: &mut Remarks,
     file: &WideFile,

@@ -24,9 +24,9 @@ fn header_subject(stated: &WideSysmod) -> Subject<'_> {
     }
 }
 
-// Remarks on the operands of the header, on the statements that are carried nowhere, and on too many elements. Returns
-// whether all of that lets the SYSMOD be carried.
-fn check_header_and_others(
+// Whether the header, the statements that are carried nowhere and the number of elements let the SYSMOD be carried.
+// Remarks say what is dropped, and why the SYSMOD is left out.
+fn can_carry_header_and_others(
     alloc: Global,
     options: &Options,
     remarks: &mut Remarks,
@@ -75,17 +75,17 @@ fn try_to_carry(
         IsNoLooser options.now.decide users.now stated.now sysmod × (sysmod.holds ≡ []))) }
 {
     let subject = header_subject(stated);
-    let is_carriable = check_header_and_others(alloc, options, remarks, stated)?;
+    let is_carriable = can_carry_header_and_others(alloc, options, remarks, stated)?;
     let vers = read_vers(alloc, remarks, &subject, stated)?;
     let Some(id) = read_id_or_remark(alloc, remarks, &subject, b"", stated.id.as_slice())? else {
         return Ok(None);
     };
     let mut sysmod = Sysmod::new(alloc, stated.kind, id);
-    let has_all = add_elements(alloc, options, users, remarks, stated, &mut sysmod)?;
+    let added_all = add_elements(alloc, options, users, remarks, stated, &mut sysmod)?;
     let Some(vers) = vers else {
         return Ok(None);
     };
-    if !has_all || !is_carriable {
+    if !added_all || !is_carriable {
         return Ok(None);
     }
     tell_passed_over(alloc, options, users, remarks, &subject, stated)?;
@@ -96,8 +96,8 @@ fn try_to_carry(
     Ok(Some(with_vers(sysmod, vers)))
 }
 
-// Remarks that a SYSMOD is left out, and counts it if it has elements, NPRE or DELETE, with which it would forbid
-// others.
+// Remarks that a SYSMOD is left out, and counts it if it has elements, NPRE or DELETE, which could keep others from
+// being installed.
 fn tell_sysmod_left_out(
     alloc: Global,
     remarks: &mut Remarks,
@@ -117,7 +117,7 @@ fn tell_sysmod_left_out(
 }
 
 /// The SYSMOD without its holds. Remarks say what differs. Returns `None`, with remarks on all reasons, if it is left
-/// out. Call `Options::sort` first.
+/// out. Call `Options::sort_members` first.
 pub fn carry_sysmod(
     alloc: Global,
     options: &Options,

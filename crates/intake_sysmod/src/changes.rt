@@ -51,16 +51,16 @@ fn add_module(
     remarks: &mut Remarks,
     element: &WideElement,
     sysmod: &mut Sysmod,
-    assembled: &[u8],
+    module: &[u8],
 ) -> Result<bool, AllocError>
     requires asked { IsTrue options.now.decide }
-    requires is_one { Contains (modules_of element.now) assembled.now }
+    requires is_one { Contains (modules_of element.now) module.now }
     ensures grows { OnOk result ((kind : AnyKind) → Grows options.now.decide kind element.now sysmod.old sysmod.new) }
     ensures there { IfOk result (λ added. IsTrue added
-        → IsChanged options.now.decide sysmod.new.changes Mac (module_name assembled.now) false) }
+        → IsChanged options.now.decide sysmod.new.changes Mac (module_name module.now) false) }
 {
     let subject = element_subject(element);
-    let Some(change) = module_change(alloc, remarks, &subject, element, assembled)? else {
+    let Some(change) = module_change(alloc, remarks, &subject, element, module)? else {
         return Ok(false);
     };
     add_change(alloc, options, remarks, &subject, sysmod, change)

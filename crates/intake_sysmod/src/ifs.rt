@@ -12,11 +12,11 @@ use sysmods_values::IfReq;
 /// The most `++IF`s that a `++VER` may have.
 const MOST_IFS: usize = 100;
 
-// The `++IF` as it is carried. `own` is the id of its SYSMOD. Returns `None`, with a remark, if it cannot be carried.
+// The `++IF` as it is carried. `own_id` is that of its SYSMOD. Returns `None`, with a remark, if it cannot be carried.
 fn read_if(
     alloc: Global,
     remarks: &mut Remarks,
-    own: &[u8],
+    own_id: &[u8],
     stated: &WideIf,
 ) -> Result<Option<IfReq>, AllocError>
     ensures { IfOk result (λ found. IfSome found (IsIf stated.now)) }
@@ -24,7 +24,7 @@ fn read_if(
     let subject = Subject {
         place: stated.place,
         word: b"IF",
-        id: own,
+        id: own_id,
     };
     if !stated.faulty.is_empty() {
         tell_faulty_operands(
@@ -52,19 +52,19 @@ fn read_if(
         remarks.tell_left_out(alloc, &subject, b"REQ", RemarkReason::Missing, b"")?;
         return Ok(None);
     }
-    if req.iter().any(|id| id.as_bytes() == own) {
-        remarks.tell_left_out(alloc, &subject, b"REQ", RemarkReason::NamesItself, own)?;
+    if req.iter().any(|id| id.as_bytes() == own_id) {
+        remarks.tell_left_out(alloc, &subject, b"REQ", RemarkReason::NamesItself, own_id)?;
         return Ok(None);
     }
     Ok(Some(IfReq { function, req }))
 }
 
-/// The `++IF`s of a `++VER`, which is the subject. `own` is the id of its SYSMOD. Returns `None`, with a remark, if one
-/// cannot be carried, or if there are too many.
+/// The `++IF`s of a `++VER`, which is the subject. `own_id` is that of its SYSMOD. Returns `None`, with a remark, if
+/// one cannot be carried, or if there are too many.
 pub(crate) fn read_ifs(
     alloc: Global,
     remarks: &mut Remarks,
-    own: &[u8],
+    own_id: &[u8],
     subject: &Subject<'_>,
     stated: &[WideIf],
 ) -> Result<Option<Vec<IfReq>>, AllocError>
@@ -72,7 +72,7 @@ pub(crate) fn read_ifs(
 {
     let mut ifs = Vec::with_capacity(alloc, stated.len())?;
     for statement in stated {
-        let Some(condition) = read_if(alloc, remarks, own, statement)? else {
+        let Some(condition) = read_if(alloc, remarks, own_id, statement)? else {
             return Ok(None);
         };
         ifs.push(condition)?;

@@ -41,7 +41,7 @@ pub(crate) fn is_passed_over(
     if !may_pass_over(options, stated) {
         return Ok(false);
     }
-    users.is_alone(alloc, stated, element)
+    users.has_no_other_user(alloc, stated, element)
 }
 
 /// Remarks how many elements of the SYSMOD are passed over, if any are.
@@ -58,7 +58,7 @@ pub(crate) fn tell_passed_over(
     }
     let mut count = 0usize;
     for element in stated.elements.iter() {
-        if users.is_alone(alloc, stated, element)? {
+        if users.has_no_other_user(alloc, stated, element)? {
             count = count.saturating_add(1);
         }
     }

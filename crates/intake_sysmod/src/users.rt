@@ -4,7 +4,7 @@ ghost use Rattle.intake_elements.specs.Elements.{HasNoLevel};
 ghost use Rattle.intake_sysmod.specs.Users.{run_of, IsAlone};
 
 use crate::element_users::{ElementUser, is_only_user_of_all, known_users};
-use intake_elements::{Options, has_faulty_modules, has_level_operand, keys_of};
+use intake_elements::{Options, has_faulty_module_operand, has_level_operand, keys_of};
 use intake_read::{WideElement, WideFile, WideSysmod};
 use std::alloc::{AllocError, Global};
 use std::collections::BTreeMap;
@@ -43,9 +43,9 @@ impl<'a> Users<'a> {
         Ok(Users { files, by_key })
     }
 
-    /// Whether it is known that no other SYSMOD changes what the statement of this one changes, and no operand of the
-    /// statement decides whether the SYSMOD goes on.
-    pub(crate) fn is_alone(
+    /// Whether it is known that only this SYSMOD changes what the element statement changes, and no operand of the
+    /// statement decides whether the SYSMOD can be installed.
+    pub(crate) fn has_no_other_user(
         &self,
         alloc: Global,
         stated: &WideSysmod,
@@ -54,7 +54,7 @@ impl<'a> Users<'a> {
         ensures { IfOk result (λ alone. IsTrue alone → All HasNoLevel element.now.operands.items
             × IsAlone self.now stated.now.id.items element.now) }
     {
-        if has_level_operand(element) || has_faulty_modules(element) {
+        if has_level_operand(element) || has_faulty_module_operand(element) {
             return Ok(false);
         }
         let keys = keys_of(alloc, element)?;

@@ -102,11 +102,11 @@ pub(crate) fn read_operands(
 ) -> Result<Option<VerOperands>, AllocError>
     ensures { IfOk result (λ found. IfSome found (AreOperands stated.now)) }
 {
-    let own = sysmod.id.as_slice();
+    let own_id = sysmod.id.as_slice();
     let subject = Subject {
         place: stated.place,
         word: b"VER",
-        id: own,
+        id: own_id,
     };
     if !stated.faulty.is_empty() {
         let faulty = stated.faulty.as_slice();
@@ -125,7 +125,7 @@ pub(crate) fn read_operands(
     if !may_have_operands(alloc, remarks, &subject, sysmod.kind, &fmid, &lists)? {
         return Ok(None);
     }
-    let Some(ifs) = read_ifs(alloc, remarks, own, &subject, stated.ifs.as_slice())? else {
+    let Some(ifs) = read_ifs(alloc, remarks, own_id, &subject, stated.ifs.as_slice())? else {
         return Ok(None);
     };
     Ok(Some(VerOperands { fmid, lists, ifs }))
@@ -141,9 +141,9 @@ fn may_have_operands(
     fmid: &Option<Id>,
     lists: &VerLists,
 ) -> Result<bool, AllocError> {
-    let own = subject.id;
-    if let Some(operand) = operand_with_own_id(own, fmid, lists) {
-        remarks.tell_left_out(alloc, subject, operand, RemarkReason::NamesItself, own)?;
+    let own_id = subject.id;
+    if let Some(operand) = operand_with_own_id(own_id, fmid, lists) {
+        remarks.tell_left_out(alloc, subject, operand, RemarkReason::NamesItself, own_id)?;
         return Ok(false);
     }
     if kind == Kind::Function {

@@ -124,7 +124,7 @@ fn vers_of_statements(
     if has_all { Ok(Some(vers)) } else { Ok(None) }
 }
 
-// The `++VER`s by their SRELs. Those of the same SREL keep their order.
+// The `++VER`s, sorted by their SRELs. Those of the same SREL keep their order.
 fn sort_by_srel(mut vers: Vec<Ver>) -> Result<Vec<Ver>, AllocError>
     ensures { IfOk result (λ sorted. IsPermutation vers.items sorted.items) }
 {
@@ -157,8 +157,8 @@ fn has_faulty_ver(sysmod: &WideSysmod) -> bool {
         .any(|other| other.word.as_slice() == b"VER".as_slice())
 }
 
-/// The `++VER`s of a SYSMOD by their SRELs. Returns `None`, with a remark, if one cannot be carried, if there is none,
-/// if there are too many, or if the SYSMOD may not have two of them together.
+/// The `++VER`s of a SYSMOD, sorted by their SRELs. Returns `None`, with a remark, if one cannot be carried, if there
+/// is none, if there are too many, or if the SYSMOD may not have two of them together.
 pub(crate) fn read_vers(
     alloc: Global,
     remarks: &mut Remarks,

@@ -36,7 +36,7 @@ use Rattle.terms.proofs.ChangedElements.{change_there, change_found, change_has,
 use Rattle.terms.proofs.Booleans.{false_from_not}
 use Rattle.terms.proofs.Options.{None_from_is_some}
 use Rattle.judge_faults.specs.declared.own.OwnFaults.{OwnFaults}
-use Rattle.judge_faults.specs.Own.{is_owned_by_another, updates_nothing, HasFaults, passes_alone, passes}
+use Rattle.judge_faults.specs.Own.{is_owned_by_another, has_nothing_to_update, HasFaults, passes_alone, passes}
 use Rattle.judge_faults.specs.Rows.{fails_test}
 
 off : (b : Bool) → ¬ IsTrue b → not b ≡ true
@@ -179,7 +179,7 @@ module _ (s : Setting) (is_global : IsGlobal s.global) where
       six : IsTrue a.nothing_to_update ↔ HasNothingToUpdate s x
       six = (
         λ bare.
-            let any = Any-from_list_any (updates_nothing g seen s.cands (fmid_of s.choice x)) (changes_of g x)
+            let any = Any-from_list_any (has_nothing_to_update g seen s.cands (fmid_of s.choice x)) (changes_of g x)
             (sym own.nothing_to_update ∙ bare) in
             let h = any.1 in
             let p = and_parts (not (is_replacement h.action) && not (is_some (element_of seen h.elem_type h.name)))
@@ -203,7 +203,7 @@ module _ (s : Setting) (is_global : IsGlobal s.global) where
             let no_base : has_candidate_base s x h.elem_type h.name ≡ false =
             ap (λ t. has_candidate_base s x t h.name) u.2 ∙ ap (λ n. has_candidate_base s x type n) u.3 ∙ base in
             own.nothing_to_update
-            ∙ list_any-from_Any (updates_nothing g seen s.cands (fmid_of s.choice x)) (changes_of g x) (
+            ∙ list_any-from_Any (has_nothing_to_update g seen s.cands (fmid_of s.choice x)) (changes_of g x) (
               u.1.0,
               h,
               u.1.1,

@@ -20,7 +20,7 @@ use Rattle.terms.proofs.Places.{contains_at, found_at}
 use Rattle.judge_faults.specs.declared.own.OwnFaults.{OwnFaults}
 use Rattle.judge_faults.specs.Own.{HasFaults, passes_alone}
 use Rattle.terms.specs.Beside.{Beside}
-use Rattle.judge_faults.specs.Deletes.{PassesAloneAt, ArePassing, AreDeletions, with_deleted, IsMarkedDeleted}
+use Rattle.judge_faults.specs.Deletes.{PassesAloneAt, ArePassing, AreDeletions, with_chain_deleted, IsMarkedDeleted}
 use Rattle.judge_faults.proofs.Alone.{alone_if}
 use Rattle.terms.proofs.BesideLists.{beside_there}
 
@@ -106,7 +106,7 @@ module _ (s : Setting) (is_global : IsGlobal s.global) (alone faults : List OwnF
     (own : Beside (λ n x a. HasFaults s x a) s.cands alone) (dels : List Id)
     (are : AreDeletions s.choice s.cands alone dels)
     (marked : Beside (λ n x a. IsMarkedDeleted s.global s.choice dels alone n x a) s.cands faults) where
-  keeps : (x : Id) (b : Bool) (a : OwnFaults) → HasFaults s x a → HasFaults s x (with_deleted b a)
+  keeps : (x : Id) (b : Bool) (a : OwnFaults) → HasFaults s x a → HasFaults s x (with_chain_deleted b a)
   keeps x b a h = record {
     held_by_system = h.held_by_system;
     held_by_user = h.held_by_user;

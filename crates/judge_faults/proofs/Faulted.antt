@@ -11,20 +11,20 @@ use Rattle.terms.specs.Deleted.{deletions, zone_less}
 use Rattle.terms.specs.Tests.{Setting, HasSeveralFit}
 use Rattle.judge_faults.specs.declared.own.OwnFaults.{OwnFaults}
 use Rattle.judge_faults.specs.Forbidders.{IsForbidden}
-use Rattle.judge_faults.specs.Own.{has_standing_hold, is_owned_by_another, IsLowerAt, updates_nothing}
+use Rattle.judge_faults.specs.Own.{has_unbypassed_hold, is_owned_by_another, IsLowerAt, has_nothing_to_update}
 use Rattle.judge_faults.specs.Own.{fails_applycheck, HasFaults}
 
 -- the answers, with the deletions of its view, its owner, FMID and element statements
 pub record Answered (s : Setting) (x : Id) (a : OwnFaults) (g : Global) (c : Choice) (dels : List Id) (own : Id)
     (fmid : Option Id) (changes : List Change) : Type 0 where
-  pub held_by_system : a.held_by_system ≡ has_standing_hold s System x
-  pub held_by_user : a.held_by_user ≡ has_standing_hold s User x
+  pub held_by_system : a.held_by_system ≡ has_unbypassed_hold s System x
+  pub held_by_user : a.held_by_user ≡ has_unbypassed_hold s User x
   pub forbidden_by_npre : IsTrue a.forbidden_by_npre ↔ IsForbidden g c (zone_less g c dels s.zone) x
   pub owned_by_another : a.owned_by_another ≡ list_any (is_owned_by_another (zone_less g c dels s.zone) own) changes
   pub regression : IsTrue a.regression
       ↔ (IsFalse s.bypass.same_id × Any (IsLowerAt c (zone_less g c dels s.zone) x) changes)
   pub nothing_to_update : a.nothing_to_update
-      ≡ list_any (updates_nothing s.global (zone_less g c dels s.zone) s.cands fmid) changes
+      ≡ list_any (has_nothing_to_update s.global (zone_less g c dels s.zone) s.cands fmid) changes
   pub not_in_target : a.not_in_target ≡ fails_applycheck s x
   pub several_fit : IsTrue a.several_fit ↔ HasSeveralFit s x
 

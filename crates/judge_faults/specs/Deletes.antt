@@ -24,12 +24,12 @@ AreDeletions c ids faults dels =
     (z : Id) → Contains dels z ↔ ((n : ℕ) × (y : Id) × PassesAloneAt ids faults n y × Contains (del_of c y) z)
 
 -- the faults with ChainDeleted, given whether the chain contains one of the deletions
-abbrev pub with_deleted : Bool → OwnFaults → OwnFaults
-with_deleted is_deleted own = record own { chain_deleted = passes_alone own && is_deleted }
+abbrev pub with_chain_deleted : Bool → OwnFaults → OwnFaults
+with_chain_deleted is_deleted own = record own { chain_deleted = passes_alone own && is_deleted }
 
 -- the faults of x, at a place, with ChainDeleted
 pub record IsMarkedDeleted (g : Global) (c : Choice) (dels : List Id) (faults : List OwnFaults) (n : ℕ) (x : Id)
     (marked : OwnFaults) : Type 0 where
   pub own : OwnFaults
   pub own_at : slice_get faults n ≡ Some own
-  pub is : marked ≡ with_deleted (is_deleted g c dels x) own
+  pub is : marked ≡ with_chain_deleted (is_deleted g c dels x) own

@@ -16,8 +16,8 @@ use Rattle.judge_faults.specs.declared.own.OwnFaults.{OwnFaults}
 use Rattle.judge_faults.specs.Forbidders.{IsForbidden}
 
 -- whether a hold of the kind keeps x off
-abbrev pub has_standing_hold : Setting → HoldKind → Id → Bool
-has_standing_hold s kind x = list_any (λ h. not (is_bypassed_hold s.bypass h)) (holds_of s.global kind x)
+abbrev pub has_unbypassed_hold : Setting → HoldKind → Id → Bool
+has_unbypassed_hold s kind x = list_any (λ h. not (is_bypassed_hold s.bypass h)) (holds_of s.global kind x)
 
 -- whether the statement is about an element of the view that has another owner
 abbrev pub is_owned_by_another : Zone → Id → Change → Bool
@@ -38,8 +38,8 @@ is_brought_along g cands fmid h =
     option_map_or (λ f. is_in cands f && has_replacement g f h.elem_type h.name) fmid false
 
 -- whether the statement updates an element that the view lacks, and no base comes with it
-abbrev pub updates_nothing : Global → Zone → List Id → Option Id → Change → Bool
-updates_nothing g zone cands fmid h =
+abbrev pub has_nothing_to_update : Global → Zone → List Id → Option Id → Change → Bool
+has_nothing_to_update g zone cands fmid h =
     not (is_replacement h.action) && not (is_some (element_of zone h.elem_type h.name))
     && not (is_brought_along g cands fmid h)
 
@@ -51,15 +51,15 @@ fails_applycheck s x =
 
 -- the tests of its own, each as the code tests it
 pub record HasFaults (s : Setting) (x : Id) (a : OwnFaults) : Type 0 where
-  pub held_by_system : a.held_by_system ≡ has_standing_hold s System x
-  pub held_by_user : a.held_by_user ≡ has_standing_hold s User x
+  pub held_by_system : a.held_by_system ≡ has_unbypassed_hold s System x
+  pub held_by_user : a.held_by_user ≡ has_unbypassed_hold s User x
   pub forbidden_by_npre : IsTrue a.forbidden_by_npre ↔ IsForbidden s.global s.choice (view_of s x) x
   pub owned_by_another : a.owned_by_another
       ≡ list_any (is_owned_by_another (view_of s x) (owner_of s x)) (changes_of s.global x)
   pub regression : IsTrue a.regression
       ↔ (IsFalse s.bypass.same_id × Any (IsLowerAt s.choice (view_of s x) x) (changes_of s.global x))
   pub nothing_to_update : a.nothing_to_update
-      ≡ list_any (updates_nothing s.global (view_of s x) s.cands (fmid_of s.choice x)) (changes_of s.global x)
+      ≡ list_any (has_nothing_to_update s.global (view_of s x) s.cands (fmid_of s.choice x)) (changes_of s.global x)
   pub not_in_target : a.not_in_target ≡ fails_applycheck s x
   pub several_fit : IsTrue a.several_fit ↔ HasSeveralFit s x
 

@@ -10,33 +10,33 @@ use std::alloc::{AllocError, Global};
 use sysmods::{Overs, VerChoice};
 
 // Whether one function owns both SYSMODs.
-fn have_one_owner(vers: &VerChoice<'_>, x: Id, y: Id) -> bool
-    ensures { IsTrue result ↔ (owner vers.now.global.now (choice vers.now) x
-        ≡ owner vers.now.global.now (choice vers.now) y) }
+fn have_one_owner(vers: &VerChoice<'_>, one: Id, other: Id) -> bool
+    ensures { IsTrue result ↔ (owner vers.now.global.now (choice vers.now) one
+        ≡ owner vers.now.global.now (choice vers.now) other) }
 {
-    vers.owner(x) == vers.owner(y)
+    vers.owner(one) == vers.owner(other)
 }
 
 /// Whether two SYSMODs may not change one element: they have two owners, or neither is over the other.
 pub(crate) fn may_not_share(
     alloc: Global,
     overs: &mut Overs<'_, '_>,
-    x: Id,
-    y: Id,
+    one: Id,
+    other: Id,
 ) -> Result<bool, AllocError>
-    ensures apart { IfOk result (λ apart. IsTrue apart ↔ StandApart overs.old.global.now (choice overs.old) x y) }
+    ensures apart { IfOk result (λ apart. IsTrue apart ↔ StandApart overs.old.global.now (choice overs.old) one other) }
     ensures same { overs.new ≡ overs.old }
 {
-    if !have_one_owner(overs.vers(), x, y) {
+    if !have_one_owner(overs.vers(), one, other) {
         return Ok(true);
     }
-    if overs.over(alloc, x, y)? {
+    if overs.over(alloc, one, other)? {
         return Ok(false);
     }
-    Ok(!overs.over(alloc, y, x)?)
+    Ok(!overs.over(alloc, other, one)?)
 }
 
-// Whether the second is over the first, and both have one owner.
+// Whether the first claim is below the second: one function owns both SYSMODs, and the second is over the first.
 fn is_below(
     alloc: Global,
     overs: &mut Overs<'_, '_>,
@@ -53,7 +53,7 @@ fn is_below(
     overs.over(alloc, second.id, first.id)
 }
 
-// Whether the claim is over all of the chain. Each one in it is over those before it, so the last one decides.
+// Whether the claim is over the whole chain. Each claim of the chain is over those before it, so the last one decides.
 fn is_over_chain(
     alloc: Global,
     overs: &mut Overs<'_, '_>,
@@ -70,8 +70,8 @@ fn is_over_chain(
     }
 }
 
-// A place in the chain, found by halving: the claim is over all claims before it. If the claim fits into the chain, it
-// is over none from that place on.
+// Searches the chain by halves for a place before which the claim is over all claims. If the claim fits into the chain,
+// it fits at this place.
 fn search_place(
     alloc: Global,
     overs: &mut Overs<'_, '_>,
@@ -96,7 +96,8 @@ fn search_place(
     Ok(low)
 }
 
-// Whether all claims of the chain from the place on are over this one.
+// Whether all claims of the chain from the place on are over this one. The claim at the place decides, because those
+// after it are over it.
 fn is_below_chain_from(
     alloc: Global,
     overs: &mut Overs<'_, '_>,
@@ -115,8 +116,8 @@ fn is_below_chain_from(
     is_below(alloc, overs, claim, &chain[place])
 }
 
-/// The place at which the claim fits into the chain, if it may share the element with each claim in it. Usually that is
-/// the end.
+/// The place at which the claim fits into the chain, or `None` if it may not share the element with one of the claims.
+/// Usually the claim is over the whole chain and fits at its end.
 pub(crate) fn place_in_chain(
     alloc: Global,
     overs: &mut Overs<'_, '_>,
@@ -137,7 +138,7 @@ pub(crate) fn place_in_chain(
     let Some(first) = chain.first() else {
         return Ok(None);
     };
-    // A claim that is not over the first fits nowhere, and needs no search for its place.
+    // A claim that is neither below nor over the first one fits nowhere.
     if !is_below(alloc, overs, first, claim)? {
         return Ok(None);
     }

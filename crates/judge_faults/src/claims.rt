@@ -9,7 +9,7 @@ use std::alloc::{AllocError, Global};
 use sysmods::GlobalZone;
 use terms::ElemType;
 
-/// That a candidate changes an element. `place` is the candidate's place in the list of candidates.
+/// A candidate, and an element that it changes. `place` is where the candidate stands in the list of candidates.
 #[derive(Clone, Copy)]
 pub(crate) struct Claim {
     pub(crate) element: (ElemType, Name),

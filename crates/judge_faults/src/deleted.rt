@@ -3,7 +3,7 @@ ghost use Rattle.std.specs.Prelude.{◌≡◌, List, length, IfOk};
 ghost use Rattle.terms.specs.Types.{Id as AnId};
 ghost use Rattle.terms.specs.Deleted.{deletions, is_deleted};
 ghost use Rattle.sysmods.specs.Choices.{choice};
-ghost use Rattle.judge_faults.specs.Deletes.{AreDeletions, with_deleted, IsMarkedDeleted};
+ghost use Rattle.judge_faults.specs.Deletes.{AreDeletions, with_chain_deleted, IsMarkedDeleted};
 ghost use Rattle.terms.specs.Beside.{Beside};
 
 use crate::own::OwnFaults;
@@ -24,8 +24,8 @@ fn is_deleted(vers: &VerChoice<'_>, dels: &IdList, id: Id) -> bool
 }
 
 // The faults of a candidate, with `chain_deleted` if it passes the other tests and a DELETE takes out its chain.
-fn with_deleted(vers: &VerChoice<'_>, dels: &IdList, own: OwnFaults, id: Id) -> OwnFaults
-    ensures { result ≡ with_deleted (is_deleted vers.now.global.now (choice vers.now) dels.now id) own }
+fn with_chain_deleted(vers: &VerChoice<'_>, dels: &IdList, own: OwnFaults, id: Id) -> OwnFaults
+    ensures { result ≡ with_chain_deleted (is_deleted vers.now.global.now (choice vers.now) dels.now id) own }
 {
     OwnFaults {
         chain_deleted: own.passes_alone() && is_deleted(vers, dels, id),
@@ -49,7 +49,7 @@ fn faults_under_deletions(
 {
     let mut all = Vec::new(alloc);
     for i in 0..ids.len() {
-        all.push(with_deleted(vers, dels, item_at(faults, i), ids[i]))?;
+        all.push(with_chain_deleted(vers, dels, item_at(faults, i), ids[i]))?;
     }
     Ok(all)
 }

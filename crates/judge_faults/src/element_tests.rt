@@ -4,7 +4,8 @@ ghost use Rattle.std.specs.List.{list_any};
 ghost use Rattle.terms.specs.Over.{IsOver};
 ghost use Rattle.sysmods.specs.Choices.{choice};
 ghost use Rattle.zones.specs.Gone.{left_of};
-ghost use Rattle.judge_faults.specs.Own.{is_owned_by_another, IsLower, IsLowerAt, is_brought_along, updates_nothing};
+ghost use Rattle.judge_faults.specs.Own.{has_nothing_to_update, is_brought_along, is_owned_by_another};
+ghost use Rattle.judge_faults.specs.Own.{IsLower, IsLowerAt};
 
 use fields::{Id, IdList};
 use std::alloc::{AllocError, Global};
@@ -12,7 +13,7 @@ use sysmods::{GlobalZone, Overs};
 use sysmods_values::ElemChange;
 use zones::{Element, ZoneLess};
 
-// Whether the view has the element of the statement under another owner.
+// Whether the view has the element of the statement, and another function owns it there.
 fn is_owned_by_another(view: &ZoneLess<'_, '_>, owner: Id, change: &ElemChange) -> bool
     ensures { result ≡ is_owned_by_another (left_of view.now) owner change.now }
 {
@@ -22,7 +23,7 @@ fn is_owned_by_another(view: &ZoneLess<'_, '_>, owner: Id, change: &ElemChange) 
     }
 }
 
-/// Whether the view has an element of these statements under another owner.
+/// Whether the view has an element of these statements that another function owns there.
 pub(crate) fn any_owned_by_another(
     view: &ZoneLess<'_, '_>,
     owner: Id,
@@ -35,8 +36,8 @@ pub(crate) fn any_owned_by_another(
         .any(|change| is_owned_by_another(view, owner, change))
 }
 
-// Whether there is one of these SYSMODs that the candidate is not over.
-fn is_not_over_one_of(
+// Whether one of these SYSMODs is one that the candidate is not over.
+fn is_not_over_all(
     alloc: Global,
     overs: &mut Overs<'_, '_>,
     id: Id,
@@ -53,7 +54,7 @@ fn is_not_over_one_of(
     Ok(false)
 }
 
-// Whether the candidate would regress the element: it is not over the RMID or not over a UMID.
+// Whether the candidate would regress the element: it is not over the element's RMID or one of its UMIDs.
 fn regresses_element(
     alloc: Global,
     overs: &mut Overs<'_, '_>,
@@ -66,7 +67,7 @@ fn regresses_element(
     if !overs.over(alloc, id, element.rmid)? {
         return Ok(true);
     }
-    is_not_over_one_of(alloc, overs, id, element.umids.as_slice())
+    is_not_over_all(alloc, overs, id, element.umids.as_slice())
 }
 
 // Whether the candidate would regress the element of the statement. An element that the view lacks cannot be regressed.
@@ -125,14 +126,14 @@ fn is_brought_along(
 }
 
 // Whether the statement is an update of an element that the view lacks and that the function does not bring along.
-fn updates_nothing(
+fn has_nothing_to_update(
     global: &GlobalZone,
     view: &ZoneLess<'_, '_>,
     ids: &IdList,
     fmid: Option<Id>,
     change: &ElemChange,
 ) -> bool
-    ensures { result ≡ updates_nothing global.now (left_of view.now) ids.now fmid change.now }
+    ensures { result ≡ has_nothing_to_update global.now (left_of view.now) ids.now fmid change.now }
 {
     !change.is_replacement()
         && view.element(change.elem_type, change.name).is_none()
@@ -141,16 +142,14 @@ fn updates_nothing(
 
 /// Whether one of these statements is an update of an element that the view lacks and that the function does not bring
 /// along.
-pub(crate) fn any_updates_nothing(
+pub(crate) fn any_has_nothing_to_update(
     global: &GlobalZone,
     view: &ZoneLess<'_, '_>,
     ids: &IdList,
     fmid: Option<Id>,
     changes: &[ElemChange],
 ) -> bool
-    ensures { result ≡ list_any (updates_nothing global.now (left_of view.now) ids.now fmid) changes.now }
+    ensures { result ≡ list_any (has_nothing_to_update global.now (left_of view.now) ids.now fmid) changes.now }
 {
-    changes
-        .iter()
-        .any(|change| updates_nothing(global, view, ids, fmid, change))
+    changes.iter().any(|change| has_nothing_to_update(global, view, ids, fmid, change))
 }

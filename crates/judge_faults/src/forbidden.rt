@@ -19,8 +19,8 @@ use zones::{Entry, Zone, ZoneLess};
 /// For each id the applied functions that name it in NPRE.
 pub(crate) type Forbidders = Lists<Id, Id>;
 
-// Adds the ids that the SYSMOD of the entry names in NPRE, if it is an applied function.
-fn add_forbidden_by(
+// If the SYSMOD of the entry is an applied function, lists it under each id that it names in NPRE.
+fn add_forbidder(
     alloc: Global,
     vers: &VerChoice<'_>,
     entry: &Entry,
@@ -45,7 +45,7 @@ pub(crate) fn forbidders(
 {
     let mut forbidders = BTreeMap::new(alloc);
     for entry in zone.entries() {
-        add_forbidden_by(alloc, vers, entry, &mut forbidders)?;
+        add_forbidder(alloc, vers, entry, &mut forbidders)?;
     }
     Ok(forbidders)
 }

@@ -7,11 +7,11 @@
 
 mod chains;
 mod claims;
+mod clashes;
 mod deleted;
 mod element_tests;
 mod failed_tests;
 mod forbidden;
-mod forbidding;
 mod own;
 mod sharing;
 mod tested;

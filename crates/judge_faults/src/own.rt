@@ -15,7 +15,9 @@ ghost use Rattle.judge_faults.specs.Own.{IsLowerAt, HasFaults, passes_alone, pas
 ghost use Rattle.terms.specs.Beside.{Beside};
 ghost use Rattle.zones.specs.Gone.{left_of};
 
-use crate::element_tests::{any_owned_by_another, any_updates_nothing, regresses_any_element};
+use crate::element_tests::{
+    any_has_nothing_to_update, any_owned_by_another, regresses_any_element,
+};
 use crate::forbidden::{Forbidders, forbidders, is_forbidden};
 use fields::{Bypass, Id, IdList};
 use std::alloc::{AllocError, Global};
@@ -43,12 +45,12 @@ pub(crate) struct OwnFaults {
     pub(crate) not_in_target: bool,
     /// Several of its `++VER`s fit.
     pub(crate) several_fit: bool,
-    /// It has none of the other faults, and a DELETE takes out its chain.
+    /// It has none of the other faults, and the DELETE of a candidate takes out its chain.
     pub(crate) chain_deleted: bool,
 }
 
 impl OwnFaults {
-    /// Whether it passes the tests of its own, apart from DELETEs.
+    /// Whether it passes the tests that look at it alone. The DELETE test looks at other candidates as well.
     pub(crate) fn passes_alone(self) -> bool
         ensures { result ≡ passes_alone self }
     {
@@ -71,7 +73,7 @@ impl OwnFaults {
 }
 
 // Whether the SYSMOD has a hold of this kind that BYPASS does not cover.
-fn has_standing_hold(global: &GlobalZone, bypass: &Bypass, kind: HoldKind, id: Id) -> bool
+fn has_unbypassed_hold(global: &GlobalZone, bypass: &Bypass, kind: HoldKind, id: Id) -> bool
     ensures { result ≡ list_any (λ h. not (is_bypassed_hold bypass.now h)) (holds_of global.now kind id) }
 {
     global
@@ -139,7 +141,7 @@ fn several_vers_fit(scope: &Scope<'_, '_>, id: Id) -> bool
     fitting_count(scope.zone, scope.ids, scope.global().vers_of(id)) >= 2
 }
 
-// The faults of one candidate by itself, in its view of the zone.
+// The faults of one candidate by itself, in its view of the zone. Clashes and DELETEs are tested later.
 fn own_faults(
     alloc: Global,
     scope: &Scope<'_, '_>,
@@ -165,12 +167,18 @@ fn own_faults(
     let changes = global.changes_of(id);
     let regression = has_regression(alloc, &view, overs, scope.bypass, id, changes)?;
     Ok(OwnFaults {
-        held_by_system: has_standing_hold(global, scope.bypass, HoldKind::System, id),
-        held_by_user: has_standing_hold(global, scope.bypass, HoldKind::User, id),
+        held_by_system: has_unbypassed_hold(global, scope.bypass, HoldKind::System, id),
+        held_by_user: has_unbypassed_hold(global, scope.bypass, HoldKind::User, id),
         forbidden_by_npre: is_forbidden(&view, forbidders, id),
         owned_by_another: any_owned_by_another(&view, vers.owner(id), changes),
         regression,
-        nothing_to_update: any_updates_nothing(global, &view, scope.ids, vers.fmid(id), changes),
+        nothing_to_update: any_has_nothing_to_update(
+            global,
+            &view,
+            scope.ids,
+            vers.fmid(id),
+            changes,
+        ),
         not_in_target: fails_applycheck(scope.zone, related, scope.bypass, id),
         several_fit: several_vers_fit(scope, id),
         chain_deleted: false,

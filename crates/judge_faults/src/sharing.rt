@@ -44,7 +44,7 @@ fn mark_pair(
     Ok(())
 }
 
-// Marks a claim and those of the others with which it clashes.
+// Marks each clash of the claim with one of the others, on both sides.
 fn mark_against(
     alloc: Global,
     overs: &mut Overs<'_, '_>,
@@ -62,15 +62,15 @@ fn mark_against(
     Ok(())
 }
 
-/// The claims on one element so far. Those of the chain may share it with each other, because each is over those before
-/// it: a claim that is over the last of them is over all. The others are compared one by one.
+/// The claims on one element so far. Those of the chain may share the element with each other, because each of them is
+/// over those before it. The others do not fit into the chain, and are compared one by one.
 #[derive(Drop)]
 struct Claimants {
     chain: Vec<Claim>,
     others: Vec<Claim>,
 }
 
-// Adds one more claim, and marks it and those that it clashes with.
+// Adds one more claim, and marks its clashes with the claims so far.
 fn add_claim(
     alloc: Global,
     overs: &mut Overs<'_, '_>,
@@ -117,7 +117,7 @@ fn mark_clashes(
     Ok(())
 }
 
-// The place after the last claim on the element of the claim at `start`.
+// Where the claims end that follow `start` and are on the same element as the claim at `start`.
 fn run_end(claims: &[Claim], start: usize) -> usize
     requires { start < length claims.now }
     ensures { IsRun claims.now start result }

@@ -4,9 +4,9 @@ ghost use Rattle.zones.specs.Scopes.{setting_with};
 ghost use Rattle.judge_system.specs.TestSets.{tests_of};
 ghost use Rattle.judge_faults.specs.Failed.{AreFailedTests};
 
+use crate::clashes::clashing_places;
 use crate::deleted::faults_with_deletes;
 use crate::failed_tests::all_failed_tests;
-use crate::forbidding::clashing_places;
 use crate::own::all_own_faults;
 use fields::Attest;
 use judge_system::TestSet;
@@ -32,11 +32,11 @@ pub fn test_all<'a, 'b>(
     ensures overs { IfOk result (λ t. t.overs ≡ scope.now.vers.now) }
 {
     scope.global().attest();
-    let list = scope.ids.as_slice();
+    let ids = scope.ids.as_slice();
     let mut overs = Overs::new(alloc, scope.vers);
-    let alone = all_own_faults(alloc, scope, related, &mut overs)?;
-    let faults = faults_with_deletes(alloc, scope.vers, list, alone.as_slice())?;
-    let clashing = clashing_places(alloc, &mut overs, list, faults.as_slice())?;
+    let own_faults = all_own_faults(alloc, scope, related, &mut overs)?;
+    let faults = faults_with_deletes(alloc, scope.vers, ids, own_faults.as_slice())?;
+    let clashing = clashing_places(alloc, &mut overs, ids, faults.as_slice())?;
     let tests = all_failed_tests(alloc, faults.as_slice(), &clashing)?;
     Ok(Tested { tests, overs })
 }

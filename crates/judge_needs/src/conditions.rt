@@ -58,7 +58,7 @@ impl<'a, 'b> Conditions<'a, 'b> {
             .collect(alloc)
     }
 
-    // The requisites that the remaining SYSMODs state for the candidate in their `++IF`s, if it is a function.
+    // The requisites that SYSMODs applied in the view state for the candidate in their `++IF`s, if it is a function.
     fn stated_requisites_for(
         &self,
         alloc: Global,

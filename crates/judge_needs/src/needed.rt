@@ -44,7 +44,8 @@ fn add_open_needs(
     )
 }
 
-// The requisites that SYSMODs which stay applied lose by the candidate's DELETE, if the candidate is a survivor.
+// The requisites that the candidate's DELETE takes from SYSMODs that stay applied. Only the DELETE of a survivor takes
+// any.
 fn orphaned_requisites(
     alloc: Global,
     scope: &Scope<'_, '_>,
@@ -89,8 +90,15 @@ fn add_needs_of_candidate(
         reasons.as_slice(),
         needs,
     )?;
-    let lost = orphaned_requisites(alloc, scope, survivors, id)?;
-    add_open_needs(scope, left, id, NeedKind::Orphan, lost.as_slice(), needs)
+    let orphaned = orphaned_requisites(alloc, scope, survivors, id)?;
+    add_open_needs(
+        scope,
+        left,
+        id,
+        NeedKind::Orphan,
+        orphaned.as_slice(),
+        needs,
+    )
 }
 
 /// What the candidates need, given the survivors: each need once.

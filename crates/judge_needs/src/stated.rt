@@ -27,8 +27,8 @@ pub(crate) type Stated = Lists<Id, StatedRequisite>;
 fn add_requisites(
     alloc: Global,
     stated: &mut Stated,
-    function: Id,
     by: Id,
+    function: Id,
     ids: &[Id],
 ) -> Result<(), AllocError>
     ensures { OnOk result (AddsMore stated.old stated.new
@@ -54,8 +54,8 @@ fn add_conditions(
         add_requisites(
             alloc,
             stated,
-            condition.function,
             by,
+            condition.function,
             condition.req.as_slice(),
         )?;
     }

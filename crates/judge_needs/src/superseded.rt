@@ -1,6 +1,6 @@
-//! The ids that each candidate supersedes, among those with a need that a superseder serves. Usually these are few
-//! among all that it supersedes. Candidates rise, and usually supersede lower ones. What these supersede is known then,
-//! and is not searched for again.
+//! The ids that each candidate supersedes, among those with a need that a superseder serves. Usually these are only few
+//! of the ids that the candidate supersedes. The candidates are gone through by rising ids, and usually supersede lower
+//! ones. What the lower ones supersede is then known already, and is not searched for again.
 ghost use Rattle.std.specs.Prelude.{◌≡◌, ◌↔◌, ◌∷◌, [], All, Contains, IfOk, OnOk, map, filter};
 ghost use Rattle.terms.specs.Types.{Id as AnId};
 ghost use Rattle.terms.specs.Lookups.{is_in};
@@ -46,7 +46,7 @@ fn needed_ids(alloc: Global, needs: &[RequisiteOf]) -> Result<Vec<Id>, AllocErro
         .collect(alloc)
 }
 
-// The ids of the list that are needed.
+// Those of the ids that are needed.
 fn needed_among(alloc: Global, needed: &IdList, ids: &[Id]) -> Result<Vec<Id>, AllocError>
     ensures { IfOk result (λ found. found.items ≡ filter (is_in needed.now) ids.now) }
 {
@@ -56,8 +56,8 @@ fn needed_among(alloc: Global, needed: &IdList, ids: &[Id]) -> Result<Vec<Id>, A
         .collect(alloc)
 }
 
-// Some of the named ids that together supersede all that any of them supersedes: the highest one, and those that it
-// does not name in SUP itself. In cumulative service the highest one names all others, so only one is left.
+// The highest of the named ids, and those that it does not name in SUP itself. Together they supersede all that any
+// named id supersedes. In cumulative service the highest id names all others, so only one id is left.
 fn sufficient_ids(alloc: Global, vers: &VerChoice<'_>, named: &[Id]) -> Result<Vec<Id>, AllocError>
     ensures { IfOk result (λ some. AreEnough (choice vers.now) named.now some.items) }
 {
@@ -74,7 +74,7 @@ fn sufficient_ids(alloc: Global, vers: &VerChoice<'_>, named: &[Id]) -> Result<V
         .collect(alloc)
 }
 
-// Appends the needed ids that this SYSMOD supersedes. It searches for them only if they are not in `known`.
+// Appends the needed ids that this SYSMOD supersedes. They are searched for only if `known` does not have them.
 fn append_needed_superseded(
     alloc: Global,
     vers: &VerChoice<'_>,

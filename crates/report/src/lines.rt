@@ -106,9 +106,9 @@ fn status_detail(status: &Status) -> Option<&[u8]>
     match status {
         Status::Refused(why) => Some(refusal_text(*why)),
         Status::Assigned(source) => Some(source.as_bytes()),
-        Status::Held(reason) | Status::Replaced(reason) | Status::Released(reason) => {
-            Some(reason.as_bytes())
-        }
+        Status::Held(reason) => Some(reason.as_bytes()),
+        Status::Replaced(reason) => Some(reason.as_bytes()),
+        Status::Released(reason) => Some(reason.as_bytes()),
         _ => None,
     }
 }

@@ -1,6 +1,7 @@
 //! What the lines of a report say about its candidates.
 ghost use Rattle.std.specs.Prelude.{◌≡◌, ◌++◌, map, IfOk, OnOk};
-ghost use Rattle.std.specs.List.{list_all};
+ghost use Rattle.std.specs.List.{list_any, list_all};
+ghost use Rattle.terms.specs.Lookups.{is_in};
 ghost use Rattle.judge_system.specs.TestSets.{tests_of};
 ghost use Rattle.report.specs.Views.{status_view, line_view};
 ghost use Rattle.report_verdict.specs.Conflicts.{by_delete, by_clash, by_others, is_chain_deleted, is_in_clash};
@@ -33,6 +34,20 @@ fn is_test_of_others(test: Test) -> bool
     is_delete_test(test) || is_clash_test(test)
 }
 
+// Whether the tests include the one that fails if a DELETE names an id of the chain.
+fn has_delete_test(tests: TestSet) -> bool
+    ensures { result ≡ list_any by_delete (tests_of tests) }
+{
+    tests.chain_deleted
+}
+
+// Whether the tests include the one that fails if the SYSMOD clashes with other candidates.
+fn has_clash_test(tests: TestSet) -> bool
+    ensures { result ≡ list_any by_clash (tests_of tests) }
+{
+    tests.in_clash
+}
+
 // Whether each of these tests depends on other candidates.
 fn are_tests_of_others(tests: TestSet) -> bool
     ensures { result ≡ list_all by_others (tests_of tests) }
@@ -45,7 +60,7 @@ fn is_chain_deleted(status: &Status) -> bool
     ensures { result ≡ is_chain_deleted (status_view status.now) }
 {
     match status {
-        Status::Failed(failure) => failure.tests.chain_deleted,
+        Status::Failed(failure) => has_delete_test(failure.tests),
         _ => false,
     }
 }
@@ -55,7 +70,7 @@ fn is_in_clash(status: &Status) -> bool
     ensures { result ≡ is_in_clash (status_view status.now) }
 {
     match status {
-        Status::Failed(failure) => failure.tests.in_clash,
+        Status::Failed(failure) => has_clash_test(failure.tests),
         _ => false,
     }
 }
@@ -134,13 +149,20 @@ fn without_id(alloc: Global, id: Id, ids: &[Id]) -> Result<Vec<Id>, AllocError>
         .collect(alloc)
 }
 
+// Whether the id is one of these.
+fn is_among(ids: &[Id], id: Id) -> bool
+    ensures { result ≡ is_in ids.now id }
+{
+    ids.contains(&id)
+}
+
 /// If the id fails J8 (a DELETE takes out its chain), the other candidates whose DELETEs decide that: those that pass
 /// every test that does not depend on other candidates.
 pub(crate) fn deleters(alloc: Global, lines: &[ReportLine], id: Id) -> Result<Vec<Id>, AllocError>
     ensures { IfOk result (λ ids. ids.items ≡ deleters (map line_view lines.now) id) }
 {
     let deleted = ids_where(alloc, Condition::ChainDeleted, lines)?;
-    if deleted.as_slice().contains(&id) {
+    if is_among(deleted.as_slice(), id) {
         let passing = ids_where(alloc, Condition::PassesAlone, lines)?;
         return without_id(alloc, id, passing.as_slice());
     }
@@ -156,7 +178,7 @@ pub(crate) fn clashing_ids(
     ensures { IfOk result (λ ids. ids.items ≡ clashing (map line_view lines.now) id) }
 {
     let clashing = ids_where(alloc, Condition::InClash, lines)?;
-    if clashing.as_slice().contains(&id) {
+    if is_among(clashing.as_slice(), id) {
         return without_id(alloc, id, clashing.as_slice());
     }
     Ok(Vec::new(alloc))

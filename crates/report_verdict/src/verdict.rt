@@ -270,13 +270,26 @@ fn put_line_verdict(
     }
 }
 
+// Appends what these lines say about the id.
+fn put_lines_verdict(
+    id: Id,
+    grounds: &Grounds<'_, '_>,
+    lines: &[ReportLine],
+    text: &mut Vec<u8>,
+) -> Result<(), AllocError>
+    ensures { OnOk result (text.new.items
+        ≡ text.old.items ++ flat_map (verdict_told id (basis_of grounds.now)) (map line_view lines.now)) }
+{
+    for line in lines {
+        put_line_verdict(id, grounds, line, text)?;
+    }
+    Ok(())
+}
+
 /// Appends what the lines of an APPLY or ACCEPT say about the id, in words that name its facts, the other candidates
 /// and what BYPASS covers.
 pub fn put_verdict(id: Id, grounds: &Grounds<'_, '_>, text: &mut Vec<u8>) -> Result<(), AllocError>
     ensures { OnOk result (text.new.items ≡ text.old.items ++ verdict_text id (basis_of grounds.now)) }
 {
-    for line in grounds.lines {
-        put_line_verdict(id, grounds, line, text)?;
-    }
-    Ok(())
+    put_lines_verdict(id, grounds, grounds.lines, text)
 }

@@ -41,7 +41,8 @@ fn standing(global: &GlobalZone, zone: &Zone, id: Id) -> Standing
 fn kind_of(global: &GlobalZone, id: Id) -> Option<Kind>
     ensures { result ≡ option_map (λ s. s.kind) (sysmod_of global.now id) }
 {
-    Some(global.get(id)?.kind)
+    let sysmod = global.get(id)?;
+    Some(sysmod.kind)
 }
 
 /// The state of the id, and its entry if there is one.

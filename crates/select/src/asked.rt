@@ -45,7 +45,7 @@ impl<'a> Selecting<'a> {
         ids.iter().any(|id| self.is_applied(*id))
     }
 
-    // The FMIDs of the SYSMOD's `++VER`s, or none if one of them is applied.
+    // The FMIDs of the SYSMOD's `++VER`s for the zone's SREL, or none if the zone has applied one of them.
     fn open_fmids(&self, alloc: Global, id: Id) -> Result<Vec<Id>, AllocError>
         ensures { IfOk result (λ ids. ids.items
             ≡ open_fmids self.now.zone (fmids_for self.now.global self.now.zone.srel id)) }

@@ -51,7 +51,7 @@ fn required_by_ifs_for(alloc: Global, function: Id, vers: &[&Ver]) -> Result<Vec
 }
 
 impl<'a> Selecting<'a> {
-    // Those of the namers that name the id in SUP.
+    // Those of the SYSMODs that supersede the id.
     fn superseders_among(&self, alloc: Global, id: Id, namers: &[Id]) -> Result<Vec<Id>, AllocError>
         ensures { IfOk result (λ found. found.items ≡ filter (λ y. is_in (sups_in self.now y) id) namers.now) }
     {
@@ -67,10 +67,10 @@ impl<'a> Selecting<'a> {
         ensures { IfOk result (λ found. found.items ≡ superseders self.now id) }
     {
         let selection = self.selection;
-        let mut namers = Vec::new(alloc);
         if !selection.groupextend {
-            return Ok(namers);
+            return Ok(Vec::new(alloc));
         }
+        let mut namers = Vec::new(alloc);
         self.global
             .append_namers(self.zone.srel(), id, &mut namers)?;
         self.superseders_among(alloc, id, namers.as_slice())
@@ -99,27 +99,28 @@ impl<'a> Asked<'a> {
             ≡ fitting_namers self.now.scope.now self.now.seen.now.keys function) }
     {
         let namers = self.scope.function_namers(alloc, function)?;
-        let grown = self.growing_among(alloc, namers.as_slice())?;
-        self.fitting_vers(alloc, grown.as_slice())
+        let growing = self.growing_among(alloc, namers.as_slice())?;
+        self.fitting_vers(alloc, growing.as_slice())
     }
 
-    // What the namers of a function ask for because of it: all that a `++VER` with this FMID requires, and what `++IF`s
-    // for it require.
+    // What the SYSMODs that name a function ask for because of it: all that their `++VER`s with this FMID require, and
+    // what their `++IF`s for it require.
     fn asked_by_namers(&self, alloc: Global, function: Id) -> Result<Vec<Id>, AllocError>
         ensures { IfOk result (λ found. found.items
             ≡ asked_by_namers self.now.scope.now self.now.seen.now.keys function) }
     {
         let vers = self.fitting_vers_of_namers(alloc, function)?;
-        let its_own = vers_with_fmid(alloc, function, vers.as_slice())?;
-        let mut ids = self.required_by(alloc, its_own.as_slice())?;
+        let with_fmid = vers_with_fmid(alloc, function, vers.as_slice())?;
+        let mut ids = self.required_by(alloc, with_fmid.as_slice())?;
         let by_ifs = required_by_ifs_for(alloc, function, vers.as_slice())?;
         ids.extend_from_slice(by_ifs.as_slice())?;
         self.scope.unsupplied(alloc, ids.as_slice())
     }
 
-    // What an open id brings in. An id of the start that brings others in has asked for them before the search. Any
-    // other id of the start asks only by itself: it has always been a candidate, so those that name it have asked with
-    // it. For any other id, those that name it ask again.
+    // What the search asks for because of an open id that it has come to. An id of the start that brings others in has
+    // asked for them before the search, and adds nothing. Any other id of the start has been a candidate from the
+    // beginning. Its namers have counted it, so it adds only what it asks for by itself. An id that becomes a candidate
+    // only now also adds what its namers ask for because of it.
     fn brought_by(&self, alloc: Global, id: Id) -> Result<Vec<Id>, AllocError>
         ensures { IfOk result (λ found. found.items ≡ brought_by self.now.scope.now self.now.seen.now.keys id) }
     {
@@ -143,8 +144,8 @@ impl<'a> Asked<'a> {
             return self.scope.superseders(alloc, id);
         }
         let mut found = self.brought_by(alloc, id)?;
-        let over = self.scope.superseders(alloc, id)?;
-        found.extend_from_slice(over.as_slice())?;
+        let superseders = self.scope.superseders(alloc, id)?;
+        found.extend_from_slice(superseders.as_slice())?;
         Ok(found)
     }
 }

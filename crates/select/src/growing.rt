@@ -65,7 +65,7 @@ fn insert_first_asked(
     Ok(())
 }
 
-// What the ids of the start ask for by themselves, if they bring others in.
+// What those ids of the start that bring others in ask for by themselves.
 fn asked_by_start(
     alloc: Global,
     scope: &Selecting,

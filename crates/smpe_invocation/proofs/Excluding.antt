@@ -114,7 +114,7 @@ module _ (rows : List Row) where
   pub related_in : ¬ Lacks (codes "related") rows → (related : Option Text) × HasRelated rows related
       → (name : Text) × HasZoneName (codes "related") rows name
   related_in named (None, h) = absurd (named h.0)
-  related_in named (Some name, h) = (name, h.0, h.1)
+  related_in named (Some name, h) = (name, h)
 
   -- where there is a file of commands, it has a name, and they have a date
   pub named_in : ¬ Lacks (codes "cntl") rows → (commands : Option CommandJob) × HasCommands rows commands

@@ -15,7 +15,7 @@ ghost use Rattle.report.specs.Views.{line_view};
 
 use crate::lines::install_lines;
 use crate::solving::decide;
-use change::{Installed, Installing, install, pairs_of};
+use change::{Installed, Installing, install, pairs_with_first_in};
 use fields::{Attest, Bypass, Id, IdList, Selection, YyDdd};
 use judge::{Judged, install_system};
 use report::ReportLine;
@@ -87,7 +87,7 @@ fn install_judged(
         overs,
         ..
     } = judged;
-    let bypassed = pairs_of(alloc, kept, bypassed.as_slice())?;
+    let bypassed = pairs_with_first_in(alloc, kept, bypassed.as_slice())?;
     install_kept(alloc, &vers, overs, zone, kept, bypassed.as_slice(), date)
 }
 

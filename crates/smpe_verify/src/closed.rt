@@ -74,7 +74,8 @@ fn first_entry_breach(
         ≡ first_of (entry_breach vers.now.global.now (choice vers.now) zone.now) zone.now.entries) }
 {
     for entry in zone.entries() {
-        if let Some(fault) = entry_fault(alloc, vers, zone, entry)? {
+        let broken_rule = entry_fault(alloc, vers, zone, entry)?;
+        if let Some(fault) = broken_rule {
             return Ok(Some(Breach::OfEntry(entry.id, fault)));
         }
     }

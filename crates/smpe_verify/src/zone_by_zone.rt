@@ -24,7 +24,8 @@ pub fn verify<S: Alter>(alloc: Global, store: &mut Store<S>) -> Result<Verificat
     let names = store.zone_names()?;
     let mut counts = initial_counts(&global, names.as_slice());
     for name in names.as_slice() {
-        if let Some(breach) = verify_zone(alloc, store, &global, *name, &mut counts)? {
+        let zone_breach = verify_zone(alloc, store, &global, *name, &mut counts)?;
+        if let Some(breach) = zone_breach {
             return Ok(Verification::Broken(*name, breach));
         }
     }
@@ -56,7 +57,8 @@ fn verify_zone<S: Alter>(
     ensures { Loads S.Store store.old store.new (λ i breach. (breach ≡ breach_at i global.now name)
         × (counts.new ≡ counted i counts.old name)) result }
 {
-    let Some(zone) = store.load_zone(name)? else {
+    let named_zone = store.load_zone(name)?;
+    let Some(zone) = named_zone else {
         return Ok(None);
     };
     count_zone(&zone, counts)?;

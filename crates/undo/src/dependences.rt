@@ -30,8 +30,8 @@ pub fn suppliers(alloc: Global, zone: &Zone, id: Id) -> Result<Vec<Id>, AllocErr
     zone.applied_among(alloc, ids.as_slice())
 }
 
-/// The groups of applied SYSMODs on which the SYSMOD depends. It has to go as soon as all members of one group go,
-/// unless the group is empty.
+/// The groups of applied SYSMODs on which the SYSMOD depends: those that supply a requisite of it, for each requisite,
+/// and its function. The SYSMOD has to go as soon as all members of one group go, unless the group is empty.
 pub(crate) fn dependences_of(
     alloc: Global,
     scope: &RestoreScope<'_, '_>,
@@ -52,7 +52,7 @@ pub(crate) fn dependences_of(
 }
 
 // Whether the list contains all of the ids.
-fn are_listed(list: &IdList, ids: &[Id]) -> bool
+fn contains_all(list: &IdList, ids: &[Id]) -> bool
     ensures { result ≡ list_all (is_in list.now) ids.now }
 {
     ids.iter().all(|id| list.contains(*id))
@@ -69,13 +69,14 @@ fn members_of_listed_groups(
 {
     groups
         .iter()
-        .filter(|group| are_listed(list, group.as_slice()))
+        .filter(|group| contains_all(list, group.as_slice()))
         .flat_map(|group| group.iter())
         .copied()
         .collect(alloc)
 }
 
-/// Pairs of a candidate and an applied SYSMOD that depends on it, that is, on a group whose members are all candidates.
+/// Pairs of a candidate and an applied SYSMOD that depends on it: all members of one of its groups are candidates, and
+/// the candidate is one of them.
 pub(crate) fn dependence_pairs(
     alloc: Global,
     scope: &RestoreScope<'_, '_>,
@@ -85,11 +86,11 @@ pub(crate) fn dependence_pairs(
     ensures { IfOk result (λ pairs. HaveDep (restoring_of scope.now) candidates.now pairs.items) }
 {
     let mut pairs = Vec::new(alloc);
-    for by in scope.applied {
-        let groups = dependences_of(alloc, scope, *by)?;
+    for dependent in scope.applied {
+        let groups = dependences_of(alloc, scope, *dependent)?;
         let ids = members_of_listed_groups(alloc, candidates, groups.as_slice())?;
         for id in ids.as_slice() {
-            pairs.push((*id, *by))?;
+            pairs.push((*id, *dependent))?;
         }
     }
     Ok(pairs)

@@ -32,5 +32,6 @@ pub fn restore_system<'a>(
     let vers = choose(alloc, global, zone, &none)?;
     let assessment = assess(alloc, &vers, zone, accepted, ids)?;
     let overs = Overs::new(alloc, &vers).into_known();
-    Judged::new(alloc, ids, assessment, vers, overs)
+    let judged = Judged::new(alloc, ids, assessment, vers, overs)?;
+    Ok(judged)
 }

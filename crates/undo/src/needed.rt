@@ -31,7 +31,7 @@ fn add_needs(
     Ok(())
 }
 
-/// What these SYSMODs, which are applied, need in a RESTORE that names exactly them.
+/// What these applied SYSMODs need in a RESTORE whose candidates they are.
 pub(crate) fn needs_in_restore(
     alloc: Global,
     scope: &RestoreScope<'_, '_>,

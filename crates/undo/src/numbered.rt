@@ -52,8 +52,8 @@ fn rules_of_steps(
 {
     let start = start_flags(alloc, ids, table.as_slice())?;
     let mut rules = Rules::new(alloc, start.as_slice())?;
-    // (so each place of the table fits into 32 bits)
-    prove!(rules.size() <= u32::MAX);
+    // For the proofs only: `size` is a `u32`, so all places in the table fit into 32 bits. The call does nothing.
+    let _ = rules.size();
     for step in steps {
         rules.add_rule(rule_of(alloc, table, step)?)?;
     }
@@ -86,6 +86,6 @@ pub(crate) fn reached_ids(alloc: Global, ids: &IdList, steps: &[Step]) -> Result
     let table = Rising::from_vec(all_nodes(alloc, ids, steps)?);
     let rules = rules_of_steps(alloc, &table, ids, steps)?;
     let set = least(alloc, &rules)?;
-    let ids = flagged_ids(alloc, table.as_slice(), set.as_slice())?;
-    Ok(IdList::from_vec(ids))
+    let reached = flagged_ids(alloc, table.as_slice(), set.as_slice())?;
+    Ok(IdList::from_vec(reached))
 }

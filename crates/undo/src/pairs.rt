@@ -3,7 +3,7 @@ ghost use Rattle.undo.specs.Pairs.{AreOwn};
 
 use fields::{Id, IdList};
 
-/// Those of the pairs whose first id is in the list and whose ids differ, each once and in order.
+/// The pairs whose first id is in the list and whose second id is another one, each pair once and in order.
 pub(crate) fn member_pairs(ids: &IdList, mut pairs: Vec<(Id, Id)>) -> Vec<(Id, Id)>
     ensures { AreOwn ids.now pairs.items result.items }
 {

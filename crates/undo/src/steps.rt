@@ -9,18 +9,18 @@ use crate::scope::{RestoreScope, unaccepted_among};
 use fields::Id;
 use std::alloc::{AllocError, Global};
 
-// Adds the step from a group to the SYSMOD `by`, which depends on it. An empty group leads nowhere.
+// Adds the step from a group to the SYSMOD that depends on it. An empty group leads nowhere.
 fn push_step_from_group(
     alloc: Global,
-    ids: &[Id],
-    by: Id,
+    group: &[Id],
+    dependent: Id,
     steps: &mut Vec<Step>,
 ) -> Result<(), AllocError>
-    ensures { OnOk result (as_steps steps.new.items ≡ as_steps steps.old.items ++ from_all by ids.now) }
+    ensures { OnOk result (as_steps steps.new.items ≡ as_steps steps.old.items ++ from_all dependent group.now) }
 {
-    if !ids.is_empty() {
-        let these = sysmod_nodes(alloc, ids)?;
-        push_step(steps, these, Node::Sysmod(by))?;
+    if !group.is_empty() {
+        let these = sysmod_nodes(alloc, group)?;
+        push_step(steps, these, Node::Sysmod(dependent))?;
     }
     Ok(())
 }

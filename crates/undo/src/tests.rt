@@ -12,7 +12,7 @@ use std::alloc::{AllocError, Global};
 use sysmods_values::ElemChange;
 use zones::{Element, Zone};
 
-// Whether both zones have applied the SYSMOD, by the `++VER` of one number.
+// Whether both zones have applied the SYSMOD, and by the `++VER` of the same number.
 fn is_alike(zone: &Zone, other: &Zone, id: Id) -> bool
     ensures { result ≡ is_alike zone.now other.now id }
 {
@@ -20,27 +20,27 @@ fn is_alike(zone: &Zone, other: &Zone, id: Id) -> bool
         return false;
     };
     match other.applied(id) {
-        Some(there) => applied.number == there.number,
+        Some(other_applied) => applied.number == other_applied.number,
         None => false,
     }
 }
 
-// Whether one of the SYSMODs is not applied in both zones by the `++VER` of one number.
+// Whether one of the SYSMODs is not applied in both zones by the `++VER` of the same number.
 fn any_unlike(zone: &Zone, other: &Zone, ids: &[Id]) -> bool
     ensures { result ≡ list_any (λ y. not (is_alike zone.now other.now y)) ids.now }
 {
     ids.iter().any(|id| !is_alike(zone, other, *id))
 }
 
-// Whether both zones have applied the RMID and each UMID of the element, each by the `++VER` of one number.
+// Whether both zones have applied the RMID and each UMID of the element, each by the `++VER` of the same number.
 fn are_alike(zone: &Zone, other: &Zone, element: &Element) -> bool
     ensures { result ≡ are_alike zone.now other.now element.now }
 {
     is_alike(zone, other, element.rmid) && !any_unlike(zone, other, element.umids.as_slice())
 }
 
-// Whether the element of the distribution zone may come back to the target zone. An RMID or UMID that is alike in both
-// zones is applied, so among the ids that must be applied only the FMID is left to test.
+// Whether the element of the distribution zone may come back to the target zone: the target zone has applied its FMID,
+// and it has applied its RMID and UMIDs by the same `++VER`s as the distribution zone.
 #[tactic(auto, using(crate::proofs::Testing::returns_by))]
 fn may_return(scope: &RestoreScope<'_, '_>, element: &Element) -> bool
     ensures { result ≡ may_return (restoring_of scope.now) element.now }
@@ -58,7 +58,7 @@ fn is_at_other_level(scope: &RestoreScope<'_, '_>, change: &ElemChange) -> bool
     }
 }
 
-// Whether the distribution zone has an element of one of these statements at such a level.
+// Whether the distribution zone has an element of one of these statements at a level that may not come back.
 fn any_at_other_level(scope: &RestoreScope<'_, '_>, changes: &[ElemChange]) -> bool
     ensures { result ≡ list_any (is_behind (restoring_of scope.now)) changes.now }
 {

@@ -14,12 +14,12 @@ returns-clause-grows c =
     IfOk-weaker c.add_change.result _ _ (λ added joins kind.
     grows_join c.args.options.now.decide kind c.args.element.now c.in-Some.change c.args.sysmod.now
     c.add_change.new.sysmod added joins
-    (assembled c.args.options.now.decide kind c.args.element.now c.in-Some.change c.args.assembled.now
+    (assembled c.args.options.now.decide kind c.args.element.now c.in-Some.change c.args.module.now
     c.requires.asked c.requires.is_one (rw c.in-Some.is at c.in_ok-change.ensures))) c.add_change.ensures
 
 pub returns-clause-there : goal.returns-clause-there
 returns-clause-there c =
     IfOk-weaker c.add_change.result _ _ (λ added joins t.
     changed_as c.args.options.now.decide c.add_change.new.sysmod.changes c.in-Some.change Mac
-    (module_name c.args.assembled.now) false (rw c.in-Some.is at c.in_ok-change.ensures) (joins.there t))
+    (module_name c.args.module.now) false (rw c.in-Some.is at c.in_ok-change.ensures) (joins.there t))
     c.add_change.ensures

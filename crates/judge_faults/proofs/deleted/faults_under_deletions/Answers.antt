@@ -10,9 +10,9 @@ loop-i-preserved c =
     let ids = c.args.ids.now in
     let id = c.index-ids-i.result in
     beside_at (λ n x own. IsMarkedDeleted c.args.vers.now.global.now (choice c.args.vers.now) c.args.dels.now
-    c.args.faults.now n x own) ids c.loop-i.all.items c.push.new.self.items c.loop-i.i id c.with_deleted.result
+    c.args.faults.now n x own) ids c.loop-i.all.items c.push.new.self.items c.loop-i.i id c.with_chain_deleted.result
     (slice_get_read ids (length ids) c.loop-i.i id refl (omega arith) c.index-ids-i.is) c.in_ok-push.ensures.items
-    (record { own = c.item_at.result; own_at = c.item_at.ensures; is = c.with_deleted.ensures })
+    (record { own = c.item_at.result; own_at = c.item_at.ensures; is = c.with_chain_deleted.ensures })
     c.loop-i.invariant
 
 pub returns : goal.returns

@@ -15,9 +15,9 @@ returns-then-not-branch-clause-lower c =
 pub returns-clause-lower : goal.returns-clause-lower
 returns-clause-lower c =
     rw (← c.element.view_is)
-    (IfOk-weaker c.is_not_over_one_of.result _
+    (IfOk-weaker c.is_not_over_all.result _
     (λ lower. IsTrue lower ↔ Any (λ z. ¬ IsOver (choice c.args.overs.now) c.args.id z)
     (c.element.inside.rmid ∷ c.element.inside.umids))
     (λ lower h. lower_rest (choice c.args.overs.now) c.args.id c.element.inside.rmid c.element.inside.umids lower
     (c.in_ok-over.ensures.over.0 search) h)
-    (rw (c.as_slice.ensures.items, c.in_ok-over.ensures.same) at c.is_not_over_one_of.ensures.lower))
+    (rw (c.as_slice.ensures.items, c.in_ok-over.ensures.same) at c.is_not_over_all.ensures.lower))

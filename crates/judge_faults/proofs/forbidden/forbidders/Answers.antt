@@ -13,8 +13,8 @@ loop-entry-init c =
 pub loop-entry-preserved : goal.loop-entry-preserved
 loop-entry-preserved c =
     holds_next C (ForbidsBy c.args.vers.now.global.now (choice c.args.vers.now)) c.loop-entry.forbidders
-    c.add_forbidden_by.new.forbidders c.entries-entry-items.result.now c.loop-entry.entry-index c.entry-item.result
-    (omega arith) c.entry-item.is c.loop-entry.invariant c.in_ok-add_forbidden_by.ensures
+    c.add_forbidder.new.forbidders c.entries-entry-items.result.now c.loop-entry.entry-index c.entry-item.result
+    (omega arith) c.entry-item.is c.loop-entry.invariant c.in_ok-add_forbidder.ensures
 
 pub returns : goal.returns
 returns c =

@@ -12,12 +12,12 @@ returns-clause-faults c =
     (c.as_slice.ensures.value ∙ c.in_ok-dels.ensures) c.owner.ensures c.fmid.ensures
     (rw c.global-global.ensures at c.changes_of-changes.ensures)
     (record {
-      held_by_system = rw c.global-global.ensures at c.has_standing_hold.ensures;
-      held_by_user = rw c.global-global.ensures at c.has_standing_hold-2.ensures;
+      held_by_system = rw c.global-global.ensures at c.has_unbypassed_hold.ensures;
+      held_by_user = rw c.global-global.ensures at c.has_unbypassed_hold-2.ensures;
       forbidden_by_npre = c.is_forbidden.ensures;
       owned_by_another = c.any_owned_by_another.ensures;
       regression = rw c.requires.overs at c.in_ok-regression.ensures.lower;
-      nothing_to_update = rw c.global-global.ensures at c.any_updates_nothing.ensures;
+      nothing_to_update = rw c.global-global.ensures at c.any_has_nothing_to_update.ensures;
       not_in_target = c.fails_applycheck.ensures;
       several_fit = c.several_vers_fit.ensures;
     })

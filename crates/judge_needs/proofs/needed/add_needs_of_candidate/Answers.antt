@@ -36,5 +36,5 @@ returns c =
     c.in_ok-add_open_needs-4.ensures)
     (same_asked left b HoldError x _ _ _ _ (rw c.as_slice-3.ensures.items c.in_ok-reasons.ensures)
     c.in_ok-add_open_needs-5.ensures)
-    (same_asked left b Orphan x _ _ _ _ (rw c.as_slice-4.ensures.items c.in_ok-lost.ensures) orphan))
+    (same_asked left b Orphan x _ _ _ _ (rw c.as_slice-4.ensures.items c.in_ok-orphaned.ensures) orphan))
     c.add_open_needs-6.ensures

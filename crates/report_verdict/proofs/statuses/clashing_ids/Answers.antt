@@ -6,16 +6,16 @@ use Rattle.report.specs.Views.{line_view}
 use Rattle.report_verdict.specs.Conflicts.{is_in_clash, ids_where, others}
 use Rattle.report_verdict.proofs.statuses.clashing_ids.Goals as goal
 
-pub returns-then-contains : goal.returns-then-contains
-returns-then-contains c =
+pub returns-then-is_among : goal.returns-then-is_among
+returns-then-is_among c =
     let lines = map line_view c.args.lines.now in
     let all = ids_where is_in_clash lines in
     let id = c.args.id in
     let ids : c.as_slice.result.now ≡ all = c.as_slice.ensures.value ∙ c.in_ok-clashing.ensures in
     let among : true ≡ is_in all id =
-    sym c.if-contains.true ∙ c.contains.ensures ∙ ap (λ l. is_in l id) ids in
+    sym c.if-is_among.true ∙ c.is_among.ensures ∙ ap (λ l. is_in l id) ids in
     IfOk-weaker c.without_id.result _ _ (λ found are.
-    are ∙ ap (others id) (c.as_slice-then-contains.ensures.value ∙ c.in_ok-clashing.ensures)
+    are ∙ ap (others id) (c.as_slice-then-is_among.ensures.value ∙ c.in_ok-clashing.ensures)
     ∙ ap (λ (b : Bool). if b then others id all else []) among) c.without_id.ensures
 
 pub returns : goal.returns
@@ -24,6 +24,6 @@ returns c =
     let all = ids_where is_in_clash lines in
     let id = c.args.id in
     let among : false ≡ is_in all id =
-    sym c.if-contains.false ∙ c.contains.ensures
+    sym c.if-is_among.false ∙ c.is_among.ensures
     ∙ ap (λ l. is_in l id) (c.as_slice.ensures.value ∙ c.in_ok-clashing.ensures) in
     c.new.ensures.items ∙ ap (λ (b : Bool). if b then others id all else []) among

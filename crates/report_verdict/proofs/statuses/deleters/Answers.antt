@@ -6,15 +6,15 @@ use Rattle.report.specs.Views.{line_view}
 use Rattle.report_verdict.specs.Conflicts.{is_chain_deleted, passes_alone, ids_where, others}
 use Rattle.report_verdict.proofs.statuses.deleters.Goals as goal
 
-pub returns-then-contains : goal.returns-then-contains
-returns-then-contains c =
+pub returns-then-is_among : goal.returns-then-is_among
+returns-then-is_among c =
     let lines = map line_view c.args.lines.now in
     let id = c.args.id in
     let among : true ≡ is_in (ids_where is_chain_deleted lines) id =
-    sym c.if-contains.true ∙ c.contains.ensures
+    sym c.if-is_among.true ∙ c.is_among.ensures
     ∙ ap (λ l. is_in l id) (c.as_slice.ensures.value ∙ c.in_ok-deleted.ensures) in
     IfOk-weaker c.without_id.result _ _ (λ found are.
-    are ∙ ap (others id) (c.as_slice-then-contains.ensures.value ∙ c.in_ok-passing.ensures)
+    are ∙ ap (others id) (c.as_slice-then-is_among.ensures.value ∙ c.in_ok-passing.ensures)
     ∙ ap (λ (b : Bool). if b then others id (ids_where passes_alone lines) else []) among) c.without_id.ensures
 
 pub returns : goal.returns
@@ -22,6 +22,6 @@ returns c =
     let lines = map line_view c.args.lines.now in
     let id = c.args.id in
     let among : false ≡ is_in (ids_where is_chain_deleted lines) id =
-    sym c.if-contains.false ∙ c.contains.ensures
+    sym c.if-is_among.false ∙ c.is_among.ensures
     ∙ ap (λ l. is_in l id) (c.as_slice.ensures.value ∙ c.in_ok-deleted.ensures) in
     c.new.ensures.items ∙ ap (λ (b : Bool). if b then others id (ids_where passes_alone lines) else []) among

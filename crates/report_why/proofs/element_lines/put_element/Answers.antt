@@ -1,9 +1,11 @@
-use Rattle.std.proofs.Common.{◌++◌, ◌∙◌, ap, arith, sym, take_all}
-use Rattle.std.specs.Prelude.{codes}
+use Rattle.std.proofs.Common.{◌≡◌, ◌++◌, ◌∙◌, Option, ap, arith, subst, sym, take_all}
+use Rattle.std.specs.Prelude.{OnOk, codes, option_map}
 use Rattle.std.specs.List.{flat_map}
 use Rattle.std.proofs.lemmas.List.Folds.{flat_map-map}
 use Rattle.std.proofs.lemmas.Result.{IfOk-weaker}
-use Rattle.report_why.specs.FactText.{maker_line}
+use Rattle.report.specs.declared.fact.Found.{Found}
+use Rattle.report.specs.Facts.{ElementFact}
+use Rattle.report_why.specs.FactText.{fact_text, maker_line}
 use Rattle.report.specs.FactViews.{maker_view, found_view}
 use Rattle.report.proofs.Texts.{flat_more}
 use Rattle.report_why.proofs.TextParts.{element_there, element_missing}
@@ -11,10 +13,11 @@ use Rattle.report_why.proofs.element_lines.put_element.Goals as goal
 
 pub returns-in_default : goal.returns-in_default
 returns-in_default c =
-    rw c.in_default.is (IfOk-weaker c.append_words.result _ _
-    (λ done put. element_missing c.args.element.now.elem_type c.args.element.now.name c.args.element.now.replaces
-    c.args.text.now.items
-    c.type_text.ensures
+    let e = c.args.element.now in
+    subst (λ (o : Option Found). OnOk c.append_words.result (c.append_words.new.text.items
+    ≡ c.args.text.now.items ++ fact_text (ElementFact e.elem_type e.name e.replaces (option_map found_view o))))
+    (sym c.in_default.is) (IfOk-weaker c.append_words.result _ _
+    (λ done put. element_missing e.elem_type e.name e.replaces c.args.text.now.items c.type_text.ensures
     c.as_bytes.ensures.same put) c.append_words.ensures)
 
 pub loop-umid-preserved : goal.loop-umid-preserved
@@ -25,14 +28,16 @@ loop-umid-preserved c =
 
 pub returns : goal.returns
 returns c =
+    let e = c.args.element.now in
     let found = c.in-Some.found in
     let f = found_view found in
-    rw c.in-Some.is (c.loop-umid.invariant
+    subst (λ (o : Option Found). c.loop-umid.text.items
+    ≡ c.args.text.now.items ++ fact_text (ElementFact e.elem_type e.name e.replaces (option_map found_view o)))
+    (sym c.in-Some.is) (c.loop-umid.invariant
     ∙ ap (λ l. c.put_maker.new.text.items ++ flat_map (λ m. maker_line (codes "UMID") (maker_view m)) l)
     (take_all c.loop-umid.umid-index c.as_slice-umid-items.result.now (omega arith)
     ∙ c.as_slice-umid-items.ensures.value)
     ∙ ap (λ l. c.put_maker.new.text.items ++ l)
     (sym (flat_map-map (maker_line (codes "UMID")) maker_view found.umids.items))
-    ∙ element_there c.args.element.now.elem_type c.args.element.now.name c.args.element.now.replaces f
-    c.args.text.now.items c.type_text.ensures
-    c.as_bytes.ensures.same c.as_bytes-2.ensures.same c.in_ok-append_words.ensures c.in_ok-put_maker.ensures)
+    ∙ element_there e.elem_type e.name e.replaces f c.args.text.now.items c.type_text.ensures c.as_bytes.ensures.same
+    c.as_bytes-2.ensures.same c.in_ok-append_words.ensures c.in_ok-put_maker.ensures)

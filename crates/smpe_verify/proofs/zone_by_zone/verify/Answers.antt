@@ -26,17 +26,17 @@ loop-name-init g c = answered g.S.Store _ _ c.args.store.now c.zone_names.new.se
     (loads_both g.S.Store _ _ c.args.store.now c.load_global.new.self c.zone_names.new.self c.in_ok-global.global _
     c.in_ok-global.ensures.loads c.in_ok-names.ensures)
 
-pub returns-in_err-verify_zone : goal.returns-in_err-verify_zone
-returns-in_err-verify_zone g c = handed_on g.S.Store _ _ c.args.store.now c.verify_zone.new.store
-    c.in_err-verify_zone.field-0.0
-    c.from_residual-in_err-verify_zone.result c.from_residual-in_err-verify_zone.ensures.1
+pub returns-in_err-zone_breach : goal.returns-in_err-zone_breach
+returns-in_err-zone_breach g c = handed_on g.S.Store _ _ c.args.store.now c.verify_zone.new.store
+    c.in_err-zone_breach.field-0.0
+    c.from_residual-in_err-zone_breach.result c.from_residual-in_err-zone_breach.ensures.1
     (loads_both g.S.Store _ _ c.args.store.now c.loop-name.store c.verify_zone.new.store tt _ c.loop-name.invariant
-    c.in_err-verify_zone.ensures)
+    c.in_err-zone_breach.ensures)
 
 pub loop-name-preserved : goal.loop-name-preserved
 loop-name-preserved g c =
-    let none : None ≡ c.in_ok-verify_zone.field-0 = search rules in
-    answered g.S.Store _ _ c.args.store.now c.verify_zone.new.store c.in_ok-verify_zone.field-0 tt
+    let none : None ≡ c.in_ok-zone_breach.zone_breach = search rules in
+    answered g.S.Store _ _ c.args.store.now c.verify_zone.new.store c.in_ok-zone_breach.zone_breach tt
     (λ i inventory so. (
       so.0.0,
       goes_on i c.as_slice-name-items.result.now c.loop-name.name-index c.loop-name.counts so.0.1
@@ -45,17 +45,17 @@ loop-name-preserved g c =
           so.1.1 (none ∙ so.1.0),
     ))
     (loads_both g.S.Store _ _ c.args.store.now c.loop-name.store c.verify_zone.new.store tt _ c.loop-name.invariant
-    c.in_ok-verify_zone.ensures)
+    c.in_ok-zone_breach.ensures)
 
 pub returns-in-Some : goal.returns-in-Some
 returns-in-Some g c =
-    let some : Some c.in-Some.breach ≡ c.in_ok-verify_zone.field-0 = search rules in
-    answered g.S.Store _ _ c.args.store.now c.verify_zone.new.store c.in_ok-verify_zone.field-0 _
+    let some : Some c.in-Some.breach ≡ c.in_ok-zone_breach.zone_breach = search rules in
+    answered g.S.Store _ _ c.args.store.now c.verify_zone.new.store c.in_ok-zone_breach.zone_breach _
     (λ i inventory so.
     stops i c.as_slice-name-items.result.now c.loop-name.name-index c.loop-name.counts so.0.1 c.name-item.result
     (omega arith) c.name-item.is c.in_ok-global.global (sym c.global.view_is ∙ so.0.0) c.in-Some.breach (some ∙ so.1.0))
     (loads_both g.S.Store _ _ c.args.store.now c.loop-name.store c.verify_zone.new.store tt _ c.loop-name.invariant
-    c.in_ok-verify_zone.ensures)
+    c.in_ok-zone_breach.ensures)
 
 pub returns : goal.returns
 returns g c = answered g.S.Store _ _ c.args.store.now c.loop-name.store tt _

@@ -7,11 +7,11 @@ use Rattle.undo.proofs.AllNeeds.{have_dep_holds}
 use Rattle.undo.proofs.Needing.{flat_more, within_items}
 use Rattle.undo.proofs.dependences.dependence_pairs.Goals as goal
 
-pub loop-by-preserved : goal.loop-by-preserved
-loop-by-preserved c =
+pub loop-dependent-preserved : goal.loop-dependent-preserved
+loop-dependent-preserved c =
     let r = restoring_of c.args.scope.now in
     let listed = is_in c.args.candidates.now in
-    let by = c.by-item.result in
+    let by = c.dependent-item.result in
     let ids = c.as_slice-id-items.result.now in
     let are : ids ≡ all_within listed (dependences_of r by) =
     c.as_slice-id-items.ensures.value ∙ c.in_ok-ids.ensures
@@ -19,13 +19,17 @@ loop-by-preserved c =
     ∙ ap (λ gs. all_within listed (map (λ group. group.items) gs)) c.as_slice.ensures.value
     ∙ ap (all_within listed) c.in_ok-groups.ensures in
     c.loop-id.invariant
-    ∙ ap (λ xs. c.loop-by.pairs.items ++ map (λ x. (x, by)) xs) (take_all c.loop-id.id-index ids (omega arith) ∙ are)
-    ∙ ap (λ ps. ps ++ dependents r listed by) c.loop-by.invariant
-    ∙ flat_more (dependents r listed) c.args.scope.now.applied.now c.loop-by.by-index by (omega arith) c.by-item.is
+    ∙ ap (λ xs. c.loop-dependent.pairs.items ++ map (λ x. (x, by)) xs)
+    (take_all c.loop-id.id-index ids (omega arith) ∙ are)
+    ∙ ap (λ ps. ps ++ dependents r listed by) c.loop-dependent.invariant
+    ∙ flat_more (dependents r listed) c.args.scope.now.applied.now c.loop-dependent.dependent-index by (omega arith)
+    c.dependent-item.is
 
 pub returns : goal.returns
 returns c =
     have_dep_holds (restoring_of c.args.scope.now) c.args.scope.now.form c.args.candidates.now c.requires
-    c.loop-by.pairs.items
-    (c.loop-by.invariant ∙ ap (flat_map (dependents (restoring_of c.args.scope.now) (is_in c.args.candidates.now)))
-    (take_all c.loop-by.by-index c.args.scope.now.applied.now (omega arith) ∙ c.args.scope.now.has_applied))
+    c.loop-dependent.pairs.items
+    (c.loop-dependent.invariant
+    ∙ ap (flat_map (dependents (restoring_of c.args.scope.now) (is_in c.args.candidates.now)))
+    (take_all c.loop-dependent.dependent-index c.args.scope.now.applied.now (omega arith)
+    ∙ c.args.scope.now.has_applied))

@@ -5,10 +5,11 @@ use Rattle.undo.specs.Scopes.{restoring_of}
 use Rattle.undo.specs.Dependences.{dependents}
 use Rattle.undo.proofs.dependences.dependence_pairs.Given as goal
 
-abbrev pub invariant-loop-by : goal.invariant-loop-by
-invariant-loop-by l =
-    l.pairs.items ≡ flat_map (dependents (restoring_of l.scope) (is_in l.candidates)) (take l.by-index l.by-items)
+abbrev pub invariant-loop-dependent : goal.invariant-loop-dependent
+invariant-loop-dependent l =
+    l.pairs.items
+    ≡ flat_map (dependents (restoring_of l.scope) (is_in l.candidates)) (take l.dependent-index l.dependent-items)
 
 abbrev pub invariant-loop-id : goal.invariant-loop-id
 invariant-loop-id l =
-    l.pairs.items ≡ l.initial.pairs.items ++ map (λ x. (x, l.by)) (take l.id-index l.id-items)
+    l.pairs.items ≡ l.initial.pairs.items ++ map (λ x. (x, l.dependent)) (take l.id-index l.id-items)

@@ -1,6 +1,5 @@
 use Rattle.std.proofs.Common.{◌≡◌, ◌∙◌, All, IsTrue, List, ap, sym, subst}
 use Rattle.std.proofs.lemmas.List.{length-map}
-use Rattle.std.proofs.lemmas.Result.{IfOk-weaker}
 use Rattle.terms.specs.Choice.{counting}
 use Rattle.terms.specs.Lookups.{is_applied}
 use Rattle.terms.specs.Restore.{Restoring, restore_candidates}
@@ -37,16 +36,15 @@ new-requires-2-clause-by c =
     c.in_ok-assessment.assessment c.in_ok-assessment.ensures.assessed c.requires).by
 
 pub returns : goal.returns
-returns c =
+returns c = λ list are.
     let g = c.args.global.now in
     let zone = c.args.zone.now in
     let accepted = c.args.accepted.now in
     let ids = c.args.candidates.now.ids in
+    let j = c.in_ok-judged.judged in
     let setting = restoring_is c.in_ok-vers.vers g zone accepted c.in_ok-vers.ensures.global
     (c.in_ok-vers.ensures.counting ∙ ap (counting g zone) c.new-none.ensures) in
-    IfOk-weaker c.new-2.result _ _
-    (λ j numbered. λ list are. subst (λ r. IsRestoreJudged r list ids j) setting
+    subst (λ r. IsRestoreJudged r list ids j) setting
     (judged_of _ _ _ _ ids c.in_ok-assessment.assessment
     (c.in_ok-assessment.ensures.assessed list (subst (λ r. ids ≡ restore_candidates r list) (sym setting) are))
-    c.in_ok-assessment.ensures.rising j numbered))
-    c.new-2.ensures.numbered
+    c.in_ok-assessment.ensures.rising j c.in_ok-judged.ensures.numbered)

@@ -17,7 +17,8 @@ returns c =
     let starts = starts_in table c.in_ok-all_nodes.field-0.items ids c.args.steps.now c.in_ok-all_nodes.ensures
     c.from_vec-table.ensures.members in
     let rises = rw c.as_slice.ensures.items at c.as_slice.ensures.rising in
-    let flagged = rw (c.as_slice.ensures.items, c.as_slice-2.ensures.value) at c.in_ok-ids.ensures in
+    let flagged = rw (c.as_slice.ensures.items, c.as_slice-2.ensures.value) at c.in_ok-reached.ensures in
     all_reached table rises ids (as_steps c.args.steps.now) c.in_ok-rules.rules c.in_ok-rules.ensures
     (λ x h. All-contains (λ y. Contains table (Sysmod y)) ids x starts h)
-    c.in_ok-set.set.items c.in_ok-set.ensures c.in_ok-ids.ids.items c.from_vec.result flagged c.from_vec.ensures.members
+    c.in_ok-set.set.items c.in_ok-set.ensures c.in_ok-reached.reached.items c.from_vec.result flagged
+    c.from_vec.ensures.members

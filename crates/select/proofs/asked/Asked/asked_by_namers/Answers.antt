@@ -19,7 +19,7 @@ returns c =
     let whole = c.in_ok-ids.ensures
     ∙ required_mapped scope.zone cands (λ (v : Bor Ver). v.now) c.as_slice-2.result.now
     ∙ ap (required_of scope.zone cands)
-    (ap (map (λ v. v.now)) (c.as_slice-2.ensures.value ∙ c.in_ok-its_own.ensures)
+    (ap (map (λ v. v.now)) (c.as_slice-2.ensures.value ∙ c.in_ok-with_fmid.ensures)
     ∙ kept_mapped has_fmid (λ (v : Bor Ver). v.now) c.as_slice.result.now
     ∙ ap (filter has_fmid) (ap (map (λ v. v.now)) c.as_slice.ensures.value ∙ c.in_ok-vers.ensures)) in
     let by_ifs = c.as_slice-4.ensures.value ∙ c.in_ok-by_ifs.ensures

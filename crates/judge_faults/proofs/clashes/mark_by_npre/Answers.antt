@@ -4,7 +4,7 @@ use Rattle.sysmods.specs.Choices.{choice}
 use Rattle.judge_faults.specs.Sharing.{Marks}
 use Rattle.judge_faults.specs.Forbidding.{IsOfOne}
 use Rattle.judge_faults.proofs.Naming.{by_this, one_next}
-use Rattle.judge_faults.proofs.forbidding.mark_by_npre.Goals as goal
+use Rattle.judge_faults.proofs.clashes.mark_by_npre.Goals as goal
 
 pub item_at-requires : goal.item_at-requires
 item_at-requires c = omega (arith, c.requires.below, c.requires.are.lengths)
@@ -13,7 +13,7 @@ pub loop-other-preserved : goal.loop-other-preserved
 loop-other-preserved c =
     one_next c.args.ids.now c.args.faults.now c.args.place c.index-ids-place.result c.npre-named.result.now
     c.loop-other.other-index c.other-item.result c.args.marked.now.keys c.loop-other.marked.keys
-    c.mark_named.new.marked.keys (omega arith) c.other-item.is c.loop-other.invariant c.in_ok-mark_named.ensures
+    c.mark_npre_pair.new.marked.keys (omega arith) c.other-item.is c.loop-other.invariant c.in_ok-mark_npre_pair.ensures
 
 pub returns : goal.returns
 returns c =

@@ -5,12 +5,11 @@ use Rattle.report_verdict.specs.Verdict.{verdict_told}
 use Rattle.report_verdict.specs.Grounds.{basis_of}
 use Rattle.report.specs.Views.{line_view}
 use Rattle.report.proofs.Texts.{flat_more}
-use Rattle.report_verdict.proofs.verdict.put_verdict.Goals as goal
+use Rattle.report_verdict.proofs.verdict.put_lines_verdict.Goals as goal
 
 pub loop-line-preserved : goal.loop-line-preserved
 loop-line-preserved c =
-    flat_more (λ line. verdict_told c.args.id (basis_of c.args.grounds.now) (line_view line))
-    c.args.grounds.now.lines.now
+    flat_more (λ line. verdict_told c.args.id (basis_of c.args.grounds.now) (line_view line)) c.args.lines.now
     c.loop-line.line-index c.line-item.result c.args.text.now.items
     c.loop-line.text.items c.put_line_verdict.new.text.items (omega arith) c.line-item.is c.loop-line.invariant
     c.in_ok-put_line_verdict.ensures
@@ -20,6 +19,6 @@ returns c =
     c.loop-line.invariant
     ∙ ap (λ l. c.args.text.now.items ++ flat_map (λ line. verdict_told c.args.id (basis_of c.args.grounds.now)
     (line_view line)) l)
-    (take_all c.loop-line.line-index c.args.grounds.now.lines.now (omega arith))
+    (take_all c.loop-line.line-index c.args.lines.now (omega arith))
     ∙ ap (λ l. c.args.text.now.items ++ l) (sym (flat_map-map (verdict_told c.args.id (basis_of c.args.grounds.now))
-    line_view c.args.grounds.now.lines.now))
+    line_view c.args.lines.now))

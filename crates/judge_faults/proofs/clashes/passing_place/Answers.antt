@@ -7,7 +7,7 @@ use Rattle.std.proofs.lemmas.Option.{slice_get_within}
 use Rattle.terms.proofs.IdPlaces.{stands_at}
 use Rattle.terms.proofs.RisingLists.{is_ok_search, found_search}
 use Rattle.judge_faults.proofs.Naming.{only_place, place_none, none_passing, one_passing, one_failing}
-use Rattle.judge_faults.proofs.forbidding.passing_place.Goals as goal
+use Rattle.judge_faults.proofs.clashes.passing_place.Goals as goal
 
 pub returns-in_default : goal.returns-in_default
 returns-in_default c =

@@ -2,7 +2,7 @@ use Rattle.std.proofs.Common.{◌≡◌, ◌∙◌, arith, length, subst}
 use Rattle.sysmods.specs.Choices.{choice}
 use Rattle.judge_faults.specs.Sharing.{Marks}
 use Rattle.judge_faults.proofs.Naming.{IsByNpreBefore, before_next, before_all, clashing_both}
-use Rattle.judge_faults.proofs.forbidding.clashing_places.Goals as goal
+use Rattle.judge_faults.proofs.clashes.clashing_places.Goals as goal
 
 pub loop-i-preserved : goal.loop-i-preserved
 loop-i-preserved c =

@@ -13,7 +13,7 @@ use judge_system::item_at;
 use std::alloc::{AllocError, Global};
 use sysmods::{Overs, VerChoice};
 
-// The place of the id among the candidates, if it is one that passes the tests of its own.
+// The place of the id among the candidates, if it is a candidate and passes the tests of its own.
 fn passing_place(ids: &[Id], faults: &[OwnFaults], id: Id) -> Option<usize>
     requires { AreCandidates ids.now faults.now }
     ensures { (n : ℕ) → (result ≡ Some n) ↔ PassesAt ids.now faults.now n id }
@@ -27,9 +27,9 @@ fn passing_place(ids: &[Id], faults: &[OwnFaults], id: Id) -> Option<usize>
     Some(place)
 }
 
-// Marks the candidate `id`, at the place, and the one that it names, if that is another candidate and passes the tests
-// of its own.
-fn mark_named(
+// Marks the candidate `id`, which is at the place and names `named` in NPRE, together with `named`, if that is another
+// candidate and passes the tests of its own.
+fn mark_npre_pair(
     ids: &[Id],
     faults: &[OwnFaults],
     place: usize,
@@ -71,7 +71,7 @@ fn mark_by_npre(
     let id = ids[place];
     let named = vers.npre(id);
     for other in named {
-        mark_named(ids, faults, place, id, *other, marked)?;
+        mark_npre_pair(ids, faults, place, id, *other, marked)?;
     }
     Ok(())
 }

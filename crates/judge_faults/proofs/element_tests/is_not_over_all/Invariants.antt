@@ -1,7 +1,7 @@
 use Rattle.std.proofs.Common.{◌≡◌, All, take}
 use Rattle.terms.specs.Over.{IsOver}
 use Rattle.sysmods.specs.Choices.{choice}
-use Rattle.judge_faults.proofs.element_tests.is_not_over_one_of.Given as goal
+use Rattle.judge_faults.proofs.element_tests.is_not_over_all.Given as goal
 
 abbrev pub invariant-loop-other : goal.invariant-loop-other
 invariant-loop-other l = record {

@@ -1,7 +1,7 @@
 use Rattle.std.proofs.Common.{rules, subst}
 use Rattle.intake_sysmod.specs.Users.{run_of, IsAlone}
 use Rattle.intake_sysmod.proofs.Using.{alone}
-use Rattle.intake_sysmod.proofs.users.Users.is_alone.Goals as goal
+use Rattle.intake_sysmod.proofs.users.Users.has_no_other_user.Goals as goal
 
 pub returns : goal.returns
 returns c = λ t. (

@@ -1,7 +1,7 @@
 use Rattle.std.proofs.Common.{take}
 use Rattle.judge_faults.specs.Sharing.{Marks}
 use Rattle.judge_faults.specs.Forbidding.{IsOfOne}
-use Rattle.judge_faults.proofs.forbidding.mark_by_npre.Given as goal
+use Rattle.judge_faults.proofs.clashes.mark_by_npre.Given as goal
 
 abbrev pub invariant-loop-other : goal.invariant-loop-other
 invariant-loop-other l =

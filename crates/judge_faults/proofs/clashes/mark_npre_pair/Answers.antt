@@ -5,7 +5,7 @@ use Rattle.std.specs.Prelude.{nat_eq}
 use Rattle.std.proofs.lemmas.Bool.{eqb-true}
 use Rattle.judge_faults.proofs.Marks.{marks_insert}
 use Rattle.judge_faults.proofs.Naming.{either_marked, named_none, named_there}
-use Rattle.judge_faults.proofs.forbidding.mark_named.Goals as goal
+use Rattle.judge_faults.proofs.clashes.mark_npre_pair.Goals as goal
 
 pub returns : goal.returns
 returns c =

@@ -8,7 +8,7 @@ use Rattle.terms.specs.Lookups.{is_function}
 use Rattle.terms.specs.Choice.{npre_of}
 use Rattle.sysmods.specs.Choices.{choice}
 use Rattle.judge_faults.proofs.Forbidders.{C, gains_function}
-use Rattle.judge_faults.proofs.forbidden.add_forbidden_by.Goals as goal
+use Rattle.judge_faults.proofs.forbidden.add_forbidder.Goals as goal
 
 pub returns-in_ok-add_to_all : goal.returns-in_ok-add_to_all
 returns-in_ok-add_to_all c =

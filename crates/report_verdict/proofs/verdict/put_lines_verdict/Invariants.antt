@@ -3,9 +3,9 @@ use Rattle.std.specs.List.{flat_map}
 use Rattle.report_verdict.specs.Verdict.{verdict_told}
 use Rattle.report_verdict.specs.Grounds.{basis_of}
 use Rattle.report.specs.Views.{line_view}
-use Rattle.report_verdict.proofs.verdict.put_verdict.Given as goal
+use Rattle.report_verdict.proofs.verdict.put_lines_verdict.Given as goal
 
 abbrev pub invariant-loop-line : goal.invariant-loop-line
 invariant-loop-line l =
     l.text.items ≡ l.initial.text.items ++ flat_map (λ line. verdict_told l.id (basis_of l.grounds) (line_view line))
-    (take l.line-index l.grounds.lines.now)
+    (take l.line-index l.lines)

@@ -2,7 +2,7 @@ use Rattle.std.proofs.Common.{◌≤◌, length, arith, subst, sym, true≢false
 use Rattle.terms.specs.Over.{IsOver}
 use Rattle.sysmods.specs.Choices.{choice}
 use Rattle.terms.proofs.BesideLists.{all_next, all_through}
-use Rattle.judge_faults.proofs.element_tests.is_not_over_one_of.Goals as goal
+use Rattle.judge_faults.proofs.element_tests.is_not_over_all.Goals as goal
 
 pub loop-other-preserved : goal.loop-other-preserved
 loop-other-preserved c = record {
