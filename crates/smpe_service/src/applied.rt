@@ -62,8 +62,8 @@ pub fn apply(
     Ok(InstallChange { delta, lines })
 }
 
-// Installs the kept ones of the candidates that were judged. Each waives those of its requisites that BYPASS covers and
-// nothing supplies.
+// Installs the kept ones of the judged candidates. Each waives those of its requisites that BYPASS covers and nothing
+// supplies.
 fn install_judged(
     alloc: Global,
     judged: Judged<'_>,
@@ -91,8 +91,9 @@ fn install_judged(
     install_kept(alloc, &vers, overs, zone, kept, bypassed.as_slice(), date)
 }
 
-// Installs the kept SYSMODs by these `++VER`s. It goes on with the pairs of ids that were found to be over each other
-// when the candidates were tested, so that no pair is searched for again.
+// Installs the kept SYSMODs by these `++VER`s. `overs` has the pairs of ids that were found to be over each other when
+// the candidates were tested, so that no pair is searched for again. This is a function of its own because `Installing`
+// owns these pairs and refers to `vers` and `bypassed`, which must belong to the caller.
 fn install_kept(
     alloc: Global,
     vers: &VerChoice<'_>,

@@ -60,8 +60,8 @@ fn lines_by_id(
     status_lines(alloc, global, sorted_by_id(statuses))
 }
 
-/// The lines of all ids that have a status, by id: those that are kept, some of which take effect in a zone of this
-/// kind, those that failed, and those that were left out.
+/// The lines of all ids that have a status, by id: the kept ones, which are installed in a zone of this kind or
+/// superseded, those that failed, and those that were left out.
 pub(crate) fn install_lines(
     alloc: Global,
     global: &GlobalZone,

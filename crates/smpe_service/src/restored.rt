@@ -51,7 +51,7 @@ pub fn restore(
     Ok(Restored { delta, lines })
 }
 
-// Which candidates of a RESTORE are kept, and why each other one is not.
+// Decides which candidates of a RESTORE are kept, and why each of the others is not.
 fn decide_candidates(
     alloc: Global,
     global: &GlobalZone,

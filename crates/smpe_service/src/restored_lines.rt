@@ -14,7 +14,8 @@ use report::{ReportLine, Status, place_of};
 use std::alloc::{AllocError, Global};
 use sysmods::GlobalZone;
 
-/// A line for each of these ids, in their order: restored if it is kept, failed with the reasons, otherwise not applied.
+/// A line for each of these ids, in their order: restored if the id is kept, failed with the reasons, or otherwise not
+/// applied.
 pub(crate) fn restore_lines(
     alloc: Global,
     global: &GlobalZone,
@@ -82,7 +83,7 @@ fn find_failed(failed: &[(Id, Failure)], id: Id) -> Option<&(Id, Failure)>
     }
 }
 
-// A copy of the failure, for the report.
+// A copy of the failure, which the report line owns.
 fn copy_failure(alloc: Global, failure: &Failure) -> Result<Failure, AllocError>
     ensures { IfOk result (λ copy. failure_view copy ≡ failure_view failure.now) }
 {

@@ -7,7 +7,7 @@ use judge_system::{Decided, Judged};
 use solve::{Solver, Worklist, causers};
 use std::alloc::{AllocError, Global};
 
-/// Which candidates are kept, as the union of all self-supporting sets, and why each other one is not.
+/// Decides which candidates are kept, namely the union of all self-supporting sets, and why each of the others is not.
 pub(crate) fn decide(alloc: Global, judged: &Judged<'_>) -> Result<Decided, AllocError>
     requires { HasParts judged.now }
     ensures { IfOk result (λ d. IsSolved judged.now d.kept d.failed.items) }

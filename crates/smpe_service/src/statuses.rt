@@ -1,4 +1,4 @@
-//! The status of each id.
+//! The status of each id in an APPLY or ACCEPT.
 ghost use Rattle.std.specs.Prelude.{◌≡◌, ◌++◌, map, IfOk, OnOk};
 ghost use Rattle.machine.specs.Installing.{installed_status, not_chosen_status};
 ghost use Rattle.report.specs.Views.{status_view};
@@ -33,7 +33,7 @@ fn kept_status(kind: ZoneKind, effective: &IdList, id: Id) -> Status
     }
 }
 
-// The status of an id that the command names in vain.
+// The status of an id that the command names and that is not one of its candidates.
 fn left_out_status(why: NotChosen) -> Status
     ensures { status_view result ≡ not_chosen_status why }
 {
@@ -62,7 +62,7 @@ fn push_kept_statuses(
     Ok(())
 }
 
-// Adds the statuses of the candidates that failed, each with why.
+// Adds the statuses of the candidates that failed, with the reasons.
 fn push_failed_statuses(
     statuses: &mut Vec<(Id, Status)>,
     failed: Vec<(Id, Failure)>,
@@ -76,7 +76,7 @@ fn push_failed_statuses(
     Ok(())
 }
 
-// Adds the statuses of the ids that the command names in vain.
+// Adds the statuses of the ids that the command names and that are not among its candidates.
 fn push_left_out_statuses(
     statuses: &mut Vec<(Id, Status)>,
     left_out: &[(Id, NotChosen)],
@@ -90,8 +90,8 @@ fn push_left_out_statuses(
     Ok(())
 }
 
-/// The statuses of all ids that have one: those that are kept, some of which take effect in a zone of this kind, those
-/// that failed, and those that were left out.
+/// The statuses of all ids that have one: the kept ones, which are installed in a zone of this kind or superseded,
+/// those that failed, and those that were left out.
 pub(crate) fn install_statuses(
     alloc: Global,
     kind: ZoneKind,

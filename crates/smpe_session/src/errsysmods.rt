@@ -16,8 +16,8 @@ use std::alloc::{AllocError, Global};
 use terms::CommandWord;
 
 impl Session {
-    /// The outcome of a REPORT ERRSYSMODS for the zone of the boundary. It is a refusal if there is no boundary or it
-    /// is GLOBAL.
+    /// The outcome of a REPORT ERRSYSMODS for the zone of the boundary. It is a refusal if there is no boundary or the
+    /// boundary is GLOBAL.
     pub fn report(&self, alloc: Global) -> Result<Outcome<'static>, AllocError>
         ensures performs { IfOk result (λ outcome. (s : State) → IsSessionOf s self.now → IsInventory (kept s)
             → (date : Text) (files : Files) → Performs date files s Report s (outcome_view outcome)) }

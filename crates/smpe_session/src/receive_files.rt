@@ -17,8 +17,8 @@ pub(crate) struct ReceiveItems {
     pub holds: Vec<HoldItem>,
 }
 
-/// Reads the items of both files. A fault of PTFIN refuses the command, otherwise one of the hold file does. A file that
-/// RECEIVE does not read has no items.
+/// Reads the items of both files. The refusal is for a fault of PTFIN, or for one of the hold file if PTFIN has none. A
+/// file that RECEIVE does not read has no items.
 pub(crate) fn read_files(
     alloc: Global,
     files: &Files<'_>,
