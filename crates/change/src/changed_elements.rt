@@ -50,7 +50,7 @@ pub(crate) fn elements_after(
     for (key, changers) in &by_element {
         let base = left.element(key.0, key.1);
         let ordered = sort_by_over(alloc, overs, changers)?;
-        let changed = element_after(alloc, vers, base, *key, &ordered)?;
+        let changed = element_after(alloc, vers, base, key.0, key.1, &ordered)?;
         elements.push(changed)?;
     }
     Ok(elements)

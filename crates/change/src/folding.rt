@@ -24,43 +24,49 @@ pub(crate) fn element_after(
     alloc: Global,
     vers: &VerChoice<'_>,
     base: Option<&Element>,
-    key: (ElemType, Name),
+    elem_type: ElemType,
+    name: Name,
     changers: &[Id],
 ) -> Result<Element, AllocError>
-    requires base { IfSome (option_copied base) (λ e. (e.elem_type ≡ key.0) × (e.name ≡ key.1)) }
-    requires changers { All (λ x. IsTrue (has_change vers.now.global.now x key.0 key.1)) changers.now }
+    requires base { IfSome (option_copied base) (λ e. (e.elem_type ≡ elem_type) × (e.name ≡ name)) }
+    requires changers { All (λ x. IsTrue (has_change vers.now.global.now x elem_type name)) changers.now }
     requires order { AllPairs (λ x y. IsOver (choice vers.now) y x) changers.now }
     requires some { IsSome (option_copied base)
-        ⊎ Any (λ x. IsTrue (has_replacement vers.now.global.now x key.0 key.1)) changers.now }
-    ensures key { IfOk result (λ e. (e.elem_type ≡ key.0) × (e.name ≡ key.1)) }
+        ⊎ Any (λ x. IsTrue (has_replacement vers.now.global.now x elem_type name)) changers.now }
+    ensures key { IfOk result (λ e. (e.elem_type ≡ elem_type) × (e.name ≡ name)) }
     ensures element { IfOk result (λ e. (i : Installation)
-        → AreChangers i vers.now.global.now (choice vers.now) key.0 key.1 (option_copied base.entry) changers.now
-        → HasElementAfter i key.0 key.1 e) }
+        → AreChangers i vers.now.global.now (choice vers.now) elem_type name (option_copied base.entry) changers.now
+        → HasElementAfter i elem_type name e) }
 {
     vers.global().attest();
-    match last_replacement(vers.global(), key, changers) {
-        Some(place) => fold_changes(alloc, vers, None, key, &changers[place..]),
+    match last_replacement(vers.global(), elem_type, name, changers) {
+        Some(place) => fold_changes(alloc, vers, None, elem_type, name, &changers[place..]),
         None => {
             let base = base.unwrap();
             base.umids.attest();
             let copy = base.try_clone(alloc)?;
-            fold_changes(alloc, vers, Some(copy), key, changers)
+            fold_changes(alloc, vers, Some(copy), elem_type, name, changers)
         }
     }
 }
 
 // The place of the last of these SYSMODs that replaces the element.
-fn last_replacement(global: &GlobalZone, key: (ElemType, Name), changers: &[Id]) -> Option<usize>
+fn last_replacement(
+    global: &GlobalZone,
+    elem_type: ElemType,
+    name: Name,
+    changers: &[Id],
+) -> Option<usize>
     ensures within { IfSome result (λ place. place < length changers.now) }
     ensures replaces { IfSome result
-        (λ place. Any (λ x. IsTrue (has_replacement global.now x key.0 key.1)) (drop place changers.now)) }
+        (λ place. Any (λ x. IsTrue (has_replacement global.now x elem_type name)) (drop place changers.now)) }
     ensures last { IfSome result
-        (λ place. All (λ x. IsFalse (has_replacement global.now x key.0 key.1)) (drop (place + 1) changers.now)) }
-    ensures none { IfNone result (All (λ x. IsFalse (has_replacement global.now x key.0 key.1)) changers.now) }
+        (λ place. All (λ x. IsFalse (has_replacement global.now x elem_type name)) (drop (place + 1) changers.now)) }
+    ensures none { IfNone result (All (λ x. IsFalse (has_replacement global.now x elem_type name)) changers.now) }
 {
     let mut place = changers.len();
     while place > 0 {
-        if global.has_replacement(changers[place - 1], key.0, key.1) {
+        if global.has_replacement(changers[place - 1], elem_type, name) {
             return Some(place - 1);
         }
         place -= 1;
@@ -74,23 +80,24 @@ fn fold_changes(
     alloc: Global,
     vers: &VerChoice<'_>,
     start: Option<Element>,
-    key: (ElemType, Name),
+    elem_type: ElemType,
+    name: Name,
     changers: &[Id],
 ) -> Result<Element, AllocError>
-    requires start { IfSome start (λ e. (e.elem_type ≡ key.0) × (e.name ≡ key.1)) }
+    requires start { IfSome start (λ e. (e.elem_type ≡ elem_type) × (e.name ≡ name)) }
     requires rising { IfSome start (λ e. IsRising e.umids) }
-    requires changers { All (λ x. IsTrue (has_change vers.now.global.now x key.0 key.1)) changers.now }
+    requires changers { All (λ x. IsTrue (has_change vers.now.global.now x elem_type name)) changers.now }
     requires order { AllPairs (λ x y. IsOver (choice vers.now) y x) changers.now }
     requires some { IsSome start
-        ⊎ Any (λ x. IsTrue (has_replacement vers.now.global.now x key.0 key.1)) changers.now }
-    ensures key { IfOk result (λ e. (e.elem_type ≡ key.0) × (e.name ≡ key.1)) }
+        ⊎ Any (λ x. IsTrue (has_replacement vers.now.global.now x elem_type name)) changers.now }
+    ensures key { IfOk result (λ e. (e.elem_type ≡ elem_type) × (e.name ≡ name)) }
     ensures folded { IfOk result
-        (λ e. IsFolded vers.now.global.now (choice vers.now) key.0 key.1 changers.now start (Some e)) }
+        (λ e. IsFolded vers.now.global.now (choice vers.now) elem_type name changers.now start (Some e)) }
 {
     vers.global().attest();
     let mut element = start;
     for id in changers {
-        let change = known_change(vers.global(), *id, key.0, key.1);
+        let change = known_change(vers.global(), *id, elem_type, name);
         element = apply_change(alloc, vers.owner(*id), *id, change, element)?;
     }
     Ok(element.unwrap())

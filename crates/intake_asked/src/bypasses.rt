@@ -11,7 +11,7 @@ use fields::{Bypass, Class, Reason, Reasons};
 use intake_read::WideOperand;
 use std::alloc::{AllocError, Global};
 
-// Whether each of the flags of `bypass` is set just if the shop's BYPASS has its member.
+// Whether each of the flags of `bypass` is set if and only if the shop's BYPASS has its member.
 fn says_flags(bypassed: &[WideOperand], bypass: &Bypass) -> bool
     ensures pre { IsTrue result → bypass.now.pre ≡ has (codes "PRE" ∷ []) bypassed.now }
     ensures req { IsTrue result → bypass.now.req ≡ has (codes "REQ" ∷ []) bypassed.now }
@@ -26,7 +26,7 @@ fn says_flags(bypassed: &[WideOperand], bypass: &Bypass) -> bool
         && bypass.applycheck == has_operand(&[b"APPLYCHECK"], bypassed)
 }
 
-// Whether BYPASS has members of these names, each of them with a list, and the lists name just the reasons.
+// Whether BYPASS has members of these names, each of them with a list, and the lists name exactly the reasons.
 fn says_these_reasons(
     alloc: Global,
     names: &[&[u8]],
@@ -64,7 +64,7 @@ fn says_reasons(
     }
 }
 
-// Whether the classes are just those that HOLDCLASS lists.
+// Whether the classes are exactly those that HOLDCLASS lists.
 fn says_classes(
     alloc: Global,
     bypassed: &[WideOperand],
@@ -77,7 +77,7 @@ fn says_classes(
     are_wanted_texts(alloc, classes, &wanted)
 }
 
-/// Whether `bypass` bypasses just what the members of a shop's BYPASS ask for.
+/// Whether `bypass` bypasses exactly what the members of a shop's BYPASS ask for.
 pub(crate) fn says_bypass(
     alloc: Global,
     bypassed: &[WideOperand],
@@ -85,30 +85,18 @@ pub(crate) fn says_bypass(
 ) -> Result<bool, AllocError>
     ensures { IfOk result (λ says. IsTrue says → SaysBypass bypassed.now bypass.now) }
 {
-    let errors = says_reasons(
-        alloc,
-        &[b"HOLDERROR", b"HOLDERR"],
-        bypassed,
-        &bypass.holderror,
-    )?;
-    if !errors {
+    let error_names: &[&[u8]] = &[b"HOLDERROR", b"HOLDERR"];
+    if !says_reasons(alloc, error_names, bypassed, &bypass.holderror)? {
         return Ok(false);
     }
-    let systems = says_reasons(
-        alloc,
-        &[b"HOLDSYSTEM", b"HOLDSYS"],
-        bypassed,
-        &bypass.holdsystem,
-    )?;
-    if !systems {
+    let system_names: &[&[u8]] = &[b"HOLDSYSTEM", b"HOLDSYS"];
+    if !says_reasons(alloc, system_names, bypassed, &bypass.holdsystem)? {
         return Ok(false);
     }
-    let users = says_reasons(alloc, &[b"HOLDUSER"], bypassed, &bypass.holduser)?;
-    if !users {
+    if !says_reasons(alloc, &[b"HOLDUSER"], bypassed, &bypass.holduser)? {
         return Ok(false);
     }
-    let classes = says_classes(alloc, bypassed, bypass.holdclass.as_slice())?;
-    if !classes {
+    if !says_classes(alloc, bypassed, bypass.holdclass.as_slice())? {
         return Ok(false);
     }
     Ok(says_flags(bypassed, bypass))

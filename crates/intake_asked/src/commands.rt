@@ -17,7 +17,7 @@ use crate::names::{known_members, known_operands};
 use crate::operands::{
     has_operand, has_operand_without_list, have_only_names, members_of_operands,
 };
-use crate::same::{are_none, are_wanted_texts, is_only_wanted_text};
+use crate::same::{are_wanted_texts, has_no_texts, is_only_wanted_text};
 use crate::scan::WideCommand;
 use crate::selections::says_selection;
 use cntl::{Command, Install};
@@ -52,14 +52,15 @@ pub fn changes_no_decision(word: &[u8]) -> bool
     is_among(&[b"RESETRC", b"LOG", b"DEBUG"], word)
 }
 
-// Whether `check` is true just if the operands have CHECK.
+// Whether `check` is true if and only if the operands have CHECK.
 fn says_check(operands: &[WideOperand], check: bool) -> bool
     ensures { IsTrue result → check ≡ stands_alone check_names operands.now }
 {
     check == has_operand_without_list(&[b"CHECK", b"C"], operands)
 }
 
-// Whether an APPLY or an ACCEPT chooses and bypasses just what the shop's command asks for, and checks only if it does.
+// Whether an APPLY or an ACCEPT chooses and bypasses exactly what the shop's command asks for, and has CHECK if and
+// only if that command has it.
 fn says_install(
     alloc: Global,
     known: &Option<Vec<KnownSysmod>>,
@@ -72,16 +73,16 @@ fn says_install(
     if !says_check(operands, install.check) {
         return Ok(false);
     }
-    let selection = says_selection(alloc, known, operands, &install.selection)?;
-    if !selection {
+    let chooses_same = says_selection(alloc, known, operands, &install.selection)?;
+    if !chooses_same {
         return Ok(false);
     }
-    let bypass = says_bypass(alloc, wide.bypassed.as_slice(), &install.bypass)?;
-    Ok(bypass)
+    let bypasses_same = says_bypass(alloc, wide.bypassed.as_slice(), &install.bypass)?;
+    Ok(bypasses_same)
 }
 
-// Whether the RECEIVE takes SYSMODs just if the operands have SYSMODS or lack HOLDDATA, and holds just if they have
-// HOLDDATA or lack SYSMODS.
+// Whether the RECEIVE takes SYSMODs if and only if the operands have SYSMODS or lack HOLDDATA, and holds if and only if
+// they have HOLDDATA or lack SYSMODS.
 fn says_received_kinds(operands: &[WideOperand], receive: &ReceiveWhat) -> bool
     ensures sysmods { IsTrue result → receive.now.sysmods
         ≡ (has (codes "SYSMODS" ∷ codes "SYSMOD" ∷ []) operands.now || not (has (codes "HOLDDATA" ∷ []) operands.now)) }
@@ -93,7 +94,7 @@ fn says_received_kinds(operands: &[WideOperand], receive: &ReceiveWhat) -> bool
     receive.sysmods == (sysmods || !holddata) && receive.holddata == (holddata || !sysmods)
 }
 
-// Whether a RECEIVE takes just what the operands ask for, from the source that they name.
+// Whether a RECEIVE takes exactly what the operands ask for, from the source that they name.
 fn says_receive(
     alloc: Global,
     operands: &[WideOperand],
@@ -107,7 +108,7 @@ fn says_receive(
     says_source(alloc, operands, &receive.source)
 }
 
-// Whether the source id is the only one that SOURCEID names, or SOURCEID names none and there is none.
+// Whether the source id is the only one that SOURCEID names. Without a source id: whether SOURCEID names none.
 fn says_source(
     alloc: Global,
     operands: &[WideOperand],
@@ -118,12 +119,12 @@ fn says_source(
 {
     let wanted = members_of_operands(alloc, &[b"SOURCEID"], operands)?;
     let Some(source) = source_id else {
-        return Ok(are_none(&wanted));
+        return Ok(has_no_texts(&wanted));
     };
     is_only_wanted_text(alloc, source, &wanted)
 }
 
-// Whether the ids that a REJECT rejects are just those of SELECT.
+// Whether the ids that a REJECT rejects are exactly those of SELECT.
 fn says_rejected_ids(
     alloc: Global,
     operands: &[WideOperand],
@@ -144,8 +145,9 @@ fn says_zone(alloc: Global, operands: &[WideOperand], zone: ZoneName) -> Result<
     is_only_wanted_text(alloc, &zone, &wanted)
 }
 
-// Whether the ids are just the stated ones, and no other ids are stated.
-fn are_only_in(
+// Whether the ids are exactly those of the stated list, and the other list has none: a RESTORE has only one of SELECT
+// and GROUP.
+fn says_single_list(
     alloc: Global,
     ids: &[Id],
     stated: &[&[u8]],
@@ -154,13 +156,13 @@ fn are_only_in(
     ensures { IfOk result (λ are. IsTrue are → AreThese ids.now (map (λ id. id.now) stated.now)
         × (map (λ id. id.now) other.now ≡ [])) }
 {
-    if !are_none(other) {
+    if !has_no_texts(other) {
         return Ok(false);
     }
     are_wanted_texts(alloc, ids, stated)
 }
 
-// Whether the operands have just the ids of the list of a RESTORE: in SELECT or in GROUP, as the list says.
+// Whether the operands have exactly the ids of the list of a RESTORE: in SELECT or in GROUP, as the list says.
 fn says_restore_list(
     alloc: Global,
     operands: &[WideOperand],
@@ -171,12 +173,12 @@ fn says_restore_list(
     let selected = selected_ids(alloc, operands)?;
     let grouped = grouped_ids(alloc, operands)?;
     match list {
-        RestoreList::Select(ids) => are_only_in(alloc, ids.as_slice(), &selected, &grouped),
-        RestoreList::Group(ids) => are_only_in(alloc, ids.as_slice(), &grouped, &selected),
+        RestoreList::Select(ids) => says_single_list(alloc, ids.as_slice(), &selected, &grouped),
+        RestoreList::Group(ids) => says_single_list(alloc, ids.as_slice(), &grouped, &selected),
     }
 }
 
-// Whether a RESTORE with this list and this `check` says just what the operands ask for.
+// Whether a RESTORE with this list and this `check` says exactly what the operands ask for.
 fn says_restore(
     alloc: Global,
     operands: &[WideOperand],
@@ -192,7 +194,7 @@ fn says_restore(
     says_restore_list(alloc, operands, list)
 }
 
-// Whether the operands of the command say just what those of the shop's command ask for.
+// Whether the operands of the command say exactly what those of the shop's command ask for.
 fn says_operands(
     alloc: Global,
     known: &Option<Vec<KnownSysmod>>,
@@ -235,7 +237,7 @@ fn has_only_known_members(wide: &WideCommand, word: CommandWord) -> bool
     have_only_names(known_members(word), wide.bypassed.as_slice())
 }
 
-/// Whether the command says just what the shop's command `wide` asks for.
+/// Whether the command says exactly what the shop's command `wide` asks for.
 pub fn says(
     alloc: Global,
     known: &Option<Vec<KnownSysmod>>,
@@ -257,7 +259,7 @@ pub fn says(
     says_operands(alloc, known, wide, command)
 }
 
-/// Whether the commands say, one after the other, just what the shop's commands `wide` ask for. Those of the shop's
+/// Whether the commands say, one after the other, exactly what the shop's commands `wide` ask for. Those of the shop's
 /// commands that change no decision are passed over.
 pub fn are_said(
     alloc: Global,
@@ -275,8 +277,7 @@ pub fn are_said(
         let Some((first, rest)) = left.split_first() else {
             return Ok(false);
         };
-        let says = says(alloc, known, command, first)?;
-        if !says {
+        if !says(alloc, known, command, first)? {
             return Ok(false);
         }
         left = rest;

@@ -1,5 +1,5 @@
-//! The SYSMODs that are known beside the commands, from a list with their types and source ids. GROUPEXTEND and a
-//! SOURCEID with an asterisk choose among them.
+//! The SYSMODs that are known besides those that the commands name, from a list with their types and source ids.
+//! GROUPEXTEND and a SOURCEID with an asterisk choose among them.
 
 use fields::spelling::read_kind;
 use fields::{Id, Source};

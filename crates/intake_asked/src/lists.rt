@@ -45,7 +45,7 @@ pub(crate) fn selected_ids(
     members_of_operands(alloc, select_names(), operands)
 }
 
-// The ids of SELECT if a GROUP without a list takes them, or else none.
+// The ids of SELECT if a GROUP without a list takes them, or none.
 fn ids_of_grouped_select(alloc: Global, operands: &[WideOperand]) -> Result<Vec<&[u8]>, AllocError>
     ensures { IfOk result (λ ids. map (λ id. id.now) ids.items
         ≡ (if stands_alone group_names operands.now then listed select_names operands.now else [])) }
@@ -117,7 +117,7 @@ fn without_named<'a>(
 
 // The ids of the known SYSMODs that GROUPEXTEND keeps out: those of the kinds that its members name, except those that
 // SELECT or GROUP names.
-fn ids_kept_out<'a>(
+fn kept_out_ids<'a>(
     alloc: Global,
     known: &'a [KnownSysmod],
     operands: &[WideOperand],
@@ -133,7 +133,7 @@ fn ids_kept_out<'a>(
 }
 
 /// The ids that are excluded: those of EXCLUDE, and those that GROUPEXTEND keeps out.
-pub(crate) fn ids_excluded<'a>(
+pub(crate) fn excluded_ids<'a>(
     alloc: Global,
     known: &'a [KnownSysmod],
     operands: &'a [WideOperand],
@@ -141,7 +141,7 @@ pub(crate) fn ids_excluded<'a>(
     ensures { IfOk result (λ ids. map (λ id. id.now) ids.items ≡ excluded known.now operands.now) }
 {
     let mut ids = members_of_operands(alloc, &[b"EXCLUDE", b"E"], operands)?;
-    let mut more = ids_kept_out(alloc, known, operands)?;
+    let mut more = kept_out_ids(alloc, known, operands)?;
     ids.append(&mut more)?;
     Ok(ids)
 }

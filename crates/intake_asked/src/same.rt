@@ -13,7 +13,7 @@ pub(crate) trait Worded {
 
     ghost text: { Self → List ℕ };
 
-    /// Its text.
+    /// The text of the word.
     fn word(&self) -> &[u8]
         ensures { result.now ≡ text self.now };
 }
@@ -80,13 +80,10 @@ fn are_among(texts: &[&[u8]], others: &[&[u8]]) -> bool
 fn have_same_texts(texts: &[&[u8]], others: &[&[u8]]) -> bool
     ensures { IsTrue result → AreThese (map (λ text. text.now) texts.now) (map (λ other. other.now) others.now) }
 {
-    if !are_among(texts, others) {
-        return false;
-    }
-    are_among(others, texts)
+    are_among(texts, others) && are_among(others, texts)
 }
 
-/// Whether the texts of the values are just the wanted ones, in whatever order.
+/// Whether the texts of the values are exactly the wanted ones, in whatever order.
 pub(crate) fn are_wanted_texts<T: Worded>(
     alloc: Global,
     values: &[T],
@@ -111,8 +108,9 @@ pub(crate) fn is_only_wanted_text<T: Worded>(
     Ok(have_same_texts(words.as_slice(), wanted))
 }
 
-/// Whether there are no texts. `is_empty` says this of the references, its contract here says it of the texts.
-pub(crate) fn are_none(texts: &[&[u8]]) -> bool
+/// Whether there are no texts. The contract of `is_empty` says this of the references, and the contract here says it of
+/// the texts.
+pub(crate) fn has_no_texts(texts: &[&[u8]]) -> bool
     ensures { IsTrue result → map (λ text. text.now) texts.now ≡ [] }
 {
     texts.is_empty()

@@ -73,45 +73,33 @@ struct CommandScanner {
     commands: Vec<WideCommand>,
     words: Vec<WideOperand>,
     within: Within,
-    // Where the last comment opens, and what it has on later cards, if it is inside a command.
-    comment: CardPlace,
+    /// Where the last comment opens.
+    comment_place: CardPlace,
+    /// What this comment has on later cards, if it is inside a command.
     swallowed: Vec<u8>,
     comments: Vec<CommandComment>,
-    // Parentheses that are open.
+    /// The cards that are cut outside comments.
+    cut: Vec<CardPlace>,
+    /// How many parentheses are open.
     depth: usize,
-    // The last word goes on with the next character.
+    /// The last word goes on with the next character.
     in_word: bool,
     has_lower_case: bool,
-    // The card on which the last command ended.
-    ended: Option<CardPlace>,
+    /// The card on which the last command ended.
+    last_end: Option<CardPlace>,
 }
 
-/// The commands of the cards. The last one may have no end, and none of them need be one that SMP/E has.
+/// The commands of the cards. The last one may have no end, and their words need not be commands of SMP/E.
 pub fn wide_commands(alloc: Global, cards: &[Card]) -> Result<WideCommands, AllocError> {
     let mut scanner = CommandScanner::new(alloc);
-    let mut cut = Vec::new(alloc);
     for card in cards {
-        scanner.keep_comment_text(card.columns())?;
-        for byte in card.columns() {
-            scanner.read_byte(*byte, card.place)?;
-        }
-        scanner.read_byte(b' ', card.place)?;
-        if card.ends_comment && scanner.is_in_comment() {
-            scanner.close_comment()?;
-        } else if card.is_cut && !scanner.is_in_comment() {
-            cut.push(card.place)?;
-        }
+        scanner.read_card(card)?;
     }
-    let comments = std::mem::replace(&mut scanner.comments, Vec::new(alloc));
-    let mut commands = scanner.into_commands()?;
-    for command in commands.iter_mut() {
+    let mut wide = scanner.finish()?;
+    for command in wide.commands.iter_mut() {
         command.bypassed = bypass_members(alloc, &command.operands)?;
     }
-    Ok(WideCommands {
-        commands,
-        cut,
-        comments,
-    })
+    Ok(wide)
 }
 
 // The members of all BYPASS operands.
@@ -149,14 +137,32 @@ impl CommandScanner {
             commands: Vec::new(alloc),
             words: Vec::new(alloc),
             within: Within::Words,
-            comment: CardPlace { file: 0, card: 1 },
+            comment_place: CardPlace { file: 0, card: 1 },
             swallowed: Vec::new(alloc),
             comments: Vec::new(alloc),
+            cut: Vec::new(alloc),
             depth: 0,
             in_word: false,
             has_lower_case: false,
-            ended: None,
+            last_end: None,
         }
+    }
+
+    // Reads a card. Its end separates words, and ends a comment if the card says so.
+    fn read_card(&mut self, card: &Card) -> Result<(), AllocError> {
+        self.keep_comment_text(card.columns())?;
+        for byte in card.columns() {
+            self.read_byte(*byte, card.place)?;
+        }
+        self.read_byte(b' ', card.place)?;
+        if !self.is_in_comment() {
+            if card.is_cut {
+                self.cut.push(card.place)?;
+            }
+        } else if card.ends_comment {
+            self.close_comment()?;
+        }
+        Ok(())
     }
 
     // Whether a comment is open.
@@ -189,7 +195,7 @@ impl CommandScanner {
         };
         let text = std::mem::replace(&mut self.swallowed, Vec::new(self.alloc));
         self.comments.push(CommandComment {
-            place: self.comment,
+            place: self.comment_place,
             command,
             text,
         })?;
@@ -199,12 +205,11 @@ impl CommandScanner {
     // Reads the next character of a card.
     fn read_byte(&mut self, byte: u8, place: CardPlace) -> Result<(), AllocError> {
         match self.within {
-            Within::Comment => self.within = after_comment_byte(byte),
             Within::Star if byte == b'/' => self.close_comment()?,
-            Within::Star => self.within = after_comment_byte(byte),
+            Within::Comment | Within::Star => self.within = after_comment_byte(byte),
             Within::Slash if byte == b'*' => {
                 self.within = Within::Comment;
-                self.comment = place;
+                self.comment_place = place;
                 self.add_byte(b' ', place)?;
             }
             Within::Slash => {
@@ -277,10 +282,7 @@ impl CommandScanner {
     fn open_list(&mut self, place: CardPlace) -> Result<(), AllocError> {
         self.in_word = false;
         self.depth = 1;
-        let is_free = match self.words.last() {
-            Some(word) => word.value.is_none(),
-            None => false,
-        };
+        let is_free = self.words.last().is_some_and(|word| word.value.is_none());
         if !is_free {
             self.begin_word(place)?;
         }
@@ -321,7 +323,7 @@ impl CommandScanner {
     fn end_command(&mut self, place: CardPlace) -> Result<(), AllocError> {
         self.in_word = false;
         self.end_begun_command(CommandEnd::Period)?;
-        self.ended = Some(place);
+        self.last_end = Some(place);
         Ok(())
     }
 
@@ -333,11 +335,8 @@ impl CommandScanner {
         let Some(head) = words.next() else {
             return Ok(());
         };
-        let begins = head.place;
-        let shares_card = match self.ended {
-            Some(ended) => ended == begins,
-            None => false,
-        };
+        let place = head.place;
+        let shares_card = self.last_end == Some(place);
         let mut operands = Vec::new(self.alloc);
         for word in words {
             operands.push(word)?;
@@ -345,7 +344,7 @@ impl CommandScanner {
         let has_lower_case = self.has_lower_case;
         self.has_lower_case = false;
         self.commands.push(WideCommand {
-            place: begins,
+            place,
             head,
             operands,
             bypassed: Vec::new(self.alloc),
@@ -356,19 +355,23 @@ impl CommandScanner {
         Ok(())
     }
 
-    // Ends the last command, and returns all commands.
-    fn into_commands(mut self) -> Result<Vec<WideCommand>, AllocError> {
+    // Ends the last command, and returns what was read. The members of BYPASS are not read yet.
+    fn finish(mut self) -> Result<WideCommands, AllocError> {
         let end = match self.within {
-            Within::Comment | Within::Star => CommandEnd::OpenComment(self.comment),
+            Within::Comment | Within::Star => CommandEnd::OpenComment(self.comment_place),
             _ if self.depth > 0 => CommandEnd::OpenParenthesis,
             _ => CommandEnd::NoPeriod,
         };
         if self.is_in_comment() && self.words.is_empty() {
-            let comment = self.comment;
-            self.begin_word(comment)?;
+            let place = self.comment_place;
+            self.begin_word(place)?;
         }
         self.end_begun_command(end)?;
-        Ok(self.commands)
+        Ok(WideCommands {
+            commands: self.commands,
+            cut: self.cut,
+            comments: self.comments,
+        })
     }
 }
 
@@ -383,12 +386,9 @@ fn after_comment_byte(byte: u8) -> Within {
 
 // The text before the end of a comment, or the whole text if no comment ends in it, without blanks at either end.
 fn without_comment_end(text: &[u8]) -> &[u8] {
-    for place in 0..text.len() {
-        if let Some((front, rest)) = text.split_at_checked(place) {
-            if rest.starts_with(b"*/") {
-                return front.trim_ascii();
-            }
-        }
+    let end = text.windows(2).position(|pair| pair == b"*/".as_slice());
+    match end.and_then(|end| text.split_at_checked(end)) {
+        Some((front, _)) => front.trim_ascii(),
+        None => text.trim_ascii(),
     }
-    text.trim_ascii()
 }

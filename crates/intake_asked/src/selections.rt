@@ -5,7 +5,7 @@ ghost use Rattle.intake_asked.specs.Words.{groupextend_names};
 ghost use Rattle.intake_asked.specs.Said.{known_in, AreThese, SaysLists, SaysSelection};
 
 use crate::known::KnownSysmod;
-use crate::lists::{grouped_ids, groupextend_names, ids_excluded, selected_ids};
+use crate::lists::{excluded_ids, grouped_ids, groupextend_names, selected_ids};
 use crate::operands::{has_operand, members_of_operands};
 use crate::same::are_wanted_texts;
 use crate::sources::sources_of_members;
@@ -13,8 +13,8 @@ use fields::{Id, Selection, Source};
 use intake_read::WideOperand;
 use std::alloc::{AllocError, Global};
 
-/// The known SYSMODs, or an empty list if none are given.
-pub(crate) fn known_sysmods(known: &Option<Vec<KnownSysmod>>) -> &[KnownSysmod]
+// The known SYSMODs, or an empty list if none are given.
+fn known_sysmods(known: &Option<Vec<KnownSysmod>>) -> &[KnownSysmod]
     ensures { result.now ≡ known_in known.now }
 {
     match known {
@@ -23,7 +23,7 @@ pub(crate) fn known_sysmods(known: &Option<Vec<KnownSysmod>>) -> &[KnownSysmod]
     }
 }
 
-// Whether each type, and GROUPEXTEND, is chosen just if an operand asks for it.
+// Whether each type, and GROUPEXTEND, is chosen if and only if an operand asks for it.
 fn says_types(operands: &[WideOperand], selection: &Selection) -> bool
     ensures functions { IsTrue result
         → selection.now.functions ≡ has (codes "FUNCTIONS" ∷ codes "FUNCTION" ∷ []) operands.now }
@@ -40,7 +40,7 @@ fn says_types(operands: &[WideOperand], selection: &Selection) -> bool
         && selection.groupextend == has_operand(groupextend_names(), operands)
 }
 
-// Whether the ids are just those of SELECT, or there are none because a GROUP without a list takes them.
+// Whether the ids are exactly those of SELECT, or there are none because a GROUP without a list takes them.
 fn says_select(alloc: Global, operands: &[WideOperand], ids: &[Id]) -> Result<bool, AllocError>
     ensures { IfOk result (λ are. IsTrue are → AreThese ids.now (selected operands.now)) }
 {
@@ -48,7 +48,7 @@ fn says_select(alloc: Global, operands: &[WideOperand], ids: &[Id]) -> Result<bo
     are_wanted_texts(alloc, ids, &wanted)
 }
 
-// Whether the ids are just those of GROUP, with those of SELECT if GROUP has no list.
+// Whether the ids are exactly those of GROUP, with those of SELECT if GROUP has no list.
 fn says_group(alloc: Global, operands: &[WideOperand], ids: &[Id]) -> Result<bool, AllocError>
     ensures { IfOk result (λ are. IsTrue are → AreThese ids.now (grouped operands.now)) }
 {
@@ -56,7 +56,7 @@ fn says_group(alloc: Global, operands: &[WideOperand], ids: &[Id]) -> Result<boo
     are_wanted_texts(alloc, ids, &wanted)
 }
 
-// Whether the ids are just those that EXCLUDE names or GROUPEXTEND keeps out.
+// Whether the ids are exactly those that EXCLUDE names or GROUPEXTEND keeps out.
 fn says_exclude(
     alloc: Global,
     known: &[KnownSysmod],
@@ -65,11 +65,11 @@ fn says_exclude(
 ) -> Result<bool, AllocError>
     ensures { IfOk result (λ are. IsTrue are → AreThese ids.now (excluded known.now operands.now)) }
 {
-    let wanted = ids_excluded(alloc, known, operands)?;
+    let wanted = excluded_ids(alloc, known, operands)?;
     are_wanted_texts(alloc, ids, &wanted)
 }
 
-// Whether the ids are just those of FORFMID.
+// Whether the ids are exactly those of FORFMID.
 fn says_forfmid(alloc: Global, operands: &[WideOperand], ids: &[Id]) -> Result<bool, AllocError>
     ensures { IfOk result (λ are. IsTrue are → AreThese ids.now (listed (codes "FORFMID" ∷ []) operands.now)) }
 {
@@ -77,7 +77,7 @@ fn says_forfmid(alloc: Global, operands: &[WideOperand], ids: &[Id]) -> Result<b
     are_wanted_texts(alloc, ids, &wanted)
 }
 
-// Whether the source ids are just those that SOURCEID names, and each member of SOURCEID names some.
+// Whether the source ids are exactly those that SOURCEID names, and each member of SOURCEID names some.
 fn says_sources(
     alloc: Global,
     known: &[KnownSysmod],
@@ -95,14 +95,14 @@ fn says_sources(
     are_wanted_texts(alloc, source_ids, &wanted)
 }
 
-// Whether it is known which SYSMODs GROUPEXTEND keeps out: some are given as known, or it has no member that keeps any
-// out.
-fn are_kept_out_known(
+// Whether it is known which SYSMODs GROUPEXTEND keeps out: a list of known SYSMODs is given, or GROUPEXTEND has no
+// member and keeps none out.
+fn knows_kept_out_ids(
     alloc: Global,
     known: &Option<Vec<KnownSysmod>>,
     operands: &[WideOperand],
 ) -> Result<bool, AllocError>
-    ensures { IfOk result (λ enough. IsTrue enough → (known.now ≡ None) → listed groupextend_names operands.now ≡ []) }
+    ensures { IfOk result (λ knows. IsTrue knows → (known.now ≡ None) → listed groupextend_names operands.now ≡ []) }
 {
     if known.is_some() {
         return Ok(true);
@@ -110,7 +110,7 @@ fn are_kept_out_known(
     Ok(members_of_operands(alloc, groupextend_names(), operands)?.is_empty())
 }
 
-// Whether SELECT, GROUP, EXCLUDE and FORFMID have just the ids that the operands ask for.
+// Whether SELECT, GROUP, EXCLUDE and FORFMID of the selection have exactly the ids that the operands ask for.
 fn says_lists(
     alloc: Global,
     known: &[KnownSysmod],
@@ -119,22 +119,19 @@ fn says_lists(
 ) -> Result<bool, AllocError>
     ensures { IfOk result (λ are. IsTrue are → SaysLists known.now operands.now selection.now) }
 {
-    let select = says_select(alloc, operands, selection.select.as_slice())?;
-    if !select {
+    if !says_select(alloc, operands, selection.select.as_slice())? {
         return Ok(false);
     }
-    let group = says_group(alloc, operands, selection.group.as_slice())?;
-    if !group {
+    if !says_group(alloc, operands, selection.group.as_slice())? {
         return Ok(false);
     }
-    let exclude = says_exclude(alloc, known, operands, selection.exclude.as_slice())?;
-    if !exclude {
+    if !says_exclude(alloc, known, operands, selection.exclude.as_slice())? {
         return Ok(false);
     }
     says_forfmid(alloc, operands, selection.forfmid.as_slice())
 }
 
-/// Whether the selection chooses just what the operands ask for.
+/// Whether the selection chooses exactly what the operands ask for.
 pub(crate) fn says_selection(
     alloc: Global,
     known: &Option<Vec<KnownSysmod>>,
@@ -144,16 +141,13 @@ pub(crate) fn says_selection(
     ensures { IfOk result (λ says. IsTrue says → SaysSelection known.now operands.now selection.now) }
 {
     let list = known_sysmods(known);
-    let lists = says_lists(alloc, list, operands, selection)?;
-    if !lists {
+    if !says_lists(alloc, list, operands, selection)? {
         return Ok(false);
     }
-    let sources = says_sources(alloc, list, operands, selection.sourceid.as_slice())?;
-    if !sources {
+    if !says_sources(alloc, list, operands, selection.sourceid.as_slice())? {
         return Ok(false);
     }
-    let enough = are_kept_out_known(alloc, known, operands)?;
-    if !enough {
+    if !knows_kept_out_ids(alloc, known, operands)? {
         return Ok(false);
     }
     Ok(says_types(operands, selection))

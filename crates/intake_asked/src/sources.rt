@@ -11,8 +11,8 @@ use std::alloc::{AllocError, Global};
 // The text before the asterisk at the end of a member, which names all source ids that begin so. Returns `None` for a
 // member without that asterisk.
 fn pattern_prefix(member: &[u8]) -> Option<&[u8]>
-    ensures some { IfSome result (λ front. (is_starred member.now ≡ true)
-        × (front.now ≡ take (length member.now - 1) member.now)) }
+    ensures some { IfSome result (λ prefix. (is_starred member.now ≡ true)
+        × (prefix.now ≡ take (length member.now - 1) member.now)) }
     ensures none { IfNone result (is_starred member.now ≡ false) }
 {
     member.strip_suffix(b"*")
@@ -30,18 +30,18 @@ fn known_sources(alloc: Global, known: &[KnownSysmod]) -> Result<Vec<&[u8]>, All
     Ok(all)
 }
 
-// Those of the source ids that begin with the text before the asterisk.
+// The source ids that begin with the prefix.
 fn sources_with_prefix<'a>(
     alloc: Global,
     all: &[&'a [u8]],
-    front: &[u8],
+    prefix: &[u8],
 ) -> Result<Vec<&'a [u8]>, AllocError>
     ensures { IfOk result (λ matches. map (λ source. source.now) matches.items
-        ≡ filter (λ s. starts_with nat_eq s front.now) (map (λ source. source.now) all.now)) }
+        ≡ filter (λ s. starts_with nat_eq s prefix.now) (map (λ source. source.now) all.now)) }
 {
     let mut matches = Vec::new(alloc);
     for source in all {
-        if !source.starts_with(front) {
+        if !source.starts_with(prefix) {
             continue;
         }
         matches.push(*source)?;
@@ -58,9 +58,9 @@ fn sources_of_member<'a>(
     ensures { IfOk result (λ found. map (λ one. one.now) found.items ≡ sources_of known.now member.now) }
 {
     match pattern_prefix(member) {
-        Some(front) => {
+        Some(prefix) => {
             let all = known_sources(alloc, known)?;
-            sources_with_prefix(alloc, &all, front)
+            sources_with_prefix(alloc, &all, prefix)
         }
         None => single_source(alloc, member),
     }

@@ -1,6 +1,6 @@
 -- A SYSMOD with its holds is no looser than without them.
-use Rattle.std.proofs.Common.{◌≡◌, Bool, List, Option, None, Some, subst, sym}
-use Rattle.std.specs.Prelude.{IfSome}
+use Rattle.std.proofs.Common.{◌≡◌, Bool, List, Option, None, Some, Result, Ok, Err, subst, sym}
+use Rattle.std.specs.Prelude.{IfOk, IfSome}
 use Rattle.terms.specs.Types.{Sysmod}
 use Rattle.intake_read.specs.declared.items.WideSysmod.{WideSysmod}
 use Rattle.intake_sysmod.specs.NoLooser.{IsNoLooser}
@@ -16,3 +16,9 @@ with_its_holds decide run stated sysmod (Some s) n e = subst (IsNoLooser decide 
   changed = n.changed;
   said = n.said;
 })
+
+-- what two clauses say of one value
+pub from_both : {T E : Type 0} {P Q R : T → Type 0} (r : Result T E) → ((value : T) → P value → Q value → R value)
+    → IfOk r P → IfOk r Q → IfOk r R
+from_both (Ok value) all p q = all value p q
+from_both (Err error) all p q = tt

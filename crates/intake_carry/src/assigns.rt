@@ -17,8 +17,8 @@ const MOST_IDS: usize = 1000;
 /// The source id of the SYSMODs with stand-ins.
 const STAND_IN_SOURCE: &[u8] = b"STANDIN";
 
-// Appends assignments of the ids to the source, as many as they need with at most 1,000 ids each.
-fn push_in_parts(
+// Appends assignments of the ids to the source, each with at most `MOST_IDS` ids.
+fn push_assigns(
     alloc: Global,
     assigns: &mut Vec<Assign>,
     source: Source,
@@ -56,8 +56,9 @@ fn distinct_ids(
     Ok(ids)
 }
 
-// Leaves an `++ASSIGN` out, with a remark, for each operand that is faulty or missing. Returns whether there is none.
-fn check_assign(
+// Whether the `++ASSIGN` has all its operands, and none of them is faulty. A remark leaves it out for each operand that
+// is missing or faulty.
+fn has_all_operands(
     alloc: Global,
     remarks: &mut Remarks,
     subject: &Subject<'_>,
@@ -76,8 +77,8 @@ fn check_assign(
     Ok(faulty.is_empty() && !lacks_source && !lacks_ids)
 }
 
-// The source id that an `++ASSIGN` states, read in upper case. Returns `None`, with a remark, if it has not the form of
-// one: if it has periods it is one of SMP/E's long source ids, which are dropped.
+// The source id that an `++ASSIGN` states, read in upper case. Returns `None`, with a remark, if the text is no source
+// id. One with periods is a long source id of SMP/E's, which is dropped.
 fn read_source(
     alloc: Global,
     remarks: &mut Remarks,
@@ -99,8 +100,8 @@ fn read_source(
     Ok(Some(source))
 }
 
-// Carries an `++ASSIGN`: appends its assignments, if none of its operands is faulty or missing. Remarks say what is
-// left out and what differs.
+// Appends the assignments of an `++ASSIGN`, if none of its operands is missing or faulty. Remarks say what is left out
+// or changed.
 fn carry_assign(
     alloc: Global,
     remarks: &mut Remarks,
@@ -113,7 +114,7 @@ fn carry_assign(
         word: b"ASSIGN",
         id: stated_source,
     };
-    if !check_assign(alloc, remarks, &subject, stated)? {
+    if !has_all_operands(alloc, remarks, &subject, stated)? {
         return Ok(());
     }
     let Some(source) = read_source(alloc, remarks, &subject, stated_source)? else {
@@ -123,11 +124,11 @@ fn carry_assign(
     if ids.len() > MOST_IDS {
         remarks.tell_carried(alloc, &subject, b"TO", RemarkReason::Split, b"")?;
     }
-    push_in_parts(alloc, assigns, source, ids.as_slice())
+    push_assigns(alloc, assigns, source, ids.as_slice())
 }
 
 /// Carries the assignments of the files, and adds those of the source id STANDIN to the SYSMODs with stand-ins. Remarks
-/// say what is left out and what differs.
+/// say what is left out or changed.
 pub(crate) fn carry_assigns(
     alloc: Global,
     remarks: &mut Remarks,
@@ -140,7 +141,7 @@ pub(crate) fn carry_assigns(
         }
     }
     if let Some(source) = Source::read(STAND_IN_SOURCE) {
-        push_in_parts(
+        push_assigns(
             alloc,
             &mut assigns,
             source,

@@ -24,26 +24,28 @@ pub(crate) struct OtherCopies {
 
 // The level that the text of a REWORK spells: `u64::MAX` if it is greater than that, 0 if the text has other characters
 // than digits.
-fn read_level(text: &[u8]) -> u64 {
-    let mut number = 0u64;
+fn read_rework(text: &[u8]) -> u64 {
+    let mut level = 0u64;
     for byte in text {
         if !byte.is_ascii_digit() {
             return 0;
         }
         let digit = byte.saturating_sub(b'0') as u64;
-        number = number.saturating_mul(10).saturating_add(digit);
+        level = level.saturating_mul(10).saturating_add(digit);
     }
-    number
+    level
 }
 
 // The level that REWORK states, or 0 if the SYSMOD has no REWORK.
 fn rework_level(sysmod: &WideSysmod) -> u64 {
-    for operand in sysmod.dropped.iter() {
-        if operand.name.as_slice() == b"REWORK".as_slice() {
-            return read_level(operand.text());
-        }
+    let rework = sysmod
+        .dropped
+        .iter()
+        .find(|operand| operand.name.as_slice() == b"REWORK".as_slice());
+    match rework {
+        Some(operand) => read_rework(operand.text()),
+        None => 0,
     }
-    0
 }
 
 impl OtherCopies {
@@ -63,7 +65,7 @@ impl OtherCopies {
     }
 
     // Notes one more copy of a SYSMOD. The better one of this copy and the best one so far is kept in `best`, and the
-    // other one is noted as not carried. A SYSMOD is skipped if its id has not the form of an id.
+    // other one is noted as not carried. A SYSMOD whose id is no id is skipped: it is not carried in any case.
     fn note_copy(
         &mut self,
         best: &mut BTreeMap<Id, SysmodCopy>,
@@ -76,13 +78,13 @@ impl OtherCopies {
             rework: rework_level(sysmod),
             place: sysmod.place,
         };
-        let Some(before) = best.get(&id).copied() else {
+        let Some(best_so_far) = best.get(&id).copied() else {
             best.insert(id, copy)?;
             return Ok(());
         };
         self.ids.insert(id)?;
-        if copy.rework > before.rework {
-            self.places.insert(before.place)?;
+        if copy.rework > best_so_far.rework {
+            self.places.insert(best_so_far.place)?;
             best.insert(id, copy)?;
         } else {
             self.places.insert(copy.place)?;
@@ -97,9 +99,6 @@ impl OtherCopies {
 
     /// Whether the files have the SYSMOD of this id more than once.
     pub(crate) fn is_repeated(&self, id: &[u8]) -> bool {
-        match Id::read(id) {
-            Some(id) => self.ids.contains(&id),
-            None => false,
-        }
+        Id::read(id).is_some_and(|id| self.ids.contains(&id))
     }
 }

@@ -13,6 +13,7 @@ use crate::copies::OtherCopies;
 use crate::held_copies::without_held_already;
 use crate::narrowed::{NarrowError, Narrowed};
 use crate::notes::{tell_notes, tell_swallowed_statements};
+use crate::scope::CarryScope;
 use crate::stand_ins::sort_and_check_stand_ins;
 use crate::sysmods::{CarriedSysmod, carry_with_holds};
 use intake_cards::Remarks;
@@ -32,7 +33,6 @@ pub(crate) struct CarriedItems {
 }
 
 impl CarriedItems {
-    // No items.
     fn new(alloc: Global) -> CarriedItems
         ensures items { result.items.items ≡ [] }
         ensures outside { result.outside.items ≡ [] }
@@ -43,15 +43,15 @@ impl CarriedItems {
         }
     }
 
-    // Adds one more SYSMOD, if it is carried, and its holds for the hold file.
-    fn push(&mut self, part: CarriedSysmod) -> Result<(), AllocError>
-        ensures items { OnOk result (self.new.items.items ≡ self.old.items.items ++ item_in part.sysmod) }
-        ensures outside { OnOk result (self.new.outside.items ≡ self.old.outside.items ++ part.outside.items) }
+    // Adds what one more SYSMOD becomes: itself, if it is carried, and its holds for the hold file.
+    fn push(&mut self, carried: CarriedSysmod) -> Result<(), AllocError>
+        ensures items { OnOk result (self.new.items.items ≡ self.old.items.items ++ item_in carried.sysmod) }
+        ensures outside { OnOk result (self.new.outside.items ≡ self.old.outside.items ++ carried.outside.items) }
     {
         let CarriedSysmod {
             sysmod,
             mut outside,
-        } = part;
+        } = carried;
         self.outside.append(&mut outside)?;
         if let Some(sysmod) = sysmod {
             self.items.push(Item::Sysmod(sysmod))?;
@@ -59,7 +59,7 @@ impl CarriedItems {
         Ok(())
     }
 
-    // Adds the others after these.
+    // Adds those of one more file after these.
     fn append(&mut self, mut other: CarriedItems) -> Result<(), AllocError>
         ensures items { OnOk result (self.new.items.items ≡ self.old.items.items ++ other.items.items) }
         ensures outside { OnOk result (self.new.outside.items ≡ self.old.outside.items ++ other.outside.items) }
@@ -73,41 +73,38 @@ impl CarriedItems {
 // Carries SYSMODs with their holds. Returns `BadHold` if a hold has no key, `Memory` if memory runs out.
 fn carry_sysmods(
     alloc: Global,
-    options: &Options,
-    users: &Users<'_>,
-    copies: &OtherCopies,
+    scope: &CarryScope<'_>,
     remarks: &mut Remarks,
     sysmods: &[WideSysmod],
 ) -> Result<CarriedItems, HoldError>
-    ensures { IfOk result (λ all. Become (SysmodBecomes options.now.decide users.now) sysmods.now all.items.items
-        all.outside.items) }
+    ensures { IfOk result (λ all. Become (SysmodBecomes scope.now.options.now.decide scope.now.users.now) sysmods.now
+        all.items.items all.outside.items) }
 {
     let mut gathered = CarriedItems::new(alloc);
     for stated in sysmods {
-        let part = carry_with_holds(alloc, options, users, copies, remarks, stated)?;
-        gathered.push(part)?;
+        let carried = carry_with_holds(alloc, scope, remarks, stated)?;
+        gathered.push(carried)?;
     }
     Ok(gathered)
 }
 
-// Carries the SYSMODs and the releases of a file. The remarks on its holds outside SYSMODs come between the remarks on
-// both. Returns `BadHold` if a hold or a release has no key, `Memory` if memory runs out.
+// Carries the SYSMODs and the releases of a file. Its remarks on holds outside SYSMODs come after those on SYSMODs and
+// before those on releases. Returns `BadHold` if a hold or a release has no key, `Memory` if memory runs out.
 fn carry_file(
     alloc: Global,
-    options: &Options,
-    users: &Users<'_>,
-    copies: &OtherCopies,
+    scope: &CarryScope<'_>,
     remarks: &mut Remarks,
     held: &mut FileRemarks,
     file: &WideFile,
 ) -> Result<CarriedItems, HoldError>
-    ensures { IfOk result (λ all. FileBecomes options.now.decide users.now file.now all.items.items all.outside.items) }
+    ensures { IfOk result (λ all. FileBecomes scope.now.options.now.decide scope.now.users.now file.now all.items.items
+        all.outside.items) }
 {
     tell_notes(alloc, remarks, file.notes.as_slice())?;
     tell_swallowed_statements(alloc, remarks, file.swallowed.as_slice())?;
     let sysmods = file.sysmods.as_slice();
-    let mut gathered = carry_sysmods(alloc, options, users, copies, remarks, sysmods)?;
-    let _ = tell_other_statements(alloc, options, remarks, file.others.as_slice())?;
+    let mut gathered = carry_sysmods(alloc, scope, remarks, sysmods)?;
+    let _ = tell_other_statements(alloc, scope.options, remarks, file.others.as_slice())?;
     remarks.append(held.take_next_file(alloc))?;
     let mut releases = carry_releases(alloc, remarks, file.releases.as_slice())?;
     gathered.outside.append(&mut releases)?;
@@ -118,19 +115,17 @@ fn carry_file(
 // memory runs out.
 fn carry_files(
     alloc: Global,
-    options: &Options,
-    users: &Users<'_>,
-    copies: &OtherCopies,
+    scope: &CarryScope<'_>,
     remarks: &mut Remarks,
     held: &mut FileRemarks,
     files: &[WideFile],
 ) -> Result<CarriedItems, HoldError>
-    ensures { IfOk result (λ all. Become (FileBecomes options.now.decide users.now) files.now all.items.items
-        all.outside.items) }
+    ensures { IfOk result (λ all. Become (FileBecomes scope.now.options.now.decide scope.now.users.now) files.now
+        all.items.items all.outside.items) }
 {
     let mut gathered = CarriedItems::new(alloc);
     for file in files {
-        let more = carry_file(alloc, options, users, copies, remarks, held, file)?;
+        let more = carry_file(alloc, scope, remarks, held, file)?;
         gathered.append(more)?;
     }
     Ok(gathered)
@@ -158,37 +153,31 @@ fn finish_narrowed(
 
 /// Makes items that RECEIVE takes of what the files state, in the order of the files. Each SYSMOD that is carried is no
 /// looser than it is stated, and no ERROR, SYSTEM or USER hold or release is lost. `held` has the files' holds outside
-/// SYSMODs, which were carried as they were read. Remarks say what is left out and what differs. Returns `Refused`,
+/// SYSMODs, which were carried as they were read. Remarks say what is left out or changed. Returns `Refused`,
 /// with all remarks, if a hold or a release of such a kind cannot be carried, and `Memory` if memory runs out.
 pub fn narrow(
     alloc: Global,
     files: &[WideFile],
-    held: OutsideHolds,
-    options: Options,
+    mut held: OutsideHolds,
+    mut options: Options,
 ) -> Result<Narrowed, NarrowError>
     ensures { (holds : List WideHold) → AreCarried holds held → IfOk result (λ narrowed. FilesBecome options.decide
         files.now holds narrowed.items.items narrowed.hold_items.items) }
 {
-    let mut options = options;
     options.sort_members();
     let users = Users::of_files(alloc, &options, files)?;
     let copies = OtherCopies::of_files(alloc, files)?;
     let mut remarks = Remarks::new(alloc);
-    let mut held = held;
     if held.refuse_bad_statements(alloc, &mut remarks, files)? {
         return Err(NarrowError::Refused(remarks.list));
     }
     let mut held_remarks = held.remarks;
-    let carried = carry_files(
-        alloc,
-        &options,
-        &users,
-        &copies,
-        &mut remarks,
-        &mut held_remarks,
-        files,
-    );
-    let gathered = match carried {
+    let scope = CarryScope {
+        options: &options,
+        users: &users,
+        copies: &copies,
+    };
+    let gathered = match carry_files(alloc, &scope, &mut remarks, &mut held_remarks, files) {
         Ok(gathered) => gathered,
         Err(HoldError::Memory) => return Err(NarrowError::Memory),
         Err(HoldError::BadHold) => return Err(NarrowError::Refused(remarks.list)),
@@ -202,6 +191,5 @@ pub fn narrow(
         outside,
     )?;
     outside.append(&mut held.placed)?;
-    let narrowed = finish_narrowed(alloc, remarks, files, items, outside)?;
-    Ok(narrowed)
+    Ok(finish_narrowed(alloc, remarks, files, items, outside)?)
 }

@@ -69,7 +69,7 @@ fn is_held(keys: &BTreeSet<HoldKey>, item: &HoldItem) -> bool
     }
 }
 
-// Whether it was an internal hold and has one of the keys.
+// Whether the item is a hold that was internal and has one of the keys.
 fn is_held_by_copy(keys: &BTreeSet<HoldKey>, placed: &PlacedItem) -> bool
     ensures { (items : List AnItem) → AreKeysOf keys.now (flat_map holds_of items)
         → result ≡ is_held_by_copy items placed.now }
@@ -77,7 +77,7 @@ fn is_held_by_copy(keys: &BTreeSet<HoldKey>, placed: &PlacedItem) -> bool
     placed.was_internal && is_held(keys, &placed.item)
 }
 
-// The holds and releases without those that were internal holds and have one of the keys.
+// The holds and releases without the holds that were internal and have one of the keys.
 fn keep_unheld(keys: &BTreeSet<HoldKey>, mut placed: Vec<PlacedItem>) -> Vec<PlacedItem>
     ensures { (items : List AnItem) → AreKeysOf keys.now (flat_map holds_of items)
         → result.items ≡ filter (λ p. not (is_held_by_copy items p)) placed.items }
@@ -86,8 +86,9 @@ fn keep_unheld(keys: &BTreeSet<HoldKey>, mut placed: Vec<PlacedItem>) -> Vec<Pla
     placed
 }
 
-// Remarks what becomes of a hold that was internal in a SYSMOD that is not carried: it is dropped because it is held
-// already, or it is in the hold file. The latter was told before unless the SYSMOD is repeated (`tell_left_out_holds`).
+// Remarks on a hold that was internal in a SYSMOD that is not carried: it is dropped because the SYSMOD has a hold of
+// the same key already, or it is in the hold file. If the files have the SYSMOD only once, `tell_left_out_holds` has
+// already remarked that the hold is in the hold file.
 fn tell_copy_hold(
     alloc: Global,
     remarks: &mut Remarks,
@@ -117,7 +118,7 @@ fn tell_copy_hold(
     Ok(())
 }
 
-// Remarks what becomes of each of the holds that were internal in a SYSMOD that is not carried.
+// Remarks on each of the holds that were internal in a SYSMOD that is not carried.
 fn tell_copy_holds(
     alloc: Global,
     remarks: &mut Remarks,
@@ -126,11 +127,11 @@ fn tell_copy_holds(
     placed: &[PlacedItem],
 ) -> Result<(), AllocError> {
     for placed_item in placed {
-        match &placed_item.item {
-            HoldItem::Hold(hold) if placed_item.was_internal => {
-                tell_copy_hold(alloc, remarks, keys, copies, placed_item.place, hold)?
-            }
-            HoldItem::Hold(_) | HoldItem::Release(_) => {}
+        if !placed_item.was_internal {
+            continue;
+        }
+        if let HoldItem::Hold(hold) = &placed_item.item {
+            tell_copy_hold(alloc, remarks, keys, copies, placed_item.place, hold)?;
         }
     }
     Ok(())

@@ -40,26 +40,27 @@ pub(crate) fn tell_left_out_holds(
     Ok(())
 }
 
-/// Carries the holds of a SYSMOD that is left out: returns each as an external one, but none of FIXCAT. Remarks say
-/// what differs. Returns `BadHold` if one has no key, `Memory` if memory runs out.
+/// Carries the holds of a SYSMOD that is left out: returns each of them as an external hold, except those of FIXCAT.
+/// Remarks say what is changed. Returns `BadHold` if one has no key, `Memory` if memory runs out.
 pub(crate) fn carry_left_out_holds(
     alloc: Global,
     remarks: &mut Remarks,
     stated: &WideSysmod,
 ) -> Result<Vec<PlacedItem>, HoldError>
-    ensures { IfOk result (λ left. Become (LeftHoldBecomes stated.now.id.items) stated.now.holds.items [] left.items) }
+    ensures { IfOk result (λ outside. Become (LeftHoldBecomes stated.now.id.items) stated.now.holds.items []
+        outside.items) }
 {
-    let mut left = Vec::with_capacity(alloc, stated.holds.len())?;
+    let mut outside = Vec::with_capacity(alloc, stated.holds.len())?;
     for hold in stated.holds.iter() {
         let Some(carried) = carry_hold(alloc, remarks, hold, None)? else {
             continue;
         };
         let was_internal = is_internal_in(stated.id.as_slice(), hold);
-        left.push(PlacedItem {
+        outside.push(PlacedItem {
             place: hold.place,
             item: HoldItem::Hold(carried),
             was_internal,
         })?;
     }
-    Ok(left)
+    Ok(outside)
 }

@@ -10,6 +10,7 @@ mod held_copies;
 mod left_out;
 mod narrowed;
 mod notes;
+mod scope;
 mod stand_ins;
 mod sysmods;
 

@@ -84,7 +84,7 @@ impl LeftOutCounts {
         counts
     }
 
-    // Counts the statement of the remark, if the remark says that it is left out.
+    // Counts the statement of the remark if the remark leaves it out.
     fn count(&mut self, remark: &Remark<'_>) {
         if remark.reason == RemarkReason::WholeSysmod {
             self.sysmods = self.sysmods.saturating_add(1);
@@ -104,7 +104,8 @@ impl LeftOutCounts {
         }
     }
 
-    // Counts the `++ASSIGN` of the remark, but only once, and not if only one of its ids is left out.
+    // Counts the `++ASSIGN` of the remark once, however many remarks there are on it. It does not count if only some of
+    // its ids are left out.
     fn count_assign(&mut self, remark: &Remark<'_>) {
         if remark.reason != RemarkReason::BadId && self.last_assign != Some(remark.place) {
             self.assigns = self.assigns.saturating_add(1);
@@ -114,7 +115,7 @@ impl LeftOutCounts {
 }
 
 impl Narrowed {
-    /// The items with the remarks. Both are counted.
+    /// The items and the remarks, with their counts.
     pub(crate) fn new(items: Vec<Item>, hold_items: Vec<HoldItem>, remarks: Remarks) -> Narrowed
         ensures items { result.items.items ≡ items.items }
         ensures holds { result.hold_items.items ≡ hold_items.items }

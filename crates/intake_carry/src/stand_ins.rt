@@ -46,51 +46,53 @@ fn tell_shared_name(
     remarks.tell_carried(alloc, &subject, b"", RemarkReason::FallTogether, name)
 }
 
-// The stand-ins in order, one for each element. Remarks say which of them have the name and type of another one.
-fn sort_stand_ins(
-    alloc: Global,
-    remarks: &mut Remarks,
-    mut named: Vec<StandIn>,
-) -> Result<Vec<StandIn>, AllocError> {
-    named.sort_unstable_by(|first, second| compare_stand_ins(first, second));
-    let mut kept: Vec<StandIn> = Vec::with_capacity(alloc, named.len())?;
-    for stand_in in named {
-        if let Some(last) = kept.last() {
-            if have_same_name(last, &stand_in) {
-                if are_for_same_element(last, &stand_in) {
-                    continue;
-                }
-                tell_shared_name(alloc, remarks, &stand_in)?;
-            }
-        }
-        kept.push(stand_in)?;
-    }
-    Ok(kept)
+// Sorts the stand-ins, and keeps one for each element.
+fn sort_stand_ins(stand_ins: &mut Vec<StandIn>) {
+    stand_ins.sort_unstable_by(|first, second| compare_stand_ins(first, second));
+    stand_ins.dedup_by(|later, earlier| {
+        have_same_name(later, earlier) && are_for_same_element(later, earlier)
+    });
 }
 
-// Remarks on the stand-in, if there is one, that has the name and type of an element of the profile.
-fn tell_if_stand_in_name(
+// Remarks on each stand-in that has the name and type of the one before it.
+fn tell_shared_names(
     alloc: Global,
     remarks: &mut Remarks,
-    named: &[StandIn],
+    sorted: &[StandIn],
+) -> Result<(), AllocError> {
+    for pair in sorted.windows(2) {
+        if let [earlier, later] = pair {
+            if have_same_name(earlier, later) {
+                tell_shared_name(alloc, remarks, later)?;
+            }
+        }
+    }
+    Ok(())
+}
+
+// The stand-in of this name and type, or `None` if there is none.
+fn find_stand_in<'a>(sorted: &'a [StandIn], name: &[u8], elem_type: &[u8]) -> Option<&'a StandIn> {
+    let found = sorted.binary_search_by(|stand_in| stand_in
+        .stand_in
+        .as_bytes()
+        .cmp(name)
+        .then(stand_in.elem_type.cmp(elem_type)));
+    sorted.get(found.ok()?)
+}
+
+// Remarks on the stand-in that has the name and type of this element of the profile, if there is one.
+fn tell_if_shared_with_element(
+    alloc: Global,
+    remarks: &mut Remarks,
+    sorted: &[StandIn],
     element: &WideElement,
 ) -> Result<(), AllocError> {
-    let word = element.word.as_slice();
-    let name = element.name.as_slice();
-    let elem_type = match word {
+    let elem_type = match element.word.as_slice() {
         b"MAC" | b"MACUPD" => type_text(ElemType::Mac),
         b"DATA" => type_text(ElemType::Data),
         _ => return Ok(()),
     };
-    let found = named.binary_search_by(|one| one
-        .stand_in
-        .as_bytes()
-        .cmp(name)
-        .then(one.elem_type.cmp(elem_type)));
-    let Ok(place) = found else {
-        return Ok(());
-    };
-    match named.get(place) {
+    match find_stand_in(sorted, element.name.as_slice(), elem_type) {
         Some(stand_in) => tell_shared_name(alloc, remarks, stand_in),
         None => Ok(()),
     }
@@ -103,12 +105,13 @@ pub(crate) fn sort_and_check_stand_ins(
     remarks: &mut Remarks,
     files: &[WideFile],
 ) -> Result<(), AllocError> {
-    let named = mem::replace(&mut remarks.named, Vec::new(alloc));
-    let named = sort_stand_ins(alloc, remarks, named)?;
+    let mut named = mem::replace(&mut remarks.named, Vec::new(alloc));
+    sort_stand_ins(&mut named);
+    tell_shared_names(alloc, remarks, named.as_slice())?;
     for file in files {
         for sysmod in file.sysmods.iter() {
             for element in sysmod.elements.iter() {
-                tell_if_stand_in_name(alloc, remarks, named.as_slice(), element)?;
+                tell_if_shared_with_element(alloc, remarks, named.as_slice(), element)?;
             }
         }
     }

@@ -7,13 +7,13 @@ ghost use Rattle.mcs.specs.declared.hold_item.HoldItem.TheVariants.{Hold as AHol
 ghost use Rattle.intake_holds.specs.Holds.{placed_at, HoldBecomes};
 ghost use Rattle.intake_carry.specs.Carried.{item_in, HoldsBecome, SysmodBecomes};
 
-use crate::copies::OtherCopies;
 use crate::left_out::{carry_left_out_holds, tell_hold_outside, tell_left_out_holds};
+use crate::scope::CarryScope;
 use fields::spelling::kind_text;
 use intake_cards::{CardPlace, RemarkReason, Remarks, Subject};
 use intake_holds::{HoldError, PlacedItem, carry_hold, hold_subject, is_internal_in, push_item};
 use intake_read::{WideHold, WideSysmod};
-use intake_sysmod::{Options, Users, carry_sysmod};
+use intake_sysmod::carry_sysmod;
 use mcs::HoldItem;
 use std::alloc::{AllocError, Global};
 use sysmods_values::{Hold, Sysmod};
@@ -26,7 +26,7 @@ pub(crate) struct CarriedSysmod {
     pub outside: Vec<PlacedItem>,
 }
 
-// Puts an internal hold into the SYSMOD, and another one into the hold file.
+// Puts the hold into the SYSMOD if it is internal, and into the hold file if it is not.
 fn place_hold(
     sysmod: &mut Sysmod,
     outside: &mut Vec<PlacedItem>,
@@ -49,8 +49,8 @@ fn place_hold(
     }
 }
 
-// Puts the SYSTEM holds on the SYSMOD into it, and returns the others, which go to the hold file. Remarks say what
-// differs. Returns `BadHold` if a hold has no key, `Memory` if memory runs out.
+// Puts the internal holds into the SYSMOD, and returns the others, which go to the hold file. Remarks say what is
+// changed. Returns `BadHold` if a hold has no key, `Memory` if memory runs out.
 fn place_holds(
     alloc: Global,
     remarks: &mut Remarks,
@@ -92,7 +92,7 @@ pub(crate) fn stated_text(stated: &Option<Vec<u8>>) -> &[u8] {
 }
 
 // Remarks on each internal hold that a later one of the same key follows: RECEIVE keeps only the later one.
-fn tell_later_holds(
+fn tell_replaced_holds(
     alloc: Global,
     remarks: &mut Remarks,
     stated: &WideSysmod,
@@ -125,7 +125,7 @@ fn carry_holds(
     ensures same { IfOk result (λ part. IfSome part.sysmod (λ s. s ≡ record sysmod { holds = s.holds })) }
     ensures held { IfOk result (λ part. HoldsBecome stated.now part.sysmod part.outside.items) }
 {
-    tell_later_holds(alloc, remarks, stated)?;
+    tell_replaced_holds(alloc, remarks, stated)?;
     let outside = place_holds(alloc, remarks, stated, &mut sysmod)?;
     Ok(CarriedSysmod {
         sysmod: Some(sysmod),
@@ -151,43 +151,38 @@ fn tell_other_copy(
 // carried.
 fn carry_without_holds(
     alloc: Global,
-    options: &Options,
-    users: &Users<'_>,
-    copies: &OtherCopies,
+    scope: &CarryScope<'_>,
     remarks: &mut Remarks,
     stated: &WideSysmod,
 ) -> Result<Option<Sysmod>, AllocError>
     ensures { IfOk result (λ found. IfSome found (λ sysmod.
-        IsNoLooser options.now.decide users.now stated.now sysmod × (sysmod.holds ≡ []))) }
+        IsNoLooser scope.now.options.now.decide scope.now.users.now stated.now sysmod × (sysmod.holds ≡ []))) }
 {
-    if copies.is_other_copy(stated) {
+    if scope.copies.is_other_copy(stated) {
         tell_other_copy(alloc, remarks, stated)?;
         return Ok(None);
     }
-    carry_sysmod(alloc, options, users, remarks, stated)
+    carry_sysmod(alloc, scope.options, scope.users, remarks, stated)
 }
 
 /// Carries a SYSMOD with its holds. If it is left out, all its holds go to the hold file. Remarks say why it is left
-/// out, and what differs. Returns `BadHold` if a hold has no key, `Memory` if memory runs out.
+/// out, or what is changed. Returns `BadHold` if a hold has no key, `Memory` if memory runs out.
 pub(crate) fn carry_with_holds(
     alloc: Global,
-    options: &Options,
-    users: &Users<'_>,
-    copies: &OtherCopies,
+    scope: &CarryScope<'_>,
     remarks: &mut Remarks,
     stated: &WideSysmod,
 ) -> Result<CarriedSysmod, HoldError>
-    ensures { IfOk result (λ part. SysmodBecomes options.now.decide users.now stated.now (item_in part.sysmod)
-        part.outside.items) }
+    ensures { IfOk result (λ part. SysmodBecomes scope.now.options.now.decide scope.now.users.now stated.now
+        (item_in part.sysmod) part.outside.items) }
 {
-    let Some(sysmod) = carry_without_holds(alloc, options, users, copies, remarks, stated)? else {
-        tell_left_out_holds(alloc, copies, remarks, stated)?;
+    let Some(sysmod) = carry_without_holds(alloc, scope, remarks, stated)? else {
+        tell_left_out_holds(alloc, scope.copies, remarks, stated)?;
         let outside = carry_left_out_holds(alloc, remarks, stated)?;
         return Ok(CarriedSysmod {
             sysmod: None,
             outside,
         });
     };
-    let part = carry_holds(alloc, remarks, stated, sysmod)?;
-    Ok(part)
+    carry_holds(alloc, remarks, stated, sysmod)
 }

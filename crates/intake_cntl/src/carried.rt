@@ -12,7 +12,7 @@ pub(crate) struct CarriedCommand {
 
 impl CarriedCommand {
     /// Whether it has SELECT or GROUP.
-    pub(crate) fn has_list(&self) -> bool {
+    pub(crate) fn has_select_or_group(&self) -> bool {
         self.operands
             .iter()
             .any(|operand| operand.is_select_or_group())
@@ -29,7 +29,15 @@ pub(crate) struct CarriedOperand {
 impl CarriedOperand {
     /// Whether it chooses SYSMODs by their ids.
     pub(crate) fn is_select_or_group(&self) -> bool {
-        self.word == b"SELECT".as_slice() || self.word == b"GROUP".as_slice()
+        matches!(self.word, b"SELECT" | b"GROUP")
+    }
+
+    /// The members of its list, or none if it has no list or is a BYPASS.
+    pub(crate) fn list(&self) -> &[Vec<u8>] {
+        match &self.value {
+            CarriedValue::List(members) => members.as_slice(),
+            CarriedValue::Nothing | CarriedValue::BypassMembers(_) => &[],
+        }
     }
 }
 

@@ -30,7 +30,10 @@ pub(crate) fn carry_command(
     wide: &WideCommand,
 ) -> Result<Option<CarriedCommand>, AllocError> {
     let word = wide.head.name.as_slice();
-    if !check_end(remarks, wide)? {
+    if wide.has_lower_case {
+        remark_on_command(remarks, wide, Deed::Carried, RemarkReason::LowerCase)?;
+    }
+    if !ends_with_period(remarks, wide)? {
         return Ok(None);
     }
     if changes_no_decision(word) {
@@ -56,12 +59,8 @@ pub(crate) fn carry_command(
     }))
 }
 
-// Checks how the command ends, and remarks on lower case. Returns whether it has its period: a remark says why it has
-// none.
-fn check_end(remarks: &mut CommandRemarks, wide: &WideCommand) -> Result<bool, AllocError> {
-    if wide.has_lower_case {
-        remark_on_command(remarks, wide, Deed::Carried, RemarkReason::LowerCase)?;
-    }
+// Whether the command ends with its period. If not, a remark refuses it and says why.
+fn ends_with_period(remarks: &mut CommandRemarks, wide: &WideCommand) -> Result<bool, AllocError> {
     let reason = match wide.end {
         CommandEnd::Period => return Ok(true),
         CommandEnd::NoPeriod => RemarkReason::NoPeriod,
@@ -121,11 +120,11 @@ fn carry_operands(
             replace_select_by_group(remarks, group, &mut carried)?;
         }
     }
-    for context in contexts {
-        if context.has_form(OperandForm::GroupExtend) && context.operand.value.is_some() {
-            exclude_kinds(alloc, remarks, context, &mut carried)?;
-            break;
-        }
+    let group_extend = contexts.iter().find(|context| {
+        context.has_form(OperandForm::GroupExtend) && context.operand.value.is_some()
+    });
+    if let Some(group_extend) = group_extend {
+        exclude_kinds(alloc, remarks, group_extend, &mut carried)?;
     }
     Ok(carried)
 }
@@ -173,15 +172,18 @@ fn carry_value(
     }
 }
 
-// Replaces SELECT by GROUP with the same ids, as `group`, which has no list, asks for. A remark refuses it if there is
-// no SELECT, or if another operand chooses SYSMODs too.
+// Replaces SELECT by GROUP with the same ids, as a GROUP without a list asks for. A remark refuses this GROUP if there
+// is no SELECT, or if another operand chooses SYSMODs too.
 fn replace_select_by_group(
     remarks: &mut CommandRemarks,
     group: &OperandContext<'_>,
     carried: &mut Vec<CarriedOperand>,
 ) -> Result<(), AllocError> {
     carried.retain(|operand| operand.word != b"GROUP".as_slice());
-    if carried.iter().any(|operand| MASS_OPERANDS.iter().any(|word| *word == operand.word)) {
+    let chooses_more = MASS_OPERANDS
+        .iter()
+        .any(|word| has_word(carried.as_slice(), *word));
+    if chooses_more {
         return group.refuse(remarks, b"", RemarkReason::NoOperand);
     }
     for operand in carried.iter_mut() {

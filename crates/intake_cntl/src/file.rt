@@ -24,13 +24,12 @@ pub struct CommandFile {
     pub remarks: RemarkList,
     /// How many commands are carried.
     pub carried: usize,
-    /// How many are dropped or refused.
-    pub others: usize,
+    /// How many commands are dropped or refused.
+    pub not_carried: usize,
 }
 
-/// The shop's commands `wide`, which stand on these cards, as records that say just what they ask for. If a word keeps
-/// them from that, there are no records, and remarks name each such word. `known` are the SYSMODs of a list, if one is
-/// given.
+/// Records that say exactly what the shop's commands `wide`, which are on these cards, ask for. If a word cannot be
+/// carried, there are no records, and remarks name each such word. `known` are the SYSMODs of a list, if one is given.
 pub fn command_file(
     alloc: Global,
     cards: &[Card],
@@ -45,7 +44,7 @@ pub fn command_file(
     remark_on_comments(&mut remarks, &wide.comments)?;
     let records = carry_commands(alloc, &mut remarks, wide.commands.as_slice(), known)?;
     let carried = records.carried;
-    let others = records.others;
+    let not_carried = records.not_carried;
     let bytes = checked_records(
         alloc,
         &remarks,
@@ -57,7 +56,7 @@ pub fn command_file(
         bytes,
         remarks: remarks.list,
         carried,
-        others,
+        not_carried,
     })
 }
 
@@ -66,7 +65,7 @@ pub fn command_file(
 struct CommandRecords {
     bytes: Vec<u8>,
     carried: usize,
-    others: usize,
+    not_carried: usize,
 }
 
 // The records of all commands that can be carried.
@@ -79,7 +78,7 @@ fn carry_commands(
     let mut records = CommandRecords {
         bytes: Vec::new(alloc),
         carried: 0,
-        others: 0,
+        not_carried: 0,
     };
     for wide in commands {
         match command_records(alloc, remarks, known, wide)? {
@@ -87,7 +86,7 @@ fn carry_commands(
                 records.bytes.extend_from_slice(&bytes)?;
                 records.carried = records.carried.saturating_add(1);
             }
-            None => records.others = records.others.saturating_add(1),
+            None => records.not_carried = records.not_carried.saturating_add(1),
         }
     }
     Ok(records)
@@ -172,21 +171,38 @@ fn command_records(
     let mut cards = PrintedCards::new(alloc);
     print_command(alloc, &mut cards, &command)?;
     let records = cards.into_bytes()?;
-    let reason = match read_cntl(alloc, &records) {
-        Ok(read) => {
-            if is_said_alone(alloc, known, wide, read.as_slice())? {
-                return Ok(Some(records));
-            }
-            RemarkReason::NotRead
+    match unread_reason(alloc, known, wide, &command, &records)? {
+        Some(reason) => {
+            remark_on_unread(remarks, &command, reason)?;
+            Ok(None)
         }
-        Err(CntlError::Memory) => return Err(AllocError),
-        Err(CntlError::Fault { code, .. }) => unread_reason(&command, code),
-    };
-    remark_on_unread(remarks, &command, reason)?;
-    Ok(None)
+        None => Ok(Some(records)),
+    }
 }
 
-// Remarks that a command is refused because its records are not read. If it lacks an operand, the remark names that.
+// Why the records of `command` are not read back as one command that says exactly what the shop's command `wide` asks
+// for, or `None` if they are.
+fn unread_reason(
+    alloc: Global,
+    known: &Option<Vec<KnownSysmod>>,
+    wide: &WideCommand,
+    command: &CarriedCommand,
+    records: &[u8],
+) -> Result<Option<RemarkReason>, AllocError> {
+    let read = match read_cntl(alloc, records) {
+        Ok(read) => read,
+        Err(CntlError::Memory) => return Err(AllocError),
+        Err(CntlError::Fault { code, .. }) => return Ok(Some(fault_reason(command, code))),
+    };
+    if is_said_alone(alloc, known, wide, read.as_slice())? {
+        Ok(None)
+    } else {
+        Ok(Some(RemarkReason::NotRead))
+    }
+}
+
+// Remarks that a command is refused because its records are not read. If it lacks an operand, the remark names that
+// operand.
 fn remark_on_unread(
     remarks: &mut CommandRemarks,
     command: &CarriedCommand,
@@ -214,7 +230,7 @@ fn required_operand(command: &[u8]) -> &'static [u8] {
     }
 }
 
-// Whether just one command was read, and it says just what the shop's command asks for.
+// Whether only one command was read, and it says exactly what the shop's command asks for.
 fn is_said_alone(
     alloc: Global,
     known: &Option<Vec<KnownSysmod>>,
@@ -227,18 +243,18 @@ fn is_said_alone(
     }
 }
 
-// Why the command is not read, though it has words of the profile only.
-fn unread_reason(command: &CarriedCommand, code: CommandCode) -> RemarkReason {
+// The reason of the remark on a command that is not read, though it has only words of the profile.
+fn fault_reason(command: &CarriedCommand, code: CommandCode) -> RemarkReason {
     match code {
         CommandCode::BadCommandOperand => RemarkReason::Missing,
-        CommandCode::NoSingleList if command.has_list() => RemarkReason::Contradiction,
+        CommandCode::NoSingleList if command.has_select_or_group() => RemarkReason::Contradiction,
         CommandCode::NoSingleList => RemarkReason::NoList,
         CommandCode::UnknownCommand | CommandCode::OperandTwice | CommandCode::BadCommandForm =>
             RemarkReason::NotRead,
     }
 }
 
-// The records. Returns `None` if a remark refuses something, or if they are not read back as commands that say just
+// The records. Returns `None` if a remark refuses something, or if they are not read back as commands that say exactly
 // what the shop's commands ask for.
 fn checked_records(
     alloc: Global,

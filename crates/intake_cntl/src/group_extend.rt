@@ -2,7 +2,7 @@
 
 use crate::carried::{CarriedOperand, CarriedValue, has_word};
 use crate::command_remarks::CommandRemarks;
-use crate::lists::{MOST_MEMBERS, push_if_absent};
+use crate::lists::{MOST_MEMBERS, has_member, push_if_absent};
 use crate::operand_context::OperandContext;
 use intake_asked::KnownSysmod;
 use intake_cards::{Deed, RemarkReason};
@@ -33,8 +33,8 @@ const EXCLUSIONS: &[KindExclusion] = &[
 ];
 
 /// Adds to EXCLUDE the known SYSMODs of each type that GROUPEXTEND keeps out, except those that SELECT or GROUP names.
-/// Remarks refuse a member that keeps out no type or that contradicts another operand, want of known SYSMODs, and too
-/// long an EXCLUDE.
+/// Remarks refuse a member that keeps out no type, one that contradicts another operand, one for which no list of known
+/// SYSMODs is given, and an EXCLUDE that gets too long.
 pub(crate) fn exclude_kinds(
     alloc: Global,
     remarks: &mut CommandRemarks,
@@ -87,27 +87,24 @@ fn append_ids_of_kind(
 
 // Whether SELECT or GROUP names the id.
 fn is_selected(carried: &[CarriedOperand], id: &[u8]) -> bool {
-    carried.iter().any(|operand| match &operand.value {
-        CarriedValue::List(ids) => operand.is_select_or_group()
-            && ids.iter().any(|other| other.as_slice() == id),
-        _ => false,
-    })
+    carried.iter().any(|operand| operand.is_select_or_group() && has_member(operand.list(), id))
 }
 
-// Adds the ids to EXCLUDE. If there is no EXCLUDE, it is appended.
+// Adds the ids to EXCLUDE, which is appended if the command has none.
 fn add_to_exclude(
     alloc: Global,
     carried: &mut Vec<CarriedOperand>,
     ids: Vec<Vec<u8>>,
 ) -> Result<(), AllocError> {
     for operand in carried.iter_mut() {
-        if operand.word == b"EXCLUDE".as_slice() {
-            if let CarriedValue::List(excluded) = &mut operand.value {
+        match &mut operand.value {
+            CarriedValue::List(excluded) if operand.word == b"EXCLUDE".as_slice() => {
                 for id in &ids {
                     push_if_absent(alloc, excluded, id.as_slice())?;
                 }
                 return Ok(());
             }
+            _ => {}
         }
     }
     if !ids.is_empty() {
@@ -121,9 +118,6 @@ fn add_to_exclude(
 
 // Whether EXCLUDE has more members than a list may have.
 fn has_long_exclude(carried: &[CarriedOperand]) -> bool {
-    carried.iter().any(|operand| match &operand.value {
-        CarriedValue::List(ids) => operand.word == b"EXCLUDE".as_slice()
-            && ids.len() > MOST_MEMBERS,
-        _ => false,
-    })
+    carried.iter().any(|operand| operand.word == b"EXCLUDE".as_slice()
+        && operand.list().len() > MOST_MEMBERS)
 }

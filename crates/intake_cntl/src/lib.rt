@@ -1,7 +1,7 @@
 //! A shop's command file as one that the program reads.
 //! Words that SMP/E abbreviates are spelled out, words that change no decision are dropped, each with a remark, and
 //! every other word that the profile lacks is named; then there is no file. If there is one, `cntl` has read it as
-//! commands that say just what the shop's commands ask for.
+//! commands that say exactly what the shop's commands ask for.
 //! Every call that allocates fails with `AllocError` if memory runs out.
 #![tactic(auto)]
 

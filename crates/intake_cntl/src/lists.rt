@@ -86,8 +86,8 @@ fn append_sources_with_prefix(
     Ok(has_any)
 }
 
-// Whether the list has the member.
-fn has_member(members: &[Vec<u8>], member: &[u8]) -> bool {
+/// Whether the list has the member.
+pub(crate) fn has_member(members: &[Vec<u8>], member: &[u8]) -> bool {
     members.iter().any(|other| other.as_slice() == member)
 }
 

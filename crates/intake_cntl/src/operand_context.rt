@@ -7,7 +7,7 @@ use intake_cards::{Deed, RemarkReason};
 use intake_read::WideOperand;
 use std::alloc::{AllocError, Global};
 
-/// An operand of a shop's command, or a member of its BYPASS, with all that decides how it is carried.
+/// An operand of a shop's command, or a member of its BYPASS, with everything that decides how it is carried.
 #[derive(Clone, Copy)]
 pub(crate) struct OperandContext<'a> {
     /// The words that the command may have.
@@ -39,7 +39,8 @@ pub(crate) fn operand_contexts<'a>(
 }
 
 impl OperandContext<'_> {
-    /// How the operand's word is spelled, or `None` if the command has no such operand. C with a list is COMPRESS.
+    /// How the operand's word is spelled, or `None` if the command may not have the operand. C with a list is
+    /// COMPRESS.
     pub(crate) fn spelling(&self) -> Option<Spelling> {
         let word = self.operand.name.as_slice();
         if word == b"C".as_slice() && self.operand.value.is_some() {
@@ -48,15 +49,13 @@ impl OperandContext<'_> {
         spelling_of(self.vocabulary.operands, word)
     }
 
-    /// Whether the command has such an operand, and it is of this form.
+    /// Whether the command may have the operand, and the operand's form is this one.
     pub(crate) fn has_form(&self, form: OperandForm) -> bool {
-        match self.spelling() {
-            Some(spelling) => spelling.form == form,
-            None => false,
-        }
+        self.spelling()
+            .is_some_and(|spelling| spelling.form == form)
     }
 
-    /// Returns the spelling if the operand is carried, with a remark if its word is an abbreviation. Otherwise a remark
+    /// Returns the spelling if the operand is carried, with a remark if its word is spelled out. Otherwise a remark
     /// drops the operand, or refuses it if it has no spelling.
     pub(crate) fn check_spelling(
         &self,

@@ -14,8 +14,7 @@ pub(crate) fn print_command(
     for operand in &command.operands {
         print_operand(alloc, cards, operand)?;
     }
-    cards.add_directly(b".")?;
-    Ok(())
+    cards.add_directly(b".")
 }
 
 // Prints an operand with its value.
@@ -70,9 +69,10 @@ fn print_bypass_members(
     Ok(())
 }
 
-// What follows the member at this place of a list: a comma, but the closing parenthesis after the last one.
-fn separator_after(place: usize, members: usize) -> &'static [u8] {
-    if place.saturating_add(1) < members {
+// What follows the member at this place of a list of this length: a comma, or after the last member the closing
+// parenthesis.
+fn separator_after(place: usize, length: usize) -> &'static [u8] {
+    if place.saturating_add(1) < length {
         b","
     } else {
         b")"

@@ -2,7 +2,7 @@
 
 use fields::{Class, Id, Reason, Source, ZoneName};
 
-/// What an operand is followed by, and what becomes of it.
+/// What follows the word of an operand, and whether the operand is dropped.
 #[derive(Clone, Copy, Debug, PartialEq, Eq)]
 pub(crate) enum OperandForm {
     /// It stands alone.
@@ -17,11 +17,11 @@ pub(crate) enum OperandForm {
     Source,
     /// The name of a zone.
     Zone,
-    /// SMP/E's GROUP, which stands alone beside SELECT; or this program's, which has ids.
+    /// SMP/E's GROUP, which stands alone beside SELECT, or this program's, which has ids.
     Group,
-    /// A list of what is left out of account.
+    /// A list of the checks that are bypassed.
     Bypass,
-    /// RECEIVE's list of what is left out of account, of which every member is dropped.
+    /// RECEIVE's list of the checks that are bypassed. All its members are dropped.
     ReceiveBypass,
     /// A list of reasons of holds, or nothing for all of them.
     Reasons,
@@ -158,7 +158,7 @@ const REPORT: &[SpellingRow] = &[
     (b"NOPUNCH", b"NOPUNCH", OperandForm::Dropped),
 ];
 
-/// The members of RECEIVE's BYPASS: neither functions nor zones are looked at.
+/// The members of RECEIVE's BYPASS. They change nothing, because RECEIVE here checks neither functions nor zones.
 const RECEIVE_MEMBERS: &[SpellingRow] = &[
     (b"FMID", b"FMID", OperandForm::Dropped),
     (b"APPLYCHECK", b"APPLYCHECK", OperandForm::Dropped),

@@ -29,20 +29,20 @@ pub(crate) fn check_apart<H: IntakeHost>(
     Ok(())
 }
 
-// The names of the files that are read, but for those of `--relfile`.
+// The names of the files that are read, except those in the folder of `--relfile`.
 fn input_names(alloc: Global, asked: &IntakeOptions) -> Result<Vec<&str>, AllocError>
     ensures { IfOk result (λ names. map (λ name. name.now) names.items ≡ inputs asked.now) }
 {
     let mut names = text_views(alloc, &asked.files)?;
-    let mut cntl = name_of_option(alloc, &asked.cntl)?;
-    let mut known = name_of_option(alloc, &asked.known)?;
+    let mut cntl = optional_name(alloc, &asked.cntl)?;
+    let mut known = optional_name(alloc, &asked.known)?;
     names.append(&mut cntl)?;
     names.append(&mut known)?;
     Ok(names)
 }
 
-// A list of the name of the file, or an empty list if there is no file.
-fn name_of_option(alloc: Global, file: &Option<String>) -> Result<Vec<&str>, AllocError>
+// A list of the file's name alone, or an empty list if no file is named.
+fn optional_name(alloc: Global, file: &Option<String>) -> Result<Vec<&str>, AllocError>
     ensures { IfOk result (λ names. map (λ name. name.now) names.items
         ≡ option_to_list (option_map string_bytes file.now)) }
 {
@@ -143,7 +143,7 @@ fn check_path<H: IntakeHost>(
         Err(error) => return Err(IntakeFault::of_unread_file(alloc, path, error.kind())),
     };
     if is_same {
-        return Err(IntakeFault::of_output(alloc, input, path));
+        return Err(IntakeFault::of_overwritten_input(alloc, input, path));
     }
     Ok(())
 }

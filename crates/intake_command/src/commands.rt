@@ -35,7 +35,7 @@ struct CommandsOutput {
 }
 
 /// Puts the command file into the folder, if all of it is carried, and the remarks in any case. Returns the status, or
-/// the fault for which nothing is put there or no summary is printed.
+/// a fault if nothing was put there or the summary was not printed.
 pub(crate) fn serve_commands<H: IntakeHost>(
     alloc: Global,
     host: &mut H,
@@ -47,7 +47,7 @@ pub(crate) fn serve_commands<H: IntakeHost>(
     ensures err { OnErr result (HasDone H.IntakeHost (All (IsWithin (folder_of asked.now))) host.old host.new) }
 {
     let bytes = read_input(alloc, host, name)?;
-    let known = known_sysmods(alloc, host, &asked.known)?;
+    let known = read_known_sysmods(alloc, host, &asked.known)?;
     let made = commands_output(alloc, asked, name, bytes, &known)?;
     let summary = made.summary.clone()?;
     let folder = asked.out.as_str();
@@ -58,7 +58,7 @@ pub(crate) fn serve_commands<H: IntakeHost>(
 
 // The SYSMODs of the list, or `None` if no list is named. Returns `CannotRead` if the host cannot read it, `KnownLine`
 // if a line is not in form, `Memory` if memory runs out.
-fn known_sysmods<H: IntakeHost>(
+fn read_known_sysmods<H: IntakeHost>(
     alloc: Global,
     host: &mut H,
     name: &Option<String>,
@@ -71,8 +71,7 @@ fn known_sysmods<H: IntakeHost>(
         return Ok(None);
     };
     let bytes = read_input(alloc, host, name.as_str())?;
-    let list = read_known_list(alloc, name.as_str(), &bytes)?;
-    Ok(Some(list))
+    Ok(Some(read_known_list(alloc, name.as_str(), &bytes)?))
 }
 
 // The SYSMODs of a list of known ones. Returns `KnownLine` if a line is not in form, `Memory` if memory runs out.
@@ -103,7 +102,7 @@ fn commands_output(
     let cards = inputs.read_cards(alloc, name, &bytes, asked.cards)?;
     let wide = wide_commands(alloc, &cards)?;
     let file = command_file(alloc, &cards, &wide, known)?;
-    if file.carried == 0 && file.others == 0 {
+    if file.carried == 0 && file.not_carried == 0 {
         return Err(IntakeFault::NoStatement);
     }
     let mut remarks = inputs.take_reading_lines(alloc);
@@ -116,10 +115,10 @@ fn commands_output(
     })
 }
 
-// The summary of the run, which tells whether a command file is written.
+// The summary of the run, which says whether a command file is written.
 fn summary_of(alloc: Global, file: &CommandFile) -> Result<Vec<u8>, AllocError> {
     match &file.bytes {
-        Some(_) => command_summary(alloc, file.carried, file.others, &file.remarks),
+        Some(_) => command_summary(alloc, file.carried, file.not_carried, &file.remarks),
         None => refused_command_summary(alloc, &file.remarks),
     }
 }

@@ -42,7 +42,7 @@ pub(crate) fn outputs() -> &'static [&'static str]
     ]
 }
 
-/// The files of a run over files of SYSMODs and holds. Without `stand_ins` that file is removed.
+/// The files of a run over files of SYSMODs and holds. Without `stand_ins`, that file of an earlier run is removed.
 pub(crate) fn service_files(
     ptfin: Vec<u8>,
     hold: Vec<u8>,

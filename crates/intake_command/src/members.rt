@@ -55,8 +55,8 @@ fn read_members<H: IntakeHost>(
     Ok(members)
 }
 
-// The file of the element: that of its SYSMOD's own folder, or the shared one if no other SYSMOD can mean it, or `None`
-// if it has neither.
+// The file of the element: the one in the folder of its SYSMOD, or else the shared one if no other SYSMOD has a RELFILE
+// of its number. Returns `None` if it has neither.
 fn member_file<H: IntakeHost>(
     alloc: Global,
     host: &mut H,

@@ -27,13 +27,13 @@ pub fn command<H: IntakeHost>(
     ensures { HasDone H.IntakeHost (Ends result) host.old host.new }
 {
     match words {
-        Ok(words) => answer_words(alloc, host, words.as_slice()),
+        Ok(words) => serve_words(alloc, host, words.as_slice()),
         Err(_) => tell_fault(alloc, host, "", &IntakeFault::Memory),
     }
 }
 
 // Reads the words, and then serves what they ask for: help, or files if they are in order. Returns the status.
-fn answer_words<H: IntakeHost>(alloc: Global, host: &mut H, words: &[Vec<u8>]) -> u8
+fn serve_words<H: IntakeHost>(alloc: Global, host: &mut H, words: &[Vec<u8>]) -> u8
     ensures { HasDone H.IntakeHost (Ends result) host.old host.new }
 {
     match read_options(alloc, words) {
@@ -43,8 +43,8 @@ fn answer_words<H: IntakeHost>(alloc: Global, host: &mut H, words: &[Vec<u8>]) -
     }
 }
 
-// Makes the files, if no input is an output, and returns the status. Otherwise it tells that fault, and not even the
-// files of earlier runs are removed, because the input may be one of them.
+// Makes the files if no input is an output, and returns the status. Otherwise it reports that fault, and leaves even
+// the files of earlier runs, because the input may be one of them.
 fn serve_if_apart<H: IntakeHost>(alloc: Global, host: &mut H, asked: &IntakeOptions) -> u8
     ensures { HasDone H.IntakeHost (Ends result) host.old host.new }
 {
@@ -54,7 +54,7 @@ fn serve_if_apart<H: IntakeHost>(alloc: Global, host: &mut H, asked: &IntakeOpti
     }
 }
 
-// Makes the files, and after a fault removes all outputs and tells the fault. Returns the status. No input is an
+// Makes the files, and after a fault removes all outputs and reports the fault. Returns the status. No input is an
 // output.
 fn serve_or_clear<H: IntakeHost>(alloc: Global, host: &mut H, asked: &IntakeOptions) -> u8
     ensures { HasDone H.IntakeHost (EndsApart asked.now result) host.old host.new }
@@ -85,7 +85,7 @@ fn serve<H: IntakeHost>(
     }
 }
 
-// Removes the files that a run may write from the folder, as far as that can be done.
+// Removes from the folder the files that a run may write. Those that cannot be removed are left.
 fn remove_all_outputs<H: IntakeHost>(host: &mut H, folder: &str)
     ensures { HasDone H.IntakeHost (λ acts. (act : HostAct) × (acts ≡ act ∷ []) × IsCleared folder.now act)
         host.old host.new }

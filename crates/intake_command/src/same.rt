@@ -1,4 +1,4 @@
-//! Whether items are the same, as contracts see them: `is_same` is true just if their views are equal.
+//! Whether items are the same, as contracts see them: `is_same` is true if and only if their views are equal.
 ghost use Rattle.std.specs.Prelude.{◌≡◌, ◌↔◌, IsTrue, option_map};
 ghost use Rattle.std.specs.String.{string_bytes};
 ghost use Rattle.sysmods_values.specs.Views.{action_of};
@@ -130,29 +130,31 @@ impl Same for Ver {
 fn is_same_action(first: &Action, other: &Action) -> bool
     ensures { IsTrue result ↔ (action_of first.now ≡ action_of other.now) }
 {
-    match first {
-        Action::Replaces {
-            distlib,
-            syslib,
-            lines,
-        } => match other {
+    match (first, other) {
+        (
+            Action::Replaces {
+                distlib,
+                syslib,
+                lines,
+            },
             Action::Replaces {
                 distlib: other_distlib,
                 syslib: other_syslib,
                 lines: other_lines,
-            } => {
-                distlib.is_same(other_distlib)
-                    && syslib.is_same(other_syslib)
-                    && are_same(lines.as_slice(), other_lines.as_slice())
-            }
-            Action::Updates { .. } => false,
-        },
-        Action::Updates { update } => match other {
+            },
+        ) => {
+            distlib.is_same(other_distlib)
+                && syslib.is_same(other_syslib)
+                && are_same(lines.as_slice(), other_lines.as_slice())
+        }
+        (
+            Action::Updates { update },
             Action::Updates {
                 update: other_update,
-            } => update.is_same(other_update),
-            Action::Replaces { .. } => false,
-        },
+            },
+        ) => update.is_same(other_update),
+        (Action::Replaces { .. }, Action::Updates { .. })
+        | (Action::Updates { .. }, Action::Replaces { .. }) => false,
     }
 }
 
@@ -168,12 +170,10 @@ impl Same for ElemChange {
 fn is_same_comment(first: &Option<String>, other: &Option<String>) -> bool
     ensures { IsTrue result ↔ (option_map string_bytes first.now ≡ option_map string_bytes other.now) }
 {
-    match first {
-        Some(first) => match other {
-            Some(other) => first.as_bytes() == other.as_bytes(),
-            None => false,
-        },
-        None => other.is_none(),
+    match (first, other) {
+        (Some(first), Some(other)) => first.as_bytes() == other.as_bytes(),
+        (None, None) => true,
+        (Some(_), None) | (None, Some(_)) => false,
     }
 }
 
@@ -218,30 +218,21 @@ impl Same for Assign {
 
 impl Same for Item {
     fn is_same(&self, other: &Self) -> bool {
-        match self {
-            Item::Sysmod(first) => match other {
-                Item::Sysmod(other) => first.is_same(other),
-                Item::Assign(_) => false,
-            },
-            Item::Assign(first) => match other {
-                Item::Assign(other) => first.is_same(other),
-                Item::Sysmod(_) => false,
-            },
+        match (self, other) {
+            (Item::Sysmod(first), Item::Sysmod(other)) => first.is_same(other),
+            (Item::Assign(first), Item::Assign(other)) => first.is_same(other),
+            (Item::Sysmod(_), Item::Assign(_)) | (Item::Assign(_), Item::Sysmod(_)) => false,
         }
     }
 }
 
 impl Same for HoldItem {
     fn is_same(&self, other: &Self) -> bool {
-        match self {
-            HoldItem::Hold(first) => match other {
-                HoldItem::Hold(other) => first.is_same(other),
-                HoldItem::Release(_) => false,
-            },
-            HoldItem::Release(first) => match other {
-                HoldItem::Release(other) => first.is_same(other),
-                HoldItem::Hold(_) => false,
-            },
+        match (self, other) {
+            (HoldItem::Hold(first), HoldItem::Hold(other)) => first.is_same(other),
+            (HoldItem::Release(first), HoldItem::Release(other)) => first.is_same(other),
+            (HoldItem::Hold(_), HoldItem::Release(_)) | (HoldItem::Release(_), HoldItem::Hold(_)) =>
+                false,
         }
     }
 }

@@ -11,7 +11,7 @@ ghost use Rattle.intake_command.specs.Done.{HasDone};
 ghost use Rattle.intake_command.specs.Serving.{AreRead, ServesFiles, KeepsService, DraftsRemarks, IsWithin, folder_of};
 
 use crate::host_calls::{print_summary, read_input};
-use crate::keep::keep_service;
+use crate::keep::{ServiceContents, keep_service};
 use crate::members::relfile_members;
 use crate::surroundings::IntakeHost;
 use intake_cards::RemarkList;
@@ -41,8 +41,8 @@ struct ServiceOutput {
     summary: Vec<u8>,
 }
 
-/// Puts what the files state into the folder, with the remarks, and prints the summary. Returns the status, or the
-/// fault for which nothing is put there or no summary is printed.
+/// Puts what the files state into the folder, with the remarks, and prints the summary. Returns the status, or a fault
+/// if nothing was put there or the summary was not printed.
 pub(crate) fn serve_files<H: IntakeHost>(
     alloc: Global,
     host: &mut H,
@@ -75,16 +75,11 @@ fn exit_status(remarks: &RemarkList) -> u8
     }
 }
 
-// Whether something is left out that may be asked for.
+// Whether one of the remarks matters: it says that something is left out that may be asked for.
 fn has_remark_that_matters(remarks: &RemarkList) -> bool {
-    for place in 0..remarks.len() {
-        if let Some(remark) = remarks.get(place) {
-            if remark.matters() {
-                return true;
-            }
-        }
-    }
-    false
+    (0..remarks.len())
+        .filter_map(|place| remarks.get(place))
+        .any(|remark| remark.matters())
 }
 
 // The statements of all files. Their holds outside SYSMODs are carried as they are read. Returns `NoStatement` if there
@@ -127,8 +122,7 @@ fn read_file<H: IntakeHost>(
     ensures err { OnErr result (HasDone H.IntakeHost (All IsQuiet) host.old host.new) }
 {
     let bytes = read_input(alloc, host, name)?;
-    let file = read_file_statements(alloc, inputs, asked, name, bytes, held)?;
-    Ok(file)
+    read_file_statements(alloc, inputs, asked, name, bytes, held)
 }
 
 // The statements of a file of these bytes. Returns `NoCards` if the bytes cannot be read as cards, `Statements` if the
@@ -184,12 +178,11 @@ fn service_output(
         Err(NarrowError::Memory) => return Err(IntakeFault::Memory),
         Err(NarrowError::Refused(remarks)) => return Err(refusal_fault(alloc, inputs, &remarks)),
     };
-    let made = add_summary(alloc, asked, narrowed)?;
-    Ok(made)
+    Ok(narrowed_output(alloc, asked, narrowed)?)
 }
 
-// The items and remarks, with their summary and the file of stand-ins.
-fn add_summary(
+// The output of items that RECEIVE takes, with the summary and the file of stand-ins made of them.
+fn narrowed_output(
     alloc: Global,
     asked: &IntakeOptions,
     narrowed: Narrowed,
@@ -220,9 +213,8 @@ fn stand_ins_if_asked(
     Ok(Some(stand_ins_file(alloc, &narrowed.named)?))
 }
 
-// Drafts the remarks, and then puts all files into the folder.
-// Returns `NotReadBack` if the records of a file are not read back as its items, `CannotWrite` if the folder does not
-// take the files, `Memory` if memory runs out.
+// Drafts the remarks, and then puts all files into the folder. Returns `NotReadBack` if the records of a file are not
+// read back as its items, `CannotWrite` if the files cannot be written into the folder, `Memory` if memory runs out.
 fn keep_files<H: IntakeHost>(
     alloc: Global,
     host: &mut H,
@@ -240,11 +232,17 @@ fn keep_files<H: IntakeHost>(
     let folder = asked.out.as_str();
     let reading_lines = inputs.take_reading_lines(alloc);
     let lines = draft_remarks(alloc, host, folder, inputs, made.remarks, reading_lines)?;
-    keep_service(alloc, host, folder, &items, &hold_items, stand_ins, lines)?;
+    let contents = ServiceContents {
+        items: items.as_slice(),
+        hold_items: hold_items.as_slice(),
+        stand_ins,
+        remarks: lines,
+    };
+    keep_service(alloc, host, folder, contents)?;
     Ok(())
 }
 
-// Appends the lines of the remarks to those before, and these to the draft whenever there are enough of them. Returns
+// Appends a line for each remark to `lines`, and the lines to the draft whenever there are enough of them. Returns
 // the lines that are not in the draft, or `CannotWrite` if the folder does not take the draft, `Memory` if memory runs
 // out.
 fn draft_remarks<H: IntakeHost>(
@@ -253,12 +251,11 @@ fn draft_remarks<H: IntakeHost>(
     folder: &str,
     inputs: &InputFiles,
     remarks: RemarkList,
-    lines: Vec<u8>,
+    mut lines: Vec<u8>,
 ) -> Result<Vec<u8>, IntakeFault>
     ensures ok { OnOk result (HasDone H.IntakeHost (All (DraftsRemarks folder.now)) host.old host.new) }
     ensures err { OnErr result (HasDone H.IntakeHost (All (IsWithin folder.now)) host.old host.new) }
 {
-    let mut lines = lines;
     for place in 0..remarks.len() {
         let Some(remark) = remarks.get(place) else {
             continue;

@@ -18,17 +18,18 @@ pub enum IntakeFault {
     OutputIsInput { input: String, output: String },
     /// A line of the list of known SYSMODs is not in form. Lines are counted from 1.
     KnownLine { name: String, line: usize },
-    /// The folder does not take the files.
+    /// The files cannot be written into the folder.
     CannotWrite,
-    /// Standard output takes nothing.
+    /// Standard output cannot be written to.
     CannotPrint,
     /// Why the file of that name cannot be read as cards.
     NoCards { name: String, error: CardError },
-    /// Statements that no SYSMOD can be left out for, each with its file and card.
+    /// Statements that cannot be carried, and that belong to no SYSMOD that could be left out. Each has its file and
+    /// card.
     Statements(Vec<Vec<u8>>),
-    /// No statement stands in any file.
+    /// No file has a statement.
     NoStatement,
-    /// The bytes for this file are not read back as what they stand for.
+    /// The bytes for this file are not read back as the items that they were made of.
     NotReadBack(&'static str),
 }
 
@@ -58,7 +59,7 @@ impl IntakeFault {
     }
 
     /// The fault of an input that is one of the files that would be written.
-    pub fn of_output(alloc: Global, input: &str, output: &str) -> IntakeFault {
+    pub fn of_overwritten_input(alloc: Global, input: &str, output: &str) -> IntakeFault {
         match (
             String::from_str(alloc, input),
             String::from_str(alloc, output),
@@ -84,7 +85,7 @@ impl IntakeFault {
         }
     }
 
-    /// The fault of a file with a statement that no SYSMOD can be left out for.
+    /// The fault of a statement that cannot be read, and that belongs to no SYSMOD that could be left out.
     pub fn of_statement(alloc: Global, inputs: &InputFiles, error: &WideError) -> IntakeFault {
         match statement_fault(alloc, inputs, error) {
             Ok(fault) => fault,
@@ -93,7 +94,8 @@ impl IntakeFault {
     }
 }
 
-// The fault of a statement that no SYSMOD can be left out for.
+// The fault of a statement that cannot be read: a line with its file and card, its word and name, and what the error
+// says.
 fn statement_fault(
     alloc: Global,
     inputs: &InputFiles,

@@ -1,4 +1,4 @@
-//! The lines that tell a fault.
+//! The lines that report a fault.
 
 use crate::fault::IntakeFault;
 use crate::options::WordsFault;
@@ -8,8 +8,8 @@ use std::alloc::{AllocError, Global};
 const PROGRAM: &[u8] = b"smpe-intake: ";
 
 impl IntakeFault {
-    /// The lines that tell it: one, or one for each statement. What `clap` says has none, since the host prints it.
-    /// `folder` is the folder that cannot be written into.
+    /// The lines that report the fault: one, or one for each statement. A fault that `clap` found has none, since the
+    /// host prints its text. `folder` is the folder of the files that are written.
     pub fn lines(&self, alloc: Global, folder: &str) -> Result<Vec<u8>, AllocError> {
         let mut lines = Vec::new(alloc);
         let text = match self {

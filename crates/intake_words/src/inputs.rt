@@ -14,7 +14,7 @@ struct InputFile {
     layout: Layout,
 }
 
-/// The files that were read so far. A `CardPlace` names its file by the number that it has here.
+/// The files that were read so far. A `CardPlace` names its file by its number in this list.
 #[derive(Debug, Drop)]
 pub struct InputFiles {
     all: Vec<InputFile>,
@@ -87,7 +87,7 @@ impl InputFiles {
         }
     }
 
-    /// The cards of the file of this name, which becomes the next one. Returns `NoCards` if the bytes cannot be read as
+    /// The cards of the file of this name, which is added to the list. Returns `NoCards` if the bytes cannot be read as
     /// cards, `Memory` if memory runs out.
     pub fn read_cards(
         &mut self,
@@ -105,8 +105,9 @@ impl InputFiles {
         Ok(read.cards)
     }
 
-    /// A reader of the cards of the file of this name, which becomes the next one. The notes on its cards are known only
-    /// once these are read. Returns `NoCards` if the bytes cannot be read as cards, `Memory` if memory runs out.
+    /// A reader of the cards of the file of this name, which is added to the list. The notes on its cards are known
+    /// only after all cards are read. Returns `NoCards` if the bytes cannot be read as cards, `Memory` if memory runs
+    /// out.
     pub fn open_cards<'a>(
         &mut self,
         alloc: Global,

@@ -29,7 +29,7 @@ pub struct IntakeOptions {
     pub cntl: Option<String>,
     /// The list of the SYSMODs that are known, for the command file.
     pub known: Option<String>,
-    /// The folder of the files that RELFILE speaks of.
+    /// The folder of the files that RELFILE names.
     pub relfile: Option<String>,
     /// For each DISTLIB, the SYSLIB that is given.
     pub syslibs: Vec<Syslib>,
@@ -95,7 +95,7 @@ pub fn read_options(alloc: Global, words: &[Vec<u8>]) -> Result<IntakeOptions, W
     options_of_matches(alloc, &matches)
 }
 
-/// The texts, lent one by one.
+/// The texts as string slices.
 pub fn text_views(alloc: Global, texts: &[String]) -> Result<Vec<&str>, AllocError>
     ensures { IfOk result (λ views. map (λ view. view.now) views.items ≡ map string_bytes texts.now) }
 {
@@ -213,6 +213,7 @@ fn options_of_matches(
     matches: &ArgMatches<'_>,
 ) -> Result<IntakeOptions, WordsFault> {
     Ok(IntakeOptions {
+        // `clap` refuses a command line without --out.
         out: option_text(alloc, matches, "out")?.unwrap_or(String::new(alloc)),
         files: option_texts(alloc, matches, "file")?,
         cntl: option_text(alloc, matches, "cntl")?,
@@ -282,25 +283,22 @@ fn code_option(matches: &ArgMatches<'_>) -> Option<Code> {
 // The SYSLIBs of all --syslib, each with its DISTLIB. Returns `BadSyslib` if a value is not DISTLIB=SYSLIB, `Memory` if
 // memory runs out.
 fn syslib_options(alloc: Global, matches: &ArgMatches<'_>) -> Result<Vec<Syslib>, WordsFault> {
-    let mut pairs = Vec::new(alloc);
-    for pair in &option_texts(alloc, matches, "syslib")? {
-        let pair = pair.as_bytes();
-        let Some(at) = pair.iter().position(|b| *b == b'=') else {
+    let mut syslibs = Vec::new(alloc);
+    for value in &option_texts(alloc, matches, "syslib")? {
+        let Some((distlib, syslib)) = value.as_str().split_once('=') else {
             return Err(WordsFault::BadSyslib);
         };
-        let distlib = read_library_name(alloc, &pair[..at])?;
-        let syslib = read_library_name(alloc, &pair[at + 1..])?;
-        pairs.push(Syslib { distlib, syslib })?;
+        syslibs.push(Syslib {
+            distlib: read_library_name(alloc, distlib)?,
+            syslib: read_library_name(alloc, syslib)?,
+        })?;
     }
-    Ok(pairs)
+    Ok(syslibs)
 }
 
 // The name of a library, in upper case. Returns `BadSyslib` if it has not the form of a name, `Memory` if memory runs
 // out.
-fn read_library_name(alloc: Global, name: &[u8]) -> Result<Name, WordsFault> {
-    let mut upper = Vec::new(alloc);
-    for byte in name {
-        upper.push(byte.to_ascii_uppercase())?;
-    }
-    Name::read(&upper).ok_or(WordsFault::BadSyslib)
+fn read_library_name(alloc: Global, name: &str) -> Result<Name, WordsFault> {
+    let upper = name.as_bytes().to_ascii_uppercase(alloc)?;
+    Name::read(upper.as_slice()).ok_or(WordsFault::BadSyslib)
 }

@@ -5,6 +5,9 @@ use intake_cards::CardPlace;
 use intake_read::{WideElement, WideFile};
 use std::alloc::{AllocError, Global};
 
+/// The most digits that the number of a RELFILE may have.
+const MOST_DIGITS: usize = 4;
+
 /// The number of a RELFILE, and the id of the SYSMOD that has it, or `None` if several have one of this number.
 #[derive(Drop)]
 struct RelfileUser<'a> {
@@ -66,12 +69,9 @@ pub fn relfile_elements<'a>(
 
 // The element as one with RELFILE, or `None` if it has no number there, or its name or the id has not the form of one.
 fn relfile_element<'a>(id: &'a [u8], element: &'a WideElement) -> Option<RelfileElement<'a>> {
-    let Some(relfile) = &element.relfile else {
-        return None;
-    };
-    let number = relfile.as_slice();
+    let number = element.relfile.as_ref()?.as_slice();
     let name = element.name.as_slice();
-    if Id::read(id).is_none() || Name::read(name).is_none() || !is_number(number) {
+    if Id::read(id).is_none() || Name::read(name).is_none() || !is_relfile_number(number) {
         return None;
     }
     Some(RelfileElement {
@@ -83,39 +83,31 @@ fn relfile_element<'a>(id: &'a [u8], element: &'a WideElement) -> Option<Relfile
     })
 }
 
-// Whether the text is a number of at most four digits.
-fn is_number(text: &[u8]) -> bool {
-    !text.is_empty() && text.len() <= 4 && text.iter().all(|b| b.is_ascii_digit())
+// Whether the text is a number that RELFILE may have.
+fn is_relfile_number(text: &[u8]) -> bool {
+    !text.is_empty() && text.len() <= MOST_DIGITS && text.iter().all(|byte| byte.is_ascii_digit())
 }
 
-// The numbers of all RELFILEs, each once, with the SYSMOD that has it.
+// The numbers of all RELFILEs, each once, with the SYSMOD that has it if there is only one.
 fn relfile_users<'a>(
     alloc: Global,
     elements: &[RelfileElement<'a>],
 ) -> Result<Vec<RelfileUser<'a>>, AllocError> {
     let mut users: Vec<RelfileUser<'a>> = Vec::new(alloc);
     for element in elements {
-        if !note_user(&mut users, element) {
-            users.push(RelfileUser {
+        match users.iter_mut().find(|user| user.number == element.number) {
+            Some(user) => {
+                if user.id != Some(element.id) {
+                    user.id = None;
+                }
+            }
+            None => users.push(RelfileUser {
                 number: element.number,
                 id: Some(element.id),
-            })?;
+            })?,
         }
     }
     Ok(users)
-}
-
-// Notes the SYSMOD of the element as a user of its RELFILE, if the number is listed. Returns whether it is.
-fn note_user(users: &mut Vec<RelfileUser<'_>>, element: &RelfileElement<'_>) -> bool {
-    for user in users.iter_mut() {
-        if user.number == element.number {
-            if user.id != Some(element.id) {
-                user.id = None;
-            }
-            return true;
-        }
-    }
-    false
 }
 
 // Whether no other SYSMOD has a RELFILE of the element's number.

@@ -6,7 +6,7 @@ use intake_cards::{Deed, Remark, RemarkList, RemarkReason};
 use intake_carry::{Narrowed, Tally};
 use std::alloc::{AllocError, Global};
 
-/// How many SYSMODs that are left out have lines of their own, at most.
+/// At most so many SYSMODs that are left out have lines of their own.
 const MOST_LEFT_OUT_LINES: usize = 20;
 
 /// How many remarks have a deed and a reason.
@@ -71,17 +71,17 @@ pub(crate) fn is_of_left_out_sysmod(remark: &Remark<'_>) -> bool {
     )
 }
 
-/// Why the SYSMOD of the remark at the place, `header`, is left out: the first remark on one of its statements that
-/// says so, or itself.
+/// The remark that says why a SYSMOD is left out. `header`, which is at this place, is on the whole SYSMOD. The cause
+/// is the first remark that leaves one of its statements out, or else `header` itself.
 pub(crate) fn cause_of<'a>(
     remarks: &'a RemarkList,
     place: usize,
     header: Remark<'a>,
 ) -> Remark<'a> {
-    let mut cause = header;
     if header.reason != RemarkReason::WholeSysmod {
-        return cause;
+        return header;
     }
+    let mut cause = header;
     for before in (0..place).rev() {
         let Some(remark) = remarks.get(before) else {
             return cause;
@@ -99,7 +99,7 @@ pub(crate) fn cause_of<'a>(
     cause
 }
 
-/// What the cause says, in words.
+/// The cause in words: its statement, its reason and its text.
 pub(crate) fn cause_text(alloc: Global, cause: &Remark<'_>) -> Result<Vec<u8>, AllocError> {
     let mut text = cause.subject_text(alloc)?;
     if !text.is_empty() {
@@ -161,15 +161,10 @@ fn append_left_out_line(
 
 /// How many remarks have the reason.
 pub(crate) fn count_with_reason(remarks: &RemarkList, reason: RemarkReason) -> usize {
-    let mut count = 0usize;
-    for place in 0..remarks.len() {
-        if let Some(remark) = remarks.get(place) {
-            if remark.reason == reason {
-                count = count.saturating_add(1);
-            }
-        }
-    }
-    count
+    (0..remarks.len())
+        .filter_map(|place| remarks.get(place))
+        .filter(|remark| remark.reason == reason)
+        .count()
 }
 
 // Appends a line with its label, the count and the text, unless the count is 0.
@@ -204,16 +199,16 @@ pub fn service_summary(
 pub fn command_summary(
     alloc: Global,
     carried: usize,
-    others: usize,
+    not_carried: usize,
     remarks: &RemarkList,
 ) -> Result<Vec<u8>, AllocError> {
-    let line = format!(in alloc; "COMMAND {carried:>7} carried {others:>7} not\n")?;
+    let line = format!(in alloc; "COMMAND {carried:>7} carried {not_carried:>7} not\n")?;
     let mut lines = line.into_bytes();
     append_remark_counts(alloc, remarks, &mut lines)?;
     Ok(lines)
 }
 
-/// The summary of a run that writes no command file, because words of the shop's are refused.
+/// The summary of a run that writes no command file because words of the shop's commands are refused.
 pub fn refused_command_summary(alloc: Global, remarks: &RemarkList) -> Result<Vec<u8>, AllocError> {
     let mut lines = Vec::from_slice(
         alloc,
@@ -244,7 +239,8 @@ fn text_summary(
     Ok(lines)
 }
 
-// Appends warnings: of holds that moved, of statements in comments, and of SYSMODs left out that would forbid others.
+// Appends warnings about holds that moved, about statements in comments, and about SYSMODs that are left out and would
+// forbid others.
 fn append_warnings(
     alloc: Global,
     narrowed: &Narrowed,
@@ -252,14 +248,14 @@ fn append_warnings(
 ) -> Result<(), AllocError> {
     let remarks = &narrowed.remarks;
     let outside = count_with_reason(remarks, RemarkReason::HeldOutside);
-    let text =
+    let held =
         "of SYSMODs stand in the hold file: they are on others, or the SYSMOD is not carried";
-    append_warning(alloc, "HELD", outside, text, lines)?;
+    append_warning(alloc, "HELD", outside, held, lines)?;
     let swallowed = count_with_reason(remarks, RemarkReason::StatementInComment);
-    let text = "statements stand in a comment: is it closed where it should be?";
-    append_warning(alloc, "COMMENT", swallowed, text, lines)?;
-    let text = "left out have elements, NPRE or DELETE, which nothing asks for now";
-    append_warning(alloc, "FORBIDS", narrowed.forbidding, text, lines)
+    let commented = "statements stand in a comment: is it closed where it should be?";
+    append_warning(alloc, "COMMENT", swallowed, commented, lines)?;
+    let forbids = "left out have elements, NPRE or DELETE, which nothing asks for now";
+    append_warning(alloc, "FORBIDS", narrowed.forbidding, forbids, lines)
 }
 
 // Appends how many SYSMODs have stand-ins, and that the files are only for CHECK. If elements are passed over, CHECK
@@ -290,6 +286,5 @@ fn append_tally(
     let carried = tally.carried;
     let left_out = tally.left_out;
     let line = format!(in alloc; "{label:<7} {carried:>7} carried {left_out:>7} left out\n")?;
-    lines.extend_from_slice(line.as_bytes())?;
-    Ok(())
+    lines.extend_from_slice(line.as_bytes())
 }

@@ -28,13 +28,14 @@ use zones::is_bypassed_hold;
 fn is_candidate(status: &Status) -> bool
     ensures { result ≡ is_candidate (status_view status.now) }
 {
-    match status {
-        Status::Applied | Status::Accepted | Status::Superseded | Status::Failed(_) => true,
-        _ => false,
-    }
+    matches!(
+        status,
+        Status::Applied | Status::Accepted | Status::Superseded | Status::Failed(_)
+    )
 }
 
-// Appends what becomes of the SYSMOD `by`, which would supply the requisite, if this is the line of `by`.
+// Appends what would become of the SYSMOD `by`, which would supply the requisite, if this is the line of `by` and `by`
+// is a candidate.
 fn put_supplier_line<'a>(
     kind: NeedKind,
     id: &'a [u8],
@@ -65,7 +66,7 @@ fn put_supplier_line<'a>(
     }
 }
 
-// Appends what becomes of the SYSMOD `by`, which would supply the requisite, for each line of `by`.
+// Appends what would become of the SYSMOD `by`, which would supply the requisite, by each line of `by`.
 fn put_supplier<'a>(
     kind: NeedKind,
     id: &'a [u8],
@@ -82,7 +83,7 @@ fn put_supplier<'a>(
     Ok(())
 }
 
-// Appends what becomes of the SYSMODs that would supply the requisite.
+// Appends what would become of the SYSMODs that would supply the requisite.
 fn put_suppliers<'a>(
     kind: NeedKind,
     id: &'a [u8],
@@ -99,7 +100,7 @@ fn put_suppliers<'a>(
     Ok(())
 }
 
-// Appends what becomes of the SYSMODs that would supply the requisite, if it is open.
+// Appends what would become of the SYSMODs that would supply the requisite, if it is open.
 fn put_suppliers_if_open<'a>(
     kind: NeedKind,
     id: &'a [u8],
@@ -116,7 +117,7 @@ fn put_suppliers_if_open<'a>(
     }
 }
 
-// Appends what becomes of the SYSMODs that would supply the requisite, or resolve the ERROR hold, of this fact.
+// Appends what would become of the SYSMODs that would supply the requisite, or resolve the ERROR hold, of this fact.
 fn put_suppliers_of_fact(
     fact: &Fact<'_>,
     lines: &[ReportLine],
@@ -160,7 +161,7 @@ fn is_unsupplied(resolution: &Resolution) -> bool
     }
 }
 
-// Appends a requisite that BYPASS covers, if nothing supplies it.
+// Appends the line of a requisite that BYPASS covers, if no applied SYSMOD supplies it.
 fn put_bypassed_requisite(
     bypass: &Bypass,
     requisite: &Requisite,
@@ -190,7 +191,7 @@ fn comment_or_dash(comment: &Option<String>) -> &[u8]
     }
 }
 
-// Appends a hold that BYPASS covers.
+// Appends the line of a hold, if BYPASS covers the hold.
 fn put_bypassed_hold(
     bypass: &Bypass,
     hold: &Hold,
@@ -227,7 +228,7 @@ fn put_bypassed_hold(
     append_words(INDENT, &words, text)
 }
 
-// Appends the line of a requisite or a hold that BYPASS covers.
+// Appends the line of this fact, if it is a requisite or a hold that BYPASS covers.
 fn put_bypassed_fact(bypass: &Bypass, fact: &Fact<'_>, text: &mut Vec<u8>) -> Result<(), AllocError>
     ensures { OnOk result (text.new.items ≡ text.old.items ++ bypassed_told bypass.now (fact_view fact.now)) }
 {
@@ -241,7 +242,8 @@ fn put_bypassed_fact(bypass: &Bypass, fact: &Fact<'_>, text: &mut Vec<u8>) -> Re
     }
 }
 
-// Appends what becomes of the SYSMODs that would supply the requisites, or resolve the ERROR holds, of these facts.
+// Appends what would become of the SYSMODs that would supply the requisites, or resolve the ERROR holds, of these
+// facts.
 fn put_suppliers_of_facts(
     facts: &[Fact<'_>],
     lines: &[ReportLine],

@@ -13,7 +13,7 @@ use report::{LineWord, append_words};
 use std::alloc::AllocError;
 use terms::Test;
 
-// Appends that the candidate `by` has an id of the chain in DELETE, if that decides the test.
+// Appends that the candidate `by` has an id of the chain in DELETE, if the test failed because of that.
 fn put_deletes<'a>(test: Test, by: &'a Id, id: &'a Id, text: &mut Vec<u8>) -> Result<(), AllocError>
     ensures { OnOk result (text.new.items ≡ text.old.items ++ conflict_reason test (Deletes by.now id.now)) }
 {
@@ -30,7 +30,7 @@ fn put_deletes<'a>(test: Test, by: &'a Id, id: &'a Id, text: &mut Vec<u8>) -> Re
     append_words(INDENT, &words, text)
 }
 
-// Appends that NPRE names another candidate, if that decides the test.
+// Appends that NPRE names another candidate, if the test failed because of that.
 fn put_forbids(test: Test, id: &Id, text: &mut Vec<u8>) -> Result<(), AllocError>
     ensures { OnOk result (text.new.items ≡ text.old.items ++ conflict_reason test (Forbids id.now)) }
 {
@@ -45,7 +45,7 @@ fn put_forbids(test: Test, id: &Id, text: &mut Vec<u8>) -> Result<(), AllocError
     append_words(INDENT, &words, text)
 }
 
-// Appends that another candidate names the id in NPRE, if that decides the test.
+// Appends that another candidate names the id in NPRE, if the test failed because of that.
 fn put_forbidden_by(test: Test, id: &Id, text: &mut Vec<u8>) -> Result<(), AllocError>
     ensures { OnOk result (text.new.items ≡ text.old.items ++ conflict_reason test (ForbiddenBy id.now)) }
 {
@@ -69,7 +69,7 @@ fn apart_text(apart: Apart) -> &'static [u8]
     }
 }
 
-// Appends that another candidate changes an element of the SYSMOD too, if that decides the test.
+// Appends that another candidate changes an element of the SYSMOD too, if the test failed because of that.
 fn put_shares(test: Test, shared: &SharedElement, text: &mut Vec<u8>) -> Result<(), AllocError>
     ensures { OnOk result (text.new.items ≡ text.old.items ++ conflict_reason test (Shares shared.now)) }
 {
@@ -85,7 +85,7 @@ fn put_shares(test: Test, shared: &SharedElement, text: &mut Vec<u8>) -> Result<
     append_words(INDENT, &words, text)
 }
 
-// Appends the line of the failed test for this conflict, if the test rests on it.
+// Appends the line of this conflict, if the test failed because of it.
 fn put_conflict(test: Test, conflict: &Conflict, text: &mut Vec<u8>) -> Result<(), AllocError>
     ensures { OnOk result (text.new.items ≡ text.old.items ++ conflict_reason test conflict.now) }
 {
@@ -97,10 +97,10 @@ fn put_conflict(test: Test, conflict: &Conflict, text: &mut Vec<u8>) -> Result<(
     }
 }
 
-/// Appends a line of the failed test for each of these conflicts on which the test rests.
+/// Appends a line for each of these conflicts because of which the test failed.
 pub(crate) fn put_conflicts(
-    conflicts: &[Conflict],
     test: Test,
+    conflicts: &[Conflict],
     text: &mut Vec<u8>,
 ) -> Result<(), AllocError>
     ensures { OnOk result (text.new.items ≡ text.old.items ++ flat_map (conflict_reason test) conflicts.now) }

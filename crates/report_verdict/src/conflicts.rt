@@ -22,7 +22,7 @@ use sysmods_values::ElemChange;
 use zones::Scope;
 
 // Whether the chain of FMIDs from the SYSMOD `id` contains `other`.
-fn is_in_chain(vers: &VerChoice<'_>, id: Id, other: Id) -> bool
+fn chain_contains(vers: &VerChoice<'_>, id: Id, other: Id) -> bool
     ensures { result ≡ is_in (chain vers.now.global.now (choice vers.now) id) other }
 {
     vers.chain_contains_any(id, &[other])
@@ -59,7 +59,7 @@ fn push_deletion(
 ) -> Result<(), AllocError>
     ensures { OnOk result (found.new.items ≡ found.old.items ++ deletion_of (setting_of scope.now) id by del) }
 {
-    if is_in_chain(scope.vers, id, del) {
+    if chain_contains(scope.vers, id, del) {
         found.push(Conflict::Deletes { by, id: del })?;
     }
     Ok(())
@@ -80,7 +80,7 @@ fn push_deletions(
     Ok(())
 }
 
-// Whether one function owns the elements of both.
+// Whether one function owns the elements of both SYSMODs.
 fn have_one_owner(vers: &VerChoice<'_>, x: Id, y: Id) -> bool
     ensures { IsTrue result ↔ (owner vers.now.global.now (choice vers.now) x
         ≡ owner vers.now.global.now (choice vers.now) y) }
@@ -88,7 +88,7 @@ fn have_one_owner(vers: &VerChoice<'_>, x: Id, y: Id) -> bool
     vers.owner(x) == vers.owner(y)
 }
 
-// Whether one of the two is over the other.
+// Whether one of the two SYSMODs is over the other.
 fn are_ordered(alloc: Global, vers: &VerChoice<'_>, x: Id, y: Id) -> Result<bool, AllocError>
     ensures { IfOk result (λ are. IsTrue are ↔ (IsOver (choice vers.now) x y ⊎ IsOver (choice vers.now) y x)) }
 {
@@ -98,7 +98,8 @@ fn are_ordered(alloc: Global, vers: &VerChoice<'_>, x: Id, y: Id) -> Result<bool
     vers.over(alloc, y, x)
 }
 
-// Why the two may not change one element. They may if they have one owner and one is over the other.
+// Why the two SYSMODs may not change the same element, or `None` if they may: one function owns the elements of both,
+// and one of the two is over the other.
 fn why_apart(
     alloc: Global,
     scope: &Scope<'_, '_>,
@@ -116,7 +117,8 @@ fn why_apart(
     Ok(Some(Apart::Unordered))
 }
 
-// The candidates with which the id clashes, each with why the two may not change one element.
+// The candidates with which the id clashes, each with the reason why the two may not change the same element, if there
+// is one.
 fn partners(
     alloc: Global,
     scope: &Scope<'_, '_>,
@@ -135,7 +137,7 @@ fn partners(
     Ok(partners)
 }
 
-// Adds the conflict about the element of the statement, if the other candidate changes it too.
+// Adds the conflict about the element that the statement changes, if the candidate `with` changes that element too.
 fn push_shared_element(
     global: &GlobalZone,
     with: Id,
@@ -158,7 +160,7 @@ fn push_shared_element(
     Ok(())
 }
 
-// Adds a conflict for each element that both change.
+// Adds a conflict for each element that the id and the candidate `with` both change.
 fn push_shared_elements(
     scope: &Scope<'_, '_>,
     id: Id,
@@ -177,7 +179,7 @@ fn push_shared_elements(
     Ok(())
 }
 
-// Adds a conflict for each element that the id and its partner both change, if they may not change one element.
+// Adds a conflict for each element that the id and its partner both change, if the two may not change the same element.
 fn push_partner_elements(
     scope: &Scope<'_, '_>,
     id: Id,

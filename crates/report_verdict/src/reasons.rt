@@ -23,7 +23,7 @@ use sysmods_values::Hold;
 use terms::{HoldKind, Test};
 use zones::is_bypassed_hold;
 
-// Whether holds of this kind decide the test.
+// Whether this is the test that fails because of holds of this kind.
 fn is_hold_test(test: Test, kind: HoldKind) -> bool
     ensures { result ≡ by_hold test kind }
 {
@@ -83,7 +83,7 @@ fn is_over(rank: Rank) -> bool
     matches!(rank, Rank::Over)
 }
 
-// Appends the line of a hold that decides the test and that BYPASS does not cover.
+// Appends the line of the hold, if the test failed because of it: BYPASS does not cover the hold.
 fn put_hold_reason(
     bypass: &Bypass,
     test: Test,
@@ -92,8 +92,8 @@ fn put_hold_reason(
 ) -> Result<(), AllocError>
     ensures { OnOk result (text.new.items ≡ text.old.items ++ hold_reason bypass.now test hold.now) }
 {
-    let is_uncovered = is_hold_test(test, hold.kind) && !is_bypassed_hold(bypass, hold);
-    if !is_uncovered {
+    let is_reason = is_hold_test(test, hold.kind) && !is_bypassed_hold(bypass, hold);
+    if !is_reason {
         return Ok(());
     }
     let code = LineWord::Text(test_text(test));
@@ -104,7 +104,7 @@ fn put_hold_reason(
     append_words(INDENT, &words, text)
 }
 
-// Appends the line of a SYSMOD that made the element, unless the id is over it. The word is `RMID` or `UMID`.
+// Appends the line of a SYSMOD that made the element, unless the id is over that SYSMOD. The word is `RMID` or `UMID`.
 fn put_maker_reason<'a>(
     test: Test,
     element: &'a ChangedElement,
@@ -128,7 +128,7 @@ fn put_maker_reason<'a>(
     append_words(INDENT, &words, text)
 }
 
-// Appends a line for each SYSMOD that made the element, unless the id is over it.
+// Appends a line for each SYSMOD that made the element and that the id is not over.
 fn put_makers_reason<'a>(
     test: Test,
     element: &'a ChangedElement,
@@ -145,7 +145,7 @@ fn put_makers_reason<'a>(
     Ok(())
 }
 
-// Appends the owner of the element, if that is not the function of the id.
+// Appends the owner of the element, unless that is the function to which the elements of the id belong.
 fn put_owner_reason<'a>(
     test: Test,
     element: &'a ChangedElement,
@@ -167,7 +167,7 @@ fn put_owner_reason<'a>(
     append_words(INDENT, &words, text)
 }
 
-// Appends why the id fails the test because of an element that the zone has, if it does.
+// Appends the lines of an element that the zone has, if the test failed because of its owner or of its RMID and UMIDs.
 fn put_existing_element_reason<'a>(
     test: Test,
     element: &'a ChangedElement,
@@ -186,7 +186,7 @@ fn put_existing_element_reason<'a>(
     Ok(())
 }
 
-// Appends that the zone does not have the element to update, if that decides the test.
+// Appends that the zone does not have the element to update, if the test failed because of that.
 fn put_missing_element_reason(
     test: Test,
     element: &ChangedElement,
@@ -195,8 +195,8 @@ fn put_missing_element_reason(
     ensures { OnOk result (text.new.items
         ≡ text.old.items ++ missing_reason test element.now.elem_type element.now.name element.now.replaces) }
 {
-    let fails = is_update_test(test) && !element.replaces;
-    if !fails {
+    let is_reason = is_update_test(test) && !element.replaces;
+    if !is_reason {
         return Ok(());
     }
     let code = LineWord::Text(test_text(test));
@@ -207,7 +207,7 @@ fn put_missing_element_reason(
     append_words(INDENT, &words, text)
 }
 
-// Appends the lines of an element that the id changes, if they decide the test.
+// Appends the lines of an element that the id changes, if the test failed because of that element.
 fn put_element_reason(
     test: Test,
     element: &ChangedElement,
@@ -221,12 +221,12 @@ fn put_element_reason(
     }
 }
 
-// Appends the line of a `++VER` that fits, if that decides the test.
+// Appends the line of a `++VER` that fits, if the test failed because of that.
 fn put_ver_reason(test: Test, ver: &NumberedVer, text: &mut Vec<u8>) -> Result<(), AllocError>
     ensures { OnOk result (text.new.items ≡ text.old.items ++ reason no_bypass test (ver_view ver.now)) }
 {
-    let fails = is_several_fit_test(test) && ver.fits;
-    if !fails {
+    let is_reason = is_several_fit_test(test) && ver.fits;
+    if !is_reason {
         return Ok(());
     }
     let code = LineWord::Text(test_text(test));
@@ -239,12 +239,12 @@ fn put_ver_reason(test: Test, ver: &NumberedVer, text: &mut Vec<u8>) -> Result<(
     append_words(INDENT, &words, text)
 }
 
-// Appends the line of an id in DELETE that is in the id's own chain, if that decides the test.
+// Appends the line of an id in DELETE that is in the id's own chain, if the test failed because of that.
 fn put_delete_reason(test: Test, id: &Id, own: bool, text: &mut Vec<u8>) -> Result<(), AllocError>
     ensures { OnOk result (text.new.items ≡ text.old.items ++ reason no_bypass test (DeleteFact id.now own)) }
 {
-    let fails = is_delete_test(test) && own;
-    if !fails {
+    let is_reason = is_delete_test(test) && own;
+    if !is_reason {
         return Ok(());
     }
     let code = LineWord::Text(test_text(test));
@@ -255,12 +255,12 @@ fn put_delete_reason(test: Test, id: &Id, own: bool, text: &mut Vec<u8>) -> Resu
     append_words(INDENT, &words, text)
 }
 
-// Appends the line of an applied SYSMOD that NPRE names, if that decides the test.
+// Appends the line of an applied SYSMOD that NPRE names, if the test failed because of that.
 fn put_npre_reason(test: Test, id: &Id, applied: bool, text: &mut Vec<u8>) -> Result<(), AllocError>
     ensures { OnOk result (text.new.items ≡ text.old.items ++ reason no_bypass test (NpreFact id.now applied)) }
 {
-    let fails = is_npre_test(test) && applied;
-    if !fails {
+    let is_reason = is_npre_test(test) && applied;
+    if !is_reason {
         return Ok(());
     }
     let code = LineWord::Text(test_text(test));
@@ -271,7 +271,7 @@ fn put_npre_reason(test: Test, id: &Id, applied: bool, text: &mut Vec<u8>) -> Re
     append_words(INDENT, &words, text)
 }
 
-// Appends the line of an applied function whose NPRE names the id, if that decides the test.
+// Appends the line of an applied function whose NPRE names the id, if the test failed because of that.
 fn put_forbidden_reason(test: Test, id: &Id, text: &mut Vec<u8>) -> Result<(), AllocError>
     ensures { OnOk result (text.new.items ≡ text.old.items ++ reason no_bypass test (ForbiddenFact id.now)) }
 {
@@ -312,8 +312,8 @@ fn put_reason(
 // Appends the lines of the failed test that rest on these facts.
 fn put_reasons(
     bypass: &Bypass,
-    facts: &[Fact<'_>],
     test: Test,
+    facts: &[Fact<'_>],
     text: &mut Vec<u8>,
 ) -> Result<(), AllocError>
     ensures { OnOk result (text.new.items
@@ -325,7 +325,7 @@ fn put_reasons(
     Ok(())
 }
 
-/// Appends the lines of a test that an id has failed: the facts and conflicts that decide it.
+/// Appends the lines of a test that an id has failed: a line for each fact or conflict because of which it failed.
 pub(crate) fn put_failed_test(
     grounds: &Grounds<'_, '_>,
     test: Test,
@@ -339,6 +339,6 @@ pub(crate) fn put_failed_test(
         let words = [code, none];
         return append_words(INDENT, &words, text);
     }
-    put_reasons(grounds.bypass, grounds.facts, test, text)?;
-    put_conflicts(grounds.conflicts, test, text)
+    put_reasons(grounds.bypass, test, grounds.facts, text)?;
+    put_conflicts(test, grounds.conflicts, text)
 }

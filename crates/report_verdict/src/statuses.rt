@@ -27,8 +27,8 @@ pub(crate) fn is_clash_test(test: Test) -> bool
     matches!(test, Test::InClash)
 }
 
-// Whether the test depends on other candidates: on their DELETEs, or on clashes with them.
-fn is_test_of_others(test: Test) -> bool
+// Whether the result of the test depends on other candidates: on their DELETEs, or on clashes with them.
+fn depends_on_others(test: Test) -> bool
     ensures { result ≡ by_others test }
 {
     is_delete_test(test) || is_clash_test(test)
@@ -48,11 +48,11 @@ fn has_clash_test(tests: TestSet) -> bool
     tests.in_clash
 }
 
-// Whether each of these tests depends on other candidates.
-fn are_tests_of_others(tests: TestSet) -> bool
+// Whether the result of each of these tests depends on other candidates.
+fn all_depend_on_others(tests: TestSet) -> bool
     ensures { result ≡ list_all by_others (tests_of tests) }
 {
-    tests.iter().all(|test| is_test_of_others(test))
+    tests.iter().all(|test| depends_on_others(test))
 }
 
 // Whether the candidate fails because a DELETE names an id of its chain.
@@ -81,7 +81,7 @@ fn passes_alone(status: &Status) -> bool
 {
     match status {
         Status::Applied | Status::Accepted | Status::Superseded => true,
-        Status::Failed(failure) => are_tests_of_others(failure.tests),
+        Status::Failed(failure) => all_depend_on_others(failure.tests),
         _ => false,
     }
 }
@@ -106,7 +106,7 @@ fn meets(condition: Condition, status: &Status) -> bool
 }
 
 // Adds the id of the line, if its status meets the condition.
-fn push_id_if_meets(
+fn push_id_where(
     condition: Condition,
     line: &ReportLine,
     found: &mut Vec<Id>,
@@ -134,12 +134,12 @@ fn ids_where(
 {
     let mut found = Vec::new(alloc);
     for line in lines {
-        push_id_if_meets(condition, line, &mut found)?;
+        push_id_where(condition, line, &mut found)?;
     }
     Ok(found)
 }
 
-// The other ids: these without `id`.
+// These ids without `id`.
 fn without_id(alloc: Global, id: Id, ids: &[Id]) -> Result<Vec<Id>, AllocError>
     ensures { IfOk result (λ found. found.items ≡ others id ids.now) }
 {

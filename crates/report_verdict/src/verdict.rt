@@ -24,11 +24,11 @@ use report::{Fact, LineWord, ReportLine, Resolution, Status, append_words, statu
 use std::alloc::AllocError;
 use terms::NeedKind;
 
-// What the line of a need says if the facts do not tell why it is open.
+// What the line of a need says if no fact says why the need is open.
 const UNSUPPLIED: &[u8] = b"nothing supplies it";
 
-// Whether the need is of this kind and for this id. It compares the words of the kinds, as its clause does: no two
-// kinds have the same word.
+// Whether the need is of this kind and for this id. The kinds are compared by their words, as in the contract, because
+// no two kinds have the same word.
 fn matches_need(need: &OpenNeed, kind: NeedKind, id: &[u8]) -> bool
     ensures { result ≡ (bytes_eq (need_text need.now.kind) (need_text kind) && bytes_eq need.now.id id.now) }
 {
@@ -102,7 +102,7 @@ fn put_need_line<'a>(
     append_words(INDENT, &words, text)
 }
 
-// Appends the line of an open need with how it could be resolved, if a fact says that.
+// Appends the line of an open need, with how it could be resolved if that is known.
 fn put_need_resolution<'a>(
     need: &'a OpenNeed,
     resolution: Option<&'a Resolution>,
@@ -121,7 +121,7 @@ fn put_need_resolution<'a>(
     }
 }
 
-// Appends the line of an open need of an id that has these facts.
+// Appends the line of an open need, with how the first of these facts about it says that it could be resolved.
 fn put_need<'a>(
     facts: &'a [Fact<'_>],
     need: &'a OpenNeed,
@@ -154,13 +154,13 @@ fn put_tests(
     ensures { OnOk result (text.new.items
         ≡ text.old.items ++ flat_map (test_told (basis_of grounds.now)) (tests_of tests)) }
 {
-    for failed in tests.iter() {
-        put_failed_test(grounds, failed, text)?;
+    for test in tests.iter() {
+        put_failed_test(grounds, test, text)?;
     }
     Ok(())
 }
 
-// Appends the lines of the open needs of an id that has these facts.
+// Appends the lines of the open needs, with how these facts say that they could be resolved.
 fn put_needs<'a>(
     facts: &'a [Fact<'_>],
     needs: &'a [OpenNeed],
@@ -239,6 +239,7 @@ fn put_status(
     ensures { OnOk result (text.new.items
         ≡ text.old.items ++ status_told id (basis_of grounds.now) (status_view status.now)) }
 {
+    // The line begins with two blanks: the one of its prefix and the one before its first word.
     append_words(b" ", &[LineWord::Text(verdict_word(status))], text)?;
     put_failure_if_any(id, grounds, status, text)?;
     put_suppliers_and_bypassed(grounds, status, text)

@@ -22,12 +22,12 @@ abbrev pub type_word : Option Kind → Text
 type_word None = codes "-"
 type_word (Some kind) = kind_text kind
 
-abbrev pub standing_text : Standing → Text
-standing_text (StandsApplied kind) = applied_word kind
-standing_text StandsSuperseded = codes "SUPERSEDED"
-standing_text StandsDeleted = codes "DELETED"
-standing_text StandsReceived = codes "RECEIVED"
-standing_text StandsMissing = codes "MISSING"
+abbrev pub standing_word : Standing → Text
+standing_word (StandsApplied kind) = applied_word kind
+standing_word StandsSuperseded = codes "SUPERSEDED"
+standing_word StandsDeleted = codes "DELETED"
+standing_word StandsReceived = codes "RECEIVED"
+standing_word StandsMissing = codes "MISSING"
 
 -- the word of an answer
 abbrev pub answer_word : Resolution → Text
@@ -75,17 +75,17 @@ hold_lines h o =
     ∷ codes "CLASS" ∷ optional_text h.class ∷ codes "DATE" ∷ optional_text h.date ∷ resolution_words o)
     ++ comment_line h.comment ++ resolution_lines o
 
-abbrev pub rank_text : Rank → Text
-rank_text Itself = codes "ITSELF"
-rank_text Over = codes "OVER"
-rank_text NotOver = codes "NOTOVER"
+abbrev pub rank_word : Rank → Text
+rank_word Itself = codes "ITSELF"
+rank_word Over = codes "OVER"
+rank_word NotOver = codes "NOTOVER"
 
 abbrev pub owned_text : Bool → Text
 owned_text true = codes "OWNED"
 owned_text false = codes "NOTOWNED"
 
 abbrev pub maker_line : Text → Maker → Text
-maker_line word m = inner_line (word ∷ m.id ∷ rank_text m.rank ∷ [])
+maker_line word m = inner_line (word ∷ m.id ∷ rank_word m.rank ∷ [])
 
 -- what the zone has of an element, or - if it has none
 abbrev pub found_words : Option Found → List Text
@@ -102,7 +102,7 @@ change_text false = codes "UPDATES"
 
 -- the lines of a fact
 abbrev pub fact_text : Fact → Text
-fact_text (StandingFact x kind s) = words_line (x ∷ left_in 8 (type_word kind) ∷ standing_text s ∷ [])
+fact_text (StandingFact x kind s) = words_line (x ∷ left_in 8 (type_word kind) ∷ standing_word s ∷ [])
 fact_text (EntryFact kind e) = 32 ∷ 32 ∷ entry_text kind e
 fact_text (VerFact n fmid fit counts) =
     detail_line (codes "VER" ∷ decimal n ∷ codes "FMID" ∷ optional_text fmid ∷ word_if fit (codes "FITS")

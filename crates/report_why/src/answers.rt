@@ -16,9 +16,13 @@ use std::alloc::{AllocError, Global};
 use terms::NeedKind;
 use zones::Zone;
 
-// The id as a list of one if it is applied and the DELETE of the SYSMOD in question does not take it out, otherwise an
-// empty list.
-fn id_if_applied(alloc: Global, asking: &Asking<'_, '_>, id: Id) -> Result<Vec<Id>, AllocError>
+// A list of only the id, if the id remains applied despite the DELETE of the SYSMOD in question; otherwise an empty
+// list.
+fn id_if_remains_applied(
+    alloc: Global,
+    asking: &Asking<'_, '_>,
+    id: Id,
+) -> Result<Vec<Id>, AllocError>
     ensures { IfOk result (λ ids. ids.items ≡ (if is_applied (left_in asking.now) id then id ∷ [] else [])) }
 {
     let mut found = Vec::new(alloc);
@@ -39,9 +43,9 @@ fn suppliers(
     ensures { IfOk result (λ ids. ids.items ≡ suppliers (left_in asking.now) kind id) }
 {
     match kind {
-        NeedKind::Fmid => id_if_applied(alloc, asking, id),
+        NeedKind::Fmid => id_if_remains_applied(alloc, asking, id),
         _ => {
-            let mut found = id_if_applied(alloc, asking, id)?;
+            let mut found = id_if_remains_applied(alloc, asking, id)?;
             let superseders = asking.superseders(alloc, id)?;
             found.extend_from_slice(superseders.as_slice())?;
             Ok(found)
@@ -64,7 +68,8 @@ fn is_waivable(kind: NeedKind) -> bool
     matches!(kind, NeedKind::Pre | NeedKind::Req | NeedKind::Ifreq)
 }
 
-// Whether the requisite of the id is waived: by the SYSMOD that states it, or by the function for which it is stated.
+// Whether the requisite of the id is waived, by the SYSMOD that states the requisite or by the function for which it is
+// stated. Only an applied SYSMOD can have a waived requisite.
 fn is_waived(zone: &Zone, id: Id, requisite: Requisite) -> bool
     ensures { result ≡ is_waived zone.now id requisite }
 {

@@ -29,8 +29,8 @@ fn put_id_lines(word: &[u8], ids: &[Id], text: &mut Vec<u8>) -> Result<(), Alloc
     Ok(())
 }
 
-// Appends a line for each SYSMOD that supplies the requisite, or that would serve it.
-fn put_resolution(resolution: &Resolution, text: &mut Vec<u8>) -> Result<(), AllocError>
+// Appends a line for each SYSMOD that supplies the requisite or, if the requisite is open, would supply it.
+fn put_supplying_ids(resolution: &Resolution, text: &mut Vec<u8>) -> Result<(), AllocError>
     ensures { OnOk result (text.new.items ≡ text.old.items ++ answer_lines (resolution_view resolution.now)) }
 {
     match resolution {
@@ -54,17 +54,18 @@ pub(crate) fn put_requisite(
     let id = LineWord::Text(requisite.id.as_bytes());
     let by = LineWord::Text(requisite.by.as_bytes());
     let resolved = LineWord::Text(resolution_word(resolution));
+    // The line begins with two blanks: the one of its prefix and the one before its first word.
     match &requisite.function {
         Some(function) => {
             let function = LineWord::Text(function.as_bytes());
             let (fmid_word, by_word) = (LineWord::Text(b"FMID"), LineWord::Text(b"BY"));
             let words = [kind, id, fmid_word, function, by_word, by, resolved];
             append_words(b" ", &words, text)?;
-            put_resolution(resolution, text)
+            put_supplying_ids(resolution, text)
         }
         None => {
             append_words(b" ", &[kind, id, resolved], text)?;
-            put_resolution(resolution, text)
+            put_supplying_ids(resolution, text)
         }
     }
 }
@@ -109,7 +110,7 @@ pub(crate) fn put_hold(
             ];
             append_words(b"  HOLD", &words, text)?;
             put_comment(&hold.comment, text)?;
-            put_resolution(resolution, text)
+            put_supplying_ids(resolution, text)
         }
         None => {
             let words = [kind, reason, mark, class_word, class, date_word, date];

@@ -16,7 +16,7 @@ use sysmods::VerChoice;
 use zones::{TakesOut, ZoneLess};
 
 // Whether the chain of FMIDs from the SYSMOD `id` contains `other`.
-fn is_in_chain(vers: &VerChoice<'_>, id: Id, other: Id) -> bool
+fn chain_contains(vers: &VerChoice<'_>, id: Id, other: Id) -> bool
     ensures { result ≡ is_in (chain vers.now.global.now (choice vers.now) id) other }
 {
     vers.chain_contains_any(id, &[other])
@@ -26,6 +26,7 @@ fn is_in_chain(vers: &VerChoice<'_>, id: Id, other: Id) -> bool
 fn deleted_among(alloc: Global, less: &ZoneLess<'_, '_>, ids: &[Id]) -> Result<Vec<Id>, AllocError>
     ensures { IfOk result (λ taken. taken.items ≡ filter (is_gone less.now) ids.now) }
 {
+    // Most SYSMODs delete nothing, so they need no loop over all applied ids.
     if less.dels.is_empty() {
         return Ok(Vec::new(alloc));
     }
@@ -54,7 +55,7 @@ pub(crate) fn delete_facts(
     for del in dels {
         facts.push(Fact::Delete {
             id: *del,
-            own: is_in_chain(scope.vers, asking.id, *del),
+            own: chain_contains(scope.vers, asking.id, *del),
         })?;
     }
     for id in taken.as_slice() {

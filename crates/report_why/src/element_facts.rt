@@ -40,7 +40,7 @@ fn maker(alloc: Global, vers: &VerChoice<'_>, id: Id, other: Id) -> Result<Maker
     })
 }
 
-// What the zone has of an element: its owner, its RMID and its UMIDs, and how the id is related to these.
+// What the zone has of an element: its owner, its RMID and its UMIDs, and how the id is related to each of them.
 fn element_in_zone(
     alloc: Global,
     asking: &Asking<'_, '_>,

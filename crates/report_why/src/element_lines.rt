@@ -3,7 +3,7 @@ ghost use Rattle.std.specs.Prelude.{◌≡◌, ◌++◌, OnOk};
 ghost use Rattle.report_why.specs.FactText.{maker_line, fact_text};
 ghost use Rattle.report.specs.FactViews.{maker_view, element_view};
 
-use crate::fact_words::rank_text;
+use crate::fact_words::rank_word;
 use crate::indent::INDENT;
 use fields::spelling::type_text;
 use report::{ChangedElement, ELEM_TYPE_WIDTH, LineWord, Maker, NAME_WIDTH, append_words};
@@ -16,7 +16,7 @@ fn put_maker(word: &[u8], maker: Maker, text: &mut Vec<u8>) -> Result<(), AllocE
     let words = [
         LineWord::Text(word),
         LineWord::Text(maker.id.as_bytes()),
-        LineWord::Text(rank_text(maker.rank)),
+        LineWord::Text(rank_word(maker.rank)),
     ];
     append_words(INDENT, &words, text)
 }

@@ -1,6 +1,6 @@
 //! How single values of facts are spelled.
 ghost use Rattle.std.specs.Prelude.{◌≡◌};
-ghost use Rattle.report_why.specs.FactText.{type_word, standing_text, answer_word, rank_text};
+ghost use Rattle.report_why.specs.FactText.{type_word, standing_word, answer_word, rank_word};
 ghost use Rattle.report.specs.FactViews.{standing_view, resolution_view, rank_view};
 
 use fields::spelling::kind_text;
@@ -18,8 +18,8 @@ pub(crate) fn kind_or_dash(kind: Option<Kind>) -> &'static [u8]
 }
 
 /// The word for the state of an id.
-pub(crate) fn standing_text(standing: Standing) -> &'static [u8]
-    ensures { result.now ≡ standing_text (standing_view standing) }
+pub(crate) fn standing_word(standing: Standing) -> &'static [u8]
+    ensures { result.now ≡ standing_word (standing_view standing) }
 {
     match standing {
         Standing::Applied(kind) => applied_word(kind),
@@ -43,8 +43,8 @@ pub(crate) fn resolution_word(resolution: &Resolution) -> &'static [u8]
 }
 
 /// The word for how the id is related to a SYSMOD that made an element.
-pub(crate) fn rank_text(rank: Rank) -> &'static [u8]
-    ensures { result.now ≡ rank_text (rank_view rank) }
+pub(crate) fn rank_word(rank: Rank) -> &'static [u8]
+    ensures { result.now ≡ rank_word (rank_view rank) }
 {
     match rank {
         Rank::Itself => b"ITSELF",

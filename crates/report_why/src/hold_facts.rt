@@ -17,7 +17,8 @@ use std::alloc::{AllocError, Global};
 use sysmods_values::Hold;
 use terms::{HoldKind, NeedKind};
 
-// How the reason of an ERROR hold is resolved. Each `Hold` promises that it is an id, so the result is never `None`.
+// How the reason ID of an ERROR hold is resolved. The reason ID of each ERROR hold is the id of a SYSMOD, so the result
+// is never `None`.
 fn error_hold_resolution(
     alloc: Global,
     asking: &Asking<'_, '_>,

@@ -123,7 +123,7 @@ pub(crate) fn needed_pairs(
     Ok(pairs)
 }
 
-// Adds `by` of a pair `(supplier, by)` of `needed_pairs`, if the supplier is this id and `by` is another SYSMOD.
+// Takes a pair `(supplier, by)` of `needed_pairs`. Adds `by`, if the supplier is this id and `by` is another SYSMOD.
 fn push_needing(pair: &(Id, Id), id: Id, found: &mut Vec<Id>) -> Result<(), AllocError>
     ensures { OnOk result (found.new.items ≡ found.old.items ++ needing id pair.now) }
 {

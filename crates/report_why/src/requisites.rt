@@ -55,7 +55,7 @@ fn push_ifreqs(by: Id, condition: &IfReq, found: &mut Vec<Requisite>) -> Result<
     Ok(())
 }
 
-// Adds the requisites of those of the id's own `++IF`s whose function is applied, or is the id itself.
+// Adds the requisites of each of the id's own `++IF`s whose function is applied in its view or is a candidate.
 fn push_own_ifreqs(
     asking: &Asking<'_, '_>,
     conditions: &[IfReq],
@@ -72,7 +72,7 @@ fn push_own_ifreqs(
     Ok(())
 }
 
-// Adds the requisites of those of these `++IF`s, of the SYSMOD `by`, that are for the function.
+// Adds the requisites of each of these `++IF`s of the SYSMOD `by` that is for the function.
 fn push_ifreqs_for(
     function: Id,
     by: Id,
@@ -97,8 +97,8 @@ fn is_another_applied(asking: &Asking<'_, '_>, by: Id) -> bool
     asking.is_applied_in_view(by) && asking.id != by
 }
 
-// Adds what the `++IF`s of those SYSMODs among `ids` require for the function in question that are others and applied
-// in its view.
+// Adds the requisites that `++IF`s state for the function in question, if the SYSMOD that states them is one of `ids`,
+// applied in the function's view, and not the function itself.
 fn push_ifreqs_of_others(
     asking: &Asking<'_, '_>,
     ids: &[Id],
@@ -116,7 +116,8 @@ fn push_ifreqs_of_others(
     Ok(())
 }
 
-// Adds the requisites by `++IF`: the id's own, and if it is a function, those that other applied SYSMODs state for it.
+// Adds the conditional requisites: those of the id's own `++IF`s and, if the id is a function, those that other applied
+// SYSMODs state for it.
 fn push_all_ifreqs(asking: &Asking<'_, '_>, found: &mut Vec<Requisite>) -> Result<(), AllocError>
     ensures { OnOk result (found.new.items ≡ found.old.items ++ conditions (setting_in asking.now) asking.now.id) }
 {
@@ -127,8 +128,8 @@ fn push_all_ifreqs(asking: &Asking<'_, '_>, found: &mut Vec<Requisite>) -> Resul
     push_ifreqs_of_others(asking, asking.applied, found)
 }
 
-// All that the id asks for: its FMID, its requisites, and what would lose its last supplier by its DELETE. The reasons
-// of ERROR holds are left to `hold_facts`.
+// All that the id asks for: its FMID, its requisites, and each requisite of another SYSMOD whose last supplier the id's
+// DELETE would take out. The reason IDs of ERROR holds are not among them: `hold_facts` has these.
 fn requisites(alloc: Global, asking: &Asking<'_, '_>) -> Result<Vec<Requisite>, AllocError>
     ensures { IfOk result (λ found. (lost : List AnId) × AreOrphans (setting_in asking.now) asking.now.id lost
         × (found.items ≡ requisites (setting_in asking.now) asking.now.id lost)) }

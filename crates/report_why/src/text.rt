@@ -5,7 +5,7 @@ ghost use Rattle.report.specs.FactViews.{ver_view, fact_view};
 
 use crate::asked_lines::{put_hold, put_requisite};
 use crate::element_lines::put_element;
-use crate::fact_words::{kind_or_dash, standing_text};
+use crate::fact_words::{kind_or_dash, standing_word};
 use report::{
     Fact, LineWord, NumberedVer, Standing, TYPE_WIDTH, append_words, entry_words, id_or_dash,
 };
@@ -32,7 +32,7 @@ fn put_fact(fact: &Fact<'_>, text: &mut Vec<u8>) -> Result<(), AllocError>
     match fact {
         Fact::Standing { id, kind, standing } => {
             let kind = LineWord::Left(TYPE_WIDTH, kind_or_dash(*kind));
-            let standing = LineWord::Text(standing_text(*standing));
+            let standing = LineWord::Text(standing_word(*standing));
             append_words(id.as_bytes(), &[kind, standing], text)
         }
         Fact::Entry { kind, entry } => append_words(b"  ENTRY", &entry_words(*kind, entry), text),

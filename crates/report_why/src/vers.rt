@@ -29,9 +29,9 @@ fn ver_fact(scope: &Scope<'_, '_>, id: Id, ver: &Ver, number: usize) -> Fact<'st
     })
 }
 
-// Adds the fact of the `++VER`, if that is for the zone's SREL. `facts` has a fact for each earlier one of this SREL,
-// so the number is one more than there are facts.
-fn push_ver(
+// Adds the fact of the `++VER`, if the `++VER` is for the zone's SREL. `facts` has a fact for each earlier `++VER` of
+// this SREL, so the number is one more than there are facts.
+fn push_ver_fact(
     scope: &Scope<'_, '_>,
     id: Id,
     ver: &Ver,
@@ -59,7 +59,7 @@ pub(crate) fn ver_facts(
 {
     let mut facts = Vec::new(alloc);
     for ver in scope.global().vers_of(id) {
-        push_ver(scope, id, ver, &mut facts)?;
+        push_ver_fact(scope, id, ver, &mut facts)?;
     }
     Ok(facts)
 }

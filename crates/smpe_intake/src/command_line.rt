@@ -3,7 +3,7 @@ use std::alloc::AllocError;
 use std::env::FillError;
 use std::rt::Env;
 
-// A word's buffer at first, in bytes; it doubles until it holds the word.
+/// The size of a word's buffer at first, in bytes.
 const FIRST_SIZE: usize = 256;
 
 /// The words of the command line, the first of which is the program's name.

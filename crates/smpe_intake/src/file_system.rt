@@ -9,8 +9,23 @@ use std::{fs, io};
 /// The most files that have drafts at one time: as many as a run may write.
 const MOST_DRAFTS: usize = 6;
 
-/// What a draft has after the name of its file. Each file is written as a draft until all files of the run are.
-const DRAFT_ENDING: &str = ".new";
+/// How far a file of the folder is. Each file is written as a draft until all files of the run are, and then gets its
+/// own name.
+#[derive(Clone, Copy)]
+enum Stage {
+    Draft,
+    Finished,
+}
+
+impl Stage {
+    // What stands after the file's own name.
+    fn ending(self) -> &'static str {
+        match self {
+            Stage::Draft => ".new",
+            Stage::Finished => "",
+        }
+    }
+}
 
 /// The system, as the runtime gives access to it.
 #[derive(Drop)]
@@ -37,7 +52,7 @@ impl IntakeHost for FileSystem<'_> {
         let outcome = self.try_append_to_draft(folder, name, bytes);
         if outcome.is_err() {
             self.drafts = [None; MOST_DRAFTS];
-            self.remove_if_possible(folder, name, DRAFT_ENDING);
+            self.remove_if_possible(folder, name, Stage::Draft);
         }
         outcome
     }
@@ -48,7 +63,7 @@ impl IntakeHost for FileSystem<'_> {
         }
         let outcome = self.replace_all(folder, files);
         if outcome.is_err() {
-            self.remove_all_if_possible(folder, files, DRAFT_ENDING);
+            self.remove_all_if_possible(folder, files, Stage::Draft);
         }
         self.drafts = [None; MOST_DRAFTS];
         outcome
@@ -86,8 +101,8 @@ impl<'a> FileSystem<'a> {
         }
     }
 
-    // The absolute path of a file, without links. Returns `None` if the name leads nowhere, or where nobody may go: no
-    // file of that name can then be read or written.
+    // The absolute path of a file, without links. Returns `None` if no file of that name exists or can be reached: the
+    // program then neither reads nor writes one.
     fn path_of_existing(&self, name: &str) -> io::Result<Option<PathBuf>> {
         match fs::canonicalize(self.rt, name) {
             Ok(path) => Ok(Some(path)),
@@ -102,14 +117,11 @@ impl<'a> FileSystem<'a> {
 
     // Whether the file of this name has a draft of this run.
     fn has_draft(&self, name: &str) -> bool {
-        self.drafts.iter().any(|draft| match draft {
-            Some(draft) => *draft == name,
-            None => false,
-        })
+        self.drafts.iter().any(|draft| *draft == Some(name))
     }
 
-    // Appends to the draft of the file, or writes it anew and remembers that it is of this run. Returns an error if there
-    // are too many drafts.
+    // Appends to the draft of the file, or writes a new one and remembers that it is of this run. Returns an error if
+    // there are too many drafts.
     fn try_append_to_draft(
         &mut self,
         folder: &str,
@@ -121,18 +133,16 @@ impl<'a> FileSystem<'a> {
         }
         fs::create_dir_all(self.rt, folder)?;
         self.write_draft(folder, name, bytes)?;
-        for slot in self.drafts.iter_mut() {
-            if slot.is_none() {
-                *slot = Some(name);
-                return Ok(());
-            }
-        }
-        Err(io::Error::from(ErrorKind::Other))
+        let Some(free) = self.drafts.iter_mut().find(|slot| slot.is_none()) else {
+            return Err(io::Error::from(ErrorKind::Other));
+        };
+        *free = Some(name);
+        Ok(())
     }
 
     // Writes the draft of the file, or appends to it if it is of this run.
     fn write_draft(&self, folder: &str, name: &str, bytes: &[u8]) -> io::Result<()> {
-        let path = self.path_in(folder, name, DRAFT_ENDING)?;
+        let path = self.path_in(folder, name, Stage::Draft)?;
         if !self.has_draft(name) {
             return fs::write(self.rt, path.as_str(), bytes);
         }
@@ -151,14 +161,14 @@ impl<'a> FileSystem<'a> {
             }
         }
         for file in files.iter().rev() {
-            self.remove_if_present(folder, file.name, "")?;
+            self.remove_if_present(folder, file.name, Stage::Finished)?;
             if file.bytes.is_none() {
-                self.remove_if_present(folder, file.name, DRAFT_ENDING)?;
+                self.remove_if_present(folder, file.name, Stage::Draft)?;
             }
         }
         let outcome = self.rename_drafts(folder, files);
         if outcome.is_err() {
-            self.remove_all_if_possible(folder, files, "");
+            self.remove_all_if_possible(folder, files, Stage::Finished);
         }
         outcome
     }
@@ -167,8 +177,8 @@ impl<'a> FileSystem<'a> {
     fn rename_drafts(&self, folder: &str, files: &[NamedFile]) -> io::Result<()> {
         for file in files {
             if file.bytes.is_some() {
-                let from = self.path_in(folder, file.name, DRAFT_ENDING)?;
-                let to = self.path_in(folder, file.name, "")?;
+                let from = self.path_in(folder, file.name, Stage::Draft)?;
+                let to = self.path_in(folder, file.name, Stage::Finished)?;
                 fs::rename(self.rt, from.as_str(), to.as_str())?;
             }
         }
@@ -176,31 +186,32 @@ impl<'a> FileSystem<'a> {
     }
 
     // Removes the file, if it exists.
-    fn remove_if_present(&self, folder: &str, name: &str, ending: &str) -> io::Result<()> {
-        let path = self.path_in(folder, name, ending)?;
+    fn remove_if_present(&self, folder: &str, name: &str, stage: Stage) -> io::Result<()> {
+        let path = self.path_in(folder, name, stage)?;
         if fs::exists(self.rt, path.as_str())? {
             fs::remove_file(self.rt, path.as_str())?;
         }
         Ok(())
     }
 
-    // Removes the files, or their drafts, as far as that can be done.
-    fn remove_all_if_possible(&self, folder: &str, files: &[NamedFile], ending: &str) {
+    // Removes the files, or their drafts, after an error. A file that cannot be removed is left.
+    fn remove_all_if_possible(&self, folder: &str, files: &[NamedFile], stage: Stage) {
         for file in files {
-            self.remove_if_possible(folder, file.name, ending);
+            self.remove_if_possible(folder, file.name, stage);
         }
     }
 
-    // Removes the file, if that can be done.
-    fn remove_if_possible(&self, folder: &str, name: &str, ending: &str) {
-        if let Ok(path) = self.path_in(folder, name, ending) {
+    // Removes the file, or its draft, after an error. A second error is ignored, because the caller returns the first.
+    fn remove_if_possible(&self, folder: &str, name: &str, stage: Stage) {
+        if let Ok(path) = self.path_in(folder, name, stage) {
             let _ = fs::remove_file(self.rt, path.as_str());
         }
     }
 
-    // The path of a file in the folder, with an ending after its name.
-    fn path_in(&self, folder: &str, name: &str, ending: &str) -> io::Result<String> {
+    // The path of the file, or of its draft.
+    fn path_in(&self, folder: &str, name: &str, stage: Stage) -> io::Result<String> {
         let alloc = self.rt.alloc();
+        let ending = stage.ending();
         Ok(format!(in alloc; "{folder}/{name}{ending}")?)
     }
 }

@@ -29,7 +29,8 @@ pub fn first_breach(
     ensures some { IfOk result
         (λ breach. IfSome breach (Breaks global.now (counting global.now zone.now []) zone.now)) }
 {
-    // (for the clauses `none` and `some`: that a text has the form of its type is no rule here)
+    // The clauses `none` and `some` need this: in a closed zone the text of each element has the form of its type. All
+    // zones have such texts, so the code has no rule for that.
     attest_texts(zone);
     find_breach(alloc, global, zone)
 }
@@ -48,8 +49,8 @@ fn find_breach(
     find_breach_by_vers(alloc, &vers, zone)
 }
 
-// Finds the first breach by these `++VER`s, however they were chosen: that of an entry, or else that of an element, or
-// else `None`.
+// Finds the first breach, if these are the `++VER`s that count: the first of an entry, or else the first of an
+// element, or else `None`.
 fn find_breach_by_vers(
     alloc: Global,
     vers: &VerChoice<'_>,

@@ -48,7 +48,7 @@ fn level_fault(zone: &Zone, element: &Element) -> Option<ElementFault>
 }
 
 // The fault of the element's RMID if that does not replace the element, or else of its first UMID that does not update
-// it; `None` if all of them do.
+// it; `None` if there is no such fault.
 fn change_fault(global: &GlobalZone, element: &Element) -> Option<ElementFault>
     ensures { result ≡ change_fault global.now element.now }
 {

@@ -84,8 +84,8 @@ fn support_fault(
     Ok(missing.map(|id| EntryFault::RequisiteNotSupplied(id)))
 }
 
-// The fault of the applied SYSMOD if it is a function and an id in its NPRE is applied, or else if its chain has a
-// deleted id. `None` if neither is so.
+// The fault of the applied SYSMOD if it is a function and an id in its NPRE is applied, or else if its chain contains a
+// deleted id; otherwise `None`.
 fn npre_or_chain_fault(vers: &VerChoice<'_>, zone: &Zone, id: Id) -> Option<EntryFault>
     ensures { result ≡ npre_or_chain_fault vers.now.global.now (choice vers.now) zone.now id }
 {
@@ -100,7 +100,7 @@ fn npre_or_chain_fault(vers: &VerChoice<'_>, zone: &Zone, id: Id) -> Option<Entr
 fn deleted_in_chain(vers: &VerChoice<'_>, zone: &Zone, id: Id) -> Option<Id>
     ensures { result ≡ deleted_in zone.now (chain vers.now.global.now (choice vers.now) id) }
 {
-    vers.chain(id).find(|above| zone.is_deleted(*above))
+    vers.chain(id).find(|fmid| zone.is_deleted(*fmid))
 }
 
 // The first id in the NPRE of the SYSMOD that is applied; `None` if there is none, or the SYSMOD is no function.

@@ -5,8 +5,7 @@ ghost use Rattle.machine.specs.Report.{words_line};
 
 use std::alloc::AllocError;
 
-/// Appends the words to the text, with one blank between each two. Returns an error if memory runs out, as does
-/// `append_line`.
+/// Appends the words to the text, separated by single blanks.
 pub(crate) fn append_joined(words: &[&[u8]], text: &mut Vec<u8>) -> Result<(), AllocError>
     ensures { OnOk result
         (text.new.items ≡ text.old.items ++ join_with_byte 32 (map (λ word. word.now) words.now)) }
@@ -22,7 +21,7 @@ pub(crate) fn append_joined(words: &[&[u8]], text: &mut Vec<u8>) -> Result<(), A
     Ok(())
 }
 
-/// Appends the words to the text, with one blank between each two and the end of a line after them.
+/// Appends the words to the text, separated by single blanks, and ends the line.
 pub(crate) fn append_line(words: &[&[u8]], text: &mut Vec<u8>) -> Result<(), AllocError>
     ensures { OnOk result
         (text.new.items ≡ text.old.items ++ words_line (map (λ word. word.now) words.now)) }

@@ -6,7 +6,7 @@ pub fn verified_is_closed()
     ensures { VerifiedIsClosed }
 {}
 
-/// What the answer calls a breach is one: the clause of a closed zone fails there.
+/// Each breach that the answer reports is one: the zone breaks that rule of a closed zone.
 pub fn told_is_broken()
     ensures { ToldIsBroken }
 {}

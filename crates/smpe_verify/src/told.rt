@@ -21,8 +21,8 @@ pub struct VerifyAnswer {
     pub status: u8,
 }
 
-/// Puts into words what was found: the counts, or the first breach by zone, by SYSMOD or element, and by rule. Returns
-/// an error if memory runs out.
+/// Puts into words what was found: the counts, or the first breach, with its zone, its SYSMOD or element, and the rule
+/// that it breaks.
 pub fn describe_verification(
     alloc: Global,
     verification: Verification,

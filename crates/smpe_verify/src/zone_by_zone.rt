@@ -16,7 +16,7 @@ use zones::Zone;
 /// Loads the global zone and then each zone by its name, rising, until one is not closed. One zone is in memory at a
 /// time, and nothing changes. Returns `Memory` if memory runs out, or a count does not fit, `Fault` if the database
 /// fails, and `NoState` if the rows of the global zone, or of a zone up to the first that is not closed, stand for
-/// none.
+/// no state.
 pub fn verify<S: Alter>(alloc: Global, store: &mut Store<S>) -> Result<Verification, StoreError>
     ensures { Loads S.Store store.old store.new (λ i found. found ≡ verification i) result }
 {

@@ -24,8 +24,7 @@ fn separates_words(byte: u8) -> bool
     byte == b' ' || byte == b','
 }
 
-// Fills the record, of which `column` columns are written, with blanks up to its end. Here and below, an error means
-// that memory runs out.
+// Fills the rest of a record with blanks, after the `column` columns that are written.
 fn fill_record(column: usize, file: &mut Vec<u8>) -> Result<(), AllocError>
     ensures { OnOk result (file.new.items ≡ file.old.items ++ replicate (80 - column) 32) }
 {
@@ -35,8 +34,8 @@ fn fill_record(column: usize, file: &mut Vec<u8>) -> Result<(), AllocError>
     Ok(())
 }
 
-// Appends the byte after `column` columns of a record, and ends the record after a blank or a comma. Returns how many
-// columns of the current record are written then: 0 if it was ended.
+// Appends the byte after `column` columns of a record, and ends the record if the byte is a blank or a comma. Returns
+// how many columns of the current record are written now: 0 if the byte ended a record.
 fn append_byte(byte: u8, column: usize, file: &mut Vec<u8>) -> Result<usize, AllocError>
     requires { column < TEXT_COLUMNS }
     ensures column { IfOk result (λ next. next ≡ (if is_blank byte then 0 else column + 1)) }

@@ -20,9 +20,9 @@ pub struct LoadedZones {
     pub related: Option<Zone>,
 }
 
-/// Loads the global zone, the zone of this name and the one at which an ACCEPT there also looks, and changes nothing.
-/// Returns `Memory` if memory runs out, `Fault` if the database fails, and `NoState` if the rows of one of them stand
-/// for none.
+/// Loads the global zone, the zone of this name and the target zone at which an ACCEPT into that zone also looks, and
+/// changes nothing. Returns `Memory` if memory runs out, `Fault` if the database fails, and `NoState` if the rows of
+/// one of them stand for no state.
 pub fn load_zones<S: Alter>(store: &mut Store<S>, name: ZoneName) -> Result<LoadedZones, StoreError>
     ensures { Loads S.Store store.old store.new (IsFoundIn name) result }
 {
@@ -49,11 +49,11 @@ pub fn load_zones<S: Alter>(store: &mut Store<S>, name: ZoneName) -> Result<Load
 fn related_target_name(heads: &[ZoneHead], name: ZoneName, zone: &Option<Zone>) -> Option<ZoneName>
     ensures { result ≡ related_target_name heads.now name zone.now }
 {
-    match zone {
-        Some(zone) => match zone.kind() {
-            ZoneKind::Target => None,
-            ZoneKind::Distribution => target_name(heads, name),
-        },
-        None => None,
+    let Some(zone) = zone else {
+        return None;
+    };
+    match zone.kind() {
+        ZoneKind::Target => None,
+        ZoneKind::Distribution => target_name(heads, name),
     }
 }

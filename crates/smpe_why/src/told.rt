@@ -27,7 +27,7 @@ use zones::{Candidates, Scope, Zone, choose, deletions};
 // The status of a program that was asked about an unknown zone.
 const REFUSED_STATUS: u8 = 12;
 
-// The year of the installs. Any date does, because no line has it.
+// The year of the installs. Any date will do, because no line contains it.
 const ANY_YEAR: u16 = 2000;
 
 // The day of the installs in that year.
@@ -40,9 +40,9 @@ pub struct WhyAnswer {
     pub status: u8,
 }
 
-/// The answer for the zone that was loaded, or the refusal if there is no such zone. It has for each id of the
-/// question, in their order, its facts and what would become of it by an APPLY (in a distribution zone an ACCEPT) that
-/// selects it, alone or with the others. Returns an error if memory runs out, as do all calls here.
+/// The answer for the zone that was loaded, or the refusal if there is no such zone. For each id of the question, in
+/// order, the answer has the id's facts and what would become of the id in an APPLY (in a distribution zone, an ACCEPT)
+/// that selects it alone or with the others.
 pub fn answer_question(
     alloc: Global,
     loaded_zones: &LoadedZones,
@@ -84,7 +84,7 @@ fn answer_in_zone(
     Ok(answer)
 }
 
-// The answer about these ids, one after the other, by the lines of one command that selects them all.
+// The answer about these ids, in order, from the lines of one command that selects them all.
 fn describe_selected_ids(
     alloc: Global,
     lookups: &Lookups<'_>,
@@ -114,7 +114,7 @@ fn describe_selected_ids(
     describe_ids(alloc, lookups, &scope, lines, ids)
 }
 
-// The answer about the ids, one after the other, by these lines of an install with the candidates of this scope.
+// The answer about the ids, in order, from these lines of an install with the candidates of this scope.
 fn describe_ids<'a>(
     alloc: Global,
     lookups: &Lookups<'a>,
@@ -131,14 +131,14 @@ fn describe_ids<'a>(
         status: 0,
     };
     for id in ids {
-        append_id(alloc, lookups, scope, lines, *id, &mut answer)?;
+        append_id_lines(alloc, lookups, scope, lines, *id, &mut answer)?;
     }
     Ok(answer)
 }
 
-// Adds to the answer the facts of the id, for an install with the candidates of this scope, and what the lines say
-// about it. Raises the status to the code of the facts.
-fn append_id<'a>(
+// Adds to the answer the facts of the id, for an install with the candidates of this scope, and what `lines` say about
+// the id. Raises the status to the code of the facts, if that is greater.
+fn append_id_lines<'a>(
     alloc: Global,
     lookups: &Lookups<'a>,
     scope: &Scope<'_, 'a>,
@@ -153,14 +153,14 @@ fn append_id<'a>(
         × (answer.new.text.items ≡ answer.old.text.items ++ text) × (answer.new.status ≡ max answer.old.status code)) }
 {
     if scope.ids.contains(id) {
-        return append_candidate(alloc, lookups, scope, lines, id, answer);
+        return append_candidate_lines(alloc, lookups, scope, lines, id, answer);
     }
-    append_non_candidate(alloc, lookups, scope, lines, id, answer)
+    append_non_candidate_lines(alloc, lookups, scope, lines, id, answer)
 }
 
-// Adds to the answer the facts of an id that is no candidate of this scope, as they are if it is made one, and what the
-// lines say about it.
-fn append_non_candidate<'a>(
+// Adds to the answer the facts of an id that is no candidate of this scope, as they would be if it were one, and what
+// `lines` say about the id.
+fn append_non_candidate_lines<'a>(
     alloc: Global,
     lookups: &Lookups<'a>,
     scope: &Scope<'_, 'a>,
@@ -184,11 +184,11 @@ fn append_non_candidate<'a>(
         dels: dels.as_slice(),
         bypass: scope.bypass,
     };
-    append_candidate(alloc, lookups, &with_id, lines, id, answer)
+    append_candidate_lines(alloc, lookups, &with_id, lines, id, answer)
 }
 
-// Adds to the answer the facts of a candidate of this scope, and what the lines say about it.
-fn append_candidate<'a>(
+// Adds to the answer the facts of a candidate of this scope, and what `lines` say about the candidate.
+fn append_candidate_lines<'a>(
     alloc: Global,
     lookups: &Lookups<'a>,
     scope: &Scope<'_, 'a>,
@@ -218,7 +218,7 @@ fn append_candidate<'a>(
     put_verdict(id, &grounds, &mut answer.text)
 }
 
-// The lines of an APPLY or ACCEPT by this selection. None of them has the date.
+// The lines of an APPLY or ACCEPT by this selection. No line contains the date, so any date will do.
 fn install_lines(
     alloc: Global,
     lookups: &Lookups<'_>,
@@ -240,7 +240,7 @@ fn install_lines(
         bypass,
         date,
     )?;
-    // (for the clause: the edits of the delta have their form, so they make a new zone of this one)
+    // The contract needs this: the edits of the delta have the form of edits, so they turn this zone into a new one.
     delta.attest();
     Ok(lines)
 }

@@ -50,7 +50,8 @@ fn replace_or_remove_entry<S: Alter>(
     }
 }
 
-// Makes each edit that does not put a new entry. `numbers_before` has the number before each, as above.
+// Makes each edit that does not put a new entry. `numbers_before` has for each the number of the `++VER` that installed
+// the entry which the zone has at its key, or none if there is no such entry.
 fn replace_or_remove_entries<S: Alter>(
     alloc: Global,
     tx: &mut Transaction<'_, S>,

@@ -109,8 +109,9 @@ pub(crate) fn pop_row_of<T: Child>(rows: &mut VecDeque<T>, parent: T::Parent) ->
     rows.pop_front()
 }
 
-/// The `++IF`s of a `++VER`, whose rows it takes off the front of the list. Returns `BadRow` if their numbers do not
-/// count from 1, and `Memory` if memory runs out.
+/// The `++IF`s of a `++VER`, whose rows it takes off the front of the list. `place` is the number of the `++VER` among
+/// those of its SREL. Returns `BadRow` if the numbers of the `++IF`s do not count from 1, and `Memory` if memory runs
+/// out.
 pub(crate) fn take_ifs(
     alloc: Global,
     rows: &mut VecDeque<IfRow>,

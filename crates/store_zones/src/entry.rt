@@ -247,10 +247,8 @@ fn read_applied(columns: &mut Columns<'_>) -> Result<Option<Applied>, ReadError>
         → columns.old ≢ or_null Text (option_map (λ a. a.date) applied) ∷ rest }
     ensures fault { IsErrOf result ReadError.Fault → ⊥ }
 {
-    match columns.optional()? {
-        Some(date) => Ok(Some(Applied::on(date))),
-        None => Ok(None),
-    }
+    let date = columns.optional()?;
+    Ok(date.map(Applied::on))
 }
 
 impl Query for Entries {

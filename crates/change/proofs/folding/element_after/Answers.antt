@@ -22,7 +22,7 @@ behind p xs = take_all (length xs - p) (drop p xs) (omega (arith, length-drop p 
 
 pub fold_changes-requires-clause-changers : goal.fold_changes-requires-clause-changers
 fold_changes-requires-clause-changers c =
-    let P : Id → Type 0 = λ x. IsTrue (has_change c.args.vers.now.global.now x c.args.key.0 c.args.key.1) in
+    let P : Id → Type 0 = λ x. IsTrue (has_change c.args.vers.now.global.now x c.args.elem_type c.args.name) in
     subst (All P) (sym (behind c.in-Some.place c.args.changers.now))
     (All-drop P c.in-Some.place c.args.changers.now c.requires.changers)
 
@@ -34,7 +34,7 @@ fold_changes-requires-clause-order c =
 
 pub fold_changes-requires-clause-some : goal.fold_changes-requires-clause-some
 fold_changes-requires-clause-some c =
-    inr (subst (Any (λ x. IsTrue (has_replacement c.args.vers.now.global.now x c.args.key.0 c.args.key.1)))
+    inr (subst (Any (λ x. IsTrue (has_replacement c.args.vers.now.global.now x c.args.elem_type c.args.name)))
     (sym (behind c.in-Some.place c.args.changers.now)) (rw c.global-2.ensures at c.in-Some.ensures.replaces))
 
 pub returns-in-Some-clause-element : goal.returns-in-Some-clause-element
@@ -44,10 +44,10 @@ returns-in-Some-clause-element c =
     let xs = c.args.changers.now in
     let base = option_copied c.args.base in
     IfOk-weaker c.fold_changes.result _ _
-    (λ e fold. λ i are. folded_after g chosen c.args.key.0 c.args.key.1 xs base e c.requires.order
+    (λ e fold. λ i are. folded_after g chosen c.args.elem_type c.args.name xs base e c.requires.order
     (not_over_itself c.args.vers.now (rw c.global.ensures at c.attest.ensures))
-    (folded_behind g chosen c.args.key.0 c.args.key.1 xs c.in-Some.place base e
-    (subst (λ l. IsFolded g chosen c.args.key.0 c.args.key.1 l None (Some e))
+    (folded_behind g chosen c.args.elem_type c.args.name xs c.in-Some.place base e
+    (subst (λ l. IsFolded g chosen c.args.elem_type c.args.name l None (Some e))
     (behind c.in-Some.place xs) fold)) i are)
     c.fold_changes.ensures.folded
 
@@ -58,9 +58,9 @@ returns-in_ok-copy-in-None-clause-element c =
     let xs = c.args.changers.now in
     let base = option_copied c.args.base in
     IfOk-weaker c.fold_changes-in-None.result _ _
-    (λ e fold. λ i are. folded_after g chosen c.args.key.0 c.args.key.1 xs base e c.requires.order
+    (λ e fold. λ i are. folded_after g chosen c.args.elem_type c.args.name xs base e c.requires.order
     (not_over_itself c.args.vers.now (rw c.global.ensures at c.attest.ensures))
-    (subst (λ o. IsFolded g chosen c.args.key.0 c.args.key.1 xs o (Some e))
+    (subst (λ o. IsFolded g chosen c.args.elem_type c.args.name xs o (Some e))
     (ap (λ (e : Element). Some e) c.in_ok-copy-in-None.ensures ∙ sym (ap option_copied c.unwrap-base.ensures))
     fold) i are)
     c.fold_changes-in-None.ensures.folded

@@ -6,5 +6,5 @@ use Rattle.change.proofs.folding.last_replacement.Goals as goal
 pub returns-clause-none : goal.returns-clause-none
 returns-clause-none c =
     let zero : c.loop-place.place ≡ 0 = omega (arith, c.loop-place-test.false) in
-    subst (λ k. All (λ x. IsFalse (has_replacement c.args.global.now x c.args.key.0 c.args.key.1))
+    subst (λ k. All (λ x. IsFalse (has_replacement c.args.global.now x c.args.elem_type c.args.name))
     (drop k c.args.changers.now)) zero c.loop-place.invariant.back

@@ -7,7 +7,7 @@ use Rattle.change.proofs.folding.last_replacement.Given as goal
 abbrev pub invariant-loop-place : goal.invariant-loop-place
 invariant-loop-place l = record {
   within : l.place ≤ length l.changers;
-  back : All (λ x. IsFalse (has_replacement l.global x l.key.0 l.key.1)) (drop l.place l.changers);
+  back : All (λ x. IsFalse (has_replacement l.global x l.elem_type l.name)) (drop l.place l.changers);
 }
 
 abbrev pub decreases-loop-place : goal.decreases-loop-place

@@ -17,13 +17,13 @@ returns c = λ t.
       same_id = flags.same_id t;
       applycheck = flags.applycheck t;
       holderror = subst (λ (b : Bypass). SaysReasons (codes "HOLDERROR" ∷ codes "HOLDERR" ∷ []) asked b.holderror) seen
-          (c.in_ok-errors.ensures c.if-not-errors.false);
+          (c.in_ok-says_reasons.ensures c.if-not-branch.false);
       holdsystem = subst (λ (b : Bypass). SaysReasons (codes "HOLDSYSTEM" ∷ codes "HOLDSYS" ∷ []) asked
           b.holdsystem) seen
-          (c.in_ok-systems.ensures c.if-not-systems.false);
+          (c.in_ok-says_reasons-2.ensures c.if-not-branch-2.false);
       holduser = subst (λ (b : Bypass). SaysReasons (codes "HOLDUSER" ∷ []) asked b.holduser) seen
-          (c.in_ok-users.ensures c.if-not-users.false);
+          (c.in_ok-says_reasons-3.ensures c.if-not-branch-3.false);
       holdclass = subst (λ (b : Bypass). AreThese b.holdclass (listed (codes "HOLDCLASS" ∷ []) asked)) seen
           (subst (λ l. AreThese l (listed (codes "HOLDCLASS" ∷ []) asked)) c.as_slice.ensures.items
-          (c.in_ok-classes.ensures c.if-not-classes.false));
+          (c.in_ok-says_classes.ensures c.if-not-branch-4.false));
     }

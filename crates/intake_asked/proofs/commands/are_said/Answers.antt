@@ -21,7 +21,7 @@ loop-command-preserved c = λ rest.
     let l = c.loop-command in
     l.invariant (one_said c.args.known.now c.args.wide.now l.command-index c.command-item.result
     (map command_of l.left.now) (map command_of c.in-Some.rest.now) (command_of c.in-Some.first.now) (omega arith)
-    c.command-item.is (ap (map command_of) c.in-Some.ensures.cases.0) (c.in_ok-says.ensures c.if-not-says.false) rest)
+    c.command-item.is (ap (map command_of) c.in-Some.ensures.cases.0) (c.in_ok-says.ensures c.if-not-branch.false) rest)
 
 pub returns : goal.returns
 returns c = λ t.

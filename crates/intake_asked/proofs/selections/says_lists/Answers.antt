@@ -15,12 +15,13 @@ returns c =
     record {
       select = subst (λ (s : Selection). AreThese s.select (selected ops)) seen
           (subst (λ l. AreThese l (selected ops)) c.as_slice.ensures.items
-          (c.in_ok-select.ensures c.if-not-select.false));
+          (c.in_ok-says_select.ensures c.if-not-branch.false));
       group = subst (λ (s : Selection). AreThese s.group (grouped ops)) seen
           (subst (λ l. AreThese l (grouped ops)) c.as_slice-2.ensures.items
-          (c.in_ok-group.ensures c.if-not-group.false));
+          (c.in_ok-says_group.ensures c.if-not-branch-2.false));
       exclude = subst (λ (s : Selection). AreThese s.exclude exclude) seen
-          (subst (λ l. AreThese l exclude) c.as_slice-3.ensures.items (c.in_ok-exclude.ensures c.if-not-exclude.false));
+          (subst (λ l. AreThese l exclude) c.as_slice-3.ensures.items
+          (c.in_ok-says_exclude.ensures c.if-not-branch-3.false));
       forfmid = subst (λ (s : Selection). AreThese s.forfmid fmids) seen
           (subst (λ l. AreThese l fmids) c.as_slice-4.ensures.items (said t));
     }) c.says_forfmid.ensures

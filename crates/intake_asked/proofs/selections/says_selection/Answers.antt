@@ -18,13 +18,13 @@ returns c = λ t.
       ptfs = types.ptfs t;
       apars = types.apars t;
       usermods = types.usermods t;
-      lists = subst (λ k. SaysLists k ops c.args.selection.now) list (c.in_ok-lists.ensures c.if-not-lists.false);
+      lists = subst (λ k. SaysLists k ops c.args.selection.now) list (c.in_ok-says_lists.ensures c.if-not-branch.false);
       sourceid = subst (λ (s : Selection). AreThese s.sourceid (sources given ops)) seen
           (subst (λ l. AreThese l (sources given ops)) c.as_slice.ensures.items
           (subst (λ k. AreThese c.as_slice.result.now (sources k ops)) list
-          (c.in_ok-sources.ensures.same c.if-not-sources.false)));
+          (c.in_ok-says_sources.ensures.same c.if-not-branch-2.false)));
       groupextend = types.groupextend t;
-      known_given = c.in_ok-enough.ensures c.if-not-enough.false;
+      known_given = c.in_ok-knows_kept_out_ids.ensures c.if-not-branch-3.false;
       sources_known = subst (λ k. All (λ m. sources_of k m ≢ []) (listed (codes "SOURCEID" ∷ []) ops)) list
-          (c.in_ok-sources.ensures.known c.if-not-sources.false);
+          (c.in_ok-says_sources.ensures.known c.if-not-branch-2.false);
     }

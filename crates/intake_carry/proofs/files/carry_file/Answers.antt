@@ -12,8 +12,9 @@ returns c =
       of_sysmods = g.outside.items;
       releases = releases;
       outside_are = c.in_ok-append-2.ensures.items;
-      sysmods_become = subst (λ l. Become (SysmodBecomes c.args.options.now.decide c.args.users.now) l g.items.items
-          g.outside.items) c.as_slice-sysmods.ensures.value c.in_ok-gathered.ensures;
+      sysmods_become = subst (λ l. Become (SysmodBecomes c.args.scope.now.options.now.decide
+          c.args.scope.now.users.now) l g.items.items g.outside.items) c.as_slice-sysmods.ensures.value
+          c.in_ok-gathered.ensures;
       releases_become = subst (λ l. Become ReleaseBecomes l [] releases) c.as_slice-4.ensures.value
           c.in_ok-releases.ensures;
     }

@@ -9,7 +9,7 @@ loop-file-init c = (c.new-gathered.ensures.items, c.new-gathered.ensures.outside
 pub loop-file-preserved : goal.loop-file-preserved
 loop-file-preserved c =
     let more = c.in_ok-more.more in
-    become_next (FileBecomes c.args.options.now.decide c.args.users.now) c.args.files.now
+    become_next (FileBecomes c.args.scope.now.options.now.decide c.args.scope.now.users.now) c.args.files.now
     c.loop-file.gathered.items.items
     c.append.new.self.items.items c.loop-file.gathered.outside.items c.append.new.self.outside.items
     c.loop-file.file-index c.file-item.result more.items.items more.outside.items (omega arith) c.file-item.is
@@ -17,6 +17,6 @@ loop-file-preserved c =
 
 pub returns : goal.returns
 returns c =
-    become_whole (FileBecomes c.args.options.now.decide c.args.users.now) c.args.files.now
+    become_whole (FileBecomes c.args.scope.now.options.now.decide c.args.scope.now.users.now) c.args.files.now
     c.loop-file.gathered.items.items
     c.loop-file.gathered.outside.items c.loop-file.file-index (omega arith) c.loop-file.invariant

@@ -8,15 +8,15 @@ loop-stated-init c = (c.new-gathered.ensures.items, c.new-gathered.ensures.outsi
 
 pub loop-stated-preserved : goal.loop-stated-preserved
 loop-stated-preserved c =
-    let part = c.in_ok-part.part in
-    become_next (SysmodBecomes c.args.options.now.decide c.args.users.now) c.args.sysmods.now
+    let carried = c.in_ok-carried.carried in
+    become_next (SysmodBecomes c.args.scope.now.options.now.decide c.args.scope.now.users.now) c.args.sysmods.now
     c.loop-stated.gathered.items.items c.push.new.self.items.items c.loop-stated.gathered.outside.items
-    c.push.new.self.outside.items c.loop-stated.stated-index c.stated-item.result (item_in part.sysmod)
-    part.outside.items (omega arith) c.stated-item.is c.in_ok-push.ensures.items
-    c.in_ok-push.ensures.outside c.in_ok-part.ensures c.loop-stated.invariant
+    c.push.new.self.outside.items c.loop-stated.stated-index c.stated-item.result (item_in carried.sysmod)
+    carried.outside.items (omega arith) c.stated-item.is c.in_ok-push.ensures.items
+    c.in_ok-push.ensures.outside c.in_ok-carried.ensures c.loop-stated.invariant
 
 pub returns : goal.returns
 returns c =
-    become_whole (SysmodBecomes c.args.options.now.decide c.args.users.now) c.args.sysmods.now
+    become_whole (SysmodBecomes c.args.scope.now.options.now.decide c.args.scope.now.users.now) c.args.sysmods.now
     c.loop-stated.gathered.items.items c.loop-stated.gathered.outside.items c.loop-stated.stated-index
     (omega arith) c.loop-stated.invariant

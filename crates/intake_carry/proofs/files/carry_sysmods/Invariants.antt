@@ -4,5 +4,5 @@ use Rattle.intake_carry.specs.Carried.{SysmodBecomes}
 use Rattle.intake_carry.proofs.files.carry_sysmods.Given as goal
 
 abbrev pub invariant-loop-stated : goal.invariant-loop-stated
-invariant-loop-stated l = Become (SysmodBecomes l.options.decide l.users)
+invariant-loop-stated l = Become (SysmodBecomes l.scope.options.now.decide l.scope.users.now)
     (take l.stated-index l.sysmods) l.gathered.items.items l.gathered.outside.items

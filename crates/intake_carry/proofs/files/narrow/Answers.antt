@@ -18,14 +18,14 @@ returns c = λ holds carried.
     gathered.outside.items) c.as_slice.ensures.value c.in_ok-outside.ensures) in
     record {
       sysmods = gathered.items.items;
-      assigns = c.in_ok-narrowed.ensures.items.0;
+      assigns = c.in_ok-finish_narrowed.ensures.items.0;
       outside = gathered.outside.items;
       held = held;
-      items_are = c.in_ok-narrowed.ensures.items.1;
+      items_are = c.in_ok-finish_narrowed.ensures.items.1;
       become = subst (λ d. Become (FileBecomes d (run_of files)) files gathered.items.items gathered.outside.items)
-          c.sort.ensures (subst (λ r. Become (FileBecomes c.sort.new.self.decide r) files gathered.items.items
-          gathered.outside.items) c.in_ok-users.ensures c.in-Ok.ensures);
+          c.sort_members.ensures (subst (λ r. Become (FileBecomes c.sort_members.new.self.decide r) files
+          gathered.items.items gathered.outside.items) c.in_ok-users.ensures c.in-Ok.ensures);
       holds_become = carried (c.in_ok-refuse_bad_statements.ensures.refused c.if-branch.false);
-      in_order = subst (λ l. AreInOrder l c.in_ok-narrowed.narrowed.hold_items.items) all
-          c.in_ok-narrowed.ensures.in_order;
+      in_order = subst (λ l. AreInOrder l c.in_ok-finish_narrowed.field-0.hold_items.items) all
+          c.in_ok-finish_narrowed.ensures.in_order;
     }

@@ -1,5 +1,5 @@
 use Rattle.std.proofs.Common.{None, refl}
-use Rattle.intake_carry.proofs.WithHolds.{with_its_holds}
+use Rattle.intake_carry.proofs.WithHolds.{from_both, with_its_holds}
 use Rattle.intake_carry.proofs.sysmods.carry_with_holds.Goals as goal
 
 pub returns-in_default : goal.returns-in_default
@@ -11,10 +11,11 @@ returns-in_default c = record {
 }
 
 pub returns : goal.returns
-returns c = record {
-  sysmod = c.in_ok-part.part.sysmod;
-  items_are = refl;
-  no_looser = with_its_holds c.args.options.now.decide c.args.users.now c.args.stated.now c.in-Some.sysmod
-      c.in_ok-part.part.sysmod (rw c.in-Some.is at c.in_ok-sysmod.ensures).0 c.in_ok-part.ensures.same;
-  held = c.in_ok-part.ensures.held;
-}
+returns c =
+    from_both c.carry_holds.result (λ part same held. record {
+      sysmod = part.sysmod;
+      items_are = refl;
+      no_looser = with_its_holds c.args.scope.now.options.now.decide c.args.scope.now.users.now c.args.stated.now
+          c.in-Some.sysmod part.sysmod (rw c.in-Some.is at c.in_ok-sysmod.ensures).0 same;
+      held = held;
+    }) c.carry_holds.ensures.same c.carry_holds.ensures.held

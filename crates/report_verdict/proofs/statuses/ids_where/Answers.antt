@@ -10,8 +10,8 @@ pub loop-line-preserved : goal.loop-line-preserved
 loop-line-preserved c =
     grown_more (λ line. id_where (meets c.args.condition) (line_view line)) c.args.lines.now c.loop-line.line-index
     c.line-item.result []
-    c.loop-line.found.items c.push_id_if_meets.new.found.items (omega arith) c.line-item.is c.loop-line.invariant
-    c.in_ok-push_id_if_meets.ensures
+    c.loop-line.found.items c.push_id_where.new.found.items (omega arith) c.line-item.is c.loop-line.invariant
+    c.in_ok-push_id_where.ensures
 
 pub returns : goal.returns
 returns c =

@@ -4,23 +4,23 @@ use Rattle.report_verdict.specs.Verdict.{test_told}
 use Rattle.report_verdict.specs.Grounds.{basis_of}
 use Rattle.report_verdict.proofs.verdict.put_tests.Goals as goal
 
-pub loop-failed-init : goal.loop-failed-init
-loop-failed-init c =
+pub loop-test-init : goal.loop-test-init
+loop-test-init c =
     ap (λ l. c.args.text.now.items ++ flat_map (test_told (basis_of c.args.grounds.now)) l)
-    (c.into_iter-failed-iterator.ensures.into_iter_gives ∙ c.iter-failed-items.ensures)
+    (c.into_iter-test-iterator.ensures.into_iter_gives ∙ c.iter-test-items.ensures)
 
-pub loop-failed-preserved : goal.loop-failed-preserved
-loop-failed-preserved c =
+pub loop-test-preserved : goal.loop-test-preserved
+loop-test-preserved c =
     let told = test_told (basis_of c.args.grounds.now) in
-    let old = c.loop-failed.text.items in
-    let failed = c.in-Some.failed in
+    let old = c.loop-test.text.items in
+    let test = c.in-Some.test in
     let rest = c.next.new.self in
     ap (λ t. t ++ flat_map told rest) c.in_ok-put_failed_test.ensures
-    ∙ append_assoc old (told failed) (flat_map told rest)
-    ∙ ap (λ l. old ++ flat_map told l) (sym c.in-Some.ensures.steps) ∙ c.loop-failed.invariant
+    ∙ append_assoc old (told test) (flat_map told rest)
+    ∙ ap (λ l. old ++ flat_map told l) (sym c.in-Some.ensures.steps) ∙ c.loop-test.invariant
 
 pub returns : goal.returns
 returns c =
     let told = test_told (basis_of c.args.grounds.now) in
-    let text = c.loop-failed.text.items in
-    sym (append-nil text) ∙ ap (λ l. text ++ flat_map told l) (sym c.in-None.ensures.steps.0) ∙ c.loop-failed.invariant
+    let text = c.loop-test.text.items in
+    sym (append-nil text) ∙ ap (λ l. text ++ flat_map told l) (sym c.in-None.ensures.steps.0) ∙ c.loop-test.invariant

@@ -12,9 +12,9 @@ use Rattle.report_why.proofs.asked_lines.put_hold.Goals as goal
 pub returns-in_ok-put_comment-in-Some : goal.returns-in_ok-put_comment-in-Some
 returns-in_ok-put_comment-in-Some c =
     let a = resolution_view c.in-Some.resolution in
-    rw c.in-Some.is (subst (λ (h : Hold). OnOk c.put_resolution.result
-    (c.put_resolution.new.text.items ≡ c.args.text.now.items ++ fact_text (HoldFact h (Some a)))) c.hold.view_is
-    (IfOk-equal c.put_resolution.result c.put_resolution.new.text.items _ _ c.put_resolution.ensures
+    rw c.in-Some.is (subst (λ (h : Hold). OnOk c.put_supplying_ids.result
+    (c.put_supplying_ids.new.text.items ≡ c.args.text.now.items ++ fact_text (HoldFact h (Some a)))) c.hold.view_is
+    (IfOk-equal c.put_supplying_ids.result c.put_supplying_ids.new.text.items _ _ c.put_supplying_ids.ensures
     (hold_answered (the_view c.hold.inside) a c.args.text.now.items c.hold_text.ensures c.as_bytes.ensures.same
     c.class_or_dash.ensures c.date_or_dash.ensures c.resolution_word.ensures c.in_ok-append_words-in-Some.ensures
     c.in_ok-put_comment-in-Some.ensures)))

@@ -15,7 +15,7 @@ indented word (x ∷ xs) = refl
 pub returns-in-Standing : goal.returns-in-Standing
 returns-in-Standing c =
     rw c.in-Standing.is (IfOk-equal c.append_words.result c.append_words.new.text.items _ _ c.append_words.ensures
-    (rw (c.as_bytes.ensures.same, c.kind_or_dash.ensures, c.standing_text.ensures) refl))
+    (rw (c.as_bytes.ensures.same, c.kind_or_dash.ensures, c.standing_word.ensures) refl))
 
 pub returns-in-Entry : goal.returns-in-Entry
 returns-in-Entry c =

@@ -9,7 +9,7 @@ use Rattle.report_why.proofs.vers.ver_facts.Goals as goal
 
 pub loop-ver-preserved : goal.loop-ver-preserved
 loop-ver-preserved c =
-    c.in_ok-push_ver.ensures _ c.loop-ver.invariant
+    c.in_ok-push_ver_fact.ensures _ c.loop-ver.invariant
     ∙ ap (numbered c.args.scope.now c.args.id)
     (passing_next (λ v. bytes_eq v.srel c.args.scope.now.zone.now.srel) c.vers_of-ver-items.result.now
     c.loop-ver.ver-index c.ver-item.result (omega arith) c.ver-item.is)

@@ -8,7 +8,7 @@ loop-id-init c = told_none _ _ c.new.ensures.items
 
 pub loop-id-preserved : goal.loop-id-preserved
 loop-id-preserved c =
-    let it = c.in_ok-append_id.ensures in
+    let it = c.in_ok-append_id_lines.ensures in
     told_more _ c.args.ids.now c.loop-id.id-index c.id-item.result _ _ it.0 _ _ it.1 (omega arith) c.id-item.is
     c.loop-id.invariant it.2 it.3 it.4
 

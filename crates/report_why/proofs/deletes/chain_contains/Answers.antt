@@ -6,7 +6,7 @@ use Rattle.terms.specs.Types.{Id}
 use Rattle.terms.specs.Lookups.{is_in, meets}
 use Rattle.terms.specs.Over.{chain}
 use Rattle.sysmods.specs.Choices.{choice}
-use Rattle.report_why.proofs.deletes.is_in_chain.Goals as goal
+use Rattle.report_why.proofs.deletes.chain_contains.Goals as goal
 
 -- a list has one id in common with another that has no more
 meets_one : (xs : List Id) (z : Id) → meets xs (z ∷ []) ≡ is_in xs z

@@ -7,7 +7,7 @@ use Rattle.terms.specs.Choice.{fits}
 use Rattle.sysmods.specs.Choices.{number_in}
 use Rattle.report.specs.FactViews.{fact_view}
 use Rattle.report_why.proofs.Numbering.{numbered_push}
-use Rattle.report_why.proofs.vers.push_ver.Goals as goal
+use Rattle.report_why.proofs.vers.push_ver_fact.Goals as goal
 
 pub returns-in_ok-push : goal.returns-in_ok-push
 returns-in_ok-push c vs before =

@@ -3,7 +3,7 @@ use Rattle.std.proofs.lemmas.List.{append-nil}
 use Rattle.std.specs.Prelude.{codes}
 use Rattle.std.proofs.lemmas.Result.{IfOk-equal}
 use Rattle.report_why.specs.FactText.{id_lines}
-use Rattle.report_why.proofs.asked_lines.put_resolution.Goals as goal
+use Rattle.report_why.proofs.asked_lines.put_supplying_ids.Goals as goal
 
 pub returns-in-Supplied : goal.returns-in-Supplied
 returns-in-Supplied c =

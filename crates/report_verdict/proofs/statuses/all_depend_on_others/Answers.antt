@@ -2,7 +2,7 @@ use Rattle.std.proofs.Common.{rules, tests}
 use Rattle.std.proofs.lemmas.Iterator.Consumers.{YieldsList-from_first}
 use Rattle.std.proofs.lemmas.Iterator.Search.{all_from_yields_List}
 use Rattle.report_verdict.specs.Conflicts.{by_others}
-use Rattle.report_verdict.proofs.statuses.are_tests_of_others.Goals as goal
+use Rattle.report_verdict.proofs.statuses.all_depend_on_others.Goals as goal
 
 pub returns : goal.returns
 returns c =

@@ -2,7 +2,7 @@ use Rattle.std.proofs.Common.{inr}
 use Rattle.intake_command.specs.Acts.{IsQuiet, Speaks}
 use Rattle.intake_command.specs.Serving.{EndsQuietly}
 use Rattle.intake_command.proofs.Doing.{did, one}
-use Rattle.intake_command.proofs.program.answer_words.Goals as goal
+use Rattle.intake_command.proofs.program.serve_words.Goals as goal
 
 pub returns-in-Err : goal.returns-in-Err
 returns-in-Err g c =

@@ -5,7 +5,7 @@ use Rattle.report.specs.Views.{line_view}
 use Rattle.report.specs.FactViews.{fact_view, facts_view}
 use Rattle.report_why.specs.FactText.{facts_text, facts_code}
 use Rattle.report_verdict.specs.Verdict.{verdict_text}
-use Rattle.smpe_why.proofs.told.append_candidate.Goals as goal
+use Rattle.smpe_why.proofs.told.append_candidate_lines.Goals as goal
 
 pub returns : goal.returns
 returns c =

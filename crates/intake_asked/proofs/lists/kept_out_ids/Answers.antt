@@ -5,7 +5,7 @@ use Rattle.terms.specs.Lookups.{is_in}
 use Rattle.intake_asked.specs.declared.known.KnownSysmod.{KnownSysmod}
 use Rattle.intake_asked.specs.Words.{listed, is_kept_out}
 use Rattle.intake_asked.proofs.Alike.{lent}
-use Rattle.intake_asked.proofs.lists.ids_kept_out.Goals as goal
+use Rattle.intake_asked.proofs.lists.kept_out_ids.Goals as goal
 
 pub returns : goal.returns
 returns c =
