@@ -152,8 +152,8 @@ fn check_fault(line: CommandLine<'_>) -> Option<&'static str> {
     })
 }
 
-// The hint about the list of `--bypass`, which must be the fault if all other values of `why` have their forms. `None` if
-// the words do not have that option.
+// The hint about the list of `--bypass`, which must be at fault if all other values of `why` have their forms. `None`
+// if the words do not have that option.
 fn bypass_hint(alloc: Global, line: CommandLine<'_>) -> Result<Option<String>, AllocError> {
     match line.value("--bypass") {
         Some(value) => Ok(Some(format!(in alloc;
