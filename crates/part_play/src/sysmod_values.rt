@@ -10,8 +10,8 @@ use std::alloc::Global;
 use std::test::Fail;
 use sysmods_values::{Sysmod, Ver};
 
-/// The answer to a question about the first of the file's two SYSMODs, or the first SYSMOD after a change: a part of the
-/// second one or a source is added to it, or its holds are removed.
+/// The answer to a question about the first of the file's two SYSMODs, or the first SYSMOD after a change: a part of
+/// the second one or a source is added to it, or its holds are removed.
 pub(crate) fn read_sysmod(alloc: Global, file: &[u8], action: &str) -> Result<RowText, Fail> {
     let (mut sysmod, mut other) = last_two_sysmods(alloc, file)?;
     let mut out = RowText::new();
@@ -52,8 +52,8 @@ fn move_element(sysmod: &mut Sysmod, other: &mut Sysmod) -> Result<(), Fail> {
     Ok(sysmod.insert_change(change)?)
 }
 
-// Adds a part of the other SYSMOD or a source to this one, or removes the holds of this one. Appends the number that the
-// call returns, or that of the sources.
+// Adds a part of the other SYSMOD or a source to this one, or removes the holds of this one. Appends the number that
+// the call returns, or that of the sources.
 fn change_sysmod(
     alloc: Global,
     sysmod: &mut Sysmod,
