@@ -334,13 +334,11 @@ fn wrong_value_hint(
 // The hint that names the first operand that occurs twice; `None` if none does.
 fn repeated_operand_hint(alloc: Global, words: &[CardWord]) -> Result<Option<String>, AllocError> {
     for (place, word) in words.iter().enumerate().skip(1) {
-        let mut earlier_words = words.iter().take(place);
-        if word.value.is_none()
-            && earlier_words.any(|earlier| earlier.value.is_none()
-                && earlier.operand == word.operand)
-        {
-            let operand = word.operand.as_str();
-            return Ok(Some(format!(in alloc; "{operand} stands there twice")?));
+        for earlier in words.iter().take(place) {
+            if word.value.is_none() && earlier.value.is_none() && earlier.operand == word.operand {
+                let operand = word.operand.as_str();
+                return Ok(Some(format!(in alloc; "{operand} stands there twice")?));
+            }
         }
     }
     Ok(None)

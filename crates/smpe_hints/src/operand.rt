@@ -100,9 +100,10 @@ pub fn operand_hint(alloc: Global, words: &[Vec<u8>]) -> Result<Option<String>, 
         let Some(word) = line.word_at(place) else {
             return Ok(Some(format!(in alloc; "word {place} is not UTF-8")?));
         };
-        if word.starts_with("--")
-            && let Some(hint) = option_hint(alloc, line, place)?
-        {
+        if !word.starts_with("--") {
+            continue;
+        }
+        if let Some(hint) = option_hint(alloc, line, place)? {
             return Ok(Some(hint));
         }
     }

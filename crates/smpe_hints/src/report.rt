@@ -207,10 +207,10 @@ impl ReportWatch {
     ) -> Result<Vec<String>, AllocError> {
         let mut lines = Vec::new(self.alloc);
         for notice in &self.notices {
-            if let Some(line) = notice.hint(self.alloc, CommandLine { words }, files, related)?
-                && !lines.as_slice().contains(&line)
-            {
-                lines.push(line)?;
+            if let Some(line) = notice.hint(self.alloc, CommandLine { words }, files, related)? {
+                if !lines.as_slice().contains(&line) {
+                    lines.push(line)?;
+                }
             }
         }
         Ok(lines)
