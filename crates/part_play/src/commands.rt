@@ -15,7 +15,7 @@ fn put_receive(out: &mut RowText, what: &ReceiveWhat) {
     }
 }
 
-fn put_reasons(out: &mut RowText, reasons: &Reasons, name: &[u8]) {
+fn put_reasons(out: &mut RowText, name: &[u8], reasons: &Reasons) {
     out.put_if(!matches!(reasons, Reasons::None), name);
     if let Reasons::These(list) = reasons {
         out.put(b"(");
@@ -33,9 +33,9 @@ fn put_bypass(out: &mut RowText, bypass: &Bypass) {
     out.put_if(bypass.ifreq, b" IFREQ");
     out.put_if(bypass.same_id, b" ID");
     out.put_if(bypass.applycheck, b" APPLYCHECK");
-    put_reasons(out, &bypass.holderror, b" HOLDERROR");
-    put_reasons(out, &bypass.holdsystem, b" HOLDSYSTEM");
-    put_reasons(out, &bypass.holduser, b" HOLDUSER");
+    put_reasons(out, b" HOLDERROR", &bypass.holderror);
+    put_reasons(out, b" HOLDSYSTEM", &bypass.holdsystem);
+    put_reasons(out, b" HOLDUSER", &bypass.holduser);
     if !bypass.holdclass.is_empty() {
         out.put(b" HOLDCLASS(");
         for class in bypass.holdclass.iter() {
@@ -83,17 +83,15 @@ fn put_command(out: &mut RowText, command: &Command) {
     out.put(b";");
 }
 
-fn put_commands(out: &mut RowText, commands: &[Command]) {
-    for command in commands {
-        put_command(out, command);
-    }
-}
-
 /// The commands of the file, or the record and the code of its first fault.
 pub(crate) fn commands_text(alloc: Global, bytes: &[u8]) -> RowText {
     let mut out = RowText::new();
     match read_cntl(alloc, bytes) {
-        Ok(commands) => put_commands(&mut out, commands.as_slice()),
+        Ok(commands) => {
+            for command in commands.as_slice() {
+                put_command(&mut out, command);
+            }
+        }
         Err(CntlError::Memory) => out.put(b"memory"),
         Err(CntlError::Fault { number, code }) => {
             out.put_number(number);

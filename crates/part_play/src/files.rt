@@ -10,23 +10,23 @@ use rec80::records;
 use std::alloc::Global;
 use std::test::Fail;
 
-/// What this reader makes of the file.
-pub(crate) fn read_file(alloc: Global, name: &str, file: &[u8]) -> Result<RowText, Fail> {
-    match name.as_bytes() {
+/// What the reader with this name reads from the file.
+pub(crate) fn read_file(alloc: Global, reader: &str, file: &[u8]) -> Result<RowText, Fail> {
+    match reader.as_bytes() {
         b"COMMANDS" => Ok(commands_text(alloc, file)),
         b"PTFIN" => Ok(ptfin_text(alloc, file)),
         b"HOLD" => Ok(hold_file_text(alloc, file)),
         b"TEXT" => text_size(alloc, file),
         b"UPDATE" => update_size(alloc, file),
         b"COPY" => copy_sizes(alloc, file),
-        _ => read_records(name, file),
+        _ => read_records(reader, file),
     }
 }
 
-// What this reader makes of the file's records.
-fn read_records(name: &str, file: &[u8]) -> Result<RowText, Fail> {
+// What the reader with this name reads from the file's records.
+fn read_records(reader: &str, file: &[u8]) -> Result<RowText, Fail> {
     let found = records(file)?;
-    match name.as_bytes() {
+    match reader.as_bytes() {
         b"STATEMENT" => Ok(statement_text(found)),
         b"GROUPS" => Ok(group_sizes(found)),
         b"WORDS" => Ok(words_of_commands(found)),
@@ -36,18 +36,18 @@ fn read_records(name: &str, file: &[u8]) -> Result<RowText, Fail> {
     }
 }
 
-/// Reads the file as often as it has bytes, each time one byte more of it, and appends a line each time that it is read
-/// otherwise than before.
+/// Reads the file cut off after each of its bytes, from none to all, and appends a line for each cut from which the
+/// reader reads something else than from the cut before it.
 pub(crate) fn read_cuts(
     alloc: Global,
-    name: &str,
+    reader: &str,
     file: &[u8],
     printed: &mut Vec<u8>,
 ) -> Result<(), Fail> {
     let mut before = RowText::new();
     before.put(b"nothing");
     for len in 0..=file.len() {
-        let now = read_file(alloc, name, &file[..len])?;
+        let now = read_file(alloc, reader, &file[..len])?;
         if now.text() != before.text() {
             put_cut(alloc, len, now.text(), printed)?;
         }
@@ -56,7 +56,7 @@ pub(crate) fn read_cuts(
     Ok(())
 }
 
-// Appends the number of bytes, and how many items are read from them, or the fault.
+// Appends a line with the number of bytes of a cut, and the number of items that were read from it, or its fault.
 fn put_cut(alloc: Global, len: usize, text: &str, printed: &mut Vec<u8>) -> Result<(), Fail> {
     // A semicolon ends each item, and a fault has none.
     let line = match text.split(';').count() {

@@ -11,7 +11,7 @@ use sysmods::{GlobalZone, Overs, Placed, RejectError, ReleaseError, VerChoice};
 use sysmods_values::Hold;
 use terms::HoldKind;
 
-/// What each of the actions, with a comma between two, returns in the global zone that has received the file.
+/// What each of the actions returns in the global zone that has received the file. Commas separate the actions.
 pub(crate) fn read_global(alloc: Global, file: &[u8], actions: &str) -> Result<RowText, Fail> {
     let mut global = zone_that_received(alloc, file)?;
     let mut out = RowText::new();
@@ -23,7 +23,7 @@ pub(crate) fn read_global(alloc: Global, file: &[u8], actions: &str) -> Result<R
     Ok(out)
 }
 
-// The global zone that has received the file.
+// The global zone that has received the SYSMODs of the file. Each `++ASSIGN` is ignored.
 fn zone_that_received(alloc: Global, file: &[u8]) -> Result<GlobalZone, Fail> {
     let mut global = GlobalZone::new(alloc);
     for item in read_ptfin(alloc, file)? {
@@ -52,6 +52,7 @@ fn perform_action(
     Ok(())
 }
 
+// The reason ID of the holds that HOLD adds and RELEASE removes.
 fn test_reason() -> Result<Reason, &'static str> {
     Reason::read(b"WAIT").ok_or("no reason")
 }
@@ -138,8 +139,7 @@ fn put_superseded(
     Ok(())
 }
 
-// Whether the SYSMOD `above` is over `below`: as `VerChoice` says, as `Overs` says when it is asked first, and as it
-// says from its memory.
+// Whether the SYSMOD `above` is over `below`: as `VerChoice` says, as `Overs` computes it, and as `Overs` remembers it.
 fn over_answers(
     alloc: Global,
     vers: &VerChoice<'_>,
@@ -147,12 +147,12 @@ fn over_answers(
     below: Id,
 ) -> Result<[bool; 3], AllocError> {
     let mut overs = Overs::new(alloc, vers);
-    let first = overs.over(alloc, above, below)?;
-    let second = overs.over(alloc, above, below)?;
-    Ok([vers.over(alloc, above, below)?, first, second])
+    let computed = overs.over(alloc, above, below)?;
+    let remembered = overs.over(alloc, above, below)?;
+    Ok([vers.over(alloc, above, below)?, computed, remembered])
 }
 
-// Appends a letter for each answer to whether the first SYSMOD is over the second one.
+// Appends a letter for each answer to the question whether the first SYSMOD is over the second one.
 fn put_over(
     alloc: Global,
     global: &GlobalZone,

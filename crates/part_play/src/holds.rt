@@ -26,9 +26,7 @@ pub(crate) fn put_hold(out: &mut RowText, hold: &Hold) {
     if let Some(comment) = &hold.comment {
         out.put_words(&[comment.as_bytes()]);
     }
-    if hold.internal {
-        out.put(b" internal");
-    }
+    out.put_if(hold.internal, b" internal");
 }
 
 fn put_items(out: &mut RowText, items: &[HoldItem]) {

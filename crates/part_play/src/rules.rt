@@ -6,7 +6,7 @@ use solve::{Rule, Rules, least};
 use std::alloc::Global;
 use std::test::Fail;
 
-// The rule that the word spells, as `1,2>3`.
+// The rule that the word spells, as `1,2>3`: a set that has 1 and 2 must have 3.
 fn parse_rule(alloc: Global, word: &str) -> Result<Rule, Fail> {
     let (these, that) = word.split_once('>').ok_or("no rule")?;
     let that: u32 = that.parse()?;
@@ -22,8 +22,9 @@ fn add_rule(rules: &mut Rules, rule: Rule) -> Result<(), Fail> {
     Ok(rules.add_rule(rule)?)
 }
 
-/// How many numbers there are, and a letter for whether each is in the least set that has the numbers of the start
-/// (`T`) and what the rules give. One number that is not in the start is added after the others.
+/// How many numbers there are, and a letter for each: `T` if it is in the least set that has the numbers of the start
+/// and obeys the rules. The text has a letter for each number, `T` if it is in the start, and then the rules. One more
+/// number, which is not in the start, follows the others.
 pub(crate) fn least_set(alloc: Global, text: &str) -> Result<RowText, Fail> {
     let (letters, words) = text.split_once(' ').ok_or("no rules")?;
     let mut rules = Rules::new(alloc, parse_flags(alloc, letters)?.as_slice())?;

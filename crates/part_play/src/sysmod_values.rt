@@ -1,4 +1,4 @@
-//! What a SYSMOD names, and how it grows by the parts of another one.
+//! What a SYSMOD names, and how parts of another one change it.
 
 use crate::ptfin::put_sysmod;
 use crate::row_text::RowText;
@@ -10,15 +10,15 @@ use std::alloc::Global;
 use std::test::Fail;
 use sysmods_values::{Sysmod, Ver};
 
-/// The answer to a question about the first of the file's two SYSMODs, or the first one after it has taken the named
-/// part of the second one.
-pub(crate) fn read_sysmod(alloc: Global, file: &[u8], text: &str) -> Result<RowText, Fail> {
+/// The answer to a question about the first of the file's two SYSMODs, or the first SYSMOD after a change: a part of
+/// the second one or a source is added to it, or its holds are removed.
+pub(crate) fn read_sysmod(alloc: Global, file: &[u8], action: &str) -> Result<RowText, Fail> {
     let (mut sysmod, mut other) = last_two_sysmods(alloc, file)?;
     let mut out = RowText::new();
-    match text.split_once(' ') {
+    match action.split_once(' ') {
         Some((word, names)) => answer_question(alloc, &sysmod, word, names, &mut out)?,
         None => {
-            grow(alloc, &mut sysmod, &mut other, text, &mut out)?;
+            change_sysmod(alloc, &mut sysmod, &mut other, action, &mut out)?;
             put_sysmod(&mut out, &sysmod);
         }
     }
@@ -35,13 +35,13 @@ fn last_two_sysmods(alloc: Global, file: &[u8]) -> Result<(Sysmod, Sysmod), Fail
     }
 }
 
-// Removes the last `++VER` of the SYSMOD.
-fn remove_ver(other: &mut Sysmod) -> Result<Ver, &'static str> {
-    other.vers.pop().ok_or("no ++VER")
+// Removes and returns the last `++VER` of the SYSMOD.
+fn remove_ver(sysmod: &mut Sysmod) -> Result<Ver, &'static str> {
+    sysmod.vers.pop().ok_or("no ++VER")
 }
 
-// Inserts the last `++IF` of this `++VER` into the first `++VER` of the SYSMOD.
-fn insert_if(sysmod: &mut Sysmod, mut ver: Ver) -> Result<(), Fail> {
+// Moves the last `++IF` of this `++VER` into the first `++VER` of the SYSMOD.
+fn move_condition(sysmod: &mut Sysmod, mut ver: Ver) -> Result<(), Fail> {
     let condition = ver.ifs.pop().ok_or("no ++IF")?;
     Ok(sysmod.push_if(0, condition)?)
 }
@@ -52,25 +52,25 @@ fn move_element(sysmod: &mut Sysmod, other: &mut Sysmod) -> Result<(), Fail> {
     Ok(sysmod.insert_change(change)?)
 }
 
-// Adds a part of the other SYSMOD or a source to this one, or removes its holds, and appends the number that the call
-// returns, if any.
-fn grow(
+// Adds a part of the other SYSMOD or a source to this one, or removes the holds of this one. Appends the number that
+// the call returns, or that of the sources.
+fn change_sysmod(
     alloc: Global,
     sysmod: &mut Sysmod,
     other: &mut Sysmod,
-    part: &str,
+    action: &str,
     out: &mut RowText,
 ) -> Result<(), Fail> {
-    match part.as_bytes() {
+    match action.as_bytes() {
         b"VER" => out.put_number(sysmod.insert_ver(remove_ver(other)?)?),
-        b"IF" => insert_if(sysmod, remove_ver(other)?)?,
+        b"IF" => move_condition(sysmod, remove_ver(other)?)?,
         b"ELEMENT" => move_element(sysmod, other)?,
         b"SOURCE" => {
             sysmod.insert_source(Source::read(b"RSU2404").ok_or("no source")?)?;
             out.put_number(sysmod.sources.len());
         }
         b"HOLDS" => out.put_number(sysmod.take_holds(alloc).len()),
-        _ => return Err(Fail::from("no part has this name")),
+        _ => return Err(Fail::from("no change has this name")),
     }
     out.put(b" ");
     Ok(())
@@ -91,7 +91,7 @@ fn answer_question(
             out.put_if(sysmod.names_function(id), b" as function");
             out.put_if(sysmod.supersedes(id), b" supersedes");
         }
-        b"NAMED" => return put_named(alloc, sysmod, names, out),
+        b"NAMED" => put_named(alloc, sysmod, names, out)?,
         b"FOR" => {
             let (srel, id) = names.split_once(' ').ok_or("no id")?;
             let srel = Srel::read(srel.as_bytes()).ok_or("no SREL")?;

@@ -1,5 +1,5 @@
 //! Systems of numbers: the greatest set that supports itself, and the causers of failures. A system is a letter for
-//! each candidate, which tells whether it is eligible (`T` or `F`), and its needs, as `0<1,2` if 0 needs 1 or 2.
+//! each candidate, which says whether it is eligible (`T` or `F`), and its needs, as `0<1,2` if 0 needs 1 or 2.
 
 use crate::row_text::RowText;
 use crate::rules::least_set;
@@ -9,9 +9,9 @@ use solve::{Kept, Need, Solver, Sweep, System, SystemError, Worklist, causers};
 use std::alloc::Global;
 use std::test::Fail;
 
-/// What this reader finds in the system.
-pub(crate) fn read_system(alloc: Global, name: &str, text: &str) -> Result<RowText, Fail> {
-    match name.as_bytes() {
+/// What the reader with this name finds in the system.
+pub(crate) fn read_system(alloc: Global, reader: &str, text: &str) -> Result<RowText, Fail> {
+    match reader.as_bytes() {
         b"SOLVE" => solve_text(alloc, text),
         b"CHAIN" => solve_chain(alloc, text),
         b"WHOLE" => need_count(alloc, text),
@@ -37,7 +37,7 @@ pub(crate) fn put_flags(out: &mut RowText, flags: &[bool]) {
     }
 }
 
-/// Numbers with a comma between two, if there are any.
+/// The numbers of the text, which commas separate. An empty text has none.
 pub(crate) fn parse_numbers(alloc: Global, text: &str) -> Result<Vec<u32>, Fail> {
     let mut numbers = Vec::new(alloc);
     for word in text.split(',') {
@@ -114,8 +114,8 @@ fn put_causers(alloc: Global, system: &System, kept: &Kept, out: &mut RowText) -
     Ok(())
 }
 
-// How many candidates the second system has, a letter for whether it keeps each of them and the number after them, and
-// the causers in the first system for what the second one keeps.
+// How many candidates the second system has, a letter for each of them and for the number after them that says whether
+// it is kept, and the causers in the first system if the candidates that the second one keeps are kept there.
 fn causers_for_other(alloc: Global, text: &str) -> Result<RowText, Fail> {
     let (first, second) = text.split_once('/').ok_or("two systems")?;
     let kept = Sweep.greatest(alloc, &parse_system(alloc, second.trim())?)?;
@@ -131,7 +131,7 @@ fn causers_for_other(alloc: Global, text: &str) -> Result<RowText, Fail> {
 }
 
 // The needs of a chain: each candidate needs the next one, up to the candidate with the number `last`.
-fn chain(alloc: Global, last: u32) -> Result<Vec<Need>, Fail> {
+fn chain_needs(alloc: Global, last: u32) -> Result<Vec<Need>, Fail> {
     let mut needs = Vec::new(alloc);
     for of in 0..last {
         let any = [of + 1].to_vec(alloc)?;
@@ -156,7 +156,7 @@ fn solve_chain(alloc: Global, text: &str) -> Result<RowText, Fail> {
     let last: u32 = last.parse()?;
     let mut eligible = vec![in alloc; true; last as usize]?;
     eligible.push(letter == "T")?;
-    let mut needs = chain(alloc, last)?;
+    let mut needs = chain_needs(alloc, last)?;
     append_needs(alloc, more, &mut needs)?;
     let system = System::from_needs(eligible, needs)?;
     let mut out = RowText::new();
@@ -166,7 +166,7 @@ fn solve_chain(alloc: Global, text: &str) -> Result<RowText, Fail> {
     Ok(out)
 }
 
-// How many needs a system has that is made of all of them at once, or why it is not made.
+// Makes a system from all of its needs at once. How many needs it has, or why it cannot be made.
 fn need_count(alloc: Global, text: &str) -> Result<RowText, Fail> {
     let (letters, words) = split_at_first(text, " ");
     let mut needs = Vec::new(alloc);

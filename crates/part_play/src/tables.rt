@@ -69,7 +69,7 @@ struct RowReader<'a> {
 }
 
 impl RowReader<'_> {
-    // Appends a line for each text of the row from which something else is read than the row says.
+    // Appends a line for each text of the row from which the reader reads something else than the row says.
     fn put_differences(self, alloc: Global, row: &str, printed: &mut Vec<u8>) -> Result<(), Fail> {
         let (texts, wanted) = row.split_once(" =>").ok_or("no arrow in a row")?;
         for text in texts.split(';') {

@@ -11,9 +11,9 @@ use std::test::Fail;
 /// How many bytes a file of the table BYTES has at most: two records and a byte.
 const MOST_FILE_BYTES: usize = 161;
 
-/// What this reader makes of the text.
-pub(crate) fn read_value(alloc: Global, name: &str, text: &str) -> Result<RowText, Fail> {
-    match name.as_bytes() {
+/// What the reader with this name reads from the text.
+pub(crate) fn read_value(alloc: Global, reader: &str, text: &str) -> Result<RowText, Fail> {
+    match reader.as_bytes() {
         b"FIELD" => Ok(fitting_fields(text)),
         b"DATE" => Ok(date_of_day(text)),
         b"RISING" => list_calls(alloc, text),
@@ -29,8 +29,8 @@ pub(crate) fn read_id(text: &str) -> Result<Id, &'static str> {
     Id::read(text.as_bytes()).ok_or("no id")
 }
 
-// Whether the field of this letter may have this text.
-fn takes_text(letter: u8, text: &[u8]) -> bool {
+// Whether the field with this letter can have this text.
+fn fits_field(letter: u8, text: &[u8]) -> bool {
     match letter {
         b'I' => Id::read(text).is_some(),
         b'S' => Source::read(text).is_some(),
@@ -45,11 +45,11 @@ fn takes_text(letter: u8, text: &[u8]) -> bool {
     }
 }
 
-// The letters of the fields that may have this text.
+// The letters of the fields that can have this text.
 fn fitting_fields(text: &str) -> RowText {
     let mut out = RowText::new();
     for letter in b"ISCRNZLHD" {
-        if takes_text(*letter, text.as_bytes()) {
+        if fits_field(*letter, text.as_bytes()) {
             out.put(&[*letter]);
         }
     }

@@ -69,7 +69,7 @@ pub(crate) fn statement_text(found: Records<'_>) -> RowText {
 }
 
 // Appends the number of records of each statement.
-fn put_groups(out: &mut RowText, mut groups: Groups<'_>) {
+fn put_group_sizes(out: &mut RowText, mut groups: Groups<'_>) {
     for _ in 0..MOST_ITEMS {
         if let Some(group) = groups.next_group() {
             out.put_number(group.records.len());
@@ -81,7 +81,7 @@ fn put_groups(out: &mut RowText, mut groups: Groups<'_>) {
 pub(crate) fn group_sizes(found: Records<'_>) -> RowText {
     let mut out = RowText::new();
     match found.groups() {
-        Ok(groups) => put_groups(&mut out, groups),
+        Ok(groups) => put_group_sizes(&mut out, groups),
         Err(_) => out.put(b"outside"),
     }
     out
@@ -135,7 +135,7 @@ pub(crate) fn pieces_of(found: Records<'_>) -> RowText {
 }
 
 // Appends the first two lines of the list of the statement's first word, and the first byte of the second line. Stops
-// and returns `None` where one is missing.
+// and returns `None` if one is missing.
 fn put_lines(out: &mut RowText, records: &[Record]) -> Option<()> {
     let mut words = statement(&Group { number: 1, records }).ok()?;
     let text = words.next_word().ok()??.list?;

@@ -49,13 +49,15 @@ pub(crate) fn preview(
     printed: &mut Vec<u8>,
 ) -> Result<(), Fail> {
     let ZoneChange { word, delta, .. } = changed(alloc, shop, command)?;
-    if changes_distribution(word) {
-        return put_delta(alloc, DISTRIBUTION, &shop.distribution, &delta, printed);
-    }
-    put_delta(alloc, TARGET, &shop.target, &delta, printed)
+    let (name, zone) = if changes_distribution(word) {
+        (DISTRIBUTION, &shop.distribution)
+    } else {
+        (TARGET, &shop.target)
+    };
+    put_delta(alloc, name, zone, &delta, printed)
 }
 
-// What the command changes in the zones as they are.
+// What the command would change, and its report. The zones stay as they are.
 fn changed(alloc: Global, shop: &Shop, command: &Command) -> Result<ZoneChange, Fail> {
     match command {
         Command::Apply(install) => {

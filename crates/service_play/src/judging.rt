@@ -88,7 +88,7 @@ fn decided(alloc: Global, judged: &Judged<'_>) -> Result<Decided, AllocError>
     judged.decided(alloc, &kept, causers.as_slice())
 }
 
-// Appends a line if the other solver keeps other numbers.
+// Appends a line if `Sweep` keeps other candidates than `Worklist`.
 fn put_sweep_difference(
     alloc: Global,
     judged: &Judged<'_>,

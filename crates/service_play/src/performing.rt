@@ -3,7 +3,7 @@
 use crate::changing::{change, preview};
 use crate::judging::judge;
 use crate::printed::{put_errsysmods, put_zone};
-use crate::putting::{preview_install, preview_removal};
+use crate::putting::{preview_install, preview_restore};
 use crate::receiving::{receive_holds, receive_sysmods};
 use crate::shop::{DISTRIBUTION, Shop, TARGET};
 use cntl::{Command, read_cntl};
@@ -18,10 +18,10 @@ enum StepAction {
     Hold,
     List,
     Errsysmods,
-    /// Installs ids, whatever a command would decide.
+    /// Previews an install of ids, whatever a command would decide.
     Install,
-    /// Removes ids, whatever a command would decide.
-    Remove,
+    /// Previews a restore of ids, whatever a command would decide.
+    Restore,
     With(CommandAction),
 }
 
@@ -58,7 +58,7 @@ fn action_of(name: &str) -> Option<StepAction> {
         b"LIST" => Some(StepAction::List),
         b"ERRSYSMODS" => Some(StepAction::Errsysmods),
         b"PUT" => Some(StepAction::Install),
-        b"TAKE" => Some(StepAction::Remove),
+        b"TAKE" => Some(StepAction::Restore),
         b"JUDGE" => Some(StepAction::With(CommandAction::Judge)),
         b"DELTA" => Some(StepAction::With(CommandAction::Preview)),
         b"CHANGE" => Some(StepAction::With(CommandAction::Change)),
@@ -80,7 +80,7 @@ fn perform_action(
         StepAction::List => put_zones(shop, printed),
         StepAction::Errsysmods => put_errsysmods_of_zones(alloc, shop, printed),
         StepAction::Install => preview_install(alloc, shop, cards, printed),
-        StepAction::Remove => preview_removal(alloc, shop, cards, printed),
+        StepAction::Restore => preview_restore(alloc, shop, cards, printed),
         StepAction::With(action) => {
             perform_command(alloc, shop, action, &read_command(alloc, cards)?, printed)
         }
@@ -102,7 +102,7 @@ fn perform_command(
     }
 }
 
-// The command of these cards, or the last one of several.
+// The command of these cards. If they have several, only the last one counts.
 fn read_command(alloc: Global, cards: &str) -> Result<Command, Fail> {
     let file = card_file(alloc, cards)?;
     let mut commands = read_cntl(alloc, file.as_slice())?;

@@ -3,7 +3,7 @@
 use fields::spelling::{need_text, test_text, type_text};
 use fields::{Id, ZoneName};
 use judge::Judged;
-use judge_system::{Failure, OpenNeed, RequisiteOf, TestSet};
+use judge_system::{Failure, OpenNeed, RequisiteOf};
 use report::{Header, Out, Outcome, ReportLine, errsysmods, write_report};
 use sorted::Edit;
 use std::alloc::{AllocError, Global};
@@ -33,8 +33,7 @@ pub(crate) fn put_ids(word: &[u8], ids: &[Id], text: &mut Vec<u8>) -> Result<(),
 
 /// Appends a line for each requisite that BYPASS covers: the candidate that has it, and the requisite.
 pub(crate) fn put_bypassed(pairs: &[(Id, Id)], text: &mut Vec<u8>) -> Result<(), AllocError> {
-    for pair in pairs {
-        let (of, id) = *pair;
+    for (of, id) in pairs {
         put_line(&[b"BYPASSED", of.as_bytes(), id.as_bytes()], text)?;
     }
     Ok(())
@@ -55,15 +54,9 @@ pub(crate) fn put_needs(needs: &[RequisiteOf], text: &mut Vec<u8>) -> Result<(),
 /// Appends a line for each test that a candidate fails, in the order of the candidates' numbers.
 pub(crate) fn put_failed_tests(judged: &Judged<'_>, text: &mut Vec<u8>) -> Result<(), AllocError> {
     for (id, tests) in judged.ids.iter().zip(judged.tests.iter()) {
-        put_tests(*id, *tests, text)?;
-    }
-    Ok(())
-}
-
-// Appends a line for each test that the candidate fails.
-fn put_tests(id: Id, tests: TestSet, text: &mut Vec<u8>) -> Result<(), AllocError> {
-    for test in tests.iter() {
-        put_line(&[b"FAILS", id.as_bytes(), test_text(test)], text)?;
+        for test in tests.iter() {
+            put_line(&[b"FAILS", id.as_bytes(), test_text(test)], text)?;
+        }
     }
     Ok(())
 }
@@ -106,9 +99,8 @@ pub(crate) fn put_candidates(
     text: &mut Vec<u8>,
 ) -> Result<(), AllocError> {
     put_ids(b"CANDIDATE", candidates.ids.as_slice(), text)?;
-    for left in candidates.left_out.as_slice() {
-        let (id, why) = *left;
-        put_line(&[b"LEFT", id.as_bytes(), not_chosen_text(why)], text)?;
+    for (id, why) in candidates.left_out.as_slice() {
+        put_line(&[b"LEFT", id.as_bytes(), not_chosen_text(*why)], text)?;
     }
     Ok(())
 }

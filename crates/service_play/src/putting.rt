@@ -65,7 +65,7 @@ fn changes_no_element(global: &GlobalZone, id: Id) -> bool
 }
 
 /// Prints what a restore of these ids would change in the target zone, and the zone that it would leave.
-pub(crate) fn preview_removal(
+pub(crate) fn preview_restore(
     alloc: Global,
     shop: &Shop,
     cards: &str,

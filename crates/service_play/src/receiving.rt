@@ -33,13 +33,11 @@ fn receive_item(
         return Err(Fail::from("no SYSMOD"));
     };
     let id = sysmod.id;
-    match global.receive(alloc, sysmod) {
-        Ok(()) => Ok(()),
-        Err(refused) => {
-            let why = format!(in alloc; "{refused}")?;
-            Ok(put_line(&[id.as_bytes(), why.as_bytes()], printed)?)
-        }
+    if let Err(refused) = global.receive(alloc, sysmod) {
+        let why = format!(in alloc; "{refused}")?;
+        put_line(&[id.as_bytes(), why.as_bytes()], printed)?;
     }
+    Ok(())
 }
 
 /// Receives the holds of these cards. It ignores their releases.

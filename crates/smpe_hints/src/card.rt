@@ -19,12 +19,10 @@ struct CardWord {
 }
 
 impl CardWord {
-    // Whether this is the zone as the value of BDY.
+    // Whether this word is the zone, as the value of the operand BDY.
     fn is_boundary(&self, zone: &str) -> bool {
-        match &self.value {
-            Some(value) => self.operand.as_str() == "BDY" && value.as_str() == zone,
-            None => false,
-        }
+        let value = self.value.as_ref();
+        self.operand.as_str() == "BDY" && value.is_some_and(|value| value.as_str() == zone)
     }
 }
 
@@ -124,40 +122,43 @@ impl CardWords {
     }
 
     // Keeps the word that has ended, if there is one: outside parentheses as an operand, and inside as a value of the
-    // last operand. It drops a word of an inner list, as a reason in BYPASS(HOLDUSER(..)).
+    // last operand. A word of an inner list is dropped, as a reason in BYPASS(HOLDUSER(..)).
     fn end_word(&mut self) -> Result<(), AllocError> {
         if self.word.is_empty() {
             return Ok(());
         }
         let word = String::from_str(self.alloc, self.word.as_str())?;
         self.word.clear();
-        if self.depth == 0 {
-            self.operand = String::from_str(self.alloc, word.as_str())?;
-            self.words.push(CardWord {
-                operand: word,
-                value: None,
-            })?;
-        } else if self.depth == 1 {
-            let operand = String::from_str(self.alloc, self.operand.as_str())?;
-            self.words.push(CardWord {
-                operand,
-                value: Some(word),
-            })?;
+        match self.depth {
+            0 => {
+                self.operand = String::from_str(self.alloc, word.as_str())?;
+                self.words.push(CardWord {
+                    operand: word,
+                    value: None,
+                })?;
+            }
+            1 => {
+                let operand = String::from_str(self.alloc, self.operand.as_str())?;
+                self.words.push(CardWord {
+                    operand,
+                    value: Some(word),
+                })?;
+            }
+            _ => {}
         }
         Ok(())
     }
 
     // Whether this is a SET of the zone.
     fn is_set_of(&self, zone: &str) -> bool {
-        let is_set = match self.words.first() {
-            Some(command) => command.operand.as_str() == "SET",
-            None => false,
-        };
-        is_set && self.words.iter().any(|word| word.is_boundary(zone))
+        let command = self.words.first();
+        command.is_some_and(|word| word.operand.as_str() == "SET")
+            && self.words.iter().any(|word| word.is_boundary(zone))
     }
 }
 
-/// The bytes of a record, counted from 1: fewer than 80 if the file ends in it, none if it ends before it.
+/// The bytes of the record with this number, counted from 1: fewer than 80 if the file ends within the record, and none
+/// if the file ends before.
 pub(crate) fn record_bytes(file: &[u8], record: usize) -> &[u8] {
     file.chunks(RECORD)
         .nth(record.saturating_sub(1))
@@ -194,22 +195,19 @@ pub(crate) enum RecordForm {
 }
 
 impl RecordForm {
-    /// The form of a record with these bytes. The first byte that is not ASCII or ends a line decides.
+    /// The form of a record with these bytes. The first byte that is not ASCII or ends a line decides, and if there is
+    /// none, the first one that is not printable.
     pub(crate) fn of_record(record: &[u8]) -> RecordForm {
-        let mut unprintable = None;
-        for (place, &byte) in record.iter().enumerate() {
+        for &byte in record {
             if !byte.is_ascii() {
                 return RecordForm::NotAscii;
             }
             if byte == b'\n' {
                 return RecordForm::LineEnd;
             }
-            if unprintable.is_none() && is_unprintable(byte) {
-                unprintable = Some(place.saturating_add(1));
-            }
         }
-        match unprintable {
-            Some(column) => RecordForm::Unprintable(column),
+        match record.iter().position(|byte| is_unprintable(*byte)) {
+            Some(place) => RecordForm::Unprintable(place.saturating_add(1)),
             None if record.len() < RECORD => RecordForm::Short(record.len()),
             None => RecordForm::Card,
         }
@@ -275,10 +273,9 @@ pub(crate) fn card_fault(
     if let Some(hint) = word_hint {
         return Ok(hint);
     }
-    let name = match words.first() {
-        Some(word) => word.operand.as_str(),
-        None => "the card",
-    };
+    let name = words
+        .first()
+        .map_or("the card", |word| word.operand.as_str());
     let fault = fault_of_code(code);
     format!(in alloc; "{name} {fault}")
 }
@@ -319,8 +316,8 @@ fn wrong_word_hint(alloc: Global, words: &[CardWord]) -> Result<Option<String>, 
     Ok(None)
 }
 
-// The hint that says what a value of this operand should look like; `None` if this value looks so, or the operand takes
-// any value.
+// The hint that says what a value of this operand should look like; `None` if this value has that form, or if the
+// operand takes any value.
 fn wrong_value_hint(
     alloc: Global,
     operand: &str,
@@ -372,20 +369,47 @@ fn takes_ids(word: &str) -> bool {
 
 // Whether some command or statement has this operand.
 fn is_operand(word: &str) -> bool {
-    match word {
-        "BDY" | "SYSMODS" | "HOLDDATA" | "FUNCTIONS" | "PTFS" | "APARS" | "USERMODS" => true,
-        "SOURCEID" | "GROUPEXTEND" | "BYPASS" | "CHECK" | "TEXT" | "ERRSYSMODS" | "VER" => true,
-        "ERROR" | "SYSTEM" | "USER" | "REASON" | "CLASS" | "DATE" | "COMMENT" | "THEN" => true,
-        "DISTLIB" | "SYSLIB" => true,
-        _ => takes_ids(word),
-    }
+    takes_ids(word)
+        || matches!(
+            word,
+            "BDY"
+                | "SYSMODS"
+                | "HOLDDATA"
+                | "FUNCTIONS"
+                | "PTFS"
+                | "APARS"
+                | "USERMODS"
+                | "SOURCEID"
+                | "GROUPEXTEND"
+                | "BYPASS"
+                | "CHECK"
+                | "TEXT"
+                | "ERRSYSMODS"
+                | "VER"
+                | "ERROR"
+                | "SYSTEM"
+                | "USER"
+                | "REASON"
+                | "CLASS"
+                | "DATE"
+                | "COMMENT"
+                | "THEN"
+                | "DISTLIB"
+                | "SYSLIB"
+        )
 }
 
 // Whether the word names a member of BYPASS.
 fn is_bypass_member(word: &str) -> bool {
-    match word {
-        "ID" | "PRE" | "REQ" | "IFREQ" | "APPLYCHECK" => true,
-        "HOLDSYSTEM" | "HOLDUSER" | "HOLDERROR" | "HOLDCLASS" => true,
-        _ => false,
-    }
+    matches!(
+        word,
+        "ID" | "PRE"
+            | "REQ"
+            | "IFREQ"
+            | "APPLYCHECK"
+            | "HOLDSYSTEM"
+            | "HOLDUSER"
+            | "HOLDERROR"
+            | "HOLDCLASS"
+    )
 }

@@ -45,8 +45,8 @@ impl Form {
             }
             Form::Srel => "an SREL is a capital letter and three digits, as Z038",
             Form::Id => "the id of a SYSMOD has seven of A to Z, 0 to 9, $, # and @, as UA00001",
-            Form::Seconds => "a number of seconds is a whole one, at most 9999, as 30",
             Form::Date => "a date is YYYY-MM-DD and a day of the calendar, as 2024-05-17",
+            Form::Seconds => "a number of seconds is a whole one, at most 9999, as 30",
         }
     }
 }
@@ -73,7 +73,8 @@ impl<'a> CommandLine<'a> {
         }
     }
 
-    /// The value of the option where it stands first; `None` if the words do not have it.
+    /// The value of the first option of this name; `None` if the words do not have the option, or have it without a
+    /// value.
     pub(crate) fn value(self, option: &str) -> Option<&'a str> {
         for place in 0..self.words.len() {
             if let Some((name, value)) = self.option_at(place)
@@ -107,10 +108,10 @@ pub fn operand_hint(alloc: Global, words: &[Vec<u8>]) -> Result<Option<String>, 
         }
     }
     match line.word_at(1) {
-        Some("check") => Ok(match check_fault(line) {
-            Some(fault) => Some(String::from_str(alloc, fault)?),
-            None => None,
-        }),
+        Some("check") => match check_fault(line) {
+            Some(fault) => Ok(Some(String::from_str(alloc, fault)?)),
+            None => Ok(None),
+        },
         Some("why") => bypass_hint(alloc, line),
         _ => Ok(None),
     }
@@ -134,7 +135,7 @@ fn option_hint(
     }
 }
 
-// What `check` lacks, or has that does not go together; `None` if there is nothing of the kind.
+// Which option `check` needs but does not have, or which of its options exclude each other; `None` if neither.
 fn check_fault(line: CommandLine<'_>) -> Option<&'static str> {
     Some(match (line.has_option("--db"), line.has_option("--srel")) {
         (true, true) =>
@@ -152,8 +153,8 @@ fn check_fault(line: CommandLine<'_>) -> Option<&'static str> {
     })
 }
 
-// What is wrong with the words of `why`, if all other values have their forms: that leaves the list of `--bypass`.
-// `None` if the words do not have that option.
+// The hint about the list of `--bypass`, which must be at fault if all other values of `why` have their forms. `None`
+// if the words do not have that option.
 fn bypass_hint(alloc: Global, line: CommandLine<'_>) -> Result<Option<String>, AllocError> {
     match line.value("--bypass") {
         Some(value) => Ok(Some(format!(in alloc;

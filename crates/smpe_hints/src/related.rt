@@ -1,4 +1,4 @@
-//! Why the related zone of a zone is refused.
+//! Why a related zone is refused.
 use crate::operand::CommandLine;
 use std::alloc::{AllocError, Global};
 
@@ -21,7 +21,7 @@ pub fn related_name(words: &[Vec<u8>]) -> Option<&str> {
     CommandLine { words }.value("--related")
 }
 
-/// Why the related zone of a zone was refused, by the words of the command line and what the database knows of it.
+/// Why the related zone of a zone was refused, as the command line and the database show.
 pub(crate) fn related_hint(
     alloc: Global,
     line: CommandLine<'_>,

@@ -50,7 +50,7 @@ pub struct ReportWatch {
     /// Whether that command has not ended.
     is_in_command: bool,
     /// How many commands have ended.
-    command_count: usize,
+    ended_commands: usize,
     /// The zone of a SET that was refused, until the next command.
     refused_zone: Option<String>,
     notices: Vec<Notice>,
@@ -65,7 +65,7 @@ impl ReportWatch {
             first_line: None,
             header: String::new(alloc),
             is_in_command: false,
-            command_count: 0,
+            ended_commands: 0,
             refused_zone: None,
             notices: Vec::new(alloc),
         }
@@ -73,15 +73,12 @@ impl ReportWatch {
 
     /// The first line, or no text until it has ended.
     pub fn first_line(&self) -> &str {
-        match &self.first_line {
-            Some(line) => line.as_str(),
-            None => "",
-        }
+        self.first_line.as_ref().map_or("", |line| line.as_str())
     }
 
     /// How many commands have ended.
     pub fn ended_commands(&self) -> usize {
-        self.command_count
+        self.ended_commands
     }
 
     /// The header of the last command, or no text before the first one.
@@ -114,8 +111,8 @@ impl ReportWatch {
 
     // Follows the beginning or the end of a command, and notices what the line says of a card or a refusal. `Cm4` and
     // `Cm5` are faults of the PTFIN and of the hold file, `Cm2` is a zone that is not defined, and `Zn2` a related zone
-    // that does not fit. A SYSMOD may have the word of a command as its id, as RESTORE. Its type and its status follow
-    // it then, and not a zone and CHECK.
+    // that does not fit. A SYSMOD may have the word of a command as its id, as RESTORE. In its line a type and a status
+    // follow the id, but in a header a zone and at most CHECK follow the command.
     fn follow_line(&mut self, line: &str) -> Result<(), AllocError> {
         let mut words = line.split(' ');
         let first = words.next().unwrap_or("");
@@ -136,7 +133,7 @@ impl ReportWatch {
             }
             ("RC", _, None) => {
                 self.is_in_command = false;
-                self.command_count = self.command_count.saturating_add(1);
+                self.ended_commands = self.ended_commands.saturating_add(1);
                 Ok(())
             }
             (command, zone, None | Some("CHECK")) if is_command(command) => {
