@@ -2,7 +2,7 @@
 ghost use Rattle.std.specs.Prelude.{IfOk, IfSome, IsTrue, All};
 ghost use Rattle.intake_elements.specs.Elements.{IsProfileType, IsLacked, IsMadeOf, HasNoLevel};
 
-use crate::element_words::profile_type;
+use crate::element_words::{Target, profile_type};
 use crate::elements::{tell_dropped_operand, whole_change};
 use crate::levels::first_level_operand;
 use crate::modules::{has_faulty_module_operand, is_module_operand, tell_dropped_module_operands};
@@ -99,8 +99,7 @@ fn change_by_stand_in(
         return Ok(None);
     }
     tell_all_operands_dropped(alloc, options, remarks, &subject, element)?;
-    let change = stand_in_change(alloc, remarks, &subject, kind, element)?;
-    Ok(change)
+    stand_in_change(alloc, remarks, &subject, kind, element)
 }
 
 // The change that a statement of the profile states. If it cannot be carried and stand-ins are asked for, a change of
@@ -124,15 +123,8 @@ fn whole_or_short_change(
         return Ok(None);
     };
     let mut element_remarks = Remarks::new(alloc);
-    let whole = whole_change(
-        alloc,
-        options,
-        &mut element_remarks,
-        kind,
-        element,
-        elem_type,
-        name,
-    )?;
+    let target = Target { elem_type, name };
+    let whole = whole_change(alloc, options, &mut element_remarks, kind, element, target)?;
     if whole.is_some() || !options.decide {
         remarks.append(element_remarks)?;
         return Ok(whole);

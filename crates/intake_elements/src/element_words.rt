@@ -9,8 +9,16 @@ ghost use Rattle.intake_elements.specs.Elements.{
   is_source,
 };
 
+use fields::Name;
 use fields::spelling::read_type;
 use terms::{ElemType, Kind};
+
+/// The element that a statement of the profile changes.
+#[derive(Clone, Copy)]
+pub(crate) struct Target {
+    pub(crate) elem_type: ElemType,
+    pub(crate) name: Name,
+}
 
 /// The type of the element that a statement of this word changes, or `None` if the profile lacks the word.
 #[tactic(auto, using(crate::proofs::Targets::lacked))]

@@ -3,7 +3,7 @@ ghost use Rattle.std.specs.Prelude.{◌≡◌, IfOk, IfSome, IsTrue, All, true, 
 ghost use Rattle.terms.specs.Texts.{IsReplacement, IsUpdate};
 ghost use Rattle.intake_elements.specs.Elements.{is_level_operand, HasNoLevel, is_update, IsChangeOf};
 
-use crate::element_words::{is_update, is_update_word};
+use crate::element_words::{Target, is_update, is_update_word};
 use crate::levels::is_level_operand;
 use crate::modules::tell_dropped_module_operands;
 use crate::options::{Libraries, Options};
@@ -304,10 +304,9 @@ fn stated_replacement(
     remarks: &mut Remarks,
     subject: &Subject<'_>,
     element: &WideElement,
-    elem_type: ElemType,
-    name: Name,
+    target: Target,
 ) -> Result<Option<ElemChange>, AllocError>
-    ensures { IfOk result (λ found. IfSome found (IsChangeOf elem_type name false)) }
+    ensures { IfOk result (λ found. IfSome found (IsChangeOf target.elem_type target.name false)) }
 {
     let Some(libraries) = read_libraries(alloc, options, remarks, subject, element)? else {
         return Ok(None);
@@ -315,7 +314,7 @@ fn stated_replacement(
     let Some(cards) = text_cards(alloc, options, remarks, subject, element)? else {
         return Ok(None);
     };
-    let Some(lines) = replacement_lines(alloc, remarks, subject, elem_type, cards)? else {
+    let Some(lines) = replacement_lines(alloc, remarks, subject, target.elem_type, cards)? else {
         return Ok(None);
     };
     let Libraries { distlib, syslib } = libraries;
@@ -325,8 +324,8 @@ fn stated_replacement(
         lines,
     };
     Ok(Some(ElemChange {
-        elem_type,
-        name,
+        elem_type: target.elem_type,
+        name: target.name,
         action,
     }))
 }
@@ -352,10 +351,9 @@ fn stated_update(
     remarks: &mut Remarks,
     subject: &Subject<'_>,
     element: &WideElement,
-    elem_type: ElemType,
-    name: Name,
+    target: Target,
 ) -> Result<Option<ElemChange>, AllocError>
-    ensures { IfOk result (λ found. IfSome found (IsChangeOf elem_type name true)) }
+    ensures { IfOk result (λ found. IfSome found (IsChangeOf target.elem_type target.name true)) }
 {
     tell_dropped_libraries(alloc, remarks, subject, element)?;
     let inline = element.inline.as_slice();
@@ -368,8 +366,8 @@ fn stated_update(
         remarks.tell_left_out(alloc, subject, b"", RemarkReason::TooMany, b"")?;
         return Ok(None);
     }
-    match Update::read(alloc, lines, name.as_bytes()) {
-        Ok(update) => Ok(update_change(elem_type, name, update)),
+    match Update::read(alloc, lines, target.name.as_bytes()) {
+        Ok(update) => Ok(update_change(target.elem_type, target.name, update)),
         Err(TextError::Memory) => Err(AllocError),
         Err(TextError::Fault(_)) => {
             remarks.tell_left_out(alloc, subject, b"", RemarkReason::BadText, b"")?;
@@ -403,21 +401,21 @@ fn stated_change(
     remarks: &mut Remarks,
     kind: Kind,
     element: &WideElement,
-    elem_type: ElemType,
-    name: Name,
+    target: Target,
 ) -> Result<Option<ElemChange>, AllocError>
-    ensures { IfOk result (λ found. IfSome found (IsChangeOf elem_type name (is_update kind element.now.word.items))) }
+    ensures { IfOk result (λ found. IfSome found (IsChangeOf target.elem_type target.name
+        (is_update kind element.now.word.items))) }
 {
     let subject = element_subject(element);
     let word = element.word.as_slice();
     if is_update(kind, word) {
-        return stated_update(alloc, remarks, &subject, element, elem_type, name);
+        return stated_update(alloc, remarks, &subject, element, target);
     }
     if is_update_word(word) {
         remarks.tell_left_out(alloc, &subject, b"", RemarkReason::UpdateInFunction, b"")?;
         return Ok(None);
     }
-    stated_replacement(alloc, options, remarks, &subject, element, elem_type, name)
+    stated_replacement(alloc, options, remarks, &subject, element, target)
 }
 
 /// The change that a statement of the profile states, with its whole text. Returns `None`, with a remark, if it cannot
@@ -428,16 +426,14 @@ pub(crate) fn whole_change(
     remarks: &mut Remarks,
     kind: Kind,
     element: &WideElement,
-    elem_type: ElemType,
-    name: Name,
+    target: Target,
 ) -> Result<Option<ElemChange>, AllocError>
-    ensures { IfOk result (λ found. IfSome found (λ c. IsChangeOf elem_type name
+    ensures { IfOk result (λ found. IfSome found (λ c. IsChangeOf target.elem_type target.name
         (is_update kind element.now.word.items) c × All HasNoLevel element.now.operands.items)) }
 {
     let subject = element_subject(element);
     if !can_drop_all_operands(alloc, options, remarks, &subject, element)? {
         return Ok(None);
     }
-    let change = stated_change(alloc, options, remarks, kind, element, elem_type, name)?;
-    Ok(change)
+    stated_change(alloc, options, remarks, kind, element, target)
 }

@@ -16,12 +16,9 @@ pub(crate) fn is_level_operand(name: &[u8]) -> bool
 pub(crate) fn first_level_operand(operands: &[WideOperand]) -> Option<&WideOperand>
     ensures { IfNone result (All HasNoLevel operands.now) }
 {
-    for operand in operands {
-        if is_level_operand(operand.name.as_slice()) {
-            return Some(operand);
-        }
-    }
-    None
+    operands
+        .iter()
+        .find(|operand| is_level_operand(operand.name.as_slice()))
 }
 
 /// Whether an operand of the element decides whether the SYSMOD can be installed.

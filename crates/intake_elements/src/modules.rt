@@ -83,8 +83,8 @@ pub fn has_faulty_module_operand(element: &WideElement) -> bool {
         .any(|entry| is_module_operand(entry.operand.name.as_slice()))
 }
 
-/// Remarks that DISTMOD and ASSEM are dropped. If stand-ins are asked for, modules have stand-ins, so only a DISTMOD of
-/// an element without modules is dropped.
+/// Remarks that DISTMOD and ASSEM are dropped. If stand-ins are asked for, modules have stand-ins, so only a DISTMOD of an
+/// element without modules is dropped.
 pub(crate) fn tell_dropped_module_operands(
     alloc: Global,
     options: &Options,

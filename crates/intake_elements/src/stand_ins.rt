@@ -32,8 +32,7 @@ fn stand_in_card(place: CardPlace, word: &[u8], name: &[u8]) -> Card {
     for (to, from) in text.iter_mut().take(TEXT_COLUMNS).zip(parts) {
         *to = printable_or_question_mark(*from);
     }
-    let (_, number) = text.split_at_mut(TEXT_COLUMNS);
-    number.copy_from_slice(b"00000100");
+    text[TEXT_COLUMNS..].copy_from_slice(b"00000100");
     Card {
         place,
         text,

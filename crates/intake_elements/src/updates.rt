@@ -18,8 +18,11 @@ enum Control<'a> {
     Other,
 }
 
-/// The number of a record, in eight digits.
-type Number = [u8; 8];
+/// How many digits the number of a record has.
+const NUMBER_DIGITS: usize = 8;
+
+/// The number of a record, in digits.
+type Number = [u8; NUMBER_DIGITS];
 
 // The word before the first blank, and the text that follows the blanks after it.
 fn split_word(text: &[u8]) -> (&[u8], &[u8]) {
@@ -32,11 +35,14 @@ fn split_word(text: &[u8]) -> (&[u8], &[u8]) {
 
 // The number, with leading zeros, or `None` if the text is not one to eight digits.
 fn read_number(text: &[u8]) -> Option<Number> {
-    if text.is_empty() || text.len() > 8 || !text.iter().all(|byte| byte.is_ascii_digit()) {
+    if text.is_empty()
+        || text.len() > NUMBER_DIGITS
+        || !text.iter().all(|byte| byte.is_ascii_digit())
+    {
         return None;
     }
-    let mut number = [b'0'; 8];
-    number[8 - text.len()..].copy_from_slice(text);
+    let mut number = [b'0'; NUMBER_DIGITS];
+    number[NUMBER_DIGITS - text.len()..].copy_from_slice(text);
     Some(number)
 }
 
@@ -48,12 +54,8 @@ fn operand_value<'a>(list: &'a [u8], keyword: &[u8]) -> Option<&'a [u8]> {
 
 // Whether each operand of the list has one of the keywords.
 fn has_only_operands(list: &[u8], keywords: &[&[u8]]) -> bool {
-    for operand in list.split(|byte| *byte == b',') {
-        if !keywords.iter().any(|keyword| operand.starts_with(keyword)) {
-            return false;
-        }
-    }
-    true
+    let mut operands = list.split(|byte| *byte == b',');
+    operands.all(|operand| keywords.iter().any(|keyword| operand.starts_with(keyword)))
 }
 
 // The meaning of a record that begins with `./`.
@@ -82,11 +84,9 @@ fn read_delete(list: &[u8]) -> Control<'_> {
     if !has_only_operands(list, &[b"SEQ1=", b"SEQ2="]) {
         return Control::Other;
     }
-    let (Some(from), Some(to)) = (operand_value(list, b"SEQ1="), operand_value(list, b"SEQ2="))
-    else {
-        return Control::Other;
-    };
-    match (read_number(from), read_number(to)) {
+    let first = operand_value(list, b"SEQ1=").and_then(|text| read_number(text));
+    let last = operand_value(list, b"SEQ2=").and_then(|text| read_number(text));
+    match (first, last) {
         (Some(first), Some(last)) => Control::Delete { first, last },
         _ => Control::Other,
     }

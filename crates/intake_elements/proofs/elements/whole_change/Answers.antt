@@ -1,0 +1,9 @@
+use Rattle.std.proofs.lemmas.Result.{IfOk-weaker}
+use Rattle.std.proofs.lemmas.Option.{IfSome_then}
+use Rattle.intake_elements.proofs.elements.whole_change.Goals as goal
+
+pub returns : goal.returns
+returns c =
+    IfOk-weaker c.stated_change.result _ _ (λ found is.
+    IfSome_then found is (λ change stated. (stated, c.in_ok-can_drop_all_operands.ensures c.if-not-branch.false)))
+    c.stated_change.ensures
