@@ -4,8 +4,8 @@ use intake_cards::{Card, RemarkReason, Remarks, Subject};
 use std::alloc::{AllocError, Global};
 use text80::Line;
 
-/// LIST of a CHANGE, which follows NAME.
-const LIST_OPERAND: &[u8] = b",LIST=";
+// The operand LIST of a CHANGE, before or after NAME.
+const LIST_OPERAND: &[u8] = b"LIST=";
 
 /// A `./` record of an update.
 enum Control<'a> {
