@@ -57,8 +57,10 @@ fn suppliers(
 fn waives(zone: &Zone, by: Id, id: Id) -> bool
     ensures { result ≡ is_in (waived_of zone.now by) id }
 {
-    zone.entry(by)
-        .is_some_and(|entry| entry.waived.contains(id))
+    match zone.entry(by) {
+        Some(entry) => entry.waived.contains(id),
+        None => false,
+    }
 }
 
 // Whether requisites of this kind can be waived.
@@ -76,10 +78,13 @@ fn is_waived(zone: &Zone, id: Id, requisite: Requisite) -> bool
     if !zone.is_applied(id) || !is_waivable(requisite.kind) {
         return false;
     }
-    waives(zone, requisite.by, requisite.id)
-        || requisite
-            .function
-            .is_some_and(|function| waives(zone, function, requisite.id))
+    if waives(zone, requisite.by, requisite.id) {
+        return true;
+    }
+    match requisite.function {
+        Some(function) => waives(zone, function, requisite.id),
+        None => false,
+    }
 }
 
 // Whether the id is received with a `++VER` for the zone, and the zone neither supplies it nor has deleted it.
