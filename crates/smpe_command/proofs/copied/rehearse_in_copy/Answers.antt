@@ -10,8 +10,8 @@ returns-in-Some g c = rw c.in-Some.is (inr (
   c.run_in_copy.ensures,
 ))
 
-pub returns : goal.returns
-returns g c = rw c.in-None.is (inr (
+pub returns-in_ok-cntl-in-None : goal.returns-in_ok-cntl-in-None
+returns-in_ok-cntl-in-None g c = rw c.in-None.is (inr (
   c.any_date.result,
   tt,
   subst (λ (cntl : List _). TriesCopied g.H.Host memory_disk g.O.Sink c.args.host.now c.args.copy.now

@@ -10,8 +10,8 @@ returns-in-Some g c = rw c.in-Some.is (inr (
   inr c.run_in_empty_system.ensures,
 ))
 
-pub returns : goal.returns
-returns g c = rw c.in-None.is (inr (
+pub returns-in_ok-cntl-in-None : goal.returns-in_ok-cntl-in-None
+returns-in_ok-cntl-in-None g c = rw c.in-None.is (inr (
   c.any_date.result,
   tt,
   inr (subst (λ (cntl : List _). JobsInMemory g.O.Sink (set_jobs c.args.srel c.any_date.result cntl
