@@ -22,7 +22,8 @@ fn put_ver(out: &mut RowText, ver: &Ver) {
 }
 
 fn put_change(out: &mut RowText, change: &ElemChange) {
-    out.put_words(&[type_text(change.elem_type), change.name.as_bytes()]);
+    out.put_words(&[type_text(change.elem_type)]);
+    out.put_words(&[change.name.as_bytes()]);
     let records = match &change.action {
         Action::Replaces {
             distlib,

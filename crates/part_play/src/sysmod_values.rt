@@ -48,8 +48,10 @@ fn move_condition(sysmod: &mut Sysmod, mut ver: Ver) -> Result<(), Fail> {
 
 // Moves the last element statement of the other SYSMOD into this one.
 fn move_element(sysmod: &mut Sysmod, other: &mut Sysmod) -> Result<(), Fail> {
-    let change = other.changes.pop().ok_or("no element")?;
-    Ok(sysmod.insert_change(change)?)
+    match other.changes.pop() {
+        Some(change) => Ok(sysmod.insert_change(change)?),
+        None => Err(Fail::from("no element")),
+    }
 }
 
 // Adds a part of the other SYSMOD or a source to this one, or removes the holds of this one. Appends the number that

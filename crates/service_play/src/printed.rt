@@ -54,6 +54,7 @@ pub(crate) fn put_needs(needs: &[RequisiteOf], text: &mut Vec<u8>) -> Result<(),
 /// Appends a line for each test that a candidate fails, in the order of the candidates' numbers.
 pub(crate) fn put_failed_tests(judged: &Judged<'_>, text: &mut Vec<u8>) -> Result<(), AllocError> {
     for (id, tests) in judged.ids.iter().zip(judged.tests.iter()) {
+        let id = *id;
         for test in tests.iter() {
             put_line(&[b"FAILS", id.as_bytes(), test_text(test)], text)?;
         }
@@ -99,8 +100,9 @@ pub(crate) fn put_candidates(
     text: &mut Vec<u8>,
 ) -> Result<(), AllocError> {
     put_ids(b"CANDIDATE", candidates.ids.as_slice(), text)?;
-    for (id, why) in candidates.left_out.as_slice() {
-        put_line(&[b"LEFT", id.as_bytes(), not_chosen_text(*why)], text)?;
+    for left in candidates.left_out.as_slice() {
+        let (id, why) = *left;
+        put_line(&[b"LEFT", id.as_bytes(), not_chosen_text(why)], text)?;
     }
     Ok(())
 }
