@@ -1,16 +1,11 @@
 -- Acts one after the other.
 use Rattle.std.proofs.Common.{List, [], ◌∷◌, ◌++◌, Result, Ok, Err, subst, refl}
 use Rattle.std.specs.List.{All}
-use Rattle.std.specs.Result.{OnErr, OnOk}
+use Rattle.std.specs.Result.{OnErr}
 use Rattle.std.proofs.lemmas.List.Elements.{All-append, All-cons, All-nil}
 use Rattle.intake_command.specs.Acts.{HostAct, IsQuiet}
 use Rattle.intake_command.specs.Done.{LeadTo, HasDone}
 use Rattle.intake_command.specs.declared.surroundings.IntakeHost.{Ghosts}
-
--- what is so at a value
-pub on_ok : {T E P : Type 0} (r : Result T E) → P → OnOk r P
-on_ok (Ok value) p = p
-on_ok (Err error) p = tt
 
 -- what is so at an error
 pub on_err : {T E P : Type 0} (r : Result T E) → P → OnErr r P

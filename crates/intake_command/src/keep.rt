@@ -21,34 +21,26 @@ use std::alloc::Global;
 /// How many items of a hold file are printed and read back at a time.
 const ITEMS_AT_A_TIME: usize = 512;
 
-/// What a run over files of SYSMODs and holds puts into the folder.
-#[derive(Drop)]
-pub struct ServiceContents<'a> {
-    /// The items of `ptfin`.
-    pub items: &'a [Item],
-    /// The items of `hold`.
-    pub hold_items: &'a [HoldItem],
-    /// The bytes of `stand-ins`, or `None` if that file of an earlier run is to be removed.
-    pub stand_ins: Option<Vec<u8>>,
-    /// The bytes of `remarks` that follow those of its draft.
-    pub remarks: Vec<u8>,
-}
-
-/// Puts the files of a run over SYSMODs and holds into the folder. Returns `NotReadBack` if the records of a file are
-/// not read back as its items, and `CannotWrite` if the files cannot be written into the folder.
+/// Puts the items into `ptfin`, the holds and releases into `hold`, and the remarks into `remarks`, after those of its
+/// draft. `stand_ins` are the bytes of `stand-ins`. Without them that file of an earlier run is removed. Returns
+/// `NotReadBack` if the records of a file are not read back as its items, and `CannotWrite` if the folder does not take
+/// the files.
 pub fn keep_service<H: IntakeHost>(
     alloc: Global,
     host: &mut H,
     folder: &str,
-    contents: ServiceContents<'_>,
+    meant: &[Item],
+    held: &[HoldItem],
+    stand_ins: Option<Vec<u8>>,
+    remarks: Vec<u8>,
 ) -> Result<(), IntakeFault>
     ensures ok { OnOk result (KeepsFiles H.IntakeHost host.old folder.now
-        (IsServiceFiles (items contents.items.now) (hold_files.items contents.hold_items.now)) host.new) }
+        (IsServiceFiles (items meant.now) (hold_files.items held.now)) host.new) }
     ensures err { OnErr result (KeepsNothing H.IntakeHost host.old folder.now host.new) }
 {
-    let ptfin = ptfin_records(alloc, contents.items)?;
-    let hold = hold_records(alloc, contents.hold_items)?;
-    let files = service_files(ptfin, hold, contents.stand_ins, contents.remarks);
+    let ptfin = ptfin_records(alloc, meant)?;
+    let hold = hold_records(alloc, held)?;
+    let files = service_files(ptfin, hold, stand_ins, remarks);
     put_files(host, folder, &files)
 }
 
@@ -122,8 +114,8 @@ fn part_records(alloc: Global, meant: &[HoldItem]) -> Result<Vec<u8>, IntakeFaul
     Ok(bytes)
 }
 
-/// Puts the command file into `cntl`, and its remarks into `cntl.remarks`. Returns `CannotWrite` if they cannot be
-/// written into the folder.
+/// Puts the command file into `cntl`, and its remarks into `cntl.remarks`. Returns `CannotWrite` if the folder does not
+/// take them.
 pub fn keep_commands<H: IntakeHost>(
     host: &mut H,
     folder: &str,

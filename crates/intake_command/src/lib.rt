@@ -18,7 +18,7 @@ mod statements;
 mod surroundings;
 
 pub use files::NamedFile;
-pub use keep::{ServiceContents, keep_commands, keep_remarks, keep_service};
+pub use keep::{keep_commands, keep_remarks, keep_service};
 pub use program::command;
 pub use same::{are_same_hold_items, are_same_items};
 pub use statements::{hold_file, ptfin};

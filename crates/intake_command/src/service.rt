@@ -11,7 +11,7 @@ ghost use Rattle.intake_command.specs.Done.{HasDone};
 ghost use Rattle.intake_command.specs.Serving.{AreRead, ServesFiles, KeepsService, DraftsRemarks, IsWithin, folder_of};
 
 use crate::host_calls::{print_summary, read_input};
-use crate::keep::{ServiceContents, keep_service};
+use crate::keep::keep_service;
 use crate::members::relfile_members;
 use crate::surroundings::IntakeHost;
 use intake_cards::RemarkList;
@@ -122,7 +122,8 @@ fn read_file<H: IntakeHost>(
     ensures err { OnErr result (HasDone H.IntakeHost (All IsQuiet) host.old host.new) }
 {
     let bytes = read_input(alloc, host, name)?;
-    read_file_statements(alloc, inputs, asked, name, bytes, held)
+    let file = read_file_statements(alloc, inputs, asked, name, bytes, held)?;
+    Ok(file)
 }
 
 // The statements of a file of these bytes. Returns `NoCards` if the bytes cannot be read as cards, `Statements` if the
@@ -232,13 +233,7 @@ fn keep_files<H: IntakeHost>(
     let folder = asked.out.as_str();
     let reading_lines = inputs.take_reading_lines(alloc);
     let lines = draft_remarks(alloc, host, folder, inputs, made.remarks, reading_lines)?;
-    let contents = ServiceContents {
-        items: items.as_slice(),
-        hold_items: hold_items.as_slice(),
-        stand_ins,
-        remarks: lines,
-    };
-    keep_service(alloc, host, folder, contents)?;
+    keep_service(alloc, host, folder, &items, &hold_items, stand_ins, lines)?;
     Ok(())
 }
 

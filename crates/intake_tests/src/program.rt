@@ -1,7 +1,7 @@
 //! The program over files in memory: statuses, what is left in the folder, and what is told on standard error.
 
 use fields::{Id, Reason};
-use intake_command::{IntakeHost, NamedFile, ServiceContents, command, keep_service};
+use intake_command::{IntakeHost, NamedFile, command, keep_service};
 use intake_words::IntakeFault;
 use mcs::HoldItem;
 use std::alloc::Global;
@@ -257,13 +257,7 @@ fn writes_nothing_that_is_not_read_back(rt: HostRuntime) -> Result<(), Fail> {
     ] {
         let mut memory = Memory::new(alloc);
         let holds = held(alloc, comment)?;
-        let contents = ServiceContents {
-            items: &[],
-            hold_items: holds.as_slice(),
-            stand_ins: None,
-            remarks: Vec::new(alloc),
-        };
-        let kept = keep_service(alloc, &mut memory, "d", contents);
+        let kept = keep_service(alloc, &mut memory, "d", &[], &holds, None, Vec::new(alloc));
         assert_eq!(rt; kept.is_ok(), is_kept, "at {comment}");
         assert_eq!(rt;
             matches!(kept, Err(IntakeFault::NotReadBack(_))),

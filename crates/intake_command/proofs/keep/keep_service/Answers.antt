@@ -13,8 +13,8 @@ returns-clause-ok g c =
       (
         c.in_ok-ptfin.ptfin.items,
         c.in_ok-hold.hold.items,
-        c.args.contents.remarks.items,
-        option_map (λ bytes. bytes.items) c.args.contents.stand_ins,
+        c.args.remarks.items,
+        option_map (λ bytes. bytes.items) c.args.stand_ins,
         c.in_ok-ptfin.ensures,
         c.in_ok-hold.ensures,
         c.service_files-files.ensures,
@@ -27,11 +27,11 @@ returns-clause-err g c =
     on_err_weaker c.put_files.result (λ lost. inr (
       map named c.service_files-files.result,
       lost.0,
-      service_outputs (ptfin.items c.args.contents.items.now) (hold.items c.args.contents.hold_items.now) _ (
+      service_outputs (ptfin.items c.args.meant.now) (hold.items c.args.held.now) _ (
         c.in_ok-ptfin.ptfin.items,
         c.in_ok-hold.hold.items,
-        c.args.contents.remarks.items,
-        option_map (λ bytes. bytes.items) c.args.contents.stand_ins,
+        c.args.remarks.items,
+        option_map (λ bytes. bytes.items) c.args.stand_ins,
         c.in_ok-ptfin.ensures,
         c.in_ok-hold.ensures,
         c.service_files-files.ensures,

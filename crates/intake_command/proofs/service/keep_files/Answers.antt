@@ -18,4 +18,4 @@ returns-clause-ok g c =
     let drafted = rw c.as_str-folder.ensures.value at c.in_ok-lines.ensures.ok in
     let kept = rw c.as_str-folder.ensures.value at c.in_ok-keep_service.ensures.ok in
     kept_service g.H.IntakeHost (folder_of c.args.asked.now) _ _ drafted
-    (rw c.as_slice-2.ensures.value at (rw c.as_slice.ensures.value at kept))
+    (rw c.deref-2.ensures.value at (rw c.deref.ensures.value at kept))
