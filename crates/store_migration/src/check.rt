@@ -24,8 +24,8 @@ use store_rows::ReadError;
 use store_schema::Schema;
 use store_zones::{ZoneHead, load_zone, zone_heads};
 
-// The heads of the SYSMODs whose sources move, once the whole global zone is read. Returns `BadRow` if the rows stand
-// for no global zone.
+// Reads the whole global zone, and returns the heads of the SYSMODs whose sources move. Returns `BadRow` if the rows
+// stand for no global zone.
 fn check_global<S: Alter>(
     alloc: Global,
     conn: &mut Connection<S>,
@@ -100,7 +100,7 @@ fn check_zones<S: Alter>(
     check_each_zone(alloc, conn, schema, heads.as_slice())
 }
 
-/// The heads of the SYSMODs whose sources move, once all rows of the tables of the schema are read. Returns `BadRow` if
+/// Reads all rows of the schema's tables, and returns the heads of the SYSMODs whose sources move. Returns `BadRow` if
 /// the rows stand for no state, `Memory` if memory runs out, and `Fault` if the disk fails or the tables are others.
 pub(crate) fn check_all<S: Alter>(
     alloc: Global,

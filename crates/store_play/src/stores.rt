@@ -13,6 +13,9 @@ use store::{Change, Store};
 use sysmods::{GlobalEdit, GlobalZone};
 use zones_maps::{Zone, ZoneDelta, ZoneEdits};
 
+/// The seed of the log's random numbers. In memory any will do.
+const SEED: u64 = 1;
+
 /// The zone of this name, which must exist.
 pub fn load_zone<S: Alter>(store: &mut Store<S>, name: ZoneName) -> Result<Zone, Fail> {
     Ok(store.load_zone(name)?.ok_or("no such zone")?)
@@ -87,7 +90,7 @@ fn open_files(
 ) -> Result<Connection<FileStore<Memory>>, Error>
     requires { IsTrue (memory_is_usable log) × IsTrue (memory_is_usable db) }
 {
-    match Connection::open_files(alloc, Files { log, db }, Options::new(1)) {
+    match Connection::open_files(alloc, Files { log, db }, Options::new(SEED)) {
         Ok(conn) => Ok(conn),
         Err((error, _)) => Err(error),
     }

@@ -1,6 +1,6 @@
 //! The table of element entries.
 
-ghost use Rattle.std.specs.Prelude.{◌≡◌, OnOk, ◌≢◌, Option, is_some, IfOk, IsErrOf, map};
+ghost use Rattle.std.specs.Prelude.{◌≡◌, OnOk, ◌≢◌, Option, true, is_some, IfOk, IsErrOf, map};
 ghost use Rattle.std.specs.List.{join_with_byte};
 ghost use Rattle.terms.specs.Texts.{HasLines};
 ghost use Rattle.store_rows.specs.Calls.{RunsInside};
@@ -24,7 +24,7 @@ use sqlite::{Alter, Error, Row, Transaction};
 use sqlite_value::row::Row as Cells;
 use sqlite_value::value::ValueRef;
 use std::alloc::{AllocError, Global};
-use store_rows::{FromRow, ReadError, insert, put, remove, row_of_values};
+use store_rows::{FromRow, ReadError, put, remove, row_of_values};
 use store_schema::{Columns, Query, joined_ids, zelem_columns};
 use terms::ElemType;
 use text80::bytes_of;
@@ -61,34 +61,26 @@ pub fn insert_elements<S: Alter>(
     insert_items(alloc, tx, &zone, INSERT_MANY, INSERT, elements)
 }
 
-/// Puts the element into the zone, in place of the one of its type and name. `existed` says whether there is one.
-/// Returns an error if the zone has one although `existed` says no, if there is no such zone, if the disk fails or if
-/// memory runs out.
+/// Puts the element into the zone, in place of the one of its type and name. Returns an error if there is no such zone,
+/// if the disk fails or if memory runs out.
 pub fn put_element<S: Alter>(
     alloc: Global,
     tx: &mut Transaction<'_, S>,
     zone: ZoneName,
-    existed: bool,
     element: &Element,
 ) -> Result<(), Error>
     ensures continues { Continues S.Store tx.old tx.new }
-    ensures calls { RunsInside S.Store (put_element_calls zone existed element.now)
+    ensures calls { RunsInside S.Store (put_element_calls zone true element.now)
         tx.old.conn.now tx.new.conn.now result }
     ensures ok { OnOk result (Turns S.Store tx.old.conn.now tx.new.conn.now (HasContents store_schema)
-        (with_element zone existed element.now)) }
-    ensures stands { OnOk result ((old : Option ElementTerm) → is_some old ≡ existed
+        (with_element zone true element.now)) }
+    ensures stands { OnOk result ((old : Option ElementTerm) → is_some old ≡ true
         → ChangesZone S.Store tx.old.conn.now tx.new.conn.now zone (HasPutElement old element.now)) }
 {
     let umids = joined_ids(alloc, element.umids.as_slice())?;
     let text = bytes_of(alloc, element.text.as_slice())?;
-    put_element_row(
-        tx,
-        &zone,
-        existed,
-        element,
-        umids.as_slice(),
-        text.as_slice(),
-    )
+    let row = element_values(&zone, element, umids.as_slice(), text.as_slice());
+    put(tx, PUT, &row)
 }
 
 // The columns of the element's row, with these bytes of its UMIDs and records.
@@ -113,30 +105,6 @@ fn element_values<'a>(
         ValueRef::Text(element.syslib.as_bytes()),
         ValueRef::Blob(text),
     ]
-}
-
-// Puts the element's row, with these bytes of its UMIDs and records, in place of the one that existed, if one did.
-fn put_element_row<S: Alter>(
-    tx: &mut Transaction<'_, S>,
-    zone: &ZoneName,
-    existed: bool,
-    element: &Element,
-    umids: &[u8],
-    text: &[u8],
-) -> Result<(), Error>
-    requires umids { umids.now ≡ join_with_byte 44 element.now.umids }
-    requires text { HasLines text.now element.now.text }
-    ensures continues { Continues S.Store tx.old tx.new }
-    ensures calls { RunsInside S.Store (put_element_calls zone.now existed element.now)
-        tx.old.conn.now tx.new.conn.now result }
-    ensures ok { OnOk result (Turns S.Store tx.old.conn.now tx.new.conn.now (HasContents store_schema)
-        (with_element zone.now existed element.now)) }
-{
-    let row = element_values(zone, element, umids, text);
-    if existed {
-        return put(tx, PUT, &row);
-    }
-    insert(tx, INSERT, &row)
 }
 
 /// Removes the element of the type and name from the zone, if there is one. Returns an error if the disk fails or

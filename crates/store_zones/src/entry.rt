@@ -1,6 +1,6 @@
 //! The table of SYSMOD entries.
 
-ghost use Rattle.std.specs.Prelude.{◌≡◌, [], ◌∷◌, OnOk, if◌then◌else◌, ◌≢◌, Option, IfSome, map};
+ghost use Rattle.std.specs.Prelude.{◌≡◌, [], ◌∷◌, OnOk, ◌≢◌, Option, Some, IfSome, map};
 ghost use Rattle.std.specs.Prelude.{IfOk, IsErrOf, option_map};
 ghost use Rattle.std.specs.List.{join_with_byte};
 ghost use Rattle.store_rows.specs.Calls.{RunsInside};
@@ -9,8 +9,8 @@ ghost use Rattle.store_rows.specs.Rows.{HasContents, in_table, without};
 ghost use Rattle.store_schema.specs.Rows.{entry_row};
 ghost use Rattle.store_schema.specs.Tables.{entry as entry_table, store_schema};
 ghost use Rattle.store_zones.specs.Calls.{insert_entries_calls, put_entry_calls, remove_entry_calls};
-ghost use Rattle.store_zones.specs.Entries.{insert_entry, put_entry as into_entry, delete_entry, entry_key};
-ghost use Rattle.store_zones.specs.Zones.{ChangesZone, HasMoreEntries, HasPutEntry, HasRemovedEntry, rows_with};
+ghost use Rattle.store_zones.specs.Entries.{delete_entry, entry_key};
+ghost use Rattle.store_zones.specs.Zones.{ChangesZone, HasMoreEntries, HasPutEntry, HasRemovedEntry};
 ghost use Rattle.store_zones.specs.Zones.{with_more_entries, with_entry, without_entry};
 ghost use Rattle.sqlite.specs.declared.types.Value.TheVariants.{Text};
 ghost use Rattle.sqlite.specs.Order.{Row as SqlRow};
@@ -29,7 +29,7 @@ use sqlite::{Alter, Error, Row, Transaction};
 use sqlite_value::row::Row as Cells;
 use sqlite_value::value::ValueRef;
 use std::alloc::{AllocError, Global};
-use store_rows::{FromRow, ReadError, insert, put, remove, row_of_values};
+use store_rows::{FromRow, ReadError, put, remove, row_of_values};
 use store_schema::{Columns, Query, entry_columns, joined_ids, text_or_null};
 use zones_maps::{Applied, Entry};
 
@@ -65,38 +65,31 @@ pub fn insert_entries<S: Alter>(
 }
 
 /// Puts the entry into the zone, in place of the one of its id. `number_before` is the number of the `++VER` that
-/// installed the old entry, or none if there is no old entry. Returns an error if the zone has one although
-/// `number_before` says no, if there is no such zone, if the disk fails or if memory runs out.
+/// installed the old entry. Returns an error if there is no such zone, if the disk fails or if memory runs out.
 pub fn put_entry<S: Alter>(
     alloc: Global,
     tx: &mut Transaction<'_, S>,
     zone: ZoneName,
-    number_before: Option<VerNumber>,
+    number_before: VerNumber,
     entry: &Entry,
 ) -> Result<(), Error>
     ensures continues { Continues S.Store tx.old tx.new }
-    ensures calls { RunsInside S.Store (put_entry_calls zone number_before entry.now)
+    ensures calls { RunsInside S.Store (put_entry_calls zone (Some number_before) entry.now)
         tx.old.conn.now tx.new.conn.now result }
     ensures ok { OnOk result (Turns S.Store tx.old.conn.now tx.new.conn.now (HasContents store_schema)
-        (with_entry zone number_before entry.now)) }
-    ensures stands { OnOk result ((old : Option EntryTerm) → option_map number_of old ≡ number_before
+        (with_entry zone (Some number_before) entry.now)) }
+    ensures stands { OnOk result ((old : Option EntryTerm) → option_map number_of old ≡ Some number_before
         → ChangesZone S.Store tx.old.conn.now tx.new.conn.now zone (HasPutEntry old entry.now)) }
 {
     let supby = joined_ids(alloc, entry.supby.as_slice())?;
     let waived = joined_ids(alloc, entry.waived.as_slice())?;
-    put_entry_row(
-        tx,
-        &zone,
-        number_before.is_some(),
-        entry,
-        supby.as_slice(),
-        waived.as_slice(),
-    )?;
+    let row = entry_values(&zone, entry, supby.as_slice(), waived.as_slice());
+    put(tx, PUT, &row)?;
     change_number(
         tx,
         &zone,
         &entry.id,
-        number_or_first(number_before),
+        number_before.get(),
         entry.number().get(),
     )
 }
@@ -130,32 +123,6 @@ fn entry_values<'a>(
         text_or_null(&entry.delby),
         ValueRef::Text(waived),
     ]
-}
-
-// Puts the entry's row, with these texts of its lists, in place of the one that existed, if one did.
-fn put_entry_row<S: Alter>(
-    tx: &mut Transaction<'_, S>,
-    zone: &ZoneName,
-    existed: bool,
-    entry: &Entry,
-    supby: &[u8],
-    waived: &[u8],
-) -> Result<(), Error>
-    requires supby { supby.now ≡ join_with_byte 44 entry.now.supby }
-    requires waived { waived.now ≡ join_with_byte 44 entry.now.waived }
-    ensures continues { Continues S.Store tx.old tx.new }
-    ensures calls { RunsInside S.Store ((
-      if existed then into_entry else insert_entry,
-      entry_row zone.now entry.now,
-    ) ∷ []) tx.old.conn.now tx.new.conn.now result }
-    ensures ok { OnOk result (Turns S.Store tx.old.conn.now tx.new.conn.now (HasContents store_schema)
-        (in_table entry_table (rows_with existed (entry_key zone.now entry.now.id) (entry_row zone.now entry.now)))) }
-{
-    let row = entry_values(zone, entry, supby, waived);
-    if existed {
-        return put(tx, PUT, &row);
-    }
-    insert(tx, INSERT, &row)
 }
 
 // Removes the row of the entry of this id, if there is one.
@@ -247,10 +214,8 @@ fn read_applied(columns: &mut Columns<'_>) -> Result<Option<Applied>, ReadError>
         → columns.old ≢ or_null Text (option_map (λ a. a.date) applied) ∷ rest }
     ensures fault { IsErrOf result ReadError.Fault → ⊥ }
 {
-    match columns.optional()? {
-        Some(date) => Ok(Some(Applied::on(date))),
-        None => Ok(None),
-    }
+    let date = columns.optional()?;
+    Ok(date.map(Applied::on))
 }
 
 impl Query for Entries {

@@ -97,10 +97,10 @@ pub(crate) fn insert_numbers<S: Alter>(
 }
 
 // Adds the row of the number of this entry, which has no row yet.
-fn insert_number_row<'a, S: Alter>(
+fn insert_number_row<S: Alter>(
     tx: &mut Transaction<'_, S>,
-    zone: &'a ZoneName,
-    id: &'a Id,
+    zone: &ZoneName,
+    id: &Id,
     number: usize,
 ) -> Result<(), Error>
     requires { number < 2 ^ 63 }
@@ -115,10 +115,10 @@ fn insert_number_row<'a, S: Alter>(
 }
 
 // Puts the row of the number of this entry, in place of the one that it has.
-fn put_number_row<'a, S: Alter>(
+fn put_number_row<S: Alter>(
     tx: &mut Transaction<'_, S>,
-    zone: &'a ZoneName,
-    id: &'a Id,
+    zone: &ZoneName,
+    id: &Id,
     number: usize,
 ) -> Result<(), Error>
     requires { number < 2 ^ 63 }

@@ -1,6 +1,6 @@
 //! Entries joined with their numbers, which are in a table of their own if they are not 1.
 
-ghost use Rattle.std.specs.Prelude.{◌≡◌, ◌≢◌, [], ◌∷◌, IfOk, IfSome, IfNone, IsErrOf, option_map};
+ghost use Rattle.std.specs.Prelude.{◌≡◌, ◌≢◌, [], IfOk, IsErrOf, option_map};
 ghost use Rattle.terms.specs.Types.{an_applied};
 ghost use Rattle.store_zones.specs.Numbered as spec;
 ghost use Rattle.store_zones.specs.Numbered.{left_over, behind_first, with_first, begins_with};
@@ -62,14 +62,6 @@ fn give_number(entry: Entry, numbers: &mut VecDeque<EntryNumber>) -> Entry
     }
 }
 
-// Takes the first of the entries. The loop below needs `pop_front` with this contract.
-fn pop_entry(entries: &mut VecDeque<Entry>) -> Option<Entry>
-    ensures some { IfSome result (λ entry. entries.old.items ≡ entry ∷ entries.new.items) }
-    ensures none { IfNone result (entries.old.items ≡ []) }
-{
-    entries.pop_front()
-}
-
 // The entries with their numbers, which it takes from `numbers`. Both lists rise by id. A number that is left belongs
 // to no applied entry.
 fn entries_with_numbers(
@@ -81,7 +73,7 @@ fn entries_with_numbers(
     ensures left { IfOk result (λ all. numbers.new.items ≡ left_over entries.items numbers.old.items) }
 {
     let mut all = Vec::with_capacity(alloc, entries.len())?;
-    while let Some(entry) = pop_entry(&mut entries) {
+    while let Some(entry) = entries.pop_front() {
         all.push(give_number(entry, numbers))?;
     }
     Ok(all)

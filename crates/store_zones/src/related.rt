@@ -42,7 +42,7 @@ fn contain_all_related_zones(heads: &[ZoneHead]) -> bool
     heads.iter().all(|head| contain_related_zone(heads, head))
 }
 
-// Whether the two heads do not name the same related zone.
+// Whether the two heads do not name the same related zone. A distribution zone names none.
 fn have_different_related_zones(head: &ZoneHead, other: &ZoneHead) -> bool
     ensures { IsTrue result ↔ HeadsAreApart head.now other.now }
 {
@@ -53,7 +53,7 @@ fn have_different_related_zones(head: &ZoneHead, other: &ZoneHead) -> bool
 }
 
 // Whether none of these heads names the same related zone as the other head.
-fn share_related_zone_with_none(heads: &[ZoneHead], other: &ZoneHead) -> bool
+fn none_names_same_related_zone(heads: &[ZoneHead], other: &ZoneHead) -> bool
     ensures { IsTrue result ↔ All (λ head. HeadsAreApart head other.now) heads.now }
 {
     heads
@@ -66,7 +66,7 @@ fn have_distinct_related_zones(heads: &[ZoneHead]) -> bool
     ensures { IsTrue result ↔ AllPairs HeadsAreApart heads.now }
 {
     for i in 0..heads.len() {
-        if !share_related_zone_with_none(&heads[..i], &heads[i]) {
+        if !none_names_same_related_zone(&heads[..i], &heads[i]) {
             return false;
         }
     }

@@ -34,10 +34,8 @@ fn assemble_zone(
     ensures none { IsErrOf result ReadError.BadRow → ¬ MayBeZone head.kind head.related entries }
     ensures fault { IsErrOf result ReadError.Fault → ⊥ }
 {
-    match Zone::from_tables(head.kind, head.srel, head.related, entries, elements) {
-        Some(zone) => Ok(zone),
-        None => Err(ReadError::BadRow),
-    }
+    let zone = Zone::from_tables(head.kind, head.srel, head.related, entries, elements);
+    zone.ok_or(ReadError::BadRow)
 }
 
 // The entries of the zone of this name, with the numbers of the `++VER`s that installed them, from the tables of this
@@ -88,28 +86,6 @@ fn load_rest_of_zone<S: Alter>(
     assemble_zone(head, entries, elements)
 }
 
-// The zone of this name, if there is one, from the tables of this schema. Its contract is about rows; `load_zone`
-// derives from it the one about inventories.
-fn load_zone_by_rows<S: Alter>(
-    alloc: Global,
-    conn: &mut Connection<S>,
-    schema: Schema,
-    name: &ZoneName,
-) -> Result<Option<Zone>, ReadError>
-    ensures rows { HasCleanDisk (state S.Store conn.new) → (contents : Contents)
-        → HasContents (schema_under schema) contents (state S.Store conn.old).now
-        → IfOk result (HoldsUnder schema contents name.now) }
-    ensures no_rows { HasCleanDisk (state S.Store conn.new) → IsErrOf result ReadError.BadRow → (contents : Contents)
-        → HasContents (schema_under schema) contents (state S.Store conn.old).now
-        → (zone : Option ZoneTerm) → ¬ HoldsUnder schema contents name.now zone }
-    ensures reads { OnlyReads S.Store (schema_under schema) ReadError.BadRow ReadError.Fault conn.old conn.new result }
-{
-    let Some(head) = load_zone_head(alloc, conn, name)? else {
-        return Ok(None);
-    };
-    Ok(Some(load_rest_of_zone(alloc, conn, schema, head)?))
-}
-
 /// The zone of this name, if there is one, in the tables of this schema. Under earlier schemas each entry was installed
 /// by the first `++VER` of the SREL. Returns `BadRow` if its rows stand for no zone, `Memory` if memory runs out, and
 /// `Fault` if the disk fails or the tables are others.
@@ -131,5 +107,8 @@ pub fn load_zone<S: Alter>(
         → ¬ StandsUnder schema i (state S.Store conn.old).now }
     ensures reads { OnlyReads S.Store (schema_under schema) ReadError.BadRow ReadError.Fault conn.old conn.new result }
 {
-    load_zone_by_rows(alloc, conn, schema, &name)
+    let Some(head) = load_zone_head(alloc, conn, &name)? else {
+        return Ok(None);
+    };
+    Ok(Some(load_rest_of_zone(alloc, conn, schema, head)?))
 }

@@ -34,10 +34,7 @@ pub(crate) fn into_table<T: Keyed + Drop>(items: Vec<T>) -> Result<Table<T>, Rea
         → ¬ Rises T.Key.cmp T.key_of xs }
     ensures fault { IsErrOf result ReadError.Fault → ⊥ }
 {
-    match Table::from_vec(items) {
-        Some(table) => Ok(table),
-        None => Err(ReadError::BadRow),
-    }
+    Table::from_vec(items).ok_or(ReadError::BadRow)
 }
 
 /// The items of the rows of one zone, sorted by their keys. Returns `BadRow` if two have the same key.

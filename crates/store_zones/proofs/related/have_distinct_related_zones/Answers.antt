@@ -7,13 +7,13 @@ use Rattle.terms.proofs.Pairs.{AllPairs_between}
 use Rattle.store_zones.specs.Related.{HeadsAreApart}
 use Rattle.store_zones.proofs.related.have_distinct_related_zones.Goals as goal
 
-pub returns-then-not-share_related_zone_with_none : goal.returns-then-not-share_related_zone_with_none
-returns-then-not-share_related_zone_with_none c =
+pub returns-then-not-none_names_same_related_zone : goal.returns-then-not-none_names_same_related_zone
+returns-then-not-none_names_same_related_zone c =
     let xs = c.args.heads.now in
     let i = c.loop-i.i in
     let x = c.index-heads-i.result in
     let here : i < length xs = omega (arith, c.loop-i-test.true) in
-    let no : c.share_related_zone_with_none.result ≡ false = c.if-not-share_related_zone_with_none.true in (
+    let no : c.none_names_same_related_zone.result ≡ false = c.if-not-none_names_same_related_zone.true in (
       λ yes. absurd cc,
       λ pairs.
           let low : All (λ a. HeadsAreApart a x) (take i xs) = λ k d within.
@@ -22,7 +22,7 @@ returns-then-not-share_related_zone_with_none c =
           let last : get_or xs i d ≡ x = get_or_default xs i d x here ∙ sym c.index-heads-i.is in
           subst (λ a. HeadsAreApart a x) (sym at) (subst (HeadsAreApart (get_or xs k d)) last
           (pairs k i d (omega (arith, within, short)) here)) in
-          let yes : c.share_related_zone_with_none.result ≡ true = c.share_related_zone_with_none.ensures.1 low in
+          let yes : c.none_names_same_related_zone.result ≡ true = c.none_names_same_related_zone.ensures.1 low in
           absurd cc,
     )
 
@@ -31,8 +31,8 @@ loop-i-preserved c =
     let xs = c.args.heads.now in
     let i = c.loop-i.i in
     let x = c.index-heads-i.result in
-    let low : All (λ a. HeadsAreApart a x) (take i xs) = c.share_related_zone_with_none.ensures.0
-    c.if-not-share_related_zone_with_none.false in
+    let low : All (λ a. HeadsAreApart a x) (take i xs) = c.none_names_same_related_zone.ensures.0
+    c.if-not-none_names_same_related_zone.false in
     let more : take (i + 1) xs ≡ take i xs ++ x ∷ [] = take_more xs i x (omega (arith, c.loop-i-test.true))
     ∙ ap (λ y. take i xs ++ y ∷ []) (sym c.index-heads-i.is) in
     rw more (AllPairs_between HeadsAreApart (take i xs) [] x (rw (append-nil (take i xs)) c.loop-i.invariant) low
