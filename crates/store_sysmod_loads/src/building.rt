@@ -38,10 +38,7 @@ fn suits_kind(kind: Kind, ver: &Ver) -> bool
 fn is_change_allowed(kind: Kind, change: &ElemChange) -> bool
     ensures { IsTrue result ↔ MayDo kind change.now.action }
 {
-    match (kind, &change.action) {
-        (Kind::Function, Action::Updates { .. }) => false,
-        _ => true,
-    }
+    kind != Kind::Function || !matches!(change.action, Action::Updates { .. })
 }
 
 // Whether the operands of each `++VER` are those of a SYSMOD of this kind.
@@ -94,7 +91,8 @@ fn are_changes_allowed(kind: Kind, changes: &[ElemChange]) -> bool
     changes.iter().all(|change| is_change_allowed(kind, change))
 }
 
-// Whether the element statements rise by type and name. The contract calls that order `change_cmp`.
+// Whether the element statements rise by type and name. `sorted` compares their keys; the contract says the same by
+// `change_cmp`, the order of the definitions.
 fn are_changes_rising(changes: &[ElemChange]) -> bool
     ensures { IsTrue result ↔ Rises change_cmp (λ c. c) changes.now }
 {
@@ -195,9 +193,7 @@ pub(crate) fn take_all_sysmods(
     let mut sysmods = Vec::with_capacity(alloc, heads.len())?;
     while let Some(head) = pop_row(heads) {
         let sysmod = take_sysmod(alloc, head, vers, ifs, elems)?;
-        if sysmods.push(sysmod).is_err() {
-            return Err(ReadError::Memory);
-        }
+        sysmods.push(sysmod)?;
     }
     if !vers.is_empty() || !ifs.is_empty() || !elems.is_empty() {
         return Err(ReadError::BadRow);

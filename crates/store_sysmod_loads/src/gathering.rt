@@ -109,8 +109,9 @@ pub(crate) fn pop_row_of<T: Child>(rows: &mut VecDeque<T>, parent: T::Parent) ->
     rows.pop_front()
 }
 
-/// The `++IF`s of a `++VER`, whose rows it takes off the front of the list. Returns `BadRow` if their numbers do not
-/// count from 1, and `Memory` if memory runs out.
+/// The `++IF`s of a `++VER`, whose rows it takes off the front of the list. `place` is the number of the `++VER` among
+/// those of its SREL. Returns `BadRow` if the numbers of the `++IF`s do not count from 1, and `Memory` if memory runs
+/// out.
 pub(crate) fn take_ifs(
     alloc: Global,
     rows: &mut VecDeque<IfRow>,
@@ -130,9 +131,7 @@ pub(crate) fn take_ifs(
         if row.number != ifs.len() as u64 + 1 {
             return Err(ReadError::BadRow);
         }
-        if ifs.push(row.ifreq).is_err() {
-            return Err(ReadError::Memory);
-        }
+        ifs.push(row.ifreq)?;
     }
     ifs.shrink_to_fit();
     Ok(ifs)
@@ -204,9 +203,7 @@ pub(crate) fn take_vers(
             return Err(ReadError::BadRow);
         }
         let ver = fill_ver(alloc, ifs, id, row)?;
-        if vers.push(ver).is_err() {
-            return Err(ReadError::Memory);
-        }
+        vers.push(ver)?;
     }
     vers.shrink_to_fit();
     Ok(vers)

@@ -59,9 +59,7 @@ pub(crate) fn join_sources(
             kind: head.kind,
             sources: names,
         };
-        if heads.push(whole).is_err() {
-            return Err(ReadError::Memory);
-        }
+        heads.push(whole)?;
     }
     if !sources.is_empty() {
         return Err(ReadError::BadRow);

@@ -10,7 +10,7 @@ ghost use Rattle.store_schema.specs.Inventory.{Inventory};
 ghost use Rattle.terms.specs.Types.{Sysmod as SysmodTerm};
 ghost use Rattle.store_sysmod_loads.specs.Flats.{AreFormed, AreRowsOf};
 
-use crate::rows_of::load_sysmods_by_rows;
+use crate::rows_of::{gather_sysmods, load_rows};
 use sqlite::{Alter, Connection};
 use std::alloc::Global;
 use store_rows::ReadError;
@@ -41,5 +41,6 @@ pub fn load_sysmods<S: Alter>(
     ensures reads { OnlyReads S.Store (schema_under schema) ReadError.BadRow ReadError.Fault conn.old conn.new
         result }
 {
-    load_sysmods_by_rows(alloc, conn, schema)
+    let rows = load_rows(alloc, conn, schema)?;
+    gather_sysmods(alloc, rows)
 }

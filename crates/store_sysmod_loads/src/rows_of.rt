@@ -1,14 +1,10 @@
 //! All rows of SYSMODs, and the SYSMODs for which they stand. What loads them returns `BadRow` if the rows stand for
 //! none, `Memory` if memory runs out, and `Fault` if the disk fails or the tables are others.
 
-ghost use Rattle.std.specs.Prelude.{◌≡◌, List, map, IfOk, IsErrOf, IsPermutation};
-ghost use Rattle.std.specs.List.{AllByRecursion};
-ghost use Rattle.store_schema.specs.declared.schema.Schema.{Schema as ARelease};
-ghost use Rattle.store_schema.specs.Tables.{elem};
+ghost use Rattle.std.specs.Prelude.{◌≡◌, List, IfOk, IsErrOf};
 ghost use Rattle.terms.specs.Types.{Sysmod as SysmodTerm};
-ghost use Rattle.store_sysmods.specs.Elems.{row_of_elem, HasElemRowForms};
 ghost use Rattle.store_sysmod_loads.specs.Runs.{AreBare};
-ghost use Rattle.store_sysmod_loads.specs.Flats.{all_elems, AreWhole, AreFormed, AreRowsOf};
+ghost use Rattle.store_sysmod_loads.specs.Flats.{AreWhole};
 ghost use Rattle.store_sysmod_loads.specs.Gathered.{HaveForms, HoldRows, HasRows, IsGathered};
 ghost use Rattle.store_sysmod_loads.specs.Parts.{LoadsPart};
 
@@ -33,16 +29,6 @@ pub(crate) struct FlatRows {
     pub elems: Vec<ElemRow>,
 }
 
-// The rows of all element statements, sorted by their keys.
-fn load_elems<S: Alter>(alloc: Global, conn: &mut Connection<S>) -> Result<Vec<ElemRow>, ReadError>
-    ensures part { (r : ARelease) → LoadsPart S.Store r
-        (λ rows contents. IsPermutation (map row_of_elem rows.items) (contents elem.tree))
-        (λ rows sysmods. rows.items ≡ all_elems sysmods) conn.old conn.new result }
-    ensures forms { IfOk result (λ rows. AllByRecursion HasElemRowForms rows.items) }
-{
-    load_sorted::<S, Elems>(alloc, conn)
-}
-
 /// All rows of SYSMODs and of their statements, from the tables of the schema.
 pub(crate) fn load_rows<S: Alter>(
     alloc: Global,
@@ -55,7 +41,7 @@ pub(crate) fn load_rows<S: Alter>(
     let heads = load_heads(alloc, conn, schema)?;
     let vers = load_firsts_and_furthers::<S, VerRow>(alloc, conn, schema)?;
     let ifs = load_firsts_and_furthers::<S, IfRow>(alloc, conn, schema)?;
-    let elems = load_elems(alloc, conn)?;
+    let elems = load_sorted::<S, Elems>(alloc, conn)?;
     Ok(FlatRows {
         heads,
         vers,
@@ -83,20 +69,4 @@ pub(crate) fn gather_sysmods(alloc: Global, rows: FlatRows) -> Result<Vec<Sysmod
     let mut ifs = VecDeque::from(rows.ifs);
     let mut elems = VecDeque::from(rows.elems);
     take_all_sysmods(alloc, &mut heads, &mut vers, &mut ifs, &mut elems)
-}
-
-/// The SYSMODs whose rows the tables of the schema hold. Its contract is about rows; `load_sysmods` derives from it the
-/// one about inventories. Returns `BadRow` if the rows stand for no SYSMODs, `Memory` if memory runs out, and `Fault` if
-/// the disk fails or the tables are others.
-pub(crate) fn load_sysmods_by_rows<S: Alter>(
-    alloc: Global,
-    conn: &mut Connection<S>,
-    schema: Schema,
-) -> Result<Vec<Sysmod>, ReadError>
-    ensures part { LoadsPart S.Store schema (λ sysmods contents. AreRowsOf schema sysmods.items contents)
-        (λ sysmods others. others ≡ sysmods.items) conn.old conn.new result }
-    ensures forms { IfOk result (λ sysmods. AreFormed schema sysmods.items) }
-{
-    let rows = load_rows(alloc, conn, schema)?;
-    gather_sysmods(alloc, rows)
 }
