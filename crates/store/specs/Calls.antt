@@ -1,6 +1,6 @@
 -- The statements that write a change, and why its commit fails.
 use Rattle.std.specs.Prelude.{◌⊎◌, ◌==◌, ℕ, Bool, true, false, if◌then◌else◌, List, [], ◌∷◌, ◌++◌, fold, length}
-use Rattle.std.specs.Prelude.{Option, None, Some}
+use Rattle.std.specs.Prelude.{Option, None, Some, is_some}
 use Rattle.std.specs.List.{filter_map, flat_map, zip}
 use Rattle.std.specs.Option.{option_map_or}
 use Rattle.sqlite.specs.Store.{Ghosts}
@@ -26,11 +26,14 @@ use Rattle.store_zones.specs.Zones.{empty_zone}
 use Rattle.store.specs.declared.change.Change.{Change}
 use Rattle.store.specs.declared.change.Change.TheVariants.{NewZone, Zone, Global}
 
+-- the item that an edit puts, if none of its key stood there
+abbrev pub new_item : {X K B : Type 0} → (B → Bool) → Edit X K × B → Option X
+new_item stood (Put item, before) = if stood before then None else Some item
+new_item stood (Remove key, before) = None
+
 -- the entry that an edit puts, if the zone had none of its id
 abbrev pub new_entry : Edit Entry Id × Option ℕ → Option Entry
-new_entry (Put entry, None) = Some entry
-new_entry (Put entry, Some number) = None
-new_entry (Remove id, stood) = None
+new_entry = new_item is_some
 
 -- An edit of an entry of the zone of this name. The old entry of its id, if there was one, was installed by this
 -- number. A new entry has no statement of its own: it comes in with the others.
@@ -46,9 +49,7 @@ entries_calls name edits =
 
 -- the element that an edit puts, if there was none of its type and name
 abbrev pub new_element : Edit Element (ElemType × Text) × Bool → Option Element
-new_element (Put element, false) = Some element
-new_element (Put element, true) = None
-new_element (Remove key, stood) = None
+new_element = new_item (λ existed. existed)
 
 -- the same for an edit of an element
 abbrev pub element_calls : Text → Edit Element (ElemType × Text) × Bool → List Call

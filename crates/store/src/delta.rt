@@ -7,8 +7,8 @@ ghost use Rattle.std.specs.List.{filter_map, flat_map, zip};
 ghost use Rattle.std.specs.Option.{option_copied};
 ghost use Rattle.store_rows.specs.Calls.{RunsInside};
 ghost use Rattle.store_rows.specs.Inside.{Continues};
-ghost use Rattle.store.specs.Calls.{entry_calls, entries_calls, new_entry as new_entry_of};
-ghost use Rattle.store.specs.Calls.{element_calls, elements_calls, new_element as new_element_of, delta_calls};
+ghost use Rattle.store.specs.Calls.{new_item as new_item_of, entry_calls, entries_calls, new_entry};
+ghost use Rattle.store.specs.Calls.{element_calls, elements_calls, new_element, delta_calls};
 ghost use Rattle.store_zones.specs.Zones.{ChangesZone};
 ghost use Rattle.store.specs.Writes.{EditsOldEntry, EditsEntries, EditsOldElement, EditsElements, HasEdited, others};
 ghost use Rattle.terms.specs.Types.{Zone};
@@ -23,6 +23,73 @@ use store_zones::{
 };
 use terms::ElemType;
 use zones_maps::{Element, Entry, ZoneDelta};
+
+// ---- what is new
+
+// What a delta knows about the item that the zone has at the key of an edit, before that edit is made.
+trait Before: Copy {
+    ghost use Rattle.std.specs.Prelude.{◌≡◌, Bool};
+
+    ghost there: { Self → Bool };
+
+    /// Whether the zone has an item at the key.
+    fn existed(self) -> bool
+        ensures { result ≡ there self };
+}
+
+// The number of the `++VER` that installed the entry, or none if there is no entry.
+impl Before for Option<VerNumber> {
+    ghost use Rattle.std.specs.Prelude.{is_some};
+
+    ghost there = { λ number. is_some number };
+
+    fn existed(self) -> bool {
+        self.is_some()
+    }
+}
+
+// Whether there is an element.
+impl Before for bool {
+    ghost there = { λ existed. existed };
+
+    fn existed(self) -> bool {
+        self
+    }
+}
+
+// The new item that the edit puts, or `None` if it removes an item or puts one in place of another.
+fn new_item<T, K, B: Before>(edit: &Edit<T, K>, before: B) -> Option<&T>
+    ensures { option_copied result ≡ new_item_of B.there (edit.now, before) }
+{
+    match edit {
+        Edit::Put(item) => {
+            if before.existed() {
+                return None;
+            }
+            Some(item)
+        }
+        Edit::Remove(_) => None,
+    }
+}
+
+// The new items that the edits put, in their order.
+fn new_items<'a, T, K, B: Before>(
+    alloc: Global,
+    edits: &'a [Edit<T, K>],
+    all_before: &[B],
+) -> Result<Vec<&'a T>, AllocError>
+    ensures { IfOk result (λ news. map (λ e. e.now) news.items
+        ≡ filter_map (new_item_of B.there) (zip edits.entry.now all_before.now)) }
+{
+    let mut news: Vec<&'a T> = Vec::new(alloc);
+    for (edit, before) in edits.iter().zip(all_before) {
+        let Some(item) = new_item(edit, *before) else {
+            continue;
+        };
+        news.push(item)?;
+    }
+    Ok(news)
+}
 
 // ---- entries
 
@@ -43,14 +110,15 @@ fn replace_or_remove_entry<S: Alter>(
 {
     match edit {
         Edit::Put(entry) => match number_before {
-            Some(_) => put_entry(alloc, tx, name, number_before, entry),
+            Some(number) => put_entry(alloc, tx, name, number, entry),
             None => Ok(()),
         },
         Edit::Remove(id) => remove_entry(tx, name, number_before, *id),
     }
 }
 
-// Makes each edit that does not put a new entry. `numbers_before` has the number before each, as above.
+// Makes each edit that does not put a new entry. `numbers_before` has for each the number of the `++VER` that installed
+// the entry which the zone has at its key, or none if there is no such entry.
 fn replace_or_remove_entries<S: Alter>(
     alloc: Global,
     tx: &mut Transaction<'_, S>,
@@ -63,44 +131,12 @@ fn replace_or_remove_entries<S: Alter>(
         tx.old.conn.now tx.new.conn.now result }
     ensures ok { OnOk result ((zone : Zone) → numbers_before.now ≡ map (entry_stood zone) edits.now
         → ChangesZone S.Store tx.old.conn.now tx.new.conn.now name
-        (EditsEntries zone (others new_entry_of (zip edits.now numbers_before.now)))) }
+        (EditsEntries zone (others new_entry (zip edits.now numbers_before.now)))) }
 {
     for (edit, number_before) in edits.iter().zip(numbers_before) {
         replace_or_remove_entry(alloc, tx, name, edit, *number_before)?;
     }
     Ok(())
-}
-
-// The new entry that the edit puts, or `None` if it removes an entry or puts one in place of another.
-fn new_entry(edit: &Edit<Entry, Id>, number_before: Option<VerNumber>) -> Option<&Entry>
-    ensures { option_copied result ≡ new_entry_of (edit.now, number_before) }
-{
-    match edit {
-        Edit::Put(entry) => match number_before {
-            Some(_) => None,
-            None => Some(entry),
-        },
-        Edit::Remove(_) => None,
-    }
-}
-
-// The new entries that the edits put, in their order.
-fn new_entries<'a>(
-    alloc: Global,
-    edits: &'a [Edit<Entry, Id>],
-    numbers_before: &[Option<VerNumber>],
-) -> Result<Vec<&'a Entry>, AllocError>
-    ensures { IfOk result (λ news. map (λ e. e.now) news.items
-        ≡ filter_map new_entry_of (zip edits.entry.now numbers_before.now)) }
-{
-    let mut news: Vec<&'a Entry> = Vec::new(alloc);
-    for (edit, number_before) in edits.iter().zip(numbers_before) {
-        let Some(entry) = new_entry(edit, *number_before) else {
-            continue;
-        };
-        news.push(entry)?;
-    }
-    Ok(news)
 }
 
 // Makes the edits of entries. `numbers_before` has for each the number of the `++VER` that installed the entry which
@@ -119,7 +155,7 @@ fn edit_entries<S: Alter>(
         → ChangesZone S.Store tx.old.conn.now tx.new.conn.now name (EditsEntries zone edits.now)) }
 {
     replace_or_remove_entries(alloc, tx, name, edits, numbers_before)?;
-    let news = new_entries(alloc, edits, numbers_before)?;
+    let news = new_items(alloc, edits, numbers_before)?;
     insert_entries(alloc, tx, name, news.as_slice())
 }
 
@@ -143,7 +179,7 @@ fn replace_or_remove_element<S: Alter>(
             if !existed {
                 return Ok(());
             }
-            put_element(alloc, tx, name, existed, element)
+            put_element(alloc, tx, name, element)
         }
         Edit::Remove((elem_type, element)) => remove_element(tx, name, *elem_type, *element),
     }
@@ -163,46 +199,12 @@ fn replace_or_remove_elements<S: Alter>(
         tx.old.conn.now tx.new.conn.now result }
     ensures ok { OnOk result ((zone : Zone) → elements_existed.now ≡ map (element_stood zone) edits.now
         → ChangesZone S.Store tx.old.conn.now tx.new.conn.now name
-        (EditsElements zone (others new_element_of (zip edits.now elements_existed.now)))) }
+        (EditsElements zone (others new_element (zip edits.now elements_existed.now)))) }
 {
     for (edit, existed) in edits.iter().zip(elements_existed) {
         replace_or_remove_element(alloc, tx, name, edit, *existed)?;
     }
     Ok(())
-}
-
-// The new element that the edit puts, or `None` if it removes an element or puts one in place of another.
-fn new_element(edit: &Edit<Element, (ElemType, Name)>, existed: bool) -> Option<&Element>
-    ensures { option_copied result ≡ new_element_of (edit.now, existed) }
-{
-    match edit {
-        Edit::Put(element) => {
-            if existed {
-                return None;
-            }
-            Some(element)
-        }
-        Edit::Remove(_) => None,
-    }
-}
-
-// The new elements that the edits put, in their order.
-fn new_elements<'a>(
-    alloc: Global,
-    edits: &'a [Edit<Element, (ElemType, Name)>],
-    elements_existed: &[bool],
-) -> Result<Vec<&'a Element>, AllocError>
-    ensures { IfOk result (λ news. map (λ e. e.now) news.items
-        ≡ filter_map new_element_of (zip edits.entry.now elements_existed.now)) }
-{
-    let mut news: Vec<&'a Element> = Vec::new(alloc);
-    for (edit, existed) in edits.iter().zip(elements_existed) {
-        let Some(element) = new_element(edit, *existed) else {
-            continue;
-        };
-        news.push(element)?;
-    }
-    Ok(news)
 }
 
 // Makes the edits of elements. `elements_existed` says for each whether the zone has an element at its key.
@@ -220,7 +222,7 @@ fn edit_elements<S: Alter>(
         → ChangesZone S.Store tx.old.conn.now tx.new.conn.now name (EditsElements zone edits.now)) }
 {
     replace_or_remove_elements(alloc, tx, name, edits, elements_existed)?;
-    let news = new_elements(alloc, edits, elements_existed)?;
+    let news = new_items(alloc, edits, elements_existed)?;
     insert_elements(alloc, tx, name, news.as_slice())
 }
 

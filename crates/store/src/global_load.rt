@@ -59,10 +59,8 @@ pub fn assemble_global(alloc: Global, lists: GlobalLists) -> Result<GlobalZone, 
     ensures none { IsErrOf result ReadError.BadRow → ¬ IsGlobal (a_global lists.sysmods.items lists.holds.items) }
     ensures fault { IsErrOf result ReadError.Fault → ⊥ }
 {
-    match GlobalZone::from_parts(alloc, lists.sysmods, lists.holds)? {
-        Some(global) => Ok(global),
-        None => Err(ReadError::BadRow),
-    }
+    let global = GlobalZone::from_parts(alloc, lists.sysmods, lists.holds)?;
+    global.ok_or(ReadError::BadRow)
 }
 
 /// The global zone of a database with the store's tables. Returns `BadRow` if the rows stand for none, `Memory` if

@@ -32,10 +32,7 @@ fn store_error(error: ReadError) -> StoreError
 pub fn map_read_error<T>(read: Result<T, ReadError>) -> Result<T, StoreError>
     ensures { result ≡ told read }
 {
-    match read {
-        Ok(value) => Ok(value),
-        Err(error) => Err(store_error(error)),
-    }
+    read.map_err(store_error)
 }
 
 impl<S: Alter> Store<S> {

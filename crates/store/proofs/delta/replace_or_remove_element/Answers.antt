@@ -1,4 +1,4 @@
-use Rattle.std.proofs.Common.{false, refl, sym, subst}
+use Rattle.std.proofs.Common.{false, refl, sym, subst, ◌∙◌}
 use Rattle.sorted.specs.declared.edits.Edit.TheVariants.{Put, Remove}
 use Rattle.terms.specs.Lookups.{element_of}
 use Rattle.store_rows.specs.Calls.{RunsInside}
@@ -23,12 +23,12 @@ returns-else-not-existed-clause-ok g c =
     rw c.in-Put.is (on_ok c.put_element.result _ _ (λ stands zone same.
     changes_as g.S.Store c.args.name c.args.tx.now.conn.now c.put_element.new.tx.conn.now
     (HasPutElement (element_of zone e.elem_type e.name) e) (EditsOldElement zone (Put e, c.args.existed))
-    (old_element_put zone e c.args.existed c.if-not-existed.false) (stands (element_of zone e.elem_type e.name) same))
-    c.put_element.ensures.stands)
+    (old_element_put zone e c.args.existed c.if-not-existed.false)
+    (stands (element_of zone e.elem_type e.name) (same ∙ c.if-not-existed.false))) c.put_element.ensures.stands)
 
 pub returns-else-not-existed-clause-calls : goal.returns-else-not-existed-clause-calls
 returns-else-not-existed-clause-calls g c =
-    rw (c.in-Put.is, c.if-not-existed.false) (rw c.if-not-existed.false at c.put_element.ensures.calls)
+    rw (c.in-Put.is, c.if-not-existed.false) c.put_element.ensures.calls
 
 pub returns-in-Remove-clause-ok : goal.returns-in-Remove-clause-ok
 returns-in-Remove-clause-ok g c =

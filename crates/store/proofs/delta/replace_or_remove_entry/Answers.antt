@@ -1,4 +1,4 @@
-use Rattle.std.proofs.Common.{sym, subst}
+use Rattle.std.proofs.Common.{Some, refl, sym, subst}
 use Rattle.sorted.specs.declared.edits.Edit.TheVariants.{Put, Remove}
 use Rattle.terms.specs.Lookups.{entry_of}
 use Rattle.store_rows.specs.Calls.{RunsInside}
@@ -12,20 +12,19 @@ use Rattle.store.proofs.delta.replace_or_remove_entry.Goals as goal
 pub returns-in-Some-clause-ok : goal.returns-in-Some-clause-ok
 returns-in-Some-clause-ok g c =
     let e = c.in-Put.entry in
-    rw c.in-Put.is (on_ok c.put_entry.result _ _ (λ stands zone same.
+    let n = c.in-Some.number in
+    rw (c.in-Put.is, c.in-Some.is) (on_ok c.put_entry.result _ _ (λ stands zone same.
     changes_as g.S.Store c.args.name c.args.tx.now.conn.now c.put_entry.new.tx.conn.now
-    (HasPutEntry (entry_of zone e.id) e) (EditsOldEntry zone (Put e, c.args.number_before))
-    (old_entry_put zone e c.args.number_before c.in-Some.is) (stands (entry_of zone e.id) same))
-    c.put_entry.ensures.stands)
+    (HasPutEntry (entry_of zone e.id) e) (EditsOldEntry zone (Put e, Some n))
+    (old_entry_put zone e (Some n) refl) (stands (entry_of zone e.id) same)) c.put_entry.ensures.stands)
 
 pub returns-in-Remove-clause-ok : goal.returns-in-Remove-clause-ok
 returns-in-Remove-clause-ok g c =
     let id = c.in-Remove.id in
     rw c.in-Remove.is (on_ok c.remove_entry.result _ _ (λ stands zone same.
     changes_as g.S.Store c.args.name c.args.tx.now.conn.now c.remove_entry.new.tx.conn.now
-    (HasRemovedEntry (entry_of zone id) id) (EditsOldEntry zone (Remove id, c.args.number_before)) (entry_removed zone
-    id)
-    (stands (entry_of zone id) same)) c.remove_entry.ensures.stands)
+    (HasRemovedEntry (entry_of zone id) id) (EditsOldEntry zone (Remove id, c.args.number_before))
+    (entry_removed zone id) (stands (entry_of zone id) same)) c.remove_entry.ensures.stands)
 
 pub returns-in-Remove-clause-calls : goal.returns-in-Remove-clause-calls
 returns-in-Remove-clause-calls g c =

@@ -1,9 +1,0 @@
-use Rattle.std.proofs.Common.{◌≡◌, length, map, take}
-use Rattle.std.specs.List.{filter_map, zip}
-use Rattle.store.specs.Calls.{new_element}
-use Rattle.store.proofs.delta.new_elements.Given as goal
-
--- the new ones so far
-abbrev pub invariant-loop-edit : goal.invariant-loop-edit
-invariant-loop-edit l =
-    map (λ e. e.now) l.news.items ≡ filter_map new_element (take (length l.yielded) (zip l.edits l.elements_existed))
