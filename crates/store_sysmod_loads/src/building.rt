@@ -193,7 +193,9 @@ pub(crate) fn take_all_sysmods(
     let mut sysmods = Vec::with_capacity(alloc, heads.len())?;
     while let Some(head) = pop_row(heads) {
         let sysmod = take_sysmod(alloc, head, vers, ifs, elems)?;
-        sysmods.push(sysmod)?;
+        if sysmods.push(sysmod).is_err() {
+            return Err(ReadError::Memory);
+        }
     }
     if !vers.is_empty() || !ifs.is_empty() || !elems.is_empty() {
         return Err(ReadError::BadRow);

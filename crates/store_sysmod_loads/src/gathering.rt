@@ -131,7 +131,9 @@ pub(crate) fn take_ifs(
         if row.number != ifs.len() as u64 + 1 {
             return Err(ReadError::BadRow);
         }
-        ifs.push(row.ifreq)?;
+        if ifs.push(row.ifreq).is_err() {
+            return Err(ReadError::Memory);
+        }
     }
     ifs.shrink_to_fit();
     Ok(ifs)
@@ -203,7 +205,9 @@ pub(crate) fn take_vers(
             return Err(ReadError::BadRow);
         }
         let ver = fill_ver(alloc, ifs, id, row)?;
-        vers.push(ver)?;
+        if vers.push(ver).is_err() {
+            return Err(ReadError::Memory);
+        }
     }
     vers.shrink_to_fit();
     Ok(vers)

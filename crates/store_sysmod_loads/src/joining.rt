@@ -59,7 +59,9 @@ pub(crate) fn join_sources(
             kind: head.kind,
             sources: names,
         };
-        heads.push(whole)?;
+        if heads.push(whole).is_err() {
+            return Err(ReadError::Memory);
+        }
     }
     if !sources.is_empty() {
         return Err(ReadError::BadRow);

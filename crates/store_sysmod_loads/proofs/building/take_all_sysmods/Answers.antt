@@ -36,7 +36,7 @@ loop-head-preserved c =
     let next_ifs = c.take_sysmod.new.ifs.items in
     let next_elems = c.take_sysmod.new.elems.items in
     let pushed : c.push.new.self.items ≡ c.loop-head.sysmods.items ++ c.in_ok-sysmod.sysmod ∷ [] =
-    c.in_ok-push.ensures.items in
+    grind (arith, common_steps) in
     record {
       bare = c.in_ok-sysmod.ensures.bare;
       told = λ more h.

@@ -31,7 +31,7 @@ loop-row-preserved c =
     let ifs = c.loop-row.ifs.items in
     let row = c.in-Some.row in
     let new = c.pop_row_of.new.rows.items in
-    let grown : c.push.new.self.items ≡ c.loop-row.ifs.items ++ c.in-Some.row.ifreq ∷ [] = c.in_ok-push.ensures.items
+    let grown : c.push.new.self.items ≡ c.loop-row.ifs.items ++ c.in-Some.row.ifreq ∷ [] = grind (arith, common_steps)
     in
     let number : c.in-Some.row.number ≡ length c.loop-row.ifs.items + 1 = grind (arith, common_steps) in
     let count : length c.push.new.self.items ≡ length c.loop-row.ifs.items + 1 =

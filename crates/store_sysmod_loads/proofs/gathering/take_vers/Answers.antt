@@ -1,5 +1,6 @@
 use Rattle.std.proofs.Common.{◌≡◌, ◌<◌, ◌++◌, ◌∷◌, [], List, length, length-append, append-nil, arith, rules}
 use Rattle.std.proofs.Common.{true, false, sym, ap, subst, ◌∙◌}
+use Rattle.std.proofs.lemmas.Grind.{common_steps}
 use Rattle.terms.specs.Types.{IfReq, Ver}
 use Rattle.store_schema.specs.Rows.{number_behind, numbered_behind}
 use Rattle.store_sysmods.specs.declared.ver.VerRow.{VerRow}
@@ -41,7 +42,7 @@ loop-row-preserved c =
     let new = c.pop_row_of.new.rows.items in
     let found = c.in_ok-ver.ver.ifs in
     let ver : Ver = record row.ver { ifs = found } in
-    let pushed : c.push.new.self.items ≡ c.loop-row.vers.items ++ c.in_ok-ver.ver ∷ [] = c.in_ok-push.ensures.items in
+    let pushed : c.push.new.self.items ≡ c.loop-row.vers.items ++ c.in_ok-ver.ver ∷ [] = grind (arith, common_steps) in
     let grown : c.push.new.self.items ≡ vers ++ ver ∷ [] = pushed ∙ ap (λ v. vers ++ v ∷ []) c.in_ok-ver.ensures.same in
     let bare = subst AreBare c.in-Some.ensures.some.0 c.loop-row.invariant.bare in
     let next = rw c.as_slice.ensures.value at (c.may_come_next.ensures.0 c.if-not-may_come_next.false) in

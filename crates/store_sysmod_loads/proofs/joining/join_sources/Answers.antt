@@ -18,7 +18,7 @@ loop-head-preserved c =
     let sources = c.loop-head.sources.items in
     let next = c.take_sources.new.rows.items in
     let whole : HeadRow = record { id = head.id; kind = head.kind; sources = names } in
-    let pushed : c.push.new.self.items ≡ heads ++ whole ∷ [] = c.in_ok-push.ensures.items in
+    let pushed : c.push.new.self.items ≡ heads ++ whole ∷ [] = grind (arith, common_steps) in
     record {
       told = λ more h.
           subst (λ (hs : List HeadRow). AreJoined c.args.bare.items c.args.sources.items hs)
