@@ -37,7 +37,7 @@ use Rattle.terms.proofs.Each.{any_in, in_any}
 use Rattle.change.specs.Elements.{IsInstallOf, AreElementsAfter}
 use Rattle.change.specs.Folding.{AreChangers}
 use Rattle.sorted.specs.ElementKeys.{Key, key_cmp}
-use Rattle.sorted.specs.Lists.{Lists}
+use Rattle.sorted.specs.MultiMap.{MultiMap}
 use Rattle.zones.specs.Grouping.{AreByElement}
 use Rattle.sorted.proofs.ElementKeys.{key_ties}
 use Rattle.sorted.proofs.Listing.{listed_at}
@@ -170,7 +170,7 @@ module _ (g : Global) (c : Choice) (zone : Zone) (deletions ids : List Id) where
     pub after : All (IsAfter g c zone deletions ids) es
     pub found : All (λ r. lookup (is_at (key_cmp r.0)) all ≡ Some r.1) rest
 
-  pub made_none : (all : Lists Key Id) (items : List Item) (es : List Element) → items ≡ all.entries → es ≡ []
+  pub made_none : (all : MultiMap Key Id) (items : List Item) (es : List Element) → items ≡ all.entries → es ≡ []
       → All (λ r. get key_cmp all r.0 ≡ Some r.1) all.entries → AreMade items items es
   made_none all items es same empty found = record {
     keys = ap (λ l. map element_key l ++ keys_of items) empty;
@@ -193,7 +193,7 @@ module _ (g : Global) (c : Choice) (zone : Zone) (deletions ids : List Id) where
           (subst (All (λ s. lookup (is_at (key_cmp s.0)) items ≡ Some s.1)) first made.found);
     }
 
-    module _ (all : Lists Key Id) (same : items ≡ all.entries) (by : AreByElement g ids all) where
+    module _ (all : MultiMap Key Id) (same : items ≡ all.entries) (by : AreByElement g ids all) where
       first_found : get key_cmp all r.0 ≡ Some r.1
       first_found =
           subst (λ l. lookup (is_at (key_cmp r.0)) l ≡ Some r.1) same
@@ -207,7 +207,7 @@ module _ (g : Global) (c : Choice) (zone : Zone) (deletions ids : List Id) where
       first_some = by.some r.0 r.1 first_found
 
   -- elements that are made of all of them are all the elements of the install
-  pub made_all : (all : Lists Key Id) (items left : List Item) (es : List Element) → items ≡ all.entries → left ≡ []
+  pub made_all : (all : MultiMap Key Id) (items left : List Item) (es : List Element) → items ≡ all.entries → left ≡ []
       → AreByElement g ids all → IsOrdered key_cmp all → All (λ r. get key_cmp all r.0 ≡ Some r.1) all.entries
       → AreMade items left es
       → (i : Installation) → IsInstallOf i g c zone deletions ids → AreElementsAfter i es

@@ -15,7 +15,7 @@ use Rattle.terms.proofs.ListMembers.{here, here_or, none_in, in_filter, filter_i
 use Rattle.terms.proofs.TextOrder.{same_from}
 use Rattle.terms.specs.Types.{Id}
 use Rattle.terms.specs.Rising.{with_item, before, behind}
-use Rattle.sorted.specs.Lists.{Lists, Adds, Holds}
+use Rattle.sorted.specs.MultiMap.{MultiMap, Adds, Holds}
 use Rattle.sorted.proofs.Gaining.{gains_nothing, gains_one, holds_gained}
 use Rattle.change.specs.Pairs.{AreGrouped}
 
@@ -81,7 +81,7 @@ exact : CmpEqualImpliesEq order
 exact = exact_bytes
 
 -- the pairs so far have the next one too, which the groups gain
-module _ (pairs : List (Id × Id)) (i : ℕ) (p : Id × Id) (old new : Lists Id Id) (below : i < length pairs)
+module _ (pairs : List (Id × Id)) (i : ℕ) (p : Id × Id) (old new : MultiMap Id Id) (below : i < length pairs)
     (is : p ≡ get_or pairs i p) where
   more : (x z : Id) → Has (take (i + 1) pairs) x z ↔ (Has (take i pairs) x z ⊎ ((x ≡ p.0) × (z ≡ p.1)))
   more x z =
@@ -104,10 +104,10 @@ module _ (pairs : List (Id × Id)) (i : ℕ) (p : Id × Id) (old new : Lists Id 
       )
 
 -- nothing is gathered in empty groups
-empty_holds : (groups : Lists Id Id) → IsEmpty groups → (These : Id → Id → Type 0) → ((x z : Id) → ¬ These x z)
+empty_holds : (groups : MultiMap Id Id) → IsEmpty groups → (These : Id → Id → Type 0) → ((x z : Id) → ¬ These x z)
     → Holds order groups These
 empty_holds groups empty These none =
     holds_gained order groups groups These empty (gains_nothing order groups These none)
 
-pub grouped_none : (groups : Lists Id Id) → IsEmpty groups → AreGrouped [] groups
+pub grouped_none : (groups : MultiMap Id Id) → IsEmpty groups → AreGrouped [] groups
 grouped_none groups empty = empty_holds groups empty (λ x z. Has [] x z) (λ x z h. none_in {X = Id × Id} (x, z) h)

@@ -6,7 +6,7 @@ use Rattle.terms.proofs.ListMembers.{in_map}
 use Rattle.terms.specs.Types.{Id}
 use Rattle.terms.specs.Install.{Installation, TakesEffect}
 use Rattle.change.specs.Deleting.{at_stake}
-use Rattle.sorted.specs.Lists.{Lists}
+use Rattle.sorted.specs.MultiMap.{MultiMap}
 use Rattle.change.specs.Pairs.{AreGrouped}
 use Rattle.change.specs.Plans.{IsPlan}
 use Rattle.change.specs.Superseded.{ArePaired}
@@ -15,7 +15,7 @@ abbrev first : Id × Id → Id
 first p = p.0
 
 pub is_plan : (i : Installation) (dels effective touched : List Id) (pairs : List (Id × Id))
-    (superseders by_id : Lists Id Id)
+    (superseders by_id : MultiMap Id Id)
     → ((x : Id) → Contains effective x ↔ TakesEffect i x)
     → ArePaired i.choice effective pairs
     → ((x : Id) → Contains touched x ↔ Contains ((map first pairs ++ effective) ++ at_stake i.zone dels) x)

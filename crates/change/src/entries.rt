@@ -9,7 +9,7 @@ use crate::deleting::{Deleting, entry_left};
 use crate::differing::{put_differing_entry, remove_existing_entry};
 use crate::plan::Plan;
 use fields::{Attest, Id, IdList};
-use sorted::lists::listed;
+use sorted::multi_map::listed;
 use std::alloc::{AllocError, Global};
 use zones::{Applied, Entry, ZoneEdits};
 

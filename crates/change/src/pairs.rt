@@ -4,7 +4,7 @@ ghost use Rattle.terms.specs.Lookups.{is_in};
 ghost use Rattle.change.specs.Pairs.{AreGrouped};
 
 use fields::{Id, IdList};
-use sorted::lists::{Lists, add};
+use sorted::multi_map::{MultiMap, add};
 use std::alloc::{AllocError, Global};
 use std::collections::BTreeMap;
 
@@ -24,7 +24,7 @@ pub fn pairs_with_first_in(
 }
 
 /// For each first id, the list of its second ids.
-pub(crate) fn group_pairs(alloc: Global, pairs: &[(Id, Id)]) -> Result<Lists<Id, Id>, AllocError>
+pub(crate) fn group_pairs(alloc: Global, pairs: &[(Id, Id)]) -> Result<MultiMap<Id, Id>, AllocError>
     ensures { IfOk result (AreGrouped pairs.now) }
 {
     let mut groups = BTreeMap::new(alloc);

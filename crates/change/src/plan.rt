@@ -8,7 +8,7 @@ use crate::effective::{Effective, find_effective};
 use crate::installing::Installing;
 use crate::pairs::group_pairs;
 use fields::{Attest, Id, IdList, YyDdd};
-use sorted::lists::Lists;
+use sorted::multi_map::MultiMap;
 use std::alloc::{AllocError, Global};
 use zones::Zone;
 
@@ -18,9 +18,9 @@ pub(crate) struct Plan {
     /// The SYSMODs that take effect.
     pub(crate) effective: IdList,
     /// For each id, those of them that supersede it.
-    pub(crate) superseders: Lists<Id, Id>,
+    pub(crate) superseders: MultiMap<Id, Id>,
     /// For each id, its bypassed requisites.
-    pub(crate) bypassed: Lists<Id, Id>,
+    pub(crate) bypassed: MultiMap<Id, Id>,
     /// The ids whose entries may change.
     pub(crate) touched: IdList,
     pub(crate) date: YyDdd,

@@ -1,5 +1,5 @@
 //! The values of the commands: what each one asks for.
-use fields::{Bypass, IdList, ReceiveWhat, RestoreList, Selection, ZoneName};
+use fields::{Bypass, IdList, ReceiveOperands, RestoreList, Selection, ZoneName};
 use std::marker::Model;
 
 /// The operands of APPLY or ACCEPT.
@@ -22,7 +22,7 @@ impl Model for Install {
 #[derive(Drop)]
 pub enum Command {
     Set(ZoneName),
-    Receive(ReceiveWhat),
+    Receive(ReceiveOperands),
     Reject(IdList),
     Apply(Install),
     Accept(Install),

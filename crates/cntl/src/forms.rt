@@ -13,20 +13,20 @@ ghost use Rattle.cntl.specs.Singles.{AreSingle};
 use crate::bypassed::read_bypass;
 use crate::command::{Command, Install};
 use crate::operand_values::{flag_of, optional_list, required_ids, short_list};
-use fields::{Id, ReceiveWhat, RestoreList, Selection, Source, ZoneName};
+use fields::{Id, ReceiveOperands, RestoreList, Selection, Source, ZoneName};
 use rec80::{BadOperand, OperandError, Word, operand, optional, required};
 use std::alloc::Global;
 use terms::CommandWord;
 
 // What RECEIVE reads. It reads both files if the command names neither.
-fn read_receive(words: &[Word<'_>]) -> Result<ReceiveWhat, BadOperand>
+fn read_receive(words: &[Word<'_>]) -> Result<ReceiveOperands, BadOperand>
     ensures ok { IfOk result (λ what. HasReceive (words_of words.now) what) }
-    ensures bad { OnErr result ((what : terms.ReceiveWhat) → HasReceive (words_of words.now) what → ⊥) }
+    ensures bad { OnErr result ((what : terms.ReceiveOperands) → HasReceive (words_of words.now) what → ⊥) }
 {
     let sysmods = flag_of(words, b"SYSMODS")?;
     let holddata = flag_of(words, b"HOLDDATA")?;
     let source = optional::<Source>(words, b"SOURCEID")?;
-    Ok(ReceiveWhat {
+    Ok(ReceiveOperands {
         sysmods: sysmods || !holddata,
         holddata: holddata || !sysmods,
         source,

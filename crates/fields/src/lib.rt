@@ -26,7 +26,7 @@ pub use hold_parts::{HoldDate, Reason};
 pub use ids::{Class, Id, Source};
 pub use names::{Name, Srel, ZoneName};
 pub use rising_lists::{Field, Rising};
-pub use selections::{ReceiveWhat, RestoreList, Selection};
+pub use selections::{ReceiveOperands, RestoreList, Selection};
 pub use ver_number::VerNumber;
 
 /// Ids in rising order.

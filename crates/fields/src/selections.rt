@@ -6,16 +6,16 @@ use std::marker::Model;
 /// What RECEIVE reads: PTFIN for `sysmods`, the hold file for `holddata`, at least one of them. It adds the source to
 /// SYSMODs.
 #[derive(Drop)]
-pub struct ReceiveWhat {
+pub struct ReceiveOperands {
     pub sysmods: bool,
     pub holddata: bool,
     pub source: Option<Source>,
 }
 
-impl Model for ReceiveWhat {
+impl Model for ReceiveOperands {
     ghost use Rattle.terms.specs.Types as terms;
 
-    ghost Value = { terms.ReceiveWhat };
+    ghost Value = { terms.ReceiveOperands };
 
     ghost view = { λ a. record { sysmods = a.sysmods; holddata = a.holddata; source = a.source } };
 }

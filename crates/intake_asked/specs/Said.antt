@@ -5,7 +5,7 @@ use Rattle.std.specs.Prelude.{Contains}
 use Rattle.std.specs.Prelude.{IsTrue, codes, Vec}
 use Rattle.std.specs.declared.alloc.Global.{Global}
 use Rattle.terms.specs.Types.{Text, Reasons, NoReason, AnyReason, TheseReasons, Bypass, Selection, Install, RestoreList}
-use Rattle.terms.specs.Types.{RestoreSelect, RestoreGroup, ReceiveWhat, Command, Set, Receive, Reject, Apply, Accept}
+use Rattle.terms.specs.Types.{RestoreSelect, RestoreGroup, ReceiveOperands, Command, Set, Receive, Reject, Apply, Accept}
 use Rattle.terms.specs.Types.{Restore, ListZone, Report}
 use Rattle.terms.specs.Lookups.{is_in}
 use Rattle.terms.specs.Spelling.{word_text}
@@ -79,7 +79,7 @@ abbrev pub one_of : Option Text → List Text
 one_of None = []
 one_of (Some text) = text ∷ []
 
-pub record SaysReceive (operands : List WideOperand) (what : ReceiveWhat) : Type 0 where
+pub record SaysReceive (operands : List WideOperand) (what : ReceiveOperands) : Type 0 where
   pub sysmods : what.sysmods
       ≡ (has (codes "SYSMODS" ∷ codes "SYSMOD" ∷ []) operands || not (has (codes "HOLDDATA" ∷ []) operands))
   pub holddata : what.holddata

@@ -22,7 +22,7 @@ use crate::scan::WideCommand;
 use crate::selections::says_selection;
 use cntl::{Command, Install};
 use fields::spelling::word_text;
-use fields::{Id, ReceiveWhat, RestoreList, Source, ZoneName};
+use fields::{Id, ReceiveOperands, RestoreList, Source, ZoneName};
 use intake_read::WideOperand;
 use rec80::is_among;
 use std::alloc::{AllocError, Global};
@@ -83,7 +83,7 @@ fn says_install(
 
 // Whether the RECEIVE takes SYSMODs if and only if the operands have SYSMODS or lack HOLDDATA, and holds if and only if
 // they have HOLDDATA or lack SYSMODS.
-fn says_received_kinds(operands: &[WideOperand], receive: &ReceiveWhat) -> bool
+fn says_received_kinds(operands: &[WideOperand], receive: &ReceiveOperands) -> bool
     ensures sysmods { IsTrue result → receive.now.sysmods
         ≡ (has (codes "SYSMODS" ∷ codes "SYSMOD" ∷ []) operands.now || not (has (codes "HOLDDATA" ∷ []) operands.now)) }
     ensures holddata { IsTrue result → receive.now.holddata
@@ -98,7 +98,7 @@ fn says_received_kinds(operands: &[WideOperand], receive: &ReceiveWhat) -> bool
 fn says_receive(
     alloc: Global,
     operands: &[WideOperand],
-    receive: &ReceiveWhat,
+    receive: &ReceiveOperands,
 ) -> Result<bool, AllocError>
     ensures { IfOk result (λ says. IsTrue says → SaysReceive operands.now receive.now) }
 {

@@ -11,7 +11,7 @@ use fields::Bypass;
 use judge_system::Judged;
 use std::alloc::{AllocError, Global};
 use sysmods::GlobalZone;
-use zones::{Candidates, Scope, Zone, choose, deletions};
+use zones::{Candidates, Scope, Zone, counting_vers, deletions};
 
 /// Judges the candidates of an APPLY or ACCEPT in the zone, for ACCEPT with the related target zone, except for what
 /// BYPASS leaves out. The command installs the candidates that a `Solver` keeps of the system.
@@ -32,7 +32,7 @@ pub fn install_system<'a>(
     ensures overs { IfOk result (λ j. AreOver (choice j.vers) j.overs) }
 {
     let ids = &candidates.ids;
-    let vers = choose(alloc, global, zone, ids)?;
+    let vers = counting_vers(alloc, global, zone, ids)?;
     let dels = deletions(alloc, &vers, ids.as_slice())?;
     let scope = Scope {
         vers: &vers,

@@ -8,7 +8,7 @@ use Rattle.std.specs.declared.cmp.Ordering.{Ordering}
 use Rattle.std.specs.Cmp.Lexicographic.{slice_cmp}
 use Rattle.std.proofs.lemmas.Bool.{and_parts}
 use Rattle.std.proofs.lemmas.List.Folds.{Any-from_list_any, list_any-from_Any}
-use Rattle.sorted.specs.Lists.{Lists, listed, Gains}
+use Rattle.sorted.specs.MultiMap.{MultiMap, listed, Gains}
 use Rattle.sorted.proofs.Gaining.{gains_alike}
 use Rattle.terms.specs.Types.{Id, Entry, Global, Zone}
 use Rattle.terms.specs.Lookups.{IsZone, is_applied, is_function}
@@ -33,7 +33,7 @@ applied_entry zone y on =
 
 module _ (g : Global) (c : Choice) where
   -- the entry of an applied function
-  pub gains_function : (old new : Lists Id Id) (e : Entry) → IsTrue (is_some e.applied) → IsTrue (is_function g e.id)
+  pub gains_function : (old new : MultiMap Id Id) (e : Entry) → IsTrue (is_some e.applied) → IsTrue (is_function g e.id)
       → Gains C old new (λ z y. Contains (npre_of c e.id) z × (y ≡ e.id)) → Gains C old new (ForbidsBy g c e)
   gains_function old new e applied function =
       gains_alike C old new (λ z y. Contains (npre_of c e.id) z × (y ≡ e.id)) (ForbidsBy g c e) (λ z y. (
@@ -49,7 +49,7 @@ module _ (g : Global) (c : Choice) where
     forbidden_names x on =
         let a = Any-from_list_any (is_applied left) (npre_of c x) on in (a.1, a.4, inl (a.0, a.2, a.3))
 
-    module _ (all : Lists Id Id) (are : AreForbidders g c zone.entries all) where
+    module _ (all : MultiMap Id Id) (are : AreForbidders g c zone.entries all) where
       pub forbidden_listed : (x : Id) → list_any (is_applied left) (listed C all x) ≡ true
           → IsForbidden g c left x
       forbidden_listed x on =

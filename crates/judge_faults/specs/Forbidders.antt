@@ -2,7 +2,7 @@
 use Rattle.std.specs.Prelude.{◌≡◌, ◌⊎◌, List, Contains, IsTrue, is_some}
 use Rattle.std.specs.Ordering.{nat_cmp}
 use Rattle.std.specs.Cmp.Lexicographic.{slice_cmp}
-use Rattle.sorted.specs.Lists.{Lists, Holds, OneOf}
+use Rattle.sorted.specs.MultiMap.{MultiMap, Holds, OneOf}
 use Rattle.terms.specs.Types.{Id, Entry, Global, Zone}
 use Rattle.terms.specs.Lookups.{is_applied, is_function}
 use Rattle.terms.specs.Choice.{Choice, npre_of}
@@ -15,7 +15,7 @@ pub record ForbidsBy (g : Global) (c : Choice) (e : Entry) (z y : Id) : Type 0 w
   pub names : Contains (npre_of c e.id) z
 
 -- they are those of these entries
-abbrev pub AreForbidders : Global → Choice → List Entry → Lists Id Id → Type 0
+abbrev pub AreForbidders : Global → Choice → List Entry → MultiMap Id Id → Type 0
 AreForbidders g c entries all = Holds (slice_cmp nat_cmp) all (OneOf entries (ForbidsBy g c))
 
 -- x names an id that is applied in the zone, or an applied function there names x

@@ -3,21 +3,21 @@ ghost use Rattle.std.specs.Prelude.{◌≡◌, ◌↔◌, IsTrue, OnOk, IfOk};
 ghost use Rattle.std.specs.List.{list_any};
 ghost use Rattle.std.specs.Ordering.{nat_cmp};
 ghost use Rattle.std.specs.Cmp.Lexicographic.{slice_cmp};
-ghost use Rattle.sorted.specs.Lists.{Gains};
+ghost use Rattle.sorted.specs.MultiMap.{Gains};
 ghost use Rattle.terms.specs.Lookups.{is_applied};
 ghost use Rattle.sysmods.specs.Choices.{choice};
 ghost use Rattle.judge_faults.specs.Forbidders.{ForbidsBy, AreForbidders, IsForbidden};
 ghost use Rattle.zones.specs.Gone.{left_of};
 
 use fields::{Attest, Id};
-use sorted::lists::{Lists, add_to_all, listed};
+use sorted::multi_map::{MultiMap, add_to_all, listed};
 use std::alloc::{AllocError, Global};
 use std::collections::BTreeMap;
 use sysmods::VerChoice;
 use zones::{Entry, Zone, ZoneLess};
 
 /// For each id the applied functions that name it in NPRE.
-pub(crate) type Forbidders = Lists<Id, Id>;
+pub(crate) type Forbidders = MultiMap<Id, Id>;
 
 // If the SYSMOD of the entry is an applied function, lists it under each id that it names in NPRE.
 fn add_forbidder(

@@ -13,7 +13,7 @@ use Rattle.terms.specs.Types.{Id}
 use Rattle.terms.proofs.ListMembers.{here, here_or, none_in}
 use Rattle.terms.proofs.TextOrder.{same_back}
 use Rattle.terms.proofs.Lists.{front_more}
-use Rattle.sorted.specs.Lists.{Adds}
+use Rattle.sorted.specs.MultiMap.{Adds}
 use Rattle.judge_needs.specs.declared.stated.StatedRequisite.{StatedRequisite}
 use Rattle.judge_needs.specs.Conditions.{Stated, requisites_of, AddsMore}
 

@@ -4,7 +4,7 @@ use Rattle.std.specs.List.{flat_map}
 use Rattle.std.specs.Ordering.{nat_cmp}
 use Rattle.std.specs.Cmp.Lexicographic.{slice_cmp}
 use Rattle.std.specs.Str.{bytes_eq}
-use Rattle.sorted.specs.Lists.{Lists, listed}
+use Rattle.sorted.specs.MultiMap.{MultiMap, listed}
 use Rattle.terms.specs.Types.{Id, Zone}
 use Rattle.terms.specs.Lookups.{is_in, is_applied, applied_ids}
 use Rattle.terms.specs.Choice.{Choice}
@@ -21,7 +21,7 @@ a_requisite by z = record { by = by; id = z }
 
 -- for each function the requisites that are stated for it
 abbrev pub Stated : Type 0
-Stated = Lists Id StatedRequisite
+Stated = MultiMap Id StatedRequisite
 
 abbrev pub requisites_of : Stated → Id → List StatedRequisite
 requisites_of = listed (slice_cmp nat_cmp)

@@ -11,7 +11,7 @@ ghost use Rattle.zones.specs.Scopes.{global_of, choice_of, setting_of};
 
 use crate::stated::{Stated, all_stated_requisites};
 use fields::{Id, IdList};
-use sorted::lists::listed;
+use sorted::multi_map::listed;
 use std::alloc::{AllocError, Global};
 use zones::{Scope, ZoneLess};
 

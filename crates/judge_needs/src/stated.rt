@@ -7,7 +7,7 @@ ghost use Rattle.judge_needs.specs.Conditions.{AddsMore, AreStated, a_requisite}
 ghost use Rattle.zones.specs.Scopes.{choice_of};
 
 use fields::Id;
-use sorted::lists::{Lists, add};
+use sorted::multi_map::{MultiMap, add};
 use std::alloc::{AllocError, Global};
 use std::collections::BTreeMap;
 use sysmods_values::IfReq;
@@ -21,7 +21,7 @@ pub(crate) struct StatedRequisite {
 }
 
 /// For each function, the requisites that are stated for it.
-pub(crate) type Stated = Lists<Id, StatedRequisite>;
+pub(crate) type Stated = MultiMap<Id, StatedRequisite>;
 
 // Adds these requisites, which the SYSMOD `by` states for the function.
 fn add_requisites(

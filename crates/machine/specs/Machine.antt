@@ -4,7 +4,7 @@ use Rattle.std.specs.Prelude.{◌≡◌, ◌⊎◌, ℕ, Bool, true, false, IsTr
 use Rattle.std.specs.Prelude.{Result, Ok, Err, if◌then◌else◌}
 use Rattle.std.specs.List.{flat_map}
 use Rattle.std.specs.Option.{option_map_or, option_and_then}
-use Rattle.terms.specs.Types.{ZoneName, Date, Id, Global, Zone, Item, HoldItem, ReceiveWhat, Install, RestoreList}
+use Rattle.terms.specs.Types.{ZoneName, Date, Id, Global, Zone, Item, HoldItem, ReceiveOperands, Install, RestoreList}
 use Rattle.terms.specs.Types.{Command, Set}
 use Rattle.terms.specs.Types.{Receive, Reject, Apply, Accept, Restore, ListZone, Report}
 use Rattle.terms.specs.Ptfin.{McsFault, IsPtfin, IsPtfinFault}
@@ -35,7 +35,7 @@ HasItems Is false bytes items = items ≡ []
 
 -- RECEIVE takes in the items of PTFIN, and then those of the hold file. It reads both before anything changes. The
 -- first fault of PTFIN, or otherwise of the hold file, refuses it.
-pub data Takes (files : Files) (s : State) (what : ReceiveWhat) : State → Outcome → Type 0 where
+pub data Takes (files : Files) (s : State) (what : ReceiveOperands) : State → Outcome → Type 0 where
   TakesAll : (items : List Item) (holds : List HoldItem) (middle g : Global) (lines more : List Line)
       → HasItems IsPtfin what.sysmods files.ptfin items → HasItems IsHoldFile what.holddata files.holds holds
       → Runs (TakesItem what.source) s.global items middle lines → Runs TakesHoldItem middle holds g more

@@ -35,8 +35,8 @@ use Rattle.terms.specs.Needs.{asked, is_met}
 use Rattle.report.specs.Facts.{AreFacts, alone, standing_facts, ver_facts, numbered_facts, Requisite, requisites}
 use Rattle.report.specs.Facts.{requisites_of, a_requisite, stated_by, conditions_of, conditions}
 use Rattle.report.specs.Facts.{left_by, IsResolution, Resolution}
-use Rattle.report.specs.Facts.{Supplied, Waived, ByItself, Open, Rank, Itself, Over, NotOver, IsRank, Maker}
-use Rattle.report.specs.Facts.{Found, IsFound, HasFound}
+use Rattle.report.specs.Facts.{Supplied, Waived, ByItself, Open, Relation, Itself, Over, NotOver, IsRelation, Maker}
+use Rattle.report.specs.Facts.{ElementLevel, IsElementLevel, HasElementLevel}
 use Rattle.report.specs.Facts.{Fact, EntryFact, VerFact, DeleteFact}
 use Rattle.report.specs.Facts.{TakesFact, NpreFact, ForbiddenFact, NeededFact, HasResolution}
 use Rattle.report.specs.Facts.{StandsApplied, StandsSuperseded, StandsDeleted, StandsReceived, StandsMissing, holds_on}
@@ -379,24 +379,24 @@ module _ (g : Global) (zone : Zone) (x : Id) (facts : List Fact) (are : AreFacts
   abbrev OwnAndOver : Element → Type 0
   OwnAndOver e = (e.fmid ≡ owner_of s x) × ((z : Id) → Contains (e.rmid ∷ e.umids) z → IsOver s.choice x z)
 
-  over : (z : Id) (r : Rank) → IsRank s.choice x z r → is_over r ≡ true → IsOver s.choice x z
+  over : (z : Id) (r : Relation) → IsRelation s.choice x z r → is_over r ≡ true → IsOver s.choice x z
   over z Itself is ok = never ok
   over z Over is ok = is.1
   over z NotOver is ok = never ok
 
-  found : (e : Element) (f : Found) → IsFound s x e f → is_free true (Some f) ≡ true → OwnAndOver e
+  found : (e : Element) (f : ElementLevel) → IsElementLevel s x e f → is_free true (Some f) ≡ true → OwnAndOver e
   found e f is ok =
-      let parts = and_parts f.owned (list_all (λ (m : Maker). is_over m.rank) (f.rmid ∷ f.umids)) ok in (
+      let parts = and_parts f.owned (list_all (λ (m : Maker). is_over m.relation) (f.rmid ∷ f.umids)) ok in (
         same_from e.fmid (owner_of s x) (sym is.owned ∙ parts.0),
         λ z there.
-            let it = beside_passes _ (λ (m : Maker). is_over m.rank ≡ true) (e.rmid ∷ e.umids) (f.rmid ∷ f.umids)
+            let it = beside_passes _ (λ (m : Maker). is_over m.relation ≡ true) (e.rmid ∷ e.umids) (f.rmid ∷ f.umids)
             is.makers (All_from_each _ (f.rmid ∷ f.umids)
-            (λ m within. passes_all (λ (k : Maker). is_over k.rank) (f.rmid ∷ f.umids) m parts.1 within)) z there in
-            over z it.1.rank it.2.1 it.3,
+            (λ m within. passes_all (λ (k : Maker). is_over k.relation) (f.rmid ∷ f.umids) m parts.1 within)) z there in
+            over z it.1.relation it.2.1 it.3,
       )
 
   element : (h : Change) → Contains (changes_of g x) h
-      → (f : Option Found) × HasFound s x (element_of (view_of s x) h.elem_type h.name) f
+      → (f : Option ElementLevel) × HasElementLevel s x (element_of (view_of s x) h.elem_type h.name) f
       × (is_free (is_replacement h.action) f ≡ true)
   element h is =
       let it = beside_passes _ Clear (changes_of g x) are.changes_are.of_elements are.changes_are.elements_are
@@ -411,9 +411,9 @@ module _ (g : Global) (zone : Zone) (x : Id) (facts : List Fact) (are : AreFacts
       let f = element it.0 it.1 in
       let there' : element_of (view_of s x) it.0.elem_type it.0.name ≡ Some e =
       ap (λ t. element_of (view_of s x) t it.0.name) it.2 ∙ ap (element_of (view_of s x) type) it.3 ∙ there in
-      by (is_replacement it.0.action) f.0 (subst (λ o. HasFound s x o f.0) there' f.1) f.2
+      by (is_replacement it.0.action) f.0 (subst (λ o. HasElementLevel s x o f.0) there' f.1) f.2
     where
-      by : (replaces : Bool) (f : Option Found) → HasFound s x (Some e) f → is_free replaces f ≡ true → OwnAndOver e
+      by : (replaces : Bool) (f : Option ElementLevel) → HasElementLevel s x (Some e) f → is_free replaces f ≡ true → OwnAndOver e
       by replaces f has ok = found e has.0 has.2 (sym (ap (is_free replaces) has.1) ∙ ok)
 
   -- it updates nothing that is not there
@@ -429,7 +429,7 @@ module _ (g : Global) (zone : Zone) (x : Id) (facts : List Fact) (are : AreFacts
           let f = element h it.0 in
           let gone : element_of (view_of s x) h.elem_type h.name ≡ None =
           ap (λ t. element_of (view_of s x) t h.name) it.1 ∙ ap (element_of (view_of s x) type) it.2 ∙ absent in
-          let none : f.0 ≡ None = subst (λ o. HasFound s x o f.0) gone f.1 in
+          let none : f.0 ≡ None = subst (λ o. HasElementLevel s x o f.0) gone f.1 in
           let replaces : is_replacement h.action ≡ true = sym (ap (is_free (is_replacement h.action)) none) ∙ f.2 in
           never (sym (ap not replaces) ∙ ok)
 

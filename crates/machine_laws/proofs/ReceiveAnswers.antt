@@ -3,7 +3,7 @@ use Rattle.std.proofs.Common.{◌≡◌, ℕ, Bool, true, List, [], ◌∷◌, f
 use Rattle.std.proofs.Common.{ap, ap₂}
 use Rattle.std.proofs.Common.{subst}
 use Rattle.terms.specs.Types.{Text, Id, Sysmod, Global, Item, ASysmod, AnAssign, HoldItem, AHold, ARelease}
-use Rattle.terms.specs.Types.{ReceiveWhat, Receive}
+use Rattle.terms.specs.Types.{ReceiveOperands, Receive}
 use Rattle.terms.specs.Global.{ReceiveFault, AlreadyReceived, MakesLoop, WrongRole, NoRoom, HasFault, RefusedBy}
 use Rattle.terms.specs.Global.{Receives}
 use Rattle.terms.specs.Ptfin.{McsFault, IsPtfin, IsPtfinFault}
@@ -79,7 +79,7 @@ items_only : {X : Type 0} (Is : List ℕ → List X → Type 0)
 items_only Is only true bytes xs ys h k = only bytes xs ys h k
 items_only Is only false bytes xs ys h k = h ∙ sym k
 
-module _ (files : Files) (s : State) (what : ReceiveWhat) where
+module _ (files : Files) (s : State) (what : ReceiveOperands) where
   ptfin_same : (xs ys : List Item) → HasItems IsPtfin what.sysmods files.ptfin xs
       → HasItems IsPtfin what.sysmods files.ptfin ys → xs ≡ ys
   ptfin_same = items_only IsPtfin (λ bytes. (ptfin_once bytes).items) what.sysmods files.ptfin

@@ -8,7 +8,7 @@ use Rattle.std.specs.Cmp.Lexicographic.{slice_cmp}
 use Rattle.std.proofs.lemmas.Cmp.{nat_list_cmp_total}
 use Rattle.std.proofs.lemmas.List.Elements.{All-from_recursion}
 use Rattle.terms.specs.Types.{Text, type_number, Sysmod, Global, Item, ASysmod, AnAssign, HoldItem, AHold}
-use Rattle.terms.specs.Types.{ARelease, ReceiveWhat}
+use Rattle.terms.specs.Types.{ARelease, ReceiveOperands}
 use Rattle.terms.specs.Rising.{Rises}
 use Rattle.terms.specs.Forms.{IsSource}
 use Rattle.terms.specs.Global.{IsSysmod, ReceiveFault, Receives}
@@ -131,7 +131,7 @@ items_formed Is P formed true bytes items has = formed bytes items has
 items_formed Is P formed false bytes items none = subst (AllByRecursion P) (sym none) tt
 
 -- RECEIVE of the files that the command reads leads from an inventory to one.
-pub take_forms : (files : Files) (what : ReceiveWhat) (items : List Item) (holds : List HoldItem) (i : Inventory)
+pub take_forms : (files : Files) (what : ReceiveOperands) (items : List Item) (holds : List HoldItem) (i : Inventory)
     (middle new : Global) (lines more : List Line) → IfSome what.source IsSource
     → HasItems IsPtfin what.sysmods files.ptfin items → HasItems IsHoldFile what.holddata files.holds holds
     → IsInventory i

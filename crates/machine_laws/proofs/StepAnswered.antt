@@ -5,7 +5,7 @@ use Rattle.std.proofs.Common.{IfSome, refl, sym, ◌∙◌, ap, subst}
 use Rattle.std.specs.Prelude.{is_some}
 use Rattle.std.specs.List.{AllByRecursion}
 use Rattle.terms.specs.declared.kinds.ZoneKind.TheVariants.{Target, Distribution}
-use Rattle.terms.specs.Types.{Text, Id, Global, Zone, Item, HoldItem, ReceiveWhat, Command, Set}
+use Rattle.terms.specs.Types.{Text, Id, Global, Zone, Item, HoldItem, ReceiveOperands, Command, Set}
 use Rattle.terms.specs.Types.{Receive, Reject, Apply, Accept, Restore, ListZone, Report}
 use Rattle.terms.specs.Forms.{IsSource}
 use Rattle.terms.specs.Global.{IsGlobal, reject}
@@ -33,7 +33,7 @@ use Rattle.machine_laws.proofs.ReportAnswered.{errsysmods_some}
 
 -- ---- RECEIVE
 
-module _ (files : Files) (s : State) (what : ReceiveWhat) (has : HasGlobalForms s.global)
+module _ (files : Files) (s : State) (what : ReceiveOperands) (has : HasGlobalForms s.global)
     (form : IfSome what.source IsSource) (read : AreRead files) where
   abbrev Taken : Type 0
   Taken = (t : State) × (outcome : Outcome) × Takes files s what t outcome

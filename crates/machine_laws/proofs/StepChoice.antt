@@ -11,7 +11,7 @@ use Rattle.std.proofs.lemmas.List.Elements.{All-contains, All-contains_itself}
 use Rattle.std.proofs.lemmas.Option.{same_Some}
 use Rattle.terms.proofs.Searches.{All_from_no_list_any}
 use Rattle.terms.proofs.TextOrder.{same_from}
-use Rattle.terms.specs.Types.{Text, Id, Global, Zone, a_zone, NamedZone, ReceiveWhat, Install, RestoreList, Command}
+use Rattle.terms.specs.Types.{Text, Id, Global, Zone, a_zone, NamedZone, ReceiveOperands, Install, RestoreList, Command}
 use Rattle.terms.specs.Types.{Set, Receive, Reject, Apply, Accept, Restore, ListZone, Report}
 use Rattle.terms.specs.Lookups.{IsZone, is_in, is_applied, is_received}
 use Rattle.terms.specs.Choice.{counting}
@@ -143,7 +143,7 @@ module _ (s : State) (is : IsStorable s) (closed : AreClosed s.global s.zones) w
       (named_has (λ z. IsClosedZone s.global (counting s.global z []) z) s.zones name zone closed there) x
       (in_applied_ids zone x on)
 
-  taken : (files : Files) (what : ReceiveWhat) (t : State) (outcome : Outcome) → Takes files s what t outcome
+  taken : (files : Files) (what : ReceiveOperands) (t : State) (outcome : Outcome) → Takes files s what t outcome
       → KeepsChoices s t
   taken files what t outcome (TakesAll items holds middle g lines more reads held runs runs_holds) =
       by_global s g (λ name zone there x on. items_keep what.source items holds s.global middle g lines more runs

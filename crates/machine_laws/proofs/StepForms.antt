@@ -4,7 +4,7 @@ use Rattle.std.proofs.Common.{◌≡◌, ℕ, Bool, true, false, List, [], ◌�
 use Rattle.std.proofs.Common.{refl, sym, subst, inl, inr, map, if◌then◌else◌}
 use Rattle.std.specs.List.{AllByRecursion}
 use Rattle.terms.specs.Types.{Text, Command, Set, Receive, Reject, Apply, Accept, Restore, ListZone, Report}
-use Rattle.terms.specs.Types.{Install, ReceiveWhat, RestoreList, Zone}
+use Rattle.terms.specs.Types.{Install, ReceiveOperands, RestoreList, Zone}
 use Rattle.terms.specs.Forms.{IsSource, IsSrel, IsZoneName, IsDottedDate}
 use Rattle.terms.specs.Statement.{Piece}
 use Rattle.terms.specs.CommandForms.{IsCommand}
@@ -43,7 +43,7 @@ restore_storable s what check t outcome is there =
     (restore_kept (record { global = s.global; zones = s.zones }) there.name there.zone there.accepted there.new what
     there.lines is there.is_there there.related there.restores))
 
-take_storable : (files : Files) (s : State) (what : ReceiveWhat) (t : State) (outcome : Outcome) → IsStorable s
+take_storable : (files : Files) (s : State) (what : ReceiveOperands) (t : State) (outcome : Outcome) → IsStorable s
     → IfSome what.source IsSource → Takes files s what t outcome → IsStorable t
 take_storable files s what t outcome is form (TakesAll items holds middle g lines more has has_holds runs runs_holds) =
     take_forms files what items holds (record { global = s.global; zones = s.zones }) middle g lines more form has

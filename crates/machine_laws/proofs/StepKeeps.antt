@@ -12,7 +12,7 @@ use Rattle.terms.proofs.Pairs.{pairs_unmap}
 use Rattle.terms.proofs.Searches.{All_find}
 use Rattle.terms.specs.declared.kinds.ZoneKind.{ZoneKind}
 use Rattle.terms.specs.declared.kinds.ZoneKind.TheVariants.{Target, Distribution}
-use Rattle.terms.specs.Types.{Text, Global, Zone, a_zone, NamedZone, ReceiveWhat, Install, RestoreList, Command, Set}
+use Rattle.terms.specs.Types.{Text, Global, Zone, a_zone, NamedZone, ReceiveOperands, Install, RestoreList, Command, Set}
 use Rattle.terms.specs.Types.{Receive, Reject, Apply, Accept, Restore, ListZone, Report}
 use Rattle.terms.specs.Rising.{with_item}
 use Rattle.terms.specs.Lookups.{IsZone, is_before, IsRising}
@@ -104,7 +104,7 @@ defined_closed s t d answers closed = subst HasClosedZones (defined s t d answer
 
 -- ---- commands
 
-taken_closed : (files : Files) (s : State) (what : ReceiveWhat) (t : State) (outcome : Outcome)
+taken_closed : (files : Files) (s : State) (what : ReceiveOperands) (t : State) (outcome : Outcome)
     → Takes files s what t outcome → HasClosedZones s → HasClosedZones t
 taken_closed files s what t outcome (TakesAll items holds middle g lines more reads held runs runs_holds) closed =
     receive_keeps_closed what.source items holds s.global middle g lines more s.zones runs runs_holds closed

@@ -6,7 +6,7 @@ use Rattle.terms.specs.declared.kinds.ZoneKind.TheVariants.{Target}
 use Rattle.terms.specs.Types.{Text, Id, Global, Zone, Selection}
 use Rattle.terms.specs.CommandForms.{no_bypass}
 use Rattle.report.specs.Facts.{Standing, StandsReceived}
-use Rattle.report.specs.Facts.{Resolution, Supplied, Found, Fact}
+use Rattle.report.specs.Facts.{Resolution, Supplied, ElementLevel, Fact}
 use Rattle.report.specs.Facts.{is_over}
 use Rattle.report.specs.Facts.{StandingFact, EntryFact, VerFact, RequisiteFact, HoldFact, ElementFact, DeleteFact}
 use Rattle.report.specs.Facts.{TakesFact, NpreFact, ForbiddenFact, NeededFact, AreFacts, alone}
@@ -29,9 +29,9 @@ is_resolved None = false
 is_resolved (Some answer) = is_supplied answer
 
 -- The element is the id's own, and it is over all SYSMODs that made it. An element that it replaces need not exist.
-abbrev pub is_free : Bool → Option Found → Bool
+abbrev pub is_free : Bool → Option ElementLevel → Bool
 is_free replaces None = replaces
-is_free replaces (Some f) = f.owned && list_all (λ m. is_over m.rank) (f.rmid ∷ f.umids)
+is_free replaces (Some f) = f.owned && list_all (λ m. is_over m.relation) (f.rmid ∷ f.umids)
 
 -- the fact does not block it
 abbrev pub is_clear : Fact → Bool

@@ -45,11 +45,11 @@ pub(crate) fn read_cuts(
     printed: &mut Vec<u8>,
 ) -> Result<(), Fail> {
     let mut before = RowText::new();
-    before.put(b"nothing");
+    before.print(b"nothing");
     for len in 0..=file.len() {
         let now = read_file(alloc, reader, &file[..len])?;
         if now.text() != before.text() {
-            put_cut(alloc, len, now.text(), printed)?;
+            print_cut(alloc, len, now.text(), printed)?;
         }
         before = now;
     }
@@ -57,7 +57,7 @@ pub(crate) fn read_cuts(
 }
 
 // Appends a line with the number of bytes of a cut, and the number of items that were read from it, or its fault.
-fn put_cut(alloc: Global, len: usize, text: &str, printed: &mut Vec<u8>) -> Result<(), Fail> {
+fn print_cut(alloc: Global, len: usize, text: &str, printed: &mut Vec<u8>) -> Result<(), Fail> {
     // A semicolon ends each item, and a fault has none.
     let line = match text.split(';').count() {
         1 => format!(in alloc; "{len}: {text}\n")?,

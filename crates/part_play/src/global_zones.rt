@@ -17,7 +17,7 @@ pub(crate) fn read_global(alloc: Global, file: &[u8], actions: &str) -> Result<R
     let mut out = RowText::new();
     for action in actions.split(',') {
         let (word, ids) = action.split_once(' ').ok_or("an action has an id")?;
-        out.put(b" ");
+        out.print(b" ");
         perform_action(alloc, &mut global, word, ids, &mut out)?;
     }
     Ok(out)
@@ -43,10 +43,10 @@ fn perform_action(
     out: &mut RowText,
 ) -> Result<(), Fail> {
     match word.as_bytes() {
-        b"HOLD" => out.put(add_test_hold(global, read_id(ids)?)?),
-        b"RELEASE" => out.put(remove_test_hold(global, read_id(ids)?)?),
-        b"ASSIGN" => out.put(assign_test_source(global, read_id(ids)?)?),
-        b"REJECT" => out.put(reject_sysmod(global, read_id(ids)?)),
+        b"HOLD" => out.print(add_test_hold(global, read_id(ids)?)?),
+        b"RELEASE" => out.print(remove_test_hold(global, read_id(ids)?)?),
+        b"ASSIGN" => out.print(assign_test_source(global, read_id(ids)?)?),
+        b"REJECT" => out.print(reject_sysmod(global, read_id(ids)?)),
         _ => return answer_question(alloc, global, word, ids, out),
     }
     Ok(())
@@ -110,23 +110,23 @@ fn answer_question(
     let srel = Srel::read(b"Z038").ok_or("no SREL")?;
     let mut found = Vec::new(alloc);
     match word.as_bytes() {
-        b"SIZE" => out.put_number(global.len()),
+        b"SIZE" => out.print_number(global.len()),
         b"SOURCES" => {
             let sysmod = global.get(read_id(ids)?).ok_or("no SYSMOD")?;
-            out.put_number(sysmod.sources.len());
+            out.print_number(sysmod.sources.len());
         }
         b"NAMERS" => global.append_namers(srel, read_id(ids)?, &mut found)?,
         b"SERVICE" => global.append_function_namers(read_id(ids)?, &mut found)?,
-        b"OVER" => return put_over(alloc, global, srel, ids, out),
-        b"SUPERSEDED" => return put_superseded(alloc, global, srel, ids, out),
+        b"OVER" => return print_over(alloc, global, srel, ids, out),
+        b"SUPERSEDED" => return print_superseded(alloc, global, srel, ids, out),
         _ => return Err(Fail::from("no action has this name")),
     }
-    out.put_ids(found.as_slice());
+    out.print_ids(found.as_slice());
     Ok(())
 }
 
 // Appends all ids that the SYSMOD supersedes.
-fn put_superseded(
+fn print_superseded(
     alloc: Global,
     global: &GlobalZone,
     srel: Srel,
@@ -135,7 +135,7 @@ fn put_superseded(
 ) -> Result<(), Fail> {
     let vers = VerChoice::new(global, srel, Table::new(alloc), Table::new(alloc));
     let superseded = vers.sup_all(alloc, read_id(id)?)?;
-    out.put_ids(superseded.as_slice());
+    out.print_ids(superseded.as_slice());
     Ok(())
 }
 
@@ -153,7 +153,7 @@ fn over_answers(
 }
 
 // Appends a letter for each answer to the question whether the first SYSMOD is over the second one.
-fn put_over(
+fn print_over(
     alloc: Global,
     global: &GlobalZone,
     srel: Srel,
@@ -163,7 +163,7 @@ fn put_over(
     let (above, below) = ids.split_once(' ').ok_or("two ids")?;
     let vers = VerChoice::new(global, srel, Table::new(alloc), Table::new(alloc));
     for answer in over_answers(alloc, &vers, read_id(above)?, read_id(below)?)? {
-        out.put_flag(answer);
+        out.print_flag(answer);
     }
     Ok(())
 }

@@ -19,37 +19,37 @@ fn operand_in<'a>(alloc: Global, cards: &'a [Record], name: &[u8]) -> Option<Wor
 pub(crate) fn operand_text(alloc: Global, file: &[u8], name: &[u8]) -> Result<RowText, Fail> {
     let mut out = RowText::new();
     let found = operand_in(alloc, records(file)?.all, name);
-    out.put(match flag(&found) {
+    out.print(match flag(&found) {
         Ok(true) => b"there",
         Ok(false) => b"none ",
         Err(_) => b"list ",
     });
     if let Some(word) = found {
-        put_ids(alloc, &mut out, &word);
-        put_sources(alloc, &mut out, &word);
+        print_ids(alloc, &mut out, &word);
+        print_sources(alloc, &mut out, &word);
         if let Some(zone) = one::<ZoneName>(&word) {
-            out.put_words(&[b"zone", zone.as_bytes()]);
+            out.print_words(&[b"zone", zone.as_bytes()]);
         }
     }
     Ok(out)
 }
 
 // Appends the operand's ids in rising order, and how many ids it has in the order of the file.
-fn put_ids(alloc: Global, out: &mut RowText, word: &Word<'_>) {
+fn print_ids(alloc: Global, out: &mut RowText, word: &Word<'_>) {
     if let Ok(list) = ids(alloc, word) {
-        out.put_id_list(b"ids", &list);
+        out.print_id_list(b"ids", &list);
     }
     if let Ok(list) = ids_in_file_order(alloc, word) {
-        out.put(b" listed ");
-        out.put_number(list.len());
+        out.print(b" listed ");
+        out.print_number(list.len());
     }
 }
 
 // Appends the operand's sources.
-fn put_sources(alloc: Global, out: &mut RowText, word: &Word<'_>) {
+fn print_sources(alloc: Global, out: &mut RowText, word: &Word<'_>) {
     if let Ok(list) = rising::<Source>(alloc, word) {
         for source in list.iter() {
-            out.put_words(&[source.as_bytes()]);
+            out.print_words(&[source.as_bytes()]);
         }
     }
 }

@@ -22,7 +22,7 @@ impl RowText {
         }
     }
 
-    pub(crate) fn put(&mut self, text: &[u8]) {
+    pub(crate) fn print(&mut self, text: &[u8]) {
         for byte in text {
             if let Some(place) = self.bytes.get_mut(self.len) {
                 *place = *byte;
@@ -32,48 +32,48 @@ impl RowText {
     }
 
     /// Appends each word after a blank.
-    pub(crate) fn put_words(&mut self, words: &[&[u8]]) {
+    pub(crate) fn print_words(&mut self, words: &[&[u8]]) {
         for word in words {
-            self.put(b" ");
-            self.put(word);
+            self.print(b" ");
+            self.print(word);
         }
     }
 
-    pub(crate) fn put_number(&mut self, number: usize) {
-        self.put(Buffer::new().format(number).as_bytes());
+    pub(crate) fn print_number(&mut self, number: usize) {
+        self.print(Buffer::new().format(number).as_bytes());
     }
 
     /// Appends `T` if the flag is set, and `F` if not.
-    pub(crate) fn put_flag(&mut self, flag: bool) {
-        self.put(if flag { b"T" } else { b"F" });
+    pub(crate) fn print_flag(&mut self, flag: bool) {
+        self.print(if flag { b"T" } else { b"F" });
     }
 
     /// Appends the word if the condition holds.
-    pub(crate) fn put_if(&mut self, condition: bool, word: &[u8]) {
+    pub(crate) fn print_if(&mut self, condition: bool, word: &[u8]) {
         if condition {
-            self.put(word);
+            self.print(word);
         }
     }
 
     /// Appends each id after a blank.
-    pub(crate) fn put_ids(&mut self, ids: &[Id]) {
+    pub(crate) fn print_ids(&mut self, ids: &[Id]) {
         for id in ids {
-            self.put_words(&[id.as_bytes()]);
+            self.print_words(&[id.as_bytes()]);
         }
     }
 
     /// Appends the ids in parentheses after the name, if there are any.
-    pub(crate) fn put_id_list(&mut self, name: &[u8], ids: &IdList) {
+    pub(crate) fn print_id_list(&mut self, name: &[u8], ids: &IdList) {
         if ids.is_empty() {
             return;
         }
-        self.put(name);
-        self.put(b"(");
+        self.print(name);
+        self.print(b"(");
         for id in ids.iter() {
-            self.put(id.as_bytes());
-            self.put(b" ");
+            self.print(id.as_bytes());
+            self.print(b" ");
         }
-        self.put(b")");
+        self.print(b")");
     }
 
     pub(crate) fn text(&self) -> &str {

@@ -1,7 +1,7 @@
 //! Sets of numbers that grow by rules.
 
 use crate::row_text::RowText;
-use crate::systems::{parse_flags, parse_numbers, put_flags};
+use crate::systems::{parse_flags, parse_numbers, print_flags};
 use solve::{Rule, Rules, least};
 use std::alloc::Global;
 use std::test::Fail;
@@ -33,8 +33,8 @@ pub(crate) fn least_set(alloc: Global, text: &str) -> Result<RowText, Fail> {
         add_rule(&mut rules, parse_rule(alloc, word)?)?;
     }
     let mut out = RowText::new();
-    out.put_number(rules.size() as usize);
-    out.put(b" ");
-    put_flags(&mut out, least(alloc, &rules)?.as_slice());
+    out.print_number(rules.size() as usize);
+    out.print(b" ");
+    print_flags(&mut out, least(alloc, &rules)?.as_slice());
     Ok(out)
 }

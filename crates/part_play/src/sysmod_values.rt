@@ -1,6 +1,6 @@
 //! What a SYSMOD names, and how parts of another one change it.
 
-use crate::ptfin::put_sysmod;
+use crate::ptfin::print_sysmod;
 use crate::row_text::RowText;
 use crate::values::read_id;
 use fields::spelling::read_type;
@@ -19,7 +19,7 @@ pub(crate) fn read_sysmod(alloc: Global, file: &[u8], action: &str) -> Result<Ro
         Some((word, names)) => answer_question(alloc, &sysmod, word, names, &mut out)?,
         None => {
             change_sysmod(alloc, &mut sysmod, &mut other, action, &mut out)?;
-            put_sysmod(&mut out, &sysmod);
+            print_sysmod(&mut out, &sysmod);
         }
     }
     Ok(out)
@@ -64,17 +64,17 @@ fn change_sysmod(
     out: &mut RowText,
 ) -> Result<(), Fail> {
     match action.as_bytes() {
-        b"VER" => out.put_number(sysmod.insert_ver(remove_ver(other)?)?),
+        b"VER" => out.print_number(sysmod.insert_ver(remove_ver(other)?)?),
         b"IF" => move_condition(sysmod, remove_ver(other)?)?,
         b"ELEMENT" => move_element(sysmod, other)?,
         b"SOURCE" => {
             sysmod.insert_source(Source::read(b"RSU2404").ok_or("no source")?)?;
-            out.put_number(sysmod.sources.len());
+            out.print_number(sysmod.sources.len());
         }
-        b"HOLDS" => out.put_number(sysmod.take_holds(alloc).len()),
+        b"HOLDS" => out.print_number(sysmod.take_holds(alloc).len()),
         _ => return Err(Fail::from("no change has this name")),
     }
-    out.put(b" ");
+    out.print(b" ");
     Ok(())
 }
 
@@ -89,30 +89,30 @@ fn answer_question(
     match word.as_bytes() {
         b"NAMES" => {
             let id = read_id(names)?;
-            out.put_if(sysmod.names(id), b" names");
-            out.put_if(sysmod.names_function(id), b" as function");
-            out.put_if(sysmod.supersedes(id), b" supersedes");
+            out.print_if(sysmod.names(id), b" names");
+            out.print_if(sysmod.names_function(id), b" as function");
+            out.print_if(sysmod.supersedes(id), b" supersedes");
         }
-        b"NAMED" => put_named(alloc, sysmod, names, out)?,
+        b"NAMED" => print_named(alloc, sysmod, names, out)?,
         b"FOR" => {
             let (srel, id) = names.split_once(' ').ok_or("no id")?;
             let srel = Srel::read(srel.as_bytes()).ok_or("no SREL")?;
-            out.put_if(sysmod.names_for(srel, read_id(id)?), b"names");
+            out.print_if(sysmod.names_for(srel, read_id(id)?), b"names");
         }
         _ => {
             let elem_type = read_type(word.as_bytes()).ok_or("no type")?;
             let name = Name::read(names.as_bytes()).ok_or("no name")?;
-            out.put_if(sysmod.has_change(elem_type, name), b"has");
+            out.print_if(sysmod.has_change(elem_type, name), b"has");
         }
     }
     Ok(())
 }
 
 // Appends the ids that the SYSMOD names for the SREL.
-fn put_named(alloc: Global, sysmod: &Sysmod, srel: &str, out: &mut RowText) -> Result<(), Fail> {
+fn print_named(alloc: Global, sysmod: &Sysmod, srel: &str, out: &mut RowText) -> Result<(), Fail> {
     let srel = Srel::read(srel.as_bytes()).ok_or("no SREL")?;
     let mut found = Vec::new(alloc);
     sysmod.append_named(srel, &mut found)?;
-    out.put_ids(found.as_slice());
+    out.print_ids(found.as_slice());
     Ok(())
 }

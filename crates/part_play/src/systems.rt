@@ -31,9 +31,9 @@ pub(crate) fn parse_flags(alloc: Global, letters: &str) -> Result<Vec<bool>, Fai
 }
 
 /// Appends a letter for each flag.
-pub(crate) fn put_flags(out: &mut RowText, flags: &[bool]) {
+pub(crate) fn print_flags(out: &mut RowText, flags: &[bool]) {
     for flag in flags {
-        out.put_flag(*flag);
+        out.print_flag(*flag);
     }
 }
 
@@ -82,9 +82,9 @@ fn solve_text(alloc: Global, text: &str) -> Result<RowText, Fail> {
     let system = parse_system(alloc, text)?;
     let mut out = RowText::new();
     let (kept, strikes) = solve_twice(alloc, &system, &mut out)?;
-    put_flags(&mut out, kept.flags());
-    put_strikes(&mut out, strikes);
-    put_causers(alloc, &system, &kept, &mut out)?;
+    print_flags(&mut out, kept.flags());
+    print_strikes(&mut out, strikes);
+    print_causers(alloc, &system, &kept, &mut out)?;
     Ok(out)
 }
 
@@ -92,24 +92,29 @@ fn solve_text(alloc: Global, text: &str) -> Result<RowText, Fail> {
 fn solve_twice(alloc: Global, system: &System, out: &mut RowText) -> Result<(Kept, u128), Fail> {
     let swept = Sweep.greatest(alloc, system)?;
     let (kept, count) = Worklist::count(alloc, system)?;
-    out.put_if(swept.flags() != kept.flags(), b"SWEEP DIFFERS ");
+    out.print_if(swept.flags() != kept.flags(), b"SWEEP DIFFERS ");
     Ok((kept, count.strikes))
 }
 
-fn put_strikes(out: &mut RowText, strikes: u128) {
-    out.put(b" ");
-    out.put(Buffer::new().format(strikes).as_bytes());
+fn print_strikes(out: &mut RowText, strikes: u128) {
+    out.print(b" ");
+    out.print(Buffer::new().format(strikes).as_bytes());
 }
 
 // Appends the causers of each candidate, between a blank and a slash.
-fn put_causers(alloc: Global, system: &System, kept: &Kept, out: &mut RowText) -> Result<(), Fail> {
+fn print_causers(
+    alloc: Global,
+    system: &System,
+    kept: &Kept,
+    out: &mut RowText,
+) -> Result<(), Fail> {
     for row in causers(alloc, system, kept)? {
-        out.put(b" ");
+        out.print(b" ");
         for causer in row.iter() {
-            out.put_number(*causer as usize);
-            out.put(b",");
+            out.print_number(*causer as usize);
+            out.print(b",");
         }
-        out.put(b"/");
+        out.print(b"/");
     }
     Ok(())
 }
@@ -120,13 +125,13 @@ fn causers_for_other(alloc: Global, text: &str) -> Result<RowText, Fail> {
     let (first, second) = text.split_once('/').ok_or("two systems")?;
     let kept = Sweep.greatest(alloc, &parse_system(alloc, second.trim())?)?;
     let mut out = RowText::new();
-    out.put_number(kept.size() as usize);
-    out.put(b" ");
+    out.print_number(kept.size() as usize);
+    out.print(b" ");
     for number in 0..=kept.size() {
-        out.put_flag(kept.contains(number));
+        out.print_flag(kept.contains(number));
     }
     let system = parse_system(alloc, first.trim())?;
-    put_causers(alloc, &system, &kept, &mut out)?;
+    print_causers(alloc, &system, &kept, &mut out)?;
     Ok(out)
 }
 
@@ -161,8 +166,8 @@ fn solve_chain(alloc: Global, text: &str) -> Result<RowText, Fail> {
     let system = System::from_needs(eligible, needs)?;
     let mut out = RowText::new();
     let (kept, strikes) = solve_twice(alloc, &system, &mut out)?;
-    out.put_number(kept.flags().iter().filter(|flag| **flag).count());
-    put_strikes(&mut out, strikes);
+    out.print_number(kept.flags().iter().filter(|flag| **flag).count());
+    print_strikes(&mut out, strikes);
     Ok(out)
 }
 
@@ -173,8 +178,8 @@ fn need_count(alloc: Global, text: &str) -> Result<RowText, Fail> {
     append_needs(alloc, words, &mut needs)?;
     let mut out = RowText::new();
     match System::from_needs(parse_flags(alloc, letters)?, needs) {
-        Ok(system) => out.put_number(system.needs().len()),
-        Err(SystemError::BadNeed) => out.put(b"bad need"),
+        Ok(system) => out.print_number(system.needs().len()),
+        Err(SystemError::BadNeed) => out.print(b"bad need"),
         Err(error) => return Err(Fail::from(error)),
     }
     Ok(out)

@@ -40,7 +40,7 @@ impl Performs for Tables {
             front: front.as_str(),
         };
         for row in rows.as_str().lines() {
-            reader.put_differences(alloc, row, printed)?;
+            reader.print_differences(alloc, row, printed)?;
         }
         Ok(())
     }
@@ -70,7 +70,12 @@ struct RowReader<'a> {
 
 impl RowReader<'_> {
     // Appends a line for each text of the row from which the reader reads something else than the row says.
-    fn put_differences(self, alloc: Global, row: &str, printed: &mut Vec<u8>) -> Result<(), Fail> {
+    fn print_differences(
+        self,
+        alloc: Global,
+        row: &str,
+        printed: &mut Vec<u8>,
+    ) -> Result<(), Fail> {
         let (texts, wanted) = row.split_once(" =>").ok_or("no arrow in a row")?;
         for text in texts.split(';') {
             let out = self.read(alloc, text)?;

@@ -20,9 +20,9 @@ fn whole_lines(alloc: Global, file: &[u8]) -> Result<Vec<Line>, Fail> {
     Ok(lines_of(alloc, file)?)
 }
 
-fn put_fault(out: &mut RowText, fault: TextFault) {
-    out.put_number(fault.number);
-    out.put(match fault.code {
+fn print_fault(out: &mut RowText, fault: TextFault) {
+    out.print_number(fault.number);
+    out.print(match fault.code {
         TextCode::NoNumber => b" no number",
         TextCode::NumberOutOfOrder => b" number out of order",
         TextCode::NoChangeRecord => b" no CHANGE",
@@ -36,8 +36,8 @@ fn put_fault(out: &mut RowText, fault: TextFault) {
 pub(crate) fn text_size(alloc: Global, file: &[u8]) -> Result<RowText, Fail> {
     let mut out = RowText::new();
     match Numbered::read(whole_lines(alloc, file)?) {
-        Ok(text) => out.put_number(text.lines().len()),
-        Err(fault) => put_fault(&mut out, fault),
+        Ok(text) => out.print_number(text.lines().len()),
+        Err(fault) => print_fault(&mut out, fault),
     }
     Ok(out)
 }
@@ -46,8 +46,8 @@ pub(crate) fn text_size(alloc: Global, file: &[u8]) -> Result<RowText, Fail> {
 pub(crate) fn update_size(alloc: Global, file: &[u8]) -> Result<RowText, Fail> {
     let mut out = RowText::new();
     match Update::read(alloc, whole_lines(alloc, file)?, ELEMENT) {
-        Ok(update) => out.put_number(update.records().len()),
-        Err(TextError::Fault(fault)) => put_fault(&mut out, fault),
+        Ok(update) => out.print_number(update.records().len()),
+        Err(TextError::Fault(fault)) => print_fault(&mut out, fault),
         Err(TextError::Memory) => return Err(Fail::from("out of memory")),
     }
     Ok(out)
@@ -58,9 +58,9 @@ pub(crate) fn copy_sizes(alloc: Global, file: &[u8]) -> Result<RowText, Fail> {
     let original = Update::read(alloc, whole_lines(alloc, file)?, ELEMENT)?;
     let update = original.clone()?;
     let mut out = RowText::new();
-    out.put_number(update.records().len());
-    out.put(b" ");
-    out.put_number(update.given_records(alloc)?.lines().len());
+    out.print_number(update.records().len());
+    out.print(b" ");
+    out.print_number(update.given_records(alloc)?.lines().len());
     Ok(out)
 }
 
@@ -74,7 +74,7 @@ pub(crate) fn merged_text(alloc: Global, text: &[u8], update: &[u8]) -> Result<R
     let mut out = RowText::new();
     for record in bytes.chunks(RECORD) {
         if let Some((columns, number)) = record.split_at_checked(TEXT_COLUMNS) {
-            out.put_words(&[columns.trim_ascii_end(), number]);
+            out.print_words(&[columns.trim_ascii_end(), number]);
         }
     }
     Ok(out)

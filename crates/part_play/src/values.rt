@@ -3,7 +3,7 @@
 use crate::row_text::RowText;
 use fields::{Class, HoldDate, Id, IdList, Name, Reason, Rising, Source, Srel, YyDdd, ZoneName};
 use rec80::{RecError, records};
-use sorted::lists::{Lists, add, add_to_all, listed};
+use sorted::multi_map::{MultiMap, add, add_to_all, listed};
 use std::alloc::Global;
 use std::collections::BTreeMap;
 use std::test::Fail;
@@ -50,7 +50,7 @@ fn fitting_fields(text: &str) -> RowText {
     let mut out = RowText::new();
     for letter in b"ISCRNZLHD" {
         if fits_field(*letter, text.as_bytes()) {
-            out.put(&[*letter]);
+            out.print(&[*letter]);
         }
     }
     out
@@ -62,7 +62,7 @@ fn date_of_day(text: &str) -> RowText {
     if let Ok(day) = text.parse::<u16>()
         && (1..=366).contains(&day)
     {
-        out.put(YyDdd::new(2024, day).as_bytes());
+        out.print(YyDdd::new(2024, day).as_bytes());
     }
     out
 }
@@ -84,9 +84,9 @@ fn list_calls(alloc: Global, text: &str) -> Result<RowText, Fail> {
     let mut list = IdList::new(alloc);
     let mut out = RowText::new();
     for word in text.split_whitespace() {
-        out.put_flag(call_list(&mut list, word)?);
+        out.print_flag(call_list(&mut list, word)?);
     }
-    out.put_id_list(b" ", &list.try_clone(alloc)?);
+    out.print_id_list(b" ", &list.try_clone(alloc)?);
     Ok(out)
 }
 
@@ -97,21 +97,21 @@ fn sorted_ids(alloc: Global, text: &str) -> Result<RowText, Fail> {
         ids.push(read_id(word)?)?;
     }
     let mut out = RowText::new();
-    out.put_id_list(b"", &Rising::from_vec(ids));
+    out.print_id_list(b"", &Rising::from_vec(ids));
     Ok(out)
 }
 
 // The values under the keys 1, 2 and 3, once 7 is under 2, and 9 under 1 and 2.
 fn lists_by_key(alloc: Global) -> Result<RowText, Fail> {
-    let mut lists: Lists<u32, usize> = BTreeMap::new(alloc);
+    let mut lists: MultiMap<u32, usize> = BTreeMap::new(alloc);
     add(alloc, &mut lists, 2, 7)?;
     add_to_all(alloc, &mut lists, &[1, 2], 9)?;
     let mut out = RowText::new();
     for key in 1..=3u32 {
         for value in listed(&lists, key) {
-            out.put_number(*value);
+            out.print_number(*value);
         }
-        out.put(b"/");
+        out.print(b"/");
     }
     Ok(out)
 }
@@ -129,20 +129,20 @@ fn record_count(text: &str) -> Result<RowText, Fail> {
     }
     let mut out = RowText::new();
     match records(bytes.get(..size).ok_or("too many bytes")?) {
-        Ok(found) => out.put_number(found.all.len()),
-        Err(error) => put_record_error(&mut out, error),
+        Ok(found) => out.print_number(found.all.len()),
+        Err(error) => print_record_error(&mut out, error),
     }
     Ok(out)
 }
 
-fn put_record_error(out: &mut RowText, error: RecError) {
-    out.put(b"record ");
-    out.put_number(error.record());
+fn print_record_error(out: &mut RowText, error: RecError) {
+    out.print(b"record ");
+    out.print_number(error.record());
     match error {
-        RecError::ShortRecord { .. } => out.put(b" is short"),
+        RecError::ShortRecord { .. } => out.print(b" is short"),
         RecError::BadByte { column, .. } => {
-            out.put(b" has a bad byte in column ");
-            out.put_number(column);
+            out.print(b" has a bad byte in column ");
+            out.print_number(column);
         }
     }
 }

@@ -1,4 +1,4 @@
--- Texts that are put on a page piece by piece.
+-- Texts that are print on a page piece by piece.
 use Rattle.std.proofs.Common.{◌≡◌, ℕ, List, [], ◌++◌, Bool, true, false, refl, sym, ◌∙◌, ap, subst, append_assoc}
 use Rattle.std.proofs.Common.{append-nil}
 use Rattle.std.specs.Io.KnownBytes.{Appends, Keeps}
@@ -89,7 +89,7 @@ pub paged_out : (a : Held) (f : Bool) (b : Held) (g : Bool) (text : List ℕ) �
     → Sends a.taken f b.taken g (a.waiting ++ text) → b.waiting ≡ [] → OnPage a f b g text
 paged_out a f b g text same s empty = record { same_reference = same; writes = moves_out a f b g text s empty }
 
--- a text that was put on an empty page, and that has gone out
+-- a text that was print on an empty page, and that has gone out
 went_all : (a : Held) (f : Bool) (b : Held) (g : Bool) (text : List ℕ) → a.waiting ≡ [] → b.waiting ≡ []
     → Writes a f b g text → Sends a.taken f b.taken g text
 went_all a true b g text none empty s = s

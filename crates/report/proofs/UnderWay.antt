@@ -1,11 +1,11 @@
--- Texts of which a front was put on a page, as a loop over an iterator puts them.
+-- Texts of which a front was print on a page, as a loop over an iterator puts them.
 use Rattle.std.proofs.Common.{◌≡◌, ℕ, List, [], ◌++◌, Bool, sym, ◌∙◌, ap, append_assoc, append-nil}
 use Rattle.report.specs.declared.sink.Sink.{Ghosts}
 use Rattle.report.specs.declared.page.Page.{Page}
 use Rattle.report.specs.Paged.{Held, OnPage, held}
 use Rattle.report.proofs.Paging.{paged_then, paged_as, paged_nothing}
 
--- what stands before the rest was put
+-- what stands before the rest was print
 pub record IsUnderWay (a : Held) (f : Bool) (b : Held) (g : Bool) (text rest : List ℕ) : Type 0 where
   pub front : List ℕ
   pub text_is : text ≡ front ++ rest
@@ -21,10 +21,10 @@ under_way_first a f text rest is = record { front = []; text_is = is; paged = pa
 
 pub under_way_more : (a : Held) (f : Bool) (b : Held) (g : Bool) (c : Held) (h : Bool) (text rest next back : List ℕ)
     → IsUnderWay a f b g text rest → rest ≡ next ++ back → OnPage b g c h next → IsUnderWay a f c h text back
-under_way_more a f b g c h text rest next back u rest_is put = record {
+under_way_more a f b g c h text rest next back u rest_is print = record {
   front = u.front ++ next;
   text_is = u.text_is ∙ ap (λ r. u.front ++ r) rest_is ∙ sym (append_assoc u.front next back);
-  paged = paged_then a f b g c h u.front next u.paged put;
+  paged = paged_then a f b g c h u.front next u.paged print;
 }
 
 pub under_way_last : (a : Held) (f : Bool) (b : Held) (g : Bool) (text rest : List ℕ)

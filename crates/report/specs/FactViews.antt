@@ -5,10 +5,10 @@ use Rattle.report.specs.declared.fact.Standing.{Standing}
 use Rattle.report.specs.declared.fact.Standing.TheVariants as standing
 use Rattle.report.specs.declared.fact.Resolution.{Resolution}
 use Rattle.report.specs.declared.fact.Resolution.TheVariants as resolution
-use Rattle.report.specs.declared.fact.Rank.{Rank}
-use Rattle.report.specs.declared.fact.Rank.TheVariants as rank
+use Rattle.report.specs.declared.fact.Relation.{Relation}
+use Rattle.report.specs.declared.fact.Relation.TheVariants as relation
 use Rattle.report.specs.declared.fact.Maker.{Maker}
-use Rattle.report.specs.declared.fact.Found.{Found}
+use Rattle.report.specs.declared.fact.ElementLevel.{ElementLevel}
 use Rattle.report.specs.declared.fact.NumberedVer.{NumberedVer}
 use Rattle.report.specs.declared.fact.ChangedElement.{ChangedElement}
 use Rattle.report.specs.declared.fact.Fact.{Fact}
@@ -27,16 +27,16 @@ resolution_view resolution.Waived = facts.Waived
 resolution_view resolution.ByItself = facts.ByItself
 resolution_view (resolution.Open ids) = facts.Open ids
 
-abbrev pub rank_view : Rank → facts.Rank
-rank_view rank.Itself = facts.Itself
-rank_view rank.Over = facts.Over
-rank_view rank.NotOver = facts.NotOver
+abbrev pub relation_view : Relation → facts.Relation
+relation_view relation.Itself = facts.Itself
+relation_view relation.Over = facts.Over
+relation_view relation.NotOver = facts.NotOver
 
 abbrev pub maker_view : Maker → facts.Maker
-maker_view m = record { id = m.id; rank = rank_view m.rank }
+maker_view m = record { id = m.id; relation = relation_view m.relation }
 
-abbrev pub found_view : Found → facts.Found
-found_view f = record {
+abbrev pub level_view : ElementLevel → facts.ElementLevel
+level_view f = record {
   fmid = f.fmid;
   owned = f.owned;
   rmid = maker_view f.rmid;
@@ -47,7 +47,7 @@ abbrev pub ver_view : NumberedVer → facts.Fact
 ver_view v = facts.VerFact v.number v.fmid v.fits v.counts
 
 abbrev pub element_view : ChangedElement → facts.Fact
-element_view e = facts.ElementFact e.elem_type e.name e.replaces (option_map found_view e.found)
+element_view e = facts.ElementFact e.elem_type e.name e.replaces (option_map level_view e.found)
 
 abbrev pub fact_view : Fact → facts.Fact
 fact_view (fact.Standing id kind s) = facts.StandingFact id kind (standing_view s)

@@ -152,41 +152,41 @@ IsResolution s x r (Open ids) =
     × IsRising ids × ((y : Id) → Contains ids y ↔ MayServe s r.kind r.id y)
 
 -- how a SYSMOD is related to one that made an element
-pub data Rank : Type 0 where
-  Itself : Rank
-  Over : Rank
-  NotOver : Rank
+pub data Relation : Type 0 where
+  Itself : Relation
+  Over : Relation
+  NotOver : Relation
 
-abbrev pub is_over : Rank → Bool
+abbrev pub is_over : Relation → Bool
 is_over Over = true
 is_over _ = false
 
-abbrev pub IsRank : Choice → Id → Id → Rank → Type 0
-IsRank c x z Itself = x ≡ z
-IsRank c x z Over = (x ≢ z) × IsOver c x z
-IsRank c x z NotOver = (x ≢ z) × ¬ IsOver c x z
+abbrev pub IsRelation : Choice → Id → Id → Relation → Type 0
+IsRelation c x z Itself = x ≡ z
+IsRelation c x z Over = (x ≢ z) × IsOver c x z
+IsRelation c x z NotOver = (x ≢ z) × ¬ IsOver c x z
 
 -- a SYSMOD that made an element, and how x is related to it
 pub record Maker : Type 0 where
   pub id : Id
-  pub rank : Rank
+  pub relation : Relation
 
 -- what the zone has of an element that x changes: the owner, whether that is x's own, the RMID and the UMIDs
-pub record Found : Type 0 where
+pub record ElementLevel : Type 0 where
   pub fmid : Id
   pub owned : Bool
   pub rmid : Maker
   pub umids : List Maker
 
-pub record IsFound (s : Setting) (x : Id) (e : Element) (f : Found) : Type 0 where
+pub record IsElementLevel (s : Setting) (x : Id) (e : Element) (f : ElementLevel) : Type 0 where
   pub fmid : f.fmid ≡ e.fmid
   pub owned : f.owned ≡ bytes_eq e.fmid (owner_of s x)
-  pub makers : Beside (λ n z m. (m.id ≡ z) × IsRank s.choice x z m.rank) (e.rmid ∷ e.umids) (f.rmid ∷ f.umids)
+  pub makers : Beside (λ n z m. (m.id ≡ z) × IsRelation s.choice x z m.relation) (e.rmid ∷ e.umids) (f.rmid ∷ f.umids)
 
 -- the element in the zone, if it has one
-abbrev pub HasFound : Setting → Id → Option Element → Option Found → Type 0
-HasFound s x None f = f ≡ None
-HasFound s x (Some e) f = (found : Found) × (f ≡ Some found) × IsFound s x e found
+abbrev pub HasElementLevel : Setting → Id → Option Element → Option ElementLevel → Type 0
+HasElementLevel s x None f = f ≡ None
+HasElementLevel s x (Some e) f = (found : ElementLevel) × (f ≡ Some found) × IsElementLevel s x e found
 
 pub data Fact : Type 0 where
   -- the id, its type if it is received, and its state
@@ -200,7 +200,7 @@ pub data Fact : Type 0 where
   -- a hold, and for an ERROR hold the answer to its reason
   HoldFact : Hold → Option Resolution → Fact
   -- an element that it replaces, or otherwise updates, as the zone has it
-  ElementFact : ElemType → Text → Bool → Option Found → Fact
+  ElementFact : ElemType → Text → Bool → Option ElementLevel → Fact
   -- an id that its DELETE names, and whether the id is in its own chain
   DeleteFact : Id → Bool → Fact
   -- an applied SYSMOD that its DELETE takes out
@@ -246,8 +246,8 @@ IsHoldFact s x h fact = (o : Option Resolution) × (fact ≡ HoldFact h o) × Ha
 
 abbrev pub IsElementFact : Setting → Id → Change → Fact → Type 0
 IsElementFact s x h fact =
-    (f : Option Found) × (fact ≡ ElementFact h.elem_type h.name (is_replacement h.action) f)
-    × HasFound s x (element_of (view_of s x) h.elem_type h.name) f
+    (f : Option ElementLevel) × (fact ≡ ElementFact h.elem_type h.name (is_replacement h.action) f)
+    × HasElementLevel s x (element_of (view_of s x) h.elem_type h.name) f
 
 abbrev pub delete_facts : Setting → Id → List Fact
 delete_facts s x =

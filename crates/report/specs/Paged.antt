@@ -28,7 +28,7 @@ abbrev pub Moves : Held → Held → Bool → List ℕ → Type 0
 Moves old new false text = Moved old new text
 Moves old new true text = MovedPart old new text
 
--- A text was put on a page. A sink that had failed took nothing and remains failed.
+-- A text was print on a page. A sink that had failed took nothing and remains failed.
 abbrev pub Writes : Held → Bool → Held → Bool → List ℕ → Type 0
 Writes old true new failed text = (failed ≡ true) × Keeps old.taken new.taken
 Writes old false new failed text = Moves old new failed text

@@ -50,7 +50,7 @@ pub enum Resolution {
 
 /// How a SYSMOD is related to one that made an element.
 #[derive(Clone, Copy, Debug, PartialEq, Eq)]
-pub enum Rank {
+pub enum Relation {
     Itself,
     Over,
     NotOver,
@@ -60,12 +60,12 @@ pub enum Rank {
 #[derive(Clone, Copy)]
 pub struct Maker {
     pub id: Id,
-    pub rank: Rank,
+    pub relation: Relation,
 }
 
 /// What the zone has of an element. It is `owned` if its owner is that of the SYSMOD in question.
 #[derive(Drop)]
-pub struct Found {
+pub struct ElementLevel {
     pub fmid: Id,
     pub owned: bool,
     pub rmid: Maker,
@@ -88,7 +88,7 @@ pub struct ChangedElement {
     pub name: Name,
     pub replaces: bool,
     /// What the zone has of it, if anything.
-    pub found: Option<Found>,
+    pub found: Option<ElementLevel>,
 }
 
 /// A fact of an id.

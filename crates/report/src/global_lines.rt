@@ -4,14 +4,14 @@ ghost use Rattle.machine.specs.Outcome.{list_global};
 ghost use Rattle.machine.specs.Report.{line_text};
 ghost use Rattle.report.specs.Paged.{Paged};
 
-use crate::line_words::{HOLD_WIDTH, LineWord, TYPE_WIDTH, put_words};
+use crate::line_words::{HOLD_WIDTH, LineWord, TYPE_WIDTH, print_words};
 use crate::page::Page;
 use crate::sink::Sink;
 use fields::spelling::{hold_text, kind_text};
 use sysmods::GlobalZone;
 
 /// Puts LIST's lines of a global zone: its SYSMODs and its holds.
-pub(crate) fn put_global<W: Sink>(global: &GlobalZone, page: &mut Page<'_, W>)
+pub(crate) fn print_global<W: Sink>(global: &GlobalZone, page: &mut Page<'_, W>)
     ensures { Paged W.Sink page.old page.new (flat_map line_text (list_global global.now)) }
 {
     for sysmod in global.sysmods() {
@@ -21,7 +21,7 @@ pub(crate) fn put_global<W: Sink>(global: &GlobalZone, page: &mut Page<'_, W>)
             LineWord::Text(b"SOURCEID"),
             LineWord::Sources(sysmod.sources.as_slice()),
         ];
-        put_words(b"SYSMOD", &words, page);
+        print_words(b"SYSMOD", &words, page);
     }
     for hold in global.holds() {
         let words = [
@@ -30,6 +30,6 @@ pub(crate) fn put_global<W: Sink>(global: &GlobalZone, page: &mut Page<'_, W>)
             LineWord::Text(hold.reason.as_bytes()),
             LineWord::If(hold.internal, b"INTERNAL", b"EXTERNAL"),
         ];
-        put_words(b"HOLD", &words, page);
+        print_words(b"HOLD", &words, page);
     }
 }

@@ -9,7 +9,7 @@ use fields::{Attest, IdList, Reason, ZoneName};
 use std::alloc::{AllocError, Global};
 use sysmods::GlobalZone;
 use terms::CommandWord;
-use zones::{Zone, choose};
+use zones::{Zone, counting_vers};
 
 // An ERRSYSMOD line for each open hold, with the SYSMODs that resolve its reason. If there are no holds, it does not
 // choose the `++VER`s that count.
@@ -25,7 +25,7 @@ fn errsysmod_lines(
         return Ok(Vec::new(alloc));
     }
     let no_candidates = IdList::new(alloc);
-    let vers = choose(alloc, global, zone, &no_candidates)?;
+    let vers = counting_vers(alloc, global, zone, &no_candidates)?;
     let mut lines = Vec::new(alloc);
     for error in errors {
         let ids = resolvers(alloc, &vers, zone.srel(), error.reason)?;

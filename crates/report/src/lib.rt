@@ -25,7 +25,8 @@ mod write;
 mod zone_lines;
 
 pub use fact::{
-    ChangedElement, Fact, Found, Maker, NumberedVer, Rank, Requisite, Resolution, Standing,
+    ChangedElement, ElementLevel, Fact, Maker, NumberedVer, Relation, Requisite, Resolution,
+    Standing,
 };
 pub use held_for_error::errsysmods;
 pub use line_words::{
@@ -34,7 +35,7 @@ pub use line_words::{
 pub use lines::status_word;
 pub use optional_texts::{class_or_dash, date_or_dash, id_or_dash};
 pub use outcome::{Header, Outcome, Place, Refusal, ReportLine, Status};
-pub use pieces::{put, write_all};
+pub use pieces::{print, write_all};
 pub use places::place_of;
 pub use sink::{Out, Sink, WriteFault};
 pub use superseders::serving_ids;

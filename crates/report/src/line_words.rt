@@ -48,32 +48,32 @@ pub enum LineWord<'a> {
 }
 
 // Puts ids on the page, joined by commas, or `-` if there are none.
-fn put_ids<W: Sink>(ids: &[Id], page: &mut Page<'_, W>)
+fn print_ids<W: Sink>(ids: &[Id], page: &mut Page<'_, W>)
     ensures { Paged W.Sink page.old page.new (list_text ids.now) }
 {
     let Some((first, rest)) = ids.split_first() else {
-        page.put(b"-");
+        page.print(b"-");
         return;
     };
-    page.put(first.as_bytes());
+    page.print(first.as_bytes());
     for id in rest {
-        page.put(b",");
-        page.put(id.as_bytes());
+        page.print(b",");
+        page.print(id.as_bytes());
     }
 }
 
 // Puts sources on the page, joined by commas, or `-` if there are none.
-fn put_sources<W: Sink>(sources: &[Source], page: &mut Page<'_, W>)
+fn print_sources<W: Sink>(sources: &[Source], page: &mut Page<'_, W>)
     ensures { Paged W.Sink page.old page.new (list_text sources.now) }
 {
     let Some((first, rest)) = sources.split_first() else {
-        page.put(b"-");
+        page.print(b"-");
         return;
     };
-    page.put(first.as_bytes());
+    page.print(first.as_bytes());
     for source in rest {
-        page.put(b",");
-        page.put(source.as_bytes());
+        page.print(b",");
+        page.print(source.as_bytes());
     }
 }
 
@@ -88,72 +88,72 @@ pub fn applied_word(kind: ZoneKind) -> &'static [u8]
 }
 
 // Puts the word and the date of an applied SYSMOD on the page, or `-`.
-fn put_applied<W: Sink>(kind: ZoneKind, applied: &Option<Applied>, page: &mut Page<'_, W>)
+fn print_applied<W: Sink>(kind: ZoneKind, applied: &Option<Applied>, page: &mut Page<'_, W>)
     ensures { Paged W.Sink page.old page.new (applied_text kind applied.now) }
 {
     match applied {
         Some(applied) => {
-            page.put(applied_word(kind));
-            page.put(b" ");
-            page.put(applied.date.as_bytes());
+            page.print(applied_word(kind));
+            page.print(b" ");
+            page.print(applied.date.as_bytes());
         }
-        None => page.put(b"-"),
+        None => page.print(b"-"),
     }
 }
 
 // Puts the text of a word on the page.
-fn put_word<W: Sink>(word: LineWord<'_>, page: &mut Page<'_, W>)
+fn print_word<W: Sink>(word: LineWord<'_>, page: &mut Page<'_, W>)
     ensures { Paged W.Sink page.old page.new (word_text word.entry) }
 {
     match word {
-        LineWord::Text(text) | LineWord::Optional(Some(text)) => page.put(text),
+        LineWord::Text(text) | LineWord::Optional(Some(text)) => page.print(text),
         LineWord::WithColon(text) => {
-            page.put(text);
-            page.put(b":");
+            page.print(text);
+            page.print(b":");
         }
-        LineWord::Optional(None) => page.put(b"-"),
-        LineWord::If(true, text, _) | LineWord::If(false, _, text) => page.put(text),
+        LineWord::Optional(None) => page.print(b"-"),
+        LineWord::If(true, text, _) | LineWord::If(false, _, text) => page.print(text),
         LineWord::Left(places, text) => {
-            page.put(text);
+            page.print(text);
             for _place in 0..places.saturating_sub(text.len()) {
-                page.put(b" ");
+                page.print(b" ");
             }
         }
         LineWord::Number(number) => {
             let mut buffer = Buffer::new();
-            page.put(buffer.format(number).as_bytes());
+            page.print(buffer.format(number).as_bytes());
         }
-        LineWord::Ids(ids) => put_ids(ids, page),
-        LineWord::Sources(sources) => put_sources(sources, page),
-        LineWord::Applied(kind, applied) => put_applied(kind, applied, page),
+        LineWord::Ids(ids) => print_ids(ids, page),
+        LineWord::Sources(sources) => print_sources(sources, page),
+        LineWord::Applied(kind, applied) => print_applied(kind, applied, page),
     }
 }
 
 /// Puts a line on the page: `start`, and each word after a blank. If `start` consists of blanks, the line is indented
 /// by one more.
-pub(crate) fn put_words<W: Sink>(start: &[u8], words: &[LineWord<'_>], page: &mut Page<'_, W>)
+pub(crate) fn print_words<W: Sink>(start: &[u8], words: &[LineWord<'_>], page: &mut Page<'_, W>)
     ensures paged { Paged W.Sink page.old page.new (words_line (start.now ∷ map word_text words.now)) }
     ensures some { 0 < length page.new.waiting.items }
 {
-    page.put(start);
+    page.print(start);
     for word in words {
-        page.put(b" ");
-        put_word(*word, page);
+        page.print(b" ");
+        print_word(*word, page);
     }
-    page.put(b"\n");
+    page.print(b"\n");
 }
 
-// Writes the line that `put_words` puts on a page. After an error a beginning of it has gone out.
+// Writes the line that `print_words` puts on a page. After an error a beginning of it has gone out.
 fn write_words<W: Sink>(start: &[u8], words: &[LineWord<'_>], w: &mut W) -> Result<(), WriteFault>
     ensures sends { Sent W.Sink w.old w.new (words_line (start.now ∷ map word_text words.now)) }
     ensures fault { W.has_failed w.new ≡ is_err result }
 {
     let mut page = Page::new(w);
-    put_words(start, words, &mut page);
+    print_words(start, words, &mut page);
     page.flush()
 }
 
-/// Appends to a text the line that `put_words` puts on a page.
+/// Appends to a text the line that `print_words` puts on a page.
 pub fn append_words(
     start: &[u8],
     words: &[LineWord<'_>],

@@ -11,7 +11,7 @@ ghost use Rattle.report.specs.Paged.{Paged};
 ghost use Rattle.judge_system.specs.Views.{failure_view};
 ghost use Rattle.report.specs.Views.{header_view, refusal_view, place_view, status_view, line_view};
 
-use crate::line_words::{LineWord, TYPE_WIDTH, put_words};
+use crate::line_words::{LineWord, TYPE_WIDTH, print_words};
 use crate::outcome::{Header, Place, Refusal, ReportLine, Status};
 use crate::page::Page;
 use crate::sink::Sink;
@@ -23,20 +23,20 @@ use judge_system::{Failure, TestSet};
 use terms::StatementCode;
 
 /// Puts the first line of a report: the command's word, its boundary or `-`, and CHECK if it only checks.
-pub(crate) fn put_header<W: Sink>(header: &Header, page: &mut Page<'_, W>)
+pub(crate) fn print_header<W: Sink>(header: &Header, page: &mut Page<'_, W>)
     ensures { Paged W.Sink page.old page.new (header_text (header_view header.now)) }
 {
     let word = word_text(header.word);
     let zone = LineWord::Optional(header.boundary.as_ref().map(|name| name.as_bytes()));
     if header.check {
-        put_words(word, &[zone, LineWord::Text(b"CHECK")], page);
+        print_words(word, &[zone, LineWord::Text(b"CHECK")], page);
         return;
     }
-    put_words(word, &[zone], page);
+    print_words(word, &[zone], page);
 }
 
 // Puts the line of a command that is refused because its file has a fault: the record of the fault, and its code.
-fn put_fault<W: Sink>(word: &[u8], number: usize, code: StatementCode, page: &mut Page<'_, W>)
+fn print_fault<W: Sink>(word: &[u8], number: usize, code: StatementCode, page: &mut Page<'_, W>)
     ensures { Paged W.Sink page.old page.new
         (words_line (codes "REFUSED" ∷ word.now ∷ codes "RECORD" ∷ decimal number ∷ statement_code_text code ∷ [])) }
 {
@@ -46,19 +46,19 @@ fn put_fault<W: Sink>(word: &[u8], number: usize, code: StatementCode, page: &mu
         LineWord::Number(number),
         LineWord::Text(statement_code_text(code)),
     ];
-    put_words(b"REFUSED", &words, page);
+    print_words(b"REFUSED", &words, page);
 }
 
 /// Puts the one line of a refused command.
-pub(crate) fn put_refusal<W: Sink>(refusal: &Refusal, page: &mut Page<'_, W>)
+pub(crate) fn print_refusal<W: Sink>(refusal: &Refusal, page: &mut Page<'_, W>)
     ensures { Paged W.Sink page.old page.new (refused_text (refusal_view refusal.now)) }
 {
     match refusal {
-        Refusal::NoBoundary => page.put(b"REFUSED Cm1\n"),
-        Refusal::NoZone => page.put(b"REFUSED Cm2\n"),
-        Refusal::WrongKind => page.put(b"REFUSED Cm3\n"),
-        Refusal::BadPtfin { number, code } => put_fault(b"Cm4", *number, *code, page),
-        Refusal::BadHoldFile { number, code } => put_fault(b"Cm5", *number, *code, page),
+        Refusal::NoBoundary => page.print(b"REFUSED Cm1\n"),
+        Refusal::NoZone => page.print(b"REFUSED Cm2\n"),
+        Refusal::WrongKind => page.print(b"REFUSED Cm3\n"),
+        Refusal::BadPtfin { number, code } => print_fault(b"Cm4", *number, *code, page),
+        Refusal::BadHoldFile { number, code } => print_fault(b"Cm5", *number, *code, page),
     }
 }
 
@@ -114,48 +114,48 @@ fn status_detail(status: &Status) -> Option<&[u8]>
 }
 
 // Puts a line for each test that was failed.
-fn put_tests<W: Sink>(tests: TestSet, page: &mut Page<'_, W>)
+fn print_tests<W: Sink>(tests: TestSet, page: &mut Page<'_, W>)
     ensures { Paged W.Sink page.old page.new
         (flat_map (λ t. detail_line (codes "TEST" ∷ test_text t ∷ [])) (tests_of tests)) }
 {
     for test in tests.iter() {
-        put_words(b"  TEST", &[LineWord::Text(test_text(test))], page);
+        print_words(b"  TEST", &[LineWord::Text(test_text(test))], page);
     }
 }
 
 // Puts the lines after FAILED: the failed tests, the open needs and the causers.
-fn put_failure<W: Sink>(failure: &Failure, page: &mut Page<'_, W>)
+fn print_failure<W: Sink>(failure: &Failure, page: &mut Page<'_, W>)
     ensures { Paged W.Sink page.old page.new (failure_text (failure_view failure.now)) }
 {
-    put_tests(failure.tests, page);
+    print_tests(failure.tests, page);
     for need in failure.needs.as_slice() {
         let words = [
             LineWord::Text(need_text(need.kind)),
             LineWord::Text(need.id.as_bytes()),
         ];
-        put_words(b"  NEED", &words, page);
+        print_words(b"  NEED", &words, page);
     }
     for causer in failure.causers.as_slice() {
-        put_words(b"  CAUSER", &[LineWord::Text(causer.as_bytes())], page);
+        print_words(b"  CAUSER", &[LineWord::Text(causer.as_bytes())], page);
     }
 }
 
 // Puts a status line, without the lines that belong to it.
-fn put_status<'a, W: Sink>(id: Id, place: &'a Place, status: &'a Status, page: &mut Page<'_, W>)
+fn print_status<'a, W: Sink>(id: Id, place: &'a Place, status: &'a Status, page: &mut Page<'_, W>)
     ensures { Paged W.Sink page.old page.new (words_line (id ∷ left_in 8 (place_text (place_view place.now))
         ∷ status_word (status_view status.now) ∷ status_detail (status_view status.now))) }
 {
     let place = LineWord::Left(TYPE_WIDTH, place_text(place));
     let word = LineWord::Text(status_word(status));
     match status_detail(status) {
-        Some(detail) => put_words(id.as_bytes(), &[place, word, LineWord::Text(detail)], page),
-        None => put_words(id.as_bytes(), &[place, word], page),
+        Some(detail) => print_words(id.as_bytes(), &[place, word, LineWord::Text(detail)], page),
+        None => print_words(id.as_bytes(), &[place, word], page),
     }
 }
 
 // Puts the line of an ERROR hold on an applied SYSMOD, and a `RESOLVER` line for each SYSMOD that resolves its reason,
 // or a single one with `-` if there is none.
-fn put_errsysmod<'a, W: Sink>(
+fn print_errsysmod<'a, W: Sink>(
     id: &'a Id,
     reason: &'a Reason,
     resolvers: &[Id],
@@ -167,32 +167,32 @@ fn put_errsysmod<'a, W: Sink>(
         LineWord::Text(id.as_bytes()),
         LineWord::Text(reason.as_bytes()),
     ];
-    put_words(b"ERRSYSMOD", &words, page);
+    print_words(b"ERRSYSMOD", &words, page);
     if resolvers.is_empty() {
-        put_words(b"  RESOLVER", &[LineWord::Text(b"-")], page);
+        print_words(b"  RESOLVER", &[LineWord::Text(b"-")], page);
         return;
     }
     for resolver in resolvers {
-        put_words(b"  RESOLVER", &[LineWord::Text(resolver.as_bytes())], page);
+        print_words(b"  RESOLVER", &[LineWord::Text(resolver.as_bytes())], page);
     }
 }
 
 /// Puts a line, with the lines that belong to it.
-pub(crate) fn put_line<W: Sink>(line: &ReportLine, page: &mut Page<'_, W>)
+pub(crate) fn print_line<W: Sink>(line: &ReportLine, page: &mut Page<'_, W>)
     ensures { Paged W.Sink page.old page.new (line_text (line_view line.now)) }
 {
     match line {
         ReportLine::Status { id, place, status } => {
-            put_status(*id, place, status, page);
+            print_status(*id, place, status, page);
             if let Status::Failed(failure) = status {
-                put_failure(failure, page);
+                print_failure(failure, page);
             }
         }
-        ReportLine::Nothing => page.put(b"NOTHING\n"),
+        ReportLine::Nothing => page.print(b"NOTHING\n"),
         ReportLine::Errsysmod {
             id,
             reason,
             resolvers,
-        } => put_errsysmod(id, reason, resolvers, page),
+        } => print_errsysmod(id, reason, resolvers, page),
     }
 }

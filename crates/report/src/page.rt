@@ -29,7 +29,7 @@ impl<'a, W: Sink> Page<'a, W> {
     /// Puts a piece of a text on the page. If it does not fit, what waits goes out first. A piece that is longer than a
     /// page follows directly. Does not say whether a write failed: the caller learns it from `flush`, since a failed
     /// sink takes no more.
-    pub(crate) fn put(&mut self, piece: &[u8])
+    pub(crate) fn print(&mut self, piece: &[u8])
         ensures paged { Paged W.Sink self.old self.new piece.now }
         ensures some { 0 < length piece.now → length piece.now ≤ 8192 → 0 < length self.new.waiting.items }
     {

@@ -20,7 +20,7 @@ pub fn write_all<W: Sink>(piece: &[u8], w: &mut W) -> Result<(), WriteFault>
 
 /// Writes a piece of a text without saying whether that failed. The caller learns it from the sink's next write, since
 /// a sink that has failed takes no more.
-pub fn put<W: Sink>(piece: &[u8], w: &mut W)
+pub fn print<W: Sink>(piece: &[u8], w: &mut W)
     ensures { Sent W.Sink w.old w.new piece.now }
 {
     let _ = write_all(piece, w);

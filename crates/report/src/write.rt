@@ -7,13 +7,13 @@ ghost use Rattle.report.specs.Paged.{Paged};
 ghost use Rattle.report.specs.Sent.{Sent};
 ghost use Rattle.report.specs.Views.{line_view, outcome_view};
 
-use crate::global_lines::put_global;
-use crate::line_words::{LineWord, put_words};
-use crate::lines::{put_header, put_line, put_refusal};
+use crate::global_lines::print_global;
+use crate::line_words::{LineWord, print_words};
+use crate::lines::{print_header, print_line, print_refusal};
 use crate::outcome::{Outcome, ReportLine, Status};
 use crate::page::Page;
 use crate::sink::{Sink, WriteFault};
-use crate::zone_lines::put_zone;
+use crate::zone_lines::print_zone;
 use fields::spelling::command_code_text;
 use terms::IdRefusal;
 
@@ -52,57 +52,57 @@ fn line_code(line: &ReportLine) -> u8
 }
 
 // Puts lines on the page, and returns the greatest of their codes, or 0 if there are none.
-fn put_lines<W: Sink>(lines: &[ReportLine], page: &mut Page<'_, W>) -> u8
+fn print_lines<W: Sink>(lines: &[ReportLine], page: &mut Page<'_, W>) -> u8
     ensures paged { Paged W.Sink page.old page.new (flat_map line_text (map line_view lines.now)) }
     ensures code { result ≡ lines_code (map line_view lines.now) }
     ensures most { result ≤ 12 }
 {
     let mut code: u8 = 0;
     for line in lines {
-        put_line(line, page);
+        print_line(line, page);
         code = code.max(line_code(line));
     }
     code
 }
 
 // Puts the last line of a report on the page: `RC` and the return code in two digits.
-fn put_code<W: Sink>(code: u8, page: &mut Page<'_, W>)
+fn print_code<W: Sink>(code: u8, page: &mut Page<'_, W>)
     requires { code ≤ 12 }
     ensures paged { Paged W.Sink page.old page.new (code_text code) }
     ensures some { 0 < length page.new.waiting.items }
 {
-    page.put(&[b'R', b'C', b' ', b'0' + code / 10, b'0' + code % 10, b'\n']);
+    page.print(&[b'R', b'C', b' ', b'0' + code / 10, b'0' + code % 10, b'\n']);
 }
 
 // Puts the text of an outcome on the page, and returns its return code.
-fn put_outcome<W: Sink>(outcome: &Outcome<'_>, page: &mut Page<'_, W>) -> u8
+fn print_outcome<W: Sink>(outcome: &Outcome<'_>, page: &mut Page<'_, W>) -> u8
     ensures paged { Paged W.Sink page.old page.new (text (outcome_view outcome.now)) }
     ensures some { 0 < length page.new.waiting.items }
     ensures code { result ≡ outcome_code (outcome_view outcome.now) }
 {
     match outcome {
         Outcome::Ran { header, lines } => {
-            put_header(header, page);
-            let code = put_lines(lines, page);
-            put_code(code, page);
+            print_header(header, page);
+            let code = print_lines(lines, page);
+            print_code(code, page);
             code
         }
         Outcome::ListedGlobal { header, global } => {
-            put_header(header, page);
-            put_global(global, page);
-            put_code(DONE_CODE, page);
+            print_header(header, page);
+            print_global(global, page);
+            print_code(DONE_CODE, page);
             DONE_CODE
         }
         Outcome::Listed { header, zone, text } => {
-            put_header(header, page);
-            put_zone(zone, *text, page);
-            put_code(DONE_CODE, page);
+            print_header(header, page);
+            print_zone(zone, *text, page);
+            print_code(DONE_CODE, page);
             DONE_CODE
         }
         Outcome::Refused { header, refusal } => {
-            put_header(header, page);
-            put_refusal(refusal, page);
-            put_code(REFUSED_CODE, page);
+            print_header(header, page);
+            print_refusal(refusal, page);
+            print_code(REFUSED_CODE, page);
             REFUSED_CODE
         }
         Outcome::Control { number, code } => {
@@ -111,7 +111,7 @@ fn put_outcome<W: Sink>(outcome: &Outcome<'_>, page: &mut Page<'_, W>) -> u8
                 LineWord::Number(*number),
                 LineWord::Text(command_code_text(*code)),
             ];
-            put_words(b"CONTROL", &words, page);
+            print_words(b"CONTROL", &words, page);
             REFUSED_CODE
         }
     }
@@ -124,6 +124,6 @@ pub fn write_report<W: Sink>(outcome: &Outcome<'_>, w: &mut W) -> Result<u8, Wri
     ensures code { IfOk result (λ code. code ≡ outcome_code (outcome_view outcome.now)) }
 {
     let mut page = Page::new(w);
-    let code = put_outcome(outcome, &mut page);
+    let code = print_outcome(outcome, &mut page);
     page.flush().map(|()| code)
 }

@@ -6,7 +6,7 @@ ghost use Rattle.machine.specs.Report.{words_line, entry_text, line_text};
 ghost use Rattle.report.specs.Paged.{Paged};
 ghost use Rattle.report.specs.WordTexts.{word_text};
 
-use crate::line_words::{ELEM_TYPE_WIDTH, LineWord, NAME_WIDTH, put_words};
+use crate::line_words::{ELEM_TYPE_WIDTH, LineWord, NAME_WIDTH, print_words};
 use crate::page::Page;
 use crate::sink::Sink;
 use fields::spelling::type_text;
@@ -30,7 +30,7 @@ pub fn entry_words<'a>(kind: ZoneKind, entry: &'a Entry) -> [LineWord<'a>; 8]
 }
 
 // Puts the line of an element, and with TEXT its records.
-fn put_element<W: Sink>(element: &Element, text: bool, page: &mut Page<'_, W>)
+fn print_element<W: Sink>(element: &Element, text: bool, page: &mut Page<'_, W>)
     ensures { Paged W.Sink page.old page.new (flat_map line_text (element_lines text element.now)) }
 {
     let words = [
@@ -47,22 +47,22 @@ fn put_element<W: Sink>(element: &Element, text: bool, page: &mut Page<'_, W>)
         LineWord::Text(b"SYSLIB"),
         LineWord::Text(element.syslib.as_bytes()),
     ];
-    put_words(b"ELEM", &words, page);
+    print_words(b"ELEM", &words, page);
     if text {
         for record in element.text.as_slice() {
-            put_words(b" ", &[LineWord::Text(record.bytes())], page);
+            print_words(b" ", &[LineWord::Text(record.bytes())], page);
         }
     }
 }
 
 /// Puts LIST's lines of a zone: its entries and its elements, and with TEXT their records.
-pub(crate) fn put_zone<W: Sink>(zone: &Zone, text: bool, page: &mut Page<'_, W>)
+pub(crate) fn print_zone<W: Sink>(zone: &Zone, text: bool, page: &mut Page<'_, W>)
     ensures { Paged W.Sink page.old page.new (flat_map line_text (list_zone text zone.now)) }
 {
     for entry in zone.entries() {
-        put_words(b"ENTRY", &entry_words(zone.kind(), entry), page);
+        print_words(b"ENTRY", &entry_words(zone.kind(), entry), page);
     }
     for element in zone.elements() {
-        put_element(element, text, page);
+        print_element(element, text, page);
     }
 }

@@ -25,7 +25,7 @@ fn card(text: &str) -> [u8; CARD] {
 }
 
 /// Appends a card for each line of the text, or none for an empty text. A tab leads to column 73.
-pub fn put_cards(bytes: &mut Vec<u8>, text: &str) -> Result<(), Fail> {
+pub fn append_cards(bytes: &mut Vec<u8>, text: &str) -> Result<(), Fail> {
     if text.is_empty() {
         return Ok(());
     }
@@ -38,6 +38,6 @@ pub fn put_cards(bytes: &mut Vec<u8>, text: &str) -> Result<(), Fail> {
 /// A card for each line of the text.
 pub fn card_file(alloc: Global, text: &str) -> Result<Vec<u8>, Fail> {
     let mut bytes = Vec::new(alloc);
-    put_cards(&mut bytes, text)?;
+    append_cards(&mut bytes, text)?;
     Ok(bytes)
 }

@@ -11,7 +11,7 @@ mod compared;
 mod playing;
 mod step;
 
-pub use cards::{card_file, put_cards};
+pub use cards::{append_cards, card_file};
 pub use compared::{Difference, compare, first_difference};
 pub use playing::{Performs, Played, play, play_input};
 pub use step::{ScriptStep, split_at_first};

@@ -1,6 +1,6 @@
 //! APPLY, ACCEPT and RESTORE: their reports, and the zones that they leave.
 
-use crate::printed::{put_delta, put_report};
+use crate::printed::{append_delta, append_report};
 use crate::shop::{DISTRIBUTION, Shop, TARGET};
 use cntl::{Command, Install};
 use fields::YyDdd;
@@ -27,7 +27,7 @@ pub(crate) fn change(
     printed: &mut Vec<u8>,
 ) -> Result<(), Fail> {
     let ZoneChange { word, delta, lines } = changed(alloc, shop, command)?;
-    put_report(word, lines, printed)?;
+    append_report(word, lines, printed)?;
     if changes_distribution(word) {
         shop.distribution = delta.apply(alloc, &shop.distribution)?;
     } else {
@@ -54,7 +54,7 @@ pub(crate) fn preview(
     } else {
         (TARGET, &shop.target)
     };
-    put_delta(alloc, name, zone, &delta, printed)
+    append_delta(alloc, name, zone, &delta, printed)
 }
 
 // What the command would change, and its report. The zones stay as they are.

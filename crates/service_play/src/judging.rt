@@ -2,7 +2,8 @@
 ghost use Rattle.judge_system.specs.Judged.{HasParts};
 
 use crate::printed::{
-    put_bypassed, put_candidates, put_failed_tests, put_failures, put_ids, put_needs,
+    append_bypassed, append_candidates, append_failed_tests, append_failures, append_ids,
+    append_needs,
 };
 use crate::shop::Shop;
 use cntl::{Command, Install};
@@ -46,9 +47,9 @@ fn judge_install(
     printed: &mut Vec<u8>,
 ) -> Result<(), AllocError> {
     let candidates = candidates(alloc, global, zone, &install.selection)?;
-    put_candidates(&candidates, printed)?;
+    append_candidates(&candidates, printed)?;
     let judged = install_system(alloc, global, zone, related, &candidates, &install.bypass)?;
-    put_judged(alloc, &judged, printed)
+    append_judged(alloc, &judged, printed)
 }
 
 // Prints the candidates of a RESTORE from the zone, and what is decided about them.
@@ -61,22 +62,26 @@ fn judge_restore(
     printed: &mut Vec<u8>,
 ) -> Result<(), AllocError> {
     let candidates = restore_candidates(alloc, global, zone, accepted, list)?;
-    put_candidates(&candidates, printed)?;
+    append_candidates(&candidates, printed)?;
     let judged = restore_system(alloc, global, zone, accepted, &candidates)?;
-    put_judged(alloc, &judged, printed)
+    append_judged(alloc, &judged, printed)
 }
 
 // Prints what was judged, which candidates are kept, and why the others are not.
-fn put_judged(alloc: Global, judged: &Judged<'_>, printed: &mut Vec<u8>) -> Result<(), AllocError>
+fn append_judged(
+    alloc: Global,
+    judged: &Judged<'_>,
+    printed: &mut Vec<u8>,
+) -> Result<(), AllocError>
     requires { HasParts judged.now }
 {
-    put_failed_tests(judged, printed)?;
-    put_needs(judged.needs.as_slice(), printed)?;
-    put_bypassed(judged.bypassed.as_slice(), printed)?;
+    append_failed_tests(judged, printed)?;
+    append_needs(judged.needs.as_slice(), printed)?;
+    append_bypassed(judged.bypassed.as_slice(), printed)?;
     let Decided { kept, failed } = decided(alloc, judged)?;
-    put_ids(b"KEPT", kept.as_slice(), printed)?;
-    put_failures(failed.as_slice(), printed)?;
-    put_sweep_difference(alloc, judged, printed)
+    append_ids(b"KEPT", kept.as_slice(), printed)?;
+    append_failures(failed.as_slice(), printed)?;
+    append_sweep_difference(alloc, judged, printed)
 }
 
 // Which candidates are kept, and why the others fail.
@@ -89,7 +94,7 @@ fn decided(alloc: Global, judged: &Judged<'_>) -> Result<Decided, AllocError>
 }
 
 // Appends a line if `Sweep` keeps other candidates than `Worklist`.
-fn put_sweep_difference(
+fn append_sweep_difference(
     alloc: Global,
     judged: &Judged<'_>,
     printed: &mut Vec<u8>,

@@ -2,7 +2,7 @@
 
 use crate::changing::{change, preview};
 use crate::judging::judge;
-use crate::printed::{put_errsysmods, put_zone};
+use crate::printed::{append_errsysmods, append_zone};
 use crate::putting::{preview_install, preview_restore};
 use crate::receiving::{receive_holds, receive_sysmods};
 use crate::shop::{DISTRIBUTION, Shop, TARGET};
@@ -77,8 +77,8 @@ fn perform_action(
     match action {
         StepAction::Receive => receive_sysmods(alloc, &mut shop.global, cards, printed),
         StepAction::Hold => receive_holds(alloc, &mut shop.global, cards),
-        StepAction::List => put_zones(shop, printed),
-        StepAction::Errsysmods => put_errsysmods_of_zones(alloc, shop, printed),
+        StepAction::List => append_zones(shop, printed),
+        StepAction::Errsysmods => append_errsysmods_of_zones(alloc, shop, printed),
         StepAction::Install => preview_install(alloc, shop, cards, printed),
         StepAction::Restore => preview_restore(alloc, shop, cards, printed),
         StepAction::With(action) => {
@@ -110,15 +110,19 @@ fn read_command(alloc: Global, cards: &str) -> Result<Command, Fail> {
 }
 
 // Prints both zones as LIST does.
-fn put_zones(shop: &Shop, printed: &mut Vec<u8>) -> Result<(), Fail> {
-    put_zone(TARGET, &shop.target, printed)?;
-    put_zone(DISTRIBUTION, &shop.distribution, printed)
+fn append_zones(shop: &Shop, printed: &mut Vec<u8>) -> Result<(), Fail> {
+    append_zone(TARGET, &shop.target, printed)?;
+    append_zone(DISTRIBUTION, &shop.distribution, printed)
 }
 
 // Prints what REPORT ERRSYSMODS says of both zones.
-fn put_errsysmods_of_zones(alloc: Global, shop: &Shop, printed: &mut Vec<u8>) -> Result<(), Fail> {
-    put_errsysmods(alloc, TARGET, &shop.global, &shop.target, printed)?;
-    put_errsysmods(
+fn append_errsysmods_of_zones(
+    alloc: Global,
+    shop: &Shop,
+    printed: &mut Vec<u8>,
+) -> Result<(), Fail> {
+    append_errsysmods(alloc, TARGET, &shop.global, &shop.target, printed)?;
+    append_errsysmods(
         alloc,
         DISTRIBUTION,
         &shop.global,

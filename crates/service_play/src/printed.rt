@@ -13,7 +13,7 @@ use terms::{CommandWord, NotChosen};
 use zones::{Candidates, Zone, ZoneDelta};
 
 /// Appends a line of these words.
-pub(crate) fn put_line(words: &[&[u8]], text: &mut Vec<u8>) -> Result<(), AllocError> {
+pub(crate) fn append_line(words: &[&[u8]], text: &mut Vec<u8>) -> Result<(), AllocError> {
     for word in words {
         text.extend_from_slice(word)?;
         text.push(b' ')?;
@@ -24,26 +24,26 @@ pub(crate) fn put_line(words: &[&[u8]], text: &mut Vec<u8>) -> Result<(), AllocE
 }
 
 /// Appends a line for each of these ids, with the word before it.
-pub(crate) fn put_ids(word: &[u8], ids: &[Id], text: &mut Vec<u8>) -> Result<(), AllocError> {
+pub(crate) fn append_ids(word: &[u8], ids: &[Id], text: &mut Vec<u8>) -> Result<(), AllocError> {
     for id in ids {
-        put_line(&[word, id.as_bytes()], text)?;
+        append_line(&[word, id.as_bytes()], text)?;
     }
     Ok(())
 }
 
 /// Appends a line for each requisite that BYPASS covers: the candidate that has it, and the requisite.
-pub(crate) fn put_bypassed(pairs: &[(Id, Id)], text: &mut Vec<u8>) -> Result<(), AllocError> {
+pub(crate) fn append_bypassed(pairs: &[(Id, Id)], text: &mut Vec<u8>) -> Result<(), AllocError> {
     for (of, id) in pairs {
-        put_line(&[b"BYPASSED", of.as_bytes(), id.as_bytes()], text)?;
+        append_line(&[b"BYPASSED", of.as_bytes(), id.as_bytes()], text)?;
     }
     Ok(())
 }
 
 /// Appends a line for each of these needs.
-pub(crate) fn put_needs(needs: &[RequisiteOf], text: &mut Vec<u8>) -> Result<(), AllocError> {
+pub(crate) fn append_needs(needs: &[RequisiteOf], text: &mut Vec<u8>) -> Result<(), AllocError> {
     for need in needs {
         let RequisiteOf { of, kind, id } = *need;
-        put_line(
+        append_line(
             &[b"NEED", of.as_bytes(), need_text(kind), id.as_bytes()],
             text,
         )?;
@@ -52,33 +52,39 @@ pub(crate) fn put_needs(needs: &[RequisiteOf], text: &mut Vec<u8>) -> Result<(),
 }
 
 /// Appends a line for each test that a candidate fails, in the order of the candidates' numbers.
-pub(crate) fn put_failed_tests(judged: &Judged<'_>, text: &mut Vec<u8>) -> Result<(), AllocError> {
+pub(crate) fn append_failed_tests(
+    judged: &Judged<'_>,
+    text: &mut Vec<u8>,
+) -> Result<(), AllocError> {
     for (id, tests) in judged.ids.iter().zip(judged.tests.iter()) {
         let id = *id;
         for test in tests.iter() {
-            put_line(&[b"FAILS", id.as_bytes(), test_text(test)], text)?;
+            append_line(&[b"FAILS", id.as_bytes(), test_text(test)], text)?;
         }
     }
     Ok(())
 }
 
 // Appends the tests that a candidate fails, what it needs in vain, and who causes it.
-fn put_failure(failure: &Failure, text: &mut Vec<u8>) -> Result<(), AllocError> {
+fn append_failure(failure: &Failure, text: &mut Vec<u8>) -> Result<(), AllocError> {
     for test in failure.tests.iter() {
-        put_line(&[b"  TEST", test_text(test)], text)?;
+        append_line(&[b"  TEST", test_text(test)], text)?;
     }
     for need in failure.needs.as_slice() {
         let OpenNeed { kind, id } = *need;
-        put_line(&[b"  NEED", need_text(kind), id.as_bytes()], text)?;
+        append_line(&[b"  NEED", need_text(kind), id.as_bytes()], text)?;
     }
-    put_ids(b"  CAUSER", failure.causers.as_slice(), text)
+    append_ids(b"  CAUSER", failure.causers.as_slice(), text)
 }
 
 /// Appends a line for each of these candidates, followed by its failure.
-pub(crate) fn put_failures(failed: &[(Id, Failure)], text: &mut Vec<u8>) -> Result<(), AllocError> {
+pub(crate) fn append_failures(
+    failed: &[(Id, Failure)],
+    text: &mut Vec<u8>,
+) -> Result<(), AllocError> {
     for (id, failure) in failed {
-        put_line(&[b"FAILED", id.as_bytes()], text)?;
-        put_failure(failure, text)?;
+        append_line(&[b"FAILED", id.as_bytes()], text)?;
+        append_failure(failure, text)?;
     }
     Ok(())
 }
@@ -95,14 +101,14 @@ fn not_chosen_text(why: NotChosen) -> &'static [u8] {
 }
 
 /// Appends a line for each candidate, and for each id that is left out.
-pub(crate) fn put_candidates(
+pub(crate) fn append_candidates(
     candidates: &Candidates,
     text: &mut Vec<u8>,
 ) -> Result<(), AllocError> {
-    put_ids(b"CANDIDATE", candidates.ids.as_slice(), text)?;
+    append_ids(b"CANDIDATE", candidates.ids.as_slice(), text)?;
     for left in candidates.left_out.as_slice() {
         let (id, why) = *left;
-        put_line(&[b"LEFT", id.as_bytes(), not_chosen_text(why)], text)?;
+        append_line(&[b"LEFT", id.as_bytes(), not_chosen_text(why)], text)?;
     }
     Ok(())
 }
@@ -117,27 +123,27 @@ fn edit_text<T, K>(edit: &Edit<T, K>, existed: bool) -> &'static [u8] {
 }
 
 // Appends a line for each edit of an entry.
-fn put_entry_edits(delta: &ZoneDelta, text: &mut Vec<u8>) -> Result<(), AllocError> {
+fn append_entry_edits(delta: &ZoneDelta, text: &mut Vec<u8>) -> Result<(), AllocError> {
     for (edit, old_number) in delta.entries().iter().zip(delta.numbers_before().iter()) {
         let id = match edit {
             Edit::Put(entry) => entry.id,
             Edit::Remove(id) => *id,
         };
         let what = edit_text(edit, old_number.is_some());
-        put_line(&[b"ENTRY", id.as_bytes(), what], text)?;
+        append_line(&[b"ENTRY", id.as_bytes(), what], text)?;
     }
     Ok(())
 }
 
 // Appends a line for each edit of an element.
-fn put_element_edits(delta: &ZoneDelta, text: &mut Vec<u8>) -> Result<(), AllocError> {
+fn append_element_edits(delta: &ZoneDelta, text: &mut Vec<u8>) -> Result<(), AllocError> {
     for (edit, existed) in delta.elements().iter().zip(delta.elements_existed().iter()) {
         let (elem_type, name) = match edit {
             Edit::Put(element) => (element.elem_type, element.name),
             Edit::Remove(key) => *key,
         };
         let what = edit_text(edit, *existed);
-        put_line(
+        append_line(
             &[b"ELEM", type_text(elem_type), name.as_bytes(), what],
             text,
         )?;
@@ -146,20 +152,20 @@ fn put_element_edits(delta: &ZoneDelta, text: &mut Vec<u8>) -> Result<(), AllocE
 }
 
 /// Appends a line for each edit, and what LIST prints of the zone that they make of this one.
-pub(crate) fn put_delta(
+pub(crate) fn append_delta(
     alloc: Global,
     name: &[u8],
     zone: &Zone,
     delta: &ZoneDelta,
     text: &mut Vec<u8>,
 ) -> Result<(), Fail> {
-    put_entry_edits(delta, text)?;
-    put_element_edits(delta, text)?;
-    put_zone(name, &delta.apply(alloc, zone)?, text)
+    append_entry_edits(delta, text)?;
+    append_element_edits(delta, text)?;
+    append_zone(name, &delta.apply(alloc, zone)?, text)
 }
 
 /// Appends the report of a command with these lines, without a boundary.
-pub(crate) fn put_report(
+pub(crate) fn append_report(
     word: CommandWord,
     lines: Vec<ReportLine>,
     text: &mut Vec<u8>,
@@ -169,17 +175,17 @@ pub(crate) fn put_report(
         boundary: None,
         check: false,
     };
-    put_outcome(&Outcome::Ran { header, lines }, text)
+    append_outcome(&Outcome::Ran { header, lines }, text)
 }
 
 // Appends the text of an outcome.
-fn put_outcome(outcome: &Outcome<'_>, text: &mut Vec<u8>) -> Result<(), Fail> {
+fn append_outcome(outcome: &Outcome<'_>, text: &mut Vec<u8>) -> Result<(), Fail> {
     let _return_code = write_report(outcome, &mut Out::new(text))?;
     Ok(())
 }
 
 /// Appends a zone as LIST prints it.
-pub(crate) fn put_zone(name: &[u8], zone: &Zone, text: &mut Vec<u8>) -> Result<(), Fail> {
+pub(crate) fn append_zone(name: &[u8], zone: &Zone, text: &mut Vec<u8>) -> Result<(), Fail> {
     let header = Header {
         word: CommandWord::List,
         boundary: Some(zone_name(name)?),
@@ -190,11 +196,11 @@ pub(crate) fn put_zone(name: &[u8], zone: &Zone, text: &mut Vec<u8>) -> Result<(
         zone,
         text: false,
     };
-    put_outcome(&outcome, text)
+    append_outcome(&outcome, text)
 }
 
 /// Appends what REPORT ERRSYSMODS says of a zone.
-pub(crate) fn put_errsysmods(
+pub(crate) fn append_errsysmods(
     alloc: Global,
     name: &[u8],
     global: &GlobalZone,
@@ -202,7 +208,7 @@ pub(crate) fn put_errsysmods(
     text: &mut Vec<u8>,
 ) -> Result<(), Fail> {
     let outcome = errsysmods(alloc, zone_name(name)?, global, zone)?;
-    put_outcome(&outcome, text)
+    append_outcome(&outcome, text)
 }
 
 fn zone_name(name: &[u8]) -> Result<ZoneName, Fail> {

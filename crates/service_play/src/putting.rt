@@ -3,14 +3,14 @@ ghost use Rattle.std.specs.Prelude.{◌≡◌};
 ghost use Rattle.std.specs.List.{list_all};
 ghost use Rattle.terms.specs.Lookups.{changes_of, is_nil};
 
-use crate::printed::{put_delta, put_ids};
+use crate::printed::{append_delta, append_ids};
 use crate::shop::{Shop, TARGET};
 use change::{Installed, Installing, install, restore};
 use fields::{Id, IdList, YyDdd};
 use std::alloc::{AllocError, Global};
 use std::test::Fail;
 use sysmods::{GlobalZone, Overs, VerChoice};
-use zones::{Zone, choose};
+use zones::{Zone, counting_vers};
 
 /// Prints what an install of these ids would change in the target zone, and the zone that it would leave. They must
 /// change no element.
@@ -21,10 +21,10 @@ pub(crate) fn preview_install(
     printed: &mut Vec<u8>,
 ) -> Result<(), Fail> {
     let kept = read_ids(alloc, cards)?;
-    let vers = choose(alloc, &shop.global, &shop.target, &kept)?;
+    let vers = counting_vers(alloc, &shop.global, &shop.target, &kept)?;
     let Installed { delta, effective } = installed(alloc, &vers, &shop.target, &kept)?;
-    put_ids(b"EFFECTIVE", effective.as_slice(), printed)?;
-    put_delta(alloc, TARGET, &shop.target, &delta, printed)
+    append_ids(b"EFFECTIVE", effective.as_slice(), printed)?;
+    append_delta(alloc, TARGET, &shop.target, &delta, printed)
 }
 
 // What an install of these ids changes in the zone on 2024-05-19.
@@ -73,7 +73,7 @@ pub(crate) fn preview_restore(
 ) -> Result<(), Fail> {
     let kept = read_ids(alloc, cards)?;
     let delta = restore(alloc, &shop.global, &shop.target, &shop.distribution, &kept)?;
-    put_delta(alloc, TARGET, &shop.target, &delta, printed)
+    append_delta(alloc, TARGET, &shop.target, &delta, printed)
 }
 
 // The ids of these cards.

@@ -1,6 +1,6 @@
 //! What a shop receives.
 
-use crate::printed::put_line;
+use crate::printed::append_line;
 use mcs::{HoldItem, Item, read_hold, read_ptfin};
 use scripts::card_file;
 use std::alloc::Global;
@@ -35,7 +35,7 @@ fn receive_item(
     let id = sysmod.id;
     if let Err(refused) = global.receive(alloc, sysmod) {
         let why = format!(in alloc; "{refused}")?;
-        put_line(&[id.as_bytes(), why.as_bytes()], printed)?;
+        append_line(&[id.as_bytes(), why.as_bytes()], printed)?;
     }
     Ok(())
 }

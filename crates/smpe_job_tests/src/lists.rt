@@ -2,7 +2,7 @@
 
 use fields::{Srel, YyDdd, ZoneName};
 use report::Out;
-use scripts::{card_file, compare, put_cards};
+use scripts::{append_cards, card_file, compare};
 use smpe::{Answer, Job, ZoneFault, listing_commands, run_job, two_commands};
 use smpe_play::{
     FIX, FUNCTION, FUNCTION_RECEIVED, ListWanted, RECEIVE, job_over, open_in_memory, open_store,
@@ -82,7 +82,7 @@ fn five_jobs_go_one_after_the_other(rt: HostRuntime) -> Result<(), Fail> {
     let alloc = rt.alloc();
     let receive = card_file(alloc, RECEIVE)?;
     let mut ptfin = card_file(alloc, FUNCTION)?;
-    put_cards(&mut ptfin, FIX)?;
+    append_cards(&mut ptfin, FIX)?;
     let install = card_file(
         alloc,
         "SET BDY(TGT1).\nAPPLY SELECT(HAA1100).\nSET BDY(DLB1).\nACCEPT SELECT(HAA1100).\n\

@@ -10,7 +10,7 @@ ghost use Rattle.smpe_jobs.specs.Messages.{program_line, refused_text, store_err
 use crate::error::JobError;
 use crate::jobs::Answer;
 use fields::ZoneName;
-use report::{Sink, WriteFault, put, write_all};
+use report::{Sink, WriteFault, print, write_all};
 use smpe_invocation::ArgFault;
 use smpe_zones::ZoneFault;
 use store::StoreError;
@@ -47,8 +47,8 @@ fn write_zone_defined<W: Sink>(name: &ZoneName, w: &mut W) -> Result<u8, WriteFa
     ensures fault { W.has_failed w.new ≡ is_err result }
     ensures status { IfOk result (λ status. status ≡ answer_status Defined) }
 {
-    put(b"ZONE ", w);
-    put(name.as_bytes(), w);
+    print(b"ZONE ", w);
+    print(name.as_bytes(), w);
     write_all(b" DEFINED\n", w)?;
     Ok(0)
 }
@@ -59,8 +59,8 @@ fn write_zone_refused<W: Sink>(fault: ZoneFault, w: &mut W) -> Result<u8, WriteF
     ensures fault { W.has_failed w.new ≡ is_err result }
     ensures status { IfOk result (λ status. status ≡ answer_status (NotDefined (fault_of fault))) }
 {
-    put(b"ZONE REFUSED ", w);
-    put(zone_fault_code(fault), w);
+    print(b"ZONE REFUSED ", w);
+    print(zone_fault_code(fault), w);
     write_all(b"\n", w)?;
     Ok(REFUSED_STATUS)
 }
@@ -166,8 +166,8 @@ fn write_program_line<W: Sink>(text: &[u8], w: &mut W) -> Result<(), WriteFault>
     ensures sends { Sent W.Sink w.old w.new (program_line text.now) }
     ensures fault { W.has_failed w.new ≡ is_err result }
 {
-    put(b"smpe: ", w);
-    put(text, w);
+    print(b"smpe: ", w);
+    print(text, w);
     write_all(b"\n", w)
 }
 
@@ -176,8 +176,8 @@ fn write_unreadable_file<W: Sink>(name: &str, w: &mut W) -> Result<(), WriteFaul
     ensures sends { Sent W.Sink w.old w.new (program_line (codes "cannot read " ++ name.now)) }
     ensures fault { W.has_failed w.new ≡ is_err result }
 {
-    put(b"smpe: cannot read ", w);
-    put(name.as_bytes(), w);
+    print(b"smpe: cannot read ", w);
+    print(name.as_bytes(), w);
     write_all(b"\n", w)
 }
 
@@ -186,8 +186,8 @@ fn write_undefined_zone<W: Sink>(name: &ZoneName, w: &mut W) -> Result<(), Write
     ensures sends { Sent W.Sink w.old w.new (program_line (codes "no zone " ++ name.now)) }
     ensures fault { W.has_failed w.new ≡ is_err result }
 {
-    put(b"smpe: no zone ", w);
-    put(name.as_bytes(), w);
+    print(b"smpe: no zone ", w);
+    print(name.as_bytes(), w);
     write_all(b"\n", w)
 }
 

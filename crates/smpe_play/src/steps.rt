@@ -4,7 +4,7 @@ use crate::cards::{BEGINNING, Case, JobStep};
 use crate::disks::{open_in_memory, open_new_files, open_store, reopen_files};
 use crate::rows::query_lines;
 use crate::running::{define_both_zones, job_over, run_printing};
-use scripts::{Difference, card_file, compare, first_difference, put_cards};
+use scripts::{Difference, append_cards, card_file, compare, first_difference};
 use smpe::{Answer, JobError};
 use sqlite::{Alter, Connection, FileStore, MemStore};
 use sqlite_disk::Memory;
@@ -24,7 +24,7 @@ pub struct StepPlace {
 fn step_ptfin(alloc: Global, step: &JobStep) -> Result<Vec<u8>, Fail> {
     let mut bytes = Vec::new(alloc);
     for sysmod in step.ptfin {
-        put_cards(&mut bytes, sysmod)?;
+        append_cards(&mut bytes, sysmod)?;
     }
     bytes.extend_from_slice(step.rest.as_bytes())?;
     Ok(bytes)

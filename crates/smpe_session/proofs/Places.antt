@@ -7,7 +7,7 @@ use Rattle.std.specs.Str.{bytes_eq}
 use Rattle.indexmap.specs.IndexMap.{get}
 use Rattle.terms.specs.declared.kinds.ZoneKind.{ZoneKind}
 use Rattle.terms.specs.declared.kinds.ZoneKind.TheVariants.{Target, Distribution}
-use Rattle.terms.specs.Types.{Text, zone_number, Zone, NamedZone, Id, ReceiveWhat, Receive, Reject, Install}
+use Rattle.terms.specs.Types.{Text, zone_number, Zone, NamedZone, Id, ReceiveOperands, Receive, Reject, Install}
 use Rattle.terms.specs.Types.{Restore, RestoreList}
 use Rattle.terms.proofs.TextOrder.{same_from, same_itself}
 use Rattle.terms.proofs.Searches.{All_find, find_gives}
@@ -25,7 +25,7 @@ refusal_at boundary = if not (is_some boundary) then Some NoBoundary
     else if option_map_or (bytes_eq global_name) boundary
     false then None else Some WrongKind
 
-pub receive_at : (s : State) (what : ReceiveWhat) → unless_at (at_global s) s ≡ misplaced s (Receive what)
+pub receive_at : (s : State) (what : ReceiveOperands) → unless_at (at_global s) s ≡ misplaced s (Receive what)
 unfolding misplaced
 receive_at s what = refl
 

@@ -3,7 +3,7 @@ use Rattle.std.proofs.Common.{◌≡◌, ◌∙◌, Bool, true, false, ℕ, List
 use Rattle.std.proofs.Common.{Result, Ok, Err, IfOk, IfErr, refl, sym, ap, subst, inr}
 use Rattle.std.proofs.lemmas.List.Elements.{All-append, All-from_recursion}
 use Rattle.std.proofs.lemmas.List.Sums.{fold-append}
-use Rattle.terms.specs.Types.{Text, Global, Item, HoldItem, AHold, ARelease, ReceiveWhat, Receive}
+use Rattle.terms.specs.Types.{Text, Global, Item, HoldItem, AHold, ARelease, ReceiveOperands, Receive}
 use Rattle.terms.specs.Forms.{IsSource}
 use Rattle.terms.specs.Ptfin.{IsPtfin}
 use Rattle.terms.specs.HoldFile.{IsHoldFile}
@@ -80,7 +80,7 @@ received_here (changes.Global stated edits) header own at = at
 received_here (changes.Zone name delta) header own at = absurd own
 received_here (changes.NewZone name kind srel related) header own at = absurd own
 
-pub received : (date : Text) (files : Files) (what : ReceiveWhat) (s : State) (old new : Global) (source : Option Text)
+pub received : (date : Text) (files : Files) (what : ReceiveOperands) (s : State) (old new : Global) (source : Option Text)
     (items : List Item) (holds : List HoldItem)
     (edits : List GlobalEdit) (printed lines : List Line)
     → s.global ≡ old → IsInventory (kept s) → misplaced s (Receive what) ≡ None → what.source ≡ source
@@ -103,7 +103,7 @@ received date files what s old new source items holds edits printed lines global
     ))
 
 -- a fault of a file
-pub take_faulty : (date : Text) (files : Files) (what : ReceiveWhat) (s : State) (boundary : Option Text)
+pub take_faulty : (date : Text) (files : Files) (what : ReceiveOperands) (s : State) (boundary : Option Text)
     (why : Refusal) → boundary ≡ s.boundary → misplaced s (Receive what) ≡ None
     → ((u : State) → Takes files u what u (Refused (header_of (Receive what) u.boundary) (refusal_view why)))
     → Performs date files s (Receive what) s (Refused (header_of (Receive what) boundary) (refusal_view why))

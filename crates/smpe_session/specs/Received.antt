@@ -1,6 +1,6 @@
 -- What RECEIVE finds in its files, and how it changes the global zone.
 use Rattle.std.specs.Prelude.{◌≡◌, All, List, ◌++◌, Option, Result, Ok, Err}
-use Rattle.terms.specs.Types.{Text, Global, Item, HoldItem, ReceiveWhat, Receive}
+use Rattle.terms.specs.Types.{Text, Global, Item, HoldItem, ReceiveOperands, Receive}
 use Rattle.terms.specs.Ptfin.{IsPtfin}
 use Rattle.terms.specs.HoldFile.{IsHoldFile}
 use Rattle.machine.specs.Outcome.{Line, Refused, header_of}
@@ -15,7 +15,7 @@ use Rattle.sysmods.specs.Edits.{EachFits, after_edits}
 use Rattle.smpe_global.specs.Edits.{IsOfReceive}
 
 -- The files have these items, or otherwise RECEIVE is refused in this way.
-abbrev pub HasFound : Files → ReceiveWhat → {V : Type 0} → (V → List Item) → (V → List HoldItem) → Result V Refusal
+abbrev pub HasFound : Files → ReceiveOperands → {V : Type 0} → (V → List Item) → (V → List HoldItem) → Result V Refusal
     → Type 0
 HasFound files what items holds (Ok v) =
     HasItems IsPtfin what.sysmods files.ptfin (items v) × HasItems IsHoldFile what.holddata files.holds (holds v)

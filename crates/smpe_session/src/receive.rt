@@ -18,7 +18,7 @@ use crate::files::Files;
 use crate::lines::lines_or_nothing;
 use crate::receive_files::{ReceiveItems, read_files};
 use crate::session::Session;
-use fields::{ReceiveWhat, Source};
+use fields::{ReceiveOperands, Source};
 use report::{Header, Outcome};
 use smpe_global::{GlobalChange, receive_holds, receive_ptfin};
 use sqlite::Alter;
@@ -59,7 +59,7 @@ impl Session {
         alloc: Global,
         store: &mut Store<S>,
         files: &Files<'_>,
-        what: &ReceiveWhat,
+        what: &ReceiveOperands,
     ) -> Result<Outcome<'static>, StoreError>
         ensures uses { UsesStore S.Store store.old store.new (λ own. IsReceived own × IfOk result (TellsRun own))
             (λ s ended. IsSessionOf s self.old → (date : Text)

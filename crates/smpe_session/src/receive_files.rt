@@ -5,7 +5,7 @@ ghost use Rattle.mcs.specs.HoldItems.{items as hold_items};
 ghost use Rattle.smpe_session.specs.Received.{HasFound};
 
 use crate::files::Files;
-use fields::ReceiveWhat;
+use fields::ReceiveOperands;
 use mcs::{HoldItem, Item, McsError, read_hold, read_ptfin};
 use report::Refusal;
 use std::alloc::{AllocError, Global};
@@ -22,7 +22,7 @@ pub(crate) struct ReceiveItems {
 pub(crate) fn read_files(
     alloc: Global,
     files: &Files<'_>,
-    what: &ReceiveWhat,
+    what: &ReceiveOperands,
 ) -> Result<Result<ReceiveItems, Refusal>, AllocError>
     ensures { IfOk result (HasFound files.now what.now (λ v. items v.items.items) (λ v. hold_items v.holds.items)) }
 {

@@ -1,7 +1,7 @@
 //! Chains of 5,000 SYSMODs, which are received, applied and listed without a walk that takes more and more stack.
 
 use crate::generated::run_job;
-use scripts::{card_file, put_cards};
+use scripts::{append_cards, card_file};
 use smpe_play::{FAILING, JobStep, Plays, RECEIVE, StepPlace, play_made};
 use sqlite::Alter;
 use std::alloc::Global;
@@ -38,7 +38,7 @@ fn ptf_ver(alloc: Global, chain: Chain, number: u32) -> Result<String, Fail> {
 fn append_ptf(alloc: Global, bytes: &mut Vec<u8>, chain: Chain, number: u32) -> Result<(), Fail> {
     let ver = ptf_ver(alloc, chain, number)?;
     let cards = format!(in alloc; "++PTF(UB{number:05}).\n{ver}")?;
-    put_cards(bytes, cards.as_str())
+    append_cards(bytes, cards.as_str())
 }
 
 // The PTFs of a chain, from this number on.

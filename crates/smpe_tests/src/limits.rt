@@ -1,7 +1,7 @@
 //! A list that is too long, and a zone of 1,000 entries and 1,000 elements, in which one PTF changes one row.
 
 use crate::generated::run_job;
-use scripts::{card_file, put_cards};
+use scripts::{append_cards, card_file};
 use smpe_play::{
     JOB, JobStep, Plays, RECEIVE, RECEIVING, RowsLeft, StepPlace, play_made, play_rows,
 };
@@ -13,7 +13,7 @@ use store::Store;
 // Appends so many ids, a card each.
 fn append_ids(alloc: Global, bytes: &mut Vec<u8>, count: u32) -> Result<(), Fail> {
     for number in 1..=count {
-        put_cards(bytes, format!(in alloc; "UB{number:05}")?.as_str())?;
+        append_cards(bytes, format!(in alloc; "UB{number:05}")?.as_str())?;
     }
     Ok(())
 }
@@ -22,7 +22,7 @@ fn append_ids(alloc: Global, bytes: &mut Vec<u8>, count: u32) -> Result<(), Fail
 fn ptf_with_long_list(alloc: Global) -> Result<Vec<u8>, Fail> {
     let mut bytes = card_file(alloc, "++PTF(UA00001).\n++VER(Z038) FMID(HAA1100) PRE(")?;
     append_ids(alloc, &mut bytes, 1_001)?;
-    put_cards(&mut bytes, ").")?;
+    append_cards(&mut bytes, ").")?;
     Ok(bytes)
 }
 
@@ -54,13 +54,13 @@ fn append_element(alloc: Global, bytes: &mut Vec<u8>, number: u32) -> Result<(),
     let cards = format!(in alloc;
         "++DATA(N{number:05}) DISTLIB(ADATA) SYSLIB(DATA).\nRECORD OF N{number:05}"
     )?;
-    put_cards(bytes, cards.as_str())
+    append_cards(bytes, cards.as_str())
 }
 
 // Appends a PTF for the function.
 fn append_ptf(alloc: Global, bytes: &mut Vec<u8>, number: u32) -> Result<(), Fail> {
     let cards = format!(in alloc; "++PTF(UC{number:05}).\n++VER(Z038) FMID(HBB1100).")?;
-    put_cards(bytes, cards.as_str())
+    append_cards(bytes, cards.as_str())
 }
 
 // A function with 999 data elements, and 998 PTFs for it.

@@ -13,7 +13,7 @@ use crate::entry_rules::entry_fault;
 use fields::IdList;
 use std::alloc::{AllocError, Global};
 use sysmods::{GlobalZone, VerChoice};
-use zones::{Element, Zone, choose};
+use zones::{Element, Zone, counting_vers};
 
 /// The first breach of the zone: entries rising by id, then elements by type and name, and for each the rules in the
 /// order of the definition. `None` if and only if the zone is closed.
@@ -45,7 +45,7 @@ fn find_breach(
         (λ breach. breach ≡ first_breach global.now (counting global.now zone.now []) zone.now) }
 {
     let no_candidates = IdList::new(alloc);
-    let vers = choose(alloc, global, zone, &no_candidates)?;
+    let vers = counting_vers(alloc, global, zone, &no_candidates)?;
     find_breach_by_vers(alloc, &vers, zone)
 }
 

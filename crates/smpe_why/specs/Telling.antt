@@ -14,10 +14,10 @@ use Rattle.machine.specs.Installing.{InstallsSelected}
 use Rattle.machine.specs.Outcome.{NoZone, Line}
 use Rattle.machine.specs.Report.{refused_text}
 use Rattle.report.specs.Facts.{Fact, AreFacts, among}
-use Rattle.report_why.specs.FactText.{facts_text, facts_code}
-use Rattle.report_verdict.specs.Conflicts.{AreConflicts}
-use Rattle.report_verdict.specs.Verdict.{verdict_text}
-use Rattle.report_verdict.specs.declared.conflict.Conflict.{Conflict}
+use Rattle.why_facts.specs.FactText.{facts_text, facts_code}
+use Rattle.why_verdict.specs.Conflicts.{AreConflicts}
+use Rattle.why_verdict.specs.Verdict.{verdict_text}
+use Rattle.why_verdict.specs.declared.conflict.Conflict.{Conflict}
 use Rattle.store_schema.specs.Inventory.{Inventory}
 use Rattle.store_zones.specs.declared.head.ZoneHead.{ZoneHead}
 use Rattle.store_zones.specs.Found.{zone_in, head_of}

@@ -17,12 +17,12 @@ use crate::found::LoadedZones;
 use crate::question::Question;
 use fields::{Attest, Bypass, Id, IdList, Selection, SourceList, YyDdd};
 use report::{LineWord, ReportLine, append_words};
-use report_verdict::{Grounds, conflicts_of, put_verdict};
-use report_why::{Lookups, facts_code, id_facts, put_facts};
 use select::candidates;
 use smpe_service::{InstallChange, apply};
 use std::alloc::{AllocError, Global};
-use zones::{Candidates, Scope, Zone, choose, deletions};
+use why_facts::{Lookups, append_facts, facts_code, id_facts};
+use why_verdict::{VerdictFacts, append_verdict, conflicts_of};
+use zones::{Candidates, Scope, Zone, counting_vers, deletions};
 
 // The status of a program that was asked about an unknown zone.
 const REFUSED_STATUS: u8 = 12;
@@ -102,7 +102,7 @@ fn describe_selected_ids(
     } = candidates(alloc, lookups.global, lookups.zone, &selection)?;
     let lines = install_lines(alloc, lookups, related, &selection, question.bypass)?;
     let lines = lines.as_slice();
-    let vers = choose(alloc, lookups.global, lookups.zone, &candidates)?;
+    let vers = counting_vers(alloc, lookups.global, lookups.zone, &candidates)?;
     let dels = deletions(alloc, &vers, candidates.as_slice())?;
     let scope = Scope {
         vers: &vers,
@@ -175,7 +175,7 @@ fn append_non_candidate_lines<'a>(
 {
     let mut ids = scope.ids.try_clone(alloc)?;
     ids.insert(id)?;
-    let vers = choose(alloc, lookups.global, lookups.zone, &ids)?;
+    let vers = counting_vers(alloc, lookups.global, lookups.zone, &ids)?;
     let dels = deletions(alloc, &vers, ids.as_slice())?;
     let with_id = Scope {
         vers: &vers,
@@ -207,15 +207,15 @@ fn append_candidate_lines<'a>(
 {
     let facts = id_facts(alloc, lookups, scope, id)?;
     let conflicts = conflicts_of(alloc, scope, lines, id)?;
-    let grounds = Grounds {
+    let verdict_facts = VerdictFacts {
         bypass: scope.bypass,
         facts: facts.as_slice(),
         conflicts: conflicts.as_slice(),
         lines,
     };
-    answer.status = answer.status.max(facts_code(grounds.facts));
-    put_facts(grounds.facts, &mut answer.text)?;
-    put_verdict(id, &grounds, &mut answer.text)
+    answer.status = answer.status.max(facts_code(verdict_facts.facts));
+    append_facts(verdict_facts.facts, &mut answer.text)?;
+    append_verdict(id, &verdict_facts, &mut answer.text)
 }
 
 // The lines of an APPLY or ACCEPT by this selection. No line contains the date, so any date will do.

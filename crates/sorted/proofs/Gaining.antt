@@ -15,7 +15,7 @@ use Rattle.std.proofs.lemmas.Map.Lookups.{CmpEqualImpliesEq}
 use Rattle.terms.proofs.ListMembers.{here, none_in, flat_in, in_flat}
 use Rattle.terms.proofs.Lists.{front_more}
 use Rattle.terms.proofs.Orderings.{Equal_from_is_eq}
-use Rattle.sorted.specs.Lists.{Lists, listed, Adds, AddsToAll, once_each, Gains, Holds, OneOf}
+use Rattle.sorted.specs.MultiMap.{MultiMap, listed, Adds, AddsToAll, once_each, Gains, Holds, OneOf}
 
 itself : {K : Type 0} (cmp : K → K → Ordering) → IsTotalOrder cmp → (k : K) → is_eq (cmp k k) ≡ true
 itself cmp o k = ap is_eq (tied_itself o k)
@@ -24,17 +24,17 @@ same_key : {K : Type 0} (cmp : K → K → Ordering) → CmpEqualImpliesEq cmp �
 same_key cmp exact k q e = exact k q (Equal_from_is_eq (cmp k q) e)
 
 module _ {K V : Type 0} (cmp : K → K → Ordering) where
-  pub gains_alike : (old new : Lists K V) (P Q : K → V → Type 0) → ((k : K) (y : V) → P k y ↔ Q k y)
+  pub gains_alike : (old new : MultiMap K V) (P Q : K → V → Type 0) → ((k : K) (y : V) → P k y ↔ Q k y)
       → Gains cmp old new P → Gains cmp old new Q
   gains_alike old new P Q same gains k y = (
     λ h. elim ((gains k y).0 h) [ inl was ↦ inl was | inr p ↦ inr ((same k y).0 p) ],
     λ h. (gains k y).1 (elim h [ inl was ↦ inl was | inr q ↦ inr ((same k y).1 q) ]),
   )
 
-  pub gains_nothing : (all : Lists K V) (P : K → V → Type 0) → ((k : K) (y : V) → ¬ P k y) → Gains cmp all all P
+  pub gains_nothing : (all : MultiMap K V) (P : K → V → Type 0) → ((k : K) (y : V) → ¬ P k y) → Gains cmp all all P
   gains_nothing all P none k y = (λ h. inl h, λ h. elim h [ inl was ↦ was | inr p ↦ absurd (none k y p) ])
 
-  pub gains_join : (old middle new : Lists K V) (P Q R : K → V → Type 0) → Gains cmp old middle P
+  pub gains_join : (old middle new : MultiMap K V) (P Q R : K → V → Type 0) → Gains cmp old middle P
       → Gains cmp middle new Q → ((k : K) (y : V) → R k y ↔ (P k y ⊎ Q k y)) → Gains cmp old new R
   gains_join old middle new P Q R first second both k y = (
     λ h. elim ((second k y).0 h) [
@@ -48,7 +48,7 @@ module _ {K V : Type 0} (cmp : K → K → Ordering) where
   )
 
   -- what empty lists have gained is all that they hold
-  pub holds_gained : (old new : Lists K V) (P : K → V → Type 0) → IsEmpty old → Gains cmp old new P → Holds cmp new P
+  pub holds_gained : (old new : MultiMap K V) (P : K → V → Type 0) → IsEmpty old → Gains cmp old new P → Holds cmp new P
   holds_gained old new P empty gains k y = (
     λ h. elim ((gains k y).0 h) [
       | inl was ↦ absurd (none_in y (subst (λ es. Contains (option_map_or (λ v. v.items) (lookup (is_at (cmp k)) es) [])
@@ -76,18 +76,18 @@ module _ {K V : Type 0} (cmp : K → K → Ordering) where
     )
 
     -- by none of a list
-    pub gains_none : (all : Lists K V) → Gains cmp all all (OneOf [] More)
+    pub gains_none : (all : MultiMap K V) → Gains cmp all all (OneOf [] More)
     gains_none all = gains_nothing all (OneOf [] More) one_of_none
 
     -- by one item more
-    pub gains_more : (old middle new : Lists K V) (front : List X) (x : X) → Gains cmp old middle (OneOf front More)
+    pub gains_more : (old middle new : MultiMap K V) (front : List X) (x : X) → Gains cmp old middle (OneOf front More)
         → Gains cmp middle new (More x) → Gains cmp old new (OneOf (front ++ x ∷ []) More)
     gains_more old middle new front x first second =
         gains_join old middle new (OneOf front More) (More x) (OneOf (front ++ x ∷ []) More) first second
         (one_of_more front x)
 
     -- by the next of a list, as a loop goes over it
-    pub gains_next : (old middle new : Lists K V) (xs : List X) (i : ℕ) (x : X) → i < length xs → x ≡ get_or xs i x
+    pub gains_next : (old middle new : MultiMap K V) (xs : List X) (i : ℕ) (x : X) → i < length xs → x ≡ get_or xs i x
         → Gains cmp old middle (OneOf (take i xs) More) → Gains cmp middle new (More x)
         → Gains cmp old new (OneOf (take (i + 1) xs) More)
     gains_next old middle new xs i x below at first second =
@@ -95,10 +95,10 @@ module _ {K V : Type 0} (cmp : K → K → Ordering) where
         (gains_more old middle new (take i xs) x first second)
 
     -- the same of empty lists that grow
-    pub holds_none : (all : Lists K V) → IsEmpty all → Holds cmp all (OneOf [] More)
+    pub holds_none : (all : MultiMap K V) → IsEmpty all → Holds cmp all (OneOf [] More)
     holds_none all empty = holds_gained all all (OneOf [] More) empty (gains_none all)
 
-    pub holds_next : (old new : Lists K V) (xs : List X) (i : ℕ) (x : X) → i < length xs → x ≡ get_or xs i x
+    pub holds_next : (old new : MultiMap K V) (xs : List X) (i : ℕ) (x : X) → i < length xs → x ≡ get_or xs i x
         → Holds cmp old (OneOf (take i xs) More) → Gains cmp old new (More x)
         → Holds cmp new (OneOf (take (i + 1) xs) More)
     holds_next old new xs i x below at holds gains =
@@ -136,7 +136,7 @@ module _ {K V : Type 0} (cmp : K → K → Ordering) where
         )
         from k there false e h = absurd (none_in y (subst (λ b. Contains (cond b (x ∷ []) []) y) e h))
 
-    pub gains_to_all : (old new : Lists K V) (ks : List K) (x : V) → AddsToAll cmp ks x old new
+    pub gains_to_all : (old new : MultiMap K V) (ks : List K) (x : V) → AddsToAll cmp ks x old new
         → Gains cmp old new (λ k y. Contains ks k × (y ≡ x))
     gains_to_all old new ks x adds q y = (
       λ h. elim (Contains-append_cases (listed cmp old q) (once_each cmp ks x q) y
@@ -151,7 +151,7 @@ module _ {K V : Type 0} (cmp : K → K → Ordering) where
       ]),
     )
 
-    pub gains_one : (old new : Lists K V) (k : K) (x : V) → Adds cmp k x old new
+    pub gains_one : (old new : MultiMap K V) (k : K) (x : V) → Adds cmp k x old new
         → Gains cmp old new (λ q y. (q ≡ k) × (y ≡ x))
     gains_one old new k x adds q y = by (is_eq (cmp k q)) refl
       where

@@ -12,25 +12,25 @@ use Rattle.std.proofs.lemmas.List.Concat.{flat_map-append}
 use Rattle.std.proofs.lemmas.Option.{same_Some}
 use Rattle.terms.proofs.Lists.{front_more}
 use Rattle.terms.proofs.Orderings.{Equal_from_is_eq}
-use Rattle.sorted.specs.Lists.{Lists, listed, AreSome, Adds, AddsToAll, once_each}
+use Rattle.sorted.specs.MultiMap.{MultiMap, listed, AreSome, Adds, AddsToAll, once_each}
 
 not_nil : {V : Type 0} (l : List V) (x : V) → l ++ x ∷ [] ≢ []
 not_nil [] x e = cc e
 not_nil (y ∷ l) x e = cc e
 
 module _ {K V : Type 0} (cmp : K → K → Ordering) where
-  pub listed_none : (all : Lists K V) (k : K) → get cmp all k ≡ None → listed cmp all k ≡ []
+  pub listed_none : (all : MultiMap K V) (k : K) → get cmp all k ≡ None → listed cmp all k ≡ []
   listed_none all k at = ap (λ o. option_map_or (λ v. v.items) o []) at
 
-  pub listed_at : (all : Lists K V) (k : K) (v : Vec V Global) → get cmp all k ≡ Some v → listed cmp all k ≡ v.items
+  pub listed_at : (all : MultiMap K V) (k : K) (v : Vec V Global) → get cmp all k ≡ Some v → listed cmp all k ≡ v.items
   listed_at all k v at = ap (λ o. option_map_or (λ v. v.items) o []) at
 
   -- by no key
-  pub adds_to_none : (x : V) (all : Lists K V) → AddsToAll cmp [] x all all
+  pub adds_to_none : (x : V) (all : MultiMap K V) → AddsToAll cmp [] x all all
   adds_to_none x all = record { list = λ q. sym (append-nil (listed cmp all q)); some = λ some. some }
 
   -- by one key more
-  pub adds_to_next : (ks : List K) (i : ℕ) (k : K) (x : V) (base old new : Lists K V) → i < length ks
+  pub adds_to_next : (ks : List K) (i : ℕ) (k : K) (x : V) (base old new : MultiMap K V) → i < length ks
       → k ≡ get_or ks i k → AddsToAll cmp (take i ks) x base old → Adds cmp k x old new
       → AddsToAll cmp (take (i + 1) ks) x base new
   adds_to_next ks i k x base old new below at so_far adds = record {
@@ -57,14 +57,14 @@ module _ {K V : Type 0} (cmp : K → K → Ordering) where
 
   module _ (o : IsTotalOrder cmp) where
     -- keys that are told apart by nothing have one list
-    listed_tied : (all : Lists K V) (k q : K) → is_eq (cmp k q) ≡ true → listed cmp all k ≡ listed cmp all q
+    listed_tied : (all : MultiMap K V) (k q : K) → is_eq (cmp k q) ≡ true → listed cmp all k ≡ listed cmp all q
     listed_tied all k q e =
         let tied = Equal_from_is_eq (cmp k q) e in
         ap (λ (f : K → Ordering). option_map_or (λ v. v.items) (lookup (λ z. is_eq (f z)) all.entries) [])
         (λ i z. o.congr k q z tied i)
 
     -- the values of a key go on with one more
-    pub adds_update : (old new : Lists K V) (k : K) (x : V) (w : Vec V Global)
+    pub adds_update : (old new : MultiMap K V) (k : K) (x : V) (w : Vec V Global)
         → UpdatesBy cmp (cmp k) old new (Some w) → w.items ≡ listed cmp old k ++ x ∷ [] → Adds cmp k x old new
     adds_update old new k x w updates goes_on = record {
       list = λ q. list_at q (is_eq (cmp k q)) refl;

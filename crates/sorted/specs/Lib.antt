@@ -1,4 +1,4 @@
 pub mod Edits
 pub mod ElementKeys
-pub mod Lists
+pub mod MultiMap
 pub mod Turned

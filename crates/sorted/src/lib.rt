@@ -6,8 +6,8 @@
 mod copies;
 mod edits;
 mod keyed;
-pub mod lists;
 mod merging;
+pub mod multi_map;
 mod table;
 
 pub use copies::{TryClone, try_clone_all};

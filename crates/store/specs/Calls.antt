@@ -17,11 +17,11 @@ use Rattle.sysmods.specs.declared.edit.GlobalEdit.TheVariants.{RemoveSysmod}
 use Rattle.zones_maps.specs.Delta.{ZoneDelta}
 use Rattle.store_rows.specs.Calls.{Call, RefusedCall}
 use Rattle.store_rows.specs.Reads.{HasFailed}
-use Rattle.store_sysmods.specs.Holds.{put_hold_calls, remove_hold_calls}
+use Rattle.store_sysmods.specs.Holds.{upsert_hold_calls, remove_hold_calls}
 use Rattle.store_sysmods.specs.Calls.{insert_sysmods_calls, replace_sources_calls, remove_sysmod_calls}
 use Rattle.store_sysmods.specs.Sysmods.{sourced}
-use Rattle.store_zones.specs.Calls.{zone_calls, insert_entries_calls, put_entry_calls, remove_entry_calls}
-use Rattle.store_zones.specs.Calls.{insert_elements_calls, put_element_calls, remove_element_calls}
+use Rattle.store_zones.specs.Calls.{zone_calls, insert_entries_calls, upsert_entry_calls, remove_entry_calls}
+use Rattle.store_zones.specs.Calls.{insert_elements_calls, upsert_element_calls, remove_element_calls}
 use Rattle.store_zones.specs.Zones.{empty_zone}
 use Rattle.store.specs.declared.change.Change.{Change}
 use Rattle.store.specs.declared.change.Change.TheVariants.{NewZone, Zone, Global}
@@ -36,7 +36,7 @@ new_entry (Remove id, stood) = None
 -- number. A new entry has no statement of its own: it comes in with the others.
 abbrev pub entry_calls : Text → Edit Entry Id × Option ℕ → List Call
 entry_calls name (Put entry, None) = []
-entry_calls name (Put entry, Some number) = put_entry_calls name (Some number) entry
+entry_calls name (Put entry, Some number) = upsert_entry_calls name (Some number) entry
 entry_calls name (Remove id, stood) = remove_entry_calls name stood id
 
 -- Entries that are put instead of others or removed, one after the other, and then all that are new.
@@ -53,7 +53,7 @@ new_element (Remove key, stood) = None
 -- the same for an edit of an element
 abbrev pub element_calls : Text → Edit Element (ElemType × Text) × Bool → List Call
 element_calls name (Put element, false) = []
-element_calls name (Put element, true) = put_element_calls name true element
+element_calls name (Put element, true) = upsert_element_calls name true element
 element_calls name (Remove key, stood) = remove_element_calls name key.0 key.1
 
 -- and for all of them
@@ -89,7 +89,7 @@ with_calls (calls, waiting) more = (calls ++ more, waiting)
 
 -- an edit of the global zone; this zone has the statements of its SYSMODs
 abbrev pub with_edit : AGlobal → Progress → GlobalEdit → Progress
-with_edit stated progress (PutHold hold) = with_calls progress (put_hold_calls hold)
+with_edit stated progress (PutHold hold) = with_calls progress (upsert_hold_calls hold)
 with_edit stated progress (RemoveHold id kind reason) = with_calls progress (remove_hold_calls id kind reason)
 with_edit stated progress (InsertSysmod id sources) =
     option_map_or (λ s. with_waiting progress (sourced s sources.items)) (sysmod_of stated id) progress

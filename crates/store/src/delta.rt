@@ -19,7 +19,7 @@ use sorted::Edit;
 use sqlite::{Alter, Error, Transaction};
 use std::alloc::{AllocError, Global};
 use store_zones::{
-    insert_elements, insert_entries, put_element, put_entry, remove_element, remove_entry,
+    insert_elements, insert_entries, remove_element, remove_entry, upsert_element, upsert_entry,
 };
 use terms::ElemType;
 use zones_maps::{Element, Entry, ZoneDelta};
@@ -43,7 +43,7 @@ fn replace_or_remove_entry<S: Alter>(
 {
     match edit {
         Edit::Put(entry) => match number_before {
-            Some(_) => put_entry(alloc, tx, name, number_before, entry),
+            Some(_) => upsert_entry(alloc, tx, name, number_before, entry),
             None => Ok(()),
         },
         Edit::Remove(id) => remove_entry(tx, name, number_before, *id),
@@ -144,7 +144,7 @@ fn replace_or_remove_element<S: Alter>(
             if !existed {
                 return Ok(());
             }
-            put_element(alloc, tx, name, existed, element)
+            upsert_element(alloc, tx, name, existed, element)
         }
         Edit::Remove((elem_type, element)) => remove_element(tx, name, *elem_type, *element),
     }

@@ -18,7 +18,7 @@ use fields::Source;
 use sqlite::{Alter, Error, Transaction};
 use std::alloc::Global;
 use store_sysmods::{
-    SysmodRows, insert_sysmods, put_hold, remove_hold, remove_sysmod, replace_sources,
+    SysmodRows, insert_sysmods, remove_hold, remove_sysmod, replace_sources, upsert_hold,
 };
 use sysmods::{GlobalEdit, GlobalZone};
 use sysmods_values::Sysmod;
@@ -91,7 +91,7 @@ fn write_edit<S: Alter>(
         (λ g. after_edit stated.now g edit.now) tx.old.conn.now tx.new.conn.now waiting.new result }
 {
     match edit {
-        GlobalEdit::PutHold(hold) => put_hold(tx, hold),
+        GlobalEdit::PutHold(hold) => upsert_hold(tx, hold),
         GlobalEdit::RemoveHold(id, kind, reason) => remove_hold(tx, *id, *kind, *reason),
         GlobalEdit::InsertSysmod(id, sources) => match stated.get(*id) {
             Some(sysmod) => add_waiting(alloc, tx, waiting, sysmod, sources.as_slice()),

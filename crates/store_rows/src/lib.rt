@@ -11,4 +11,4 @@ mod statement;
 pub use cells::row_of_values;
 pub use error::ReadError;
 pub use reading::{FromRow, load};
-pub use statement::{insert, insert_rows, put, remove, remove_parent, replace};
+pub use statement::{insert, insert_rows, remove, remove_parent, replace, upsert};

@@ -141,7 +141,7 @@ pub fn remove<S: Alter>(
 /// updated and keeps its rowid. `INSERT OR REPLACE` would remove it, and might also remove the row of another key whose
 /// rowid the new one gets. Returns an error if the database refuses the statement, if the disk fails or if memory runs
 /// out.
-pub fn put<S: Alter>(
+pub fn upsert<S: Alter>(
     tx: &mut Transaction<'_, S>,
     sql: &str,
     row: &[ValueRef<'_>],

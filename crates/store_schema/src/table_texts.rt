@@ -53,7 +53,7 @@ macro_rules! insert_many_text {
 
 /// The statement that adds a row, or puts it in place of the one of its key.
 #[macro_export]
-macro_rules! put_text {
+macro_rules! upsert_text {
     ($table:literal [$n:literal $key:literal $key_type:literal $(, $ns:literal $keys:literal $key_types:literal)* $(,)?]
         [$m:literal $column:literal $type:literal $(, $ms:literal $columns:literal $types:literal)* $(,)?]
         ($($reference:literal)?)) => {

@@ -7,9 +7,9 @@ use Rattle.sqlite_value.specs.Keys.{joined}
 use Rattle.store_rows.specs.Texts.{PutsByKey, DeletesByKey}
 use Rattle.store_rows.proofs.Meant.{puts_by_key, takes_out}
 use Rattle.store_schema.specs.Tables.{store_schema, hold}
-use Rattle.store_sysmods.specs.Holds.{put_hold, delete_hold}
+use Rattle.store_sysmods.specs.Holds.{upsert_hold, delete_hold}
 
-pub puts_hold : PutsByKey store_schema 4 hold 3 put_hold
+pub puts_hold : PutsByKey store_schema 4 hold 3 upsert_hold
 unfolding understood everything
 puts_hold = puts_by_key refl refl refl (refl, refl) refl refl refl refl refl (omega arith) (λ olds news. refl)
 

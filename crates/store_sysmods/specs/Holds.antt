@@ -7,13 +7,13 @@ use Rattle.terms.specs.Types.{Id, Text, Hold}
 use Rattle.terms.specs.Spelling.{hold_text}
 use Rattle.store_rows.specs.Calls.{Call}
 use Rattle.store_schema.specs.Rows.{hold_row}
-use Rattle.store_sysmods.specs.declared.hold.TheConstants.{SELECT, PUT, DELETE}
+use Rattle.store_sysmods.specs.declared.hold.TheConstants.{SELECT, UPSERT, DELETE}
 
 abbrev pub select_holds : List ℕ
 select_holds = SELECT.now
 
-abbrev pub put_hold : List ℕ
-put_hold = PUT.now
+abbrev pub upsert_hold : List ℕ
+upsert_hold = UPSERT.now
 
 abbrev pub delete_hold : List ℕ
 delete_hold = DELETE.now
@@ -26,8 +26,8 @@ abbrev pub hold_key : Hold → Row
 hold_key h = key_row h.id h.kind h.reason
 
 -- a hold is put in place of the one that has its key
-abbrev pub put_hold_calls : Hold → List Call
-put_hold_calls h = (put_hold, hold_row h) ∷ []
+abbrev pub upsert_hold_calls : Hold → List Call
+upsert_hold_calls h = (upsert_hold, hold_row h) ∷ []
 
 abbrev pub remove_hold_calls : Id → HoldKind → Text → List Call
 remove_hold_calls id kind reason = (delete_hold, key_row id kind reason) ∷ []

@@ -22,7 +22,7 @@ ghost use Rattle.store_schema.specs.Rows.{hold_row, flag as flag_of};
 ghost use Rattle.store_schema.specs.Tables.{hold as hold_table, store_schema};
 ghost use Rattle.terms.specs.Forms.{IsReason};
 ghost use Rattle.terms.specs.Types as terms;
-ghost use Rattle.store_sysmods.specs.Holds.{hold_key, key_row, put_hold_calls, remove_hold_calls};
+ghost use Rattle.store_sysmods.specs.Holds.{hold_key, key_row, upsert_hold_calls, remove_hold_calls};
 
 use crate::hold_comment::is_comment;
 use crate::listed::{WholeTable, load_sorted};
@@ -31,14 +31,14 @@ use fields::{Id, Reason};
 use sqlite::{Alter, Connection, Error, Row, Transaction};
 use sqlite_value::value::ValueRef;
 use std::alloc::Global;
-use store_rows::{FromRow, ReadError, put, remove};
+use store_rows::{FromRow, ReadError, remove, upsert};
 use store_schema::{Columns, Query, hold_columns, text_or_null};
 use sysmods_values::Hold;
 use terms::HoldKind;
 
 const SELECT: &str = hold_columns!(select_text "ORDER BY id, kind, reason");
 
-const PUT: &str = hold_columns!(put_text);
+const UPSERT: &str = hold_columns!(upsert_text);
 
 const DELETE: &str = "DELETE FROM hold WHERE id = ?1 AND kind = ?2 AND reason = ?3";
 
@@ -219,9 +219,9 @@ pub fn remove_hold<S: Alter>(
 
 /// Puts the hold, in place of the one of its id, kind and reason ID if there is one. Returns an error if the disk fails
 /// or memory runs out.
-pub fn put_hold<S: Alter>(tx: &mut Transaction<'_, S>, hold: &Hold) -> Result<(), Error>
+pub fn upsert_hold<S: Alter>(tx: &mut Transaction<'_, S>, hold: &Hold) -> Result<(), Error>
     ensures continues { Continues S.Store tx.old tx.new }
-    ensures calls { RunsInside S.Store (put_hold_calls hold.now) tx.old.conn.now tx.new.conn.now result }
+    ensures calls { RunsInside S.Store (upsert_hold_calls hold.now) tx.old.conn.now tx.new.conn.now result }
     ensures ok { OnOk result (Turns S.Store tx.old.conn.now tx.new.conn.now (HasContents store_schema)
         (with_put hold_table (hold_key hold.now) (hold_row hold.now))) }
 {
@@ -233,9 +233,9 @@ pub fn put_hold<S: Alter>(tx: &mut Transaction<'_, S>, hold: &Hold) -> Result<()
     let date = text_or_null(&hold.date);
     let comment = comment_value(&hold.comment);
     let internal = flag_value(hold.internal);
-    put(
+    upsert(
         tx,
-        PUT,
+        UPSERT,
         &[id, kind, reason, fmid, class, date, comment, internal],
     )
 }

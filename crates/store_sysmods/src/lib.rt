@@ -24,7 +24,7 @@ mod ver;
 
 pub use elem::{ElemRow, Elems};
 pub use head::{BareHead, BareHeads, HeadRow, Heads};
-pub use hold::{load_holds, put_hold, remove_hold};
+pub use hold::{load_holds, remove_hold, upsert_hold};
 pub use ifreq::{IfRow, Ifs};
 pub use listed::{WholeTable, load_sorted, sort_by_keys};
 pub use moreif::MoreIfs;

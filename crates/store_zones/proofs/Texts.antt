@@ -7,9 +7,9 @@ use Rattle.sqlite_value.specs.Keys.{joined}
 use Rattle.store_rows.specs.Calls.{many}
 use Rattle.store_rows.specs.Texts.{PutsIn, PutsByKey, DeletesByKey}
 use Rattle.store_schema.specs.Tables.{store_schema, zone, entry, chosen, zelem}
-use Rattle.store_zones.specs.Chosen.{put_chosen, delete_chosen, insert_chosen, insert_numbers}
-use Rattle.store_zones.specs.Elements.{put_element, delete_element, insert_element, insert_elements}
-use Rattle.store_zones.specs.Entries.{put_entry, delete_entry, insert_entry, insert_entries}
+use Rattle.store_zones.specs.Chosen.{upsert_chosen, delete_chosen, insert_chosen, insert_numbers}
+use Rattle.store_zones.specs.Elements.{upsert_element, delete_element, insert_element, insert_elements}
+use Rattle.store_zones.specs.Entries.{upsert_entry, delete_entry, insert_entry, insert_entries}
 use Rattle.store_zones.specs.Heads.{insert_zone}
 use Rattle.store_rows.proofs.Meant.{puts_in, puts_by_key, takes_out}
 
@@ -25,7 +25,7 @@ pub adds_entries : PutsIn store_schema 7 entry many insert_entries
 unfolding understood everything
 adds_entries = puts_in refl refl refl (refl, refl) refl refl
 
-pub puts_entry : PutsByKey store_schema 7 entry 2 put_entry
+pub puts_entry : PutsByKey store_schema 7 entry 2 upsert_entry
 unfolding understood everything
 puts_entry = puts_by_key refl refl refl (refl, refl) refl refl refl refl refl (omega arith) (λ olds news. refl)
 
@@ -41,7 +41,7 @@ pub adds_numbers : PutsIn store_schema 12 chosen many insert_numbers
 unfolding understood everything
 adds_numbers = puts_in refl refl refl (refl, refl) refl refl
 
-pub puts_chosen : PutsByKey store_schema 12 chosen 2 put_chosen
+pub puts_chosen : PutsByKey store_schema 12 chosen 2 upsert_chosen
 unfolding understood everything
 puts_chosen = puts_by_key refl refl refl (refl, refl) refl refl refl refl refl (omega arith) (λ olds news. refl)
 
@@ -57,7 +57,7 @@ pub adds_elements : PutsIn store_schema 8 zelem many insert_elements
 unfolding understood everything
 adds_elements = puts_in refl refl refl (refl, refl) refl refl
 
-pub puts_element : PutsByKey store_schema 8 zelem 3 put_element
+pub puts_element : PutsByKey store_schema 8 zelem 3 upsert_element
 unfolding understood everything
 puts_element = puts_by_key refl refl refl (refl, refl) refl refl refl refl refl (omega arith) (λ olds news. refl)
 

@@ -6,9 +6,9 @@ use Rattle.terms.specs.Types.{Text, Id, Entry, Element, NamedZone}
 use Rattle.zones_maps.specs.Delta.{number_of}
 use Rattle.store_rows.specs.Calls.{Call, puts}
 use Rattle.store_schema.specs.Rows.{zone_row, entry_row, chosen_row, chosen_in, zelem_row}
-use Rattle.store_zones.specs.Chosen.{insert_chosen, insert_numbers, put_chosen, delete_chosen, number_before}
-use Rattle.store_zones.specs.Elements.{insert_element, insert_elements, put_element, delete_element, element_key}
-use Rattle.store_zones.specs.Entries.{insert_entry, insert_entries, put_entry, delete_entry, entry_key}
+use Rattle.store_zones.specs.Chosen.{insert_chosen, insert_numbers, upsert_chosen, delete_chosen, number_before}
+use Rattle.store_zones.specs.Elements.{insert_element, insert_elements, upsert_element, delete_element, element_key}
+use Rattle.store_zones.specs.Entries.{insert_entry, insert_entries, upsert_entry, delete_entry, entry_key}
 use Rattle.store_zones.specs.Heads.{insert_zone}
 
 -- a zone is added
@@ -19,7 +19,7 @@ zone_calls zone = (insert_zone, zone_row zone) ∷ []
 abbrev pub number_calls : Text → Id → ℕ → ℕ → List Call
 number_calls zone id old new =
     if new == old then [] else if new == 1 then (delete_chosen, entry_key zone id) ∷ []
-    else (if old == 1 then insert_chosen else put_chosen, chosen_row zone id new) ∷ []
+    else (if old == 1 then insert_chosen else upsert_chosen, chosen_row zone id new) ∷ []
 
 -- New entries of the zone of this name come in, and then their numbers that are not 1.
 abbrev pub insert_entries_calls : Text → List Entry → List Call
@@ -28,9 +28,9 @@ insert_entries_calls zone es =
     ++ puts insert_numbers insert_chosen (flat_map (chosen_in zone) es)
 
 -- An entry of the zone of this name is put. The old one of its id, if there was one, was installed by this number.
-abbrev pub put_entry_calls : Text → Option ℕ → Entry → List Call
-put_entry_calls zone stood e =
-    (if is_some stood then put_entry else insert_entry, entry_row zone e)
+abbrev pub upsert_entry_calls : Text → Option ℕ → Entry → List Call
+upsert_entry_calls zone stood e =
+    (if is_some stood then upsert_entry else insert_entry, entry_row zone e)
     ∷ number_calls zone e.id (number_before stood) (number_of e)
 
 -- the entry of the id, if there was one, goes; it was installed by this number
@@ -42,8 +42,8 @@ abbrev pub insert_elements_calls : Text → List Element → List Call
 insert_elements_calls zone es = puts insert_elements insert_element (map (zelem_row zone) es)
 
 -- an element of the zone of this name is put, whether or not there was an old one
-abbrev pub put_element_calls : Text → Bool → Element → List Call
-put_element_calls zone stood e = (if stood then put_element else insert_element, zelem_row zone e) ∷ []
+abbrev pub upsert_element_calls : Text → Bool → Element → List Call
+upsert_element_calls zone stood e = (if stood then upsert_element else insert_element, zelem_row zone e) ∷ []
 
 abbrev pub remove_element_calls : Text → ElemType → Text → List Call
 remove_element_calls zone type name = (delete_element, element_key zone type name) ∷ []

@@ -4,7 +4,7 @@ use Rattle.sqlite.specs.Order.{Row}
 use Rattle.terms.specs.Forms.{IsId, IsZoneName}
 use Rattle.terms.specs.Types.{Text}
 use Rattle.store_schema.specs.Rows.{chosen_row}
-use Rattle.store_zones.specs.declared.installed_vers.TheConstants.{SELECT, INSERT, INSERT_MANY, PUT, DELETE}
+use Rattle.store_zones.specs.declared.installed_vers.TheConstants.{SELECT, INSERT, INSERT_MANY, UPSERT, DELETE}
 use Rattle.store_zones.specs.declared.installed_vers.EntryNumber.{EntryNumber}
 use Rattle.store_zones.specs.declared.zone_rows.ZoneRow.{ZoneRow}
 
@@ -17,8 +17,8 @@ insert_chosen = INSERT.now
 abbrev pub insert_numbers : List ℕ
 insert_numbers = INSERT_MANY.now
 
-abbrev pub put_chosen : List ℕ
-put_chosen = PUT.now
+abbrev pub upsert_chosen : List ℕ
+upsert_chosen = UPSERT.now
 
 abbrev pub delete_chosen : List ℕ
 delete_chosen = DELETE.now

@@ -8,7 +8,7 @@ use Rattle.terms.specs.Spelling.{type_text}
 use Rattle.terms.specs.Types.{Text, Element}
 use Rattle.store_schema.specs.Forms.{HasElementForms}
 use Rattle.store_schema.specs.Rows.{zelem_row}
-use Rattle.store_zones.specs.declared.element.TheConstants.{SELECT, INSERT, INSERT_MANY, PUT, DELETE}
+use Rattle.store_zones.specs.declared.element.TheConstants.{SELECT, INSERT, INSERT_MANY, UPSERT, DELETE}
 use Rattle.store_zones.specs.declared.zone_rows.ZoneRow.{ZoneRow}
 
 abbrev pub select_elements : List ℕ
@@ -20,8 +20,8 @@ insert_element = INSERT.now
 abbrev pub insert_elements : List ℕ
 insert_elements = INSERT_MANY.now
 
-abbrev pub put_element : List ℕ
-put_element = PUT.now
+abbrev pub upsert_element : List ℕ
+upsert_element = UPSERT.now
 
 abbrev pub delete_element : List ℕ
 delete_element = DELETE.now

@@ -6,7 +6,7 @@ use Rattle.terms.specs.Forms.{IsId, IsZoneName}
 use Rattle.terms.specs.Types.{Text, Id, Entry}
 use Rattle.store_schema.specs.Forms.{AreSorted, HasAppliedForms}
 use Rattle.store_schema.specs.Rows.{entry_row}
-use Rattle.store_zones.specs.declared.entry.TheConstants.{SELECT, INSERT, INSERT_MANY, PUT, DELETE}
+use Rattle.store_zones.specs.declared.entry.TheConstants.{SELECT, INSERT, INSERT_MANY, UPSERT, DELETE}
 use Rattle.store_zones.specs.declared.zone_rows.ZoneRow.{ZoneRow}
 
 abbrev pub select_entries : List ℕ
@@ -18,8 +18,8 @@ insert_entry = INSERT.now
 abbrev pub insert_entries : List ℕ
 insert_entries = INSERT_MANY.now
 
-abbrev pub put_entry : List ℕ
-put_entry = PUT.now
+abbrev pub upsert_entry : List ℕ
+upsert_entry = UPSERT.now
 
 abbrev pub delete_entry : List ℕ
 delete_entry = DELETE.now

@@ -9,7 +9,7 @@ ghost use Rattle.store_rows.specs.Rows.{HasContents, in_table, without};
 ghost use Rattle.sqlite.specs.Values.{bound};
 ghost use Rattle.store_schema.specs.Rows.{zelem_row};
 ghost use Rattle.store_schema.specs.Tables.{zelem, store_schema};
-ghost use Rattle.store_zones.specs.Calls.{insert_elements_calls, put_element_calls, remove_element_calls};
+ghost use Rattle.store_zones.specs.Calls.{insert_elements_calls, upsert_element_calls, remove_element_calls};
 ghost use Rattle.store_zones.specs.Elements.{element_key};
 ghost use Rattle.store_zones.specs.Zones.{ChangesZone, HasMoreElements, HasPutElement, HasRemovedElement};
 ghost use Rattle.store_zones.specs.Zones.{with_element, with_more_elements};
@@ -24,7 +24,7 @@ use sqlite::{Alter, Error, Row, Transaction};
 use sqlite_value::row::Row as Cells;
 use sqlite_value::value::ValueRef;
 use std::alloc::{AllocError, Global};
-use store_rows::{FromRow, ReadError, insert, put, remove, row_of_values};
+use store_rows::{FromRow, ReadError, insert, remove, row_of_values, upsert};
 use store_schema::{Columns, Query, joined_ids, zelem_columns};
 use terms::ElemType;
 use text80::bytes_of;
@@ -37,7 +37,7 @@ const INSERT: &str = zelem_columns!(insert_text);
 // For sixteen rows, as many as one statement adds.
 const INSERT_MANY: &str = zelem_columns!(insert_many_text);
 
-const PUT: &str = zelem_columns!(put_text);
+const UPSERT: &str = zelem_columns!(upsert_text);
 
 const DELETE: &str = "DELETE FROM zelem WHERE zone = ?1 AND type = ?2 AND name = ?3";
 
@@ -64,7 +64,7 @@ pub fn insert_elements<S: Alter>(
 /// Puts the element into the zone, in place of the one of its type and name. `existed` says whether there is one.
 /// Returns an error if the zone has one although `existed` says no, if there is no such zone, if the disk fails or if
 /// memory runs out.
-pub fn put_element<S: Alter>(
+pub fn upsert_element<S: Alter>(
     alloc: Global,
     tx: &mut Transaction<'_, S>,
     zone: ZoneName,
@@ -72,7 +72,7 @@ pub fn put_element<S: Alter>(
     element: &Element,
 ) -> Result<(), Error>
     ensures continues { Continues S.Store tx.old tx.new }
-    ensures calls { RunsInside S.Store (put_element_calls zone existed element.now)
+    ensures calls { RunsInside S.Store (upsert_element_calls zone existed element.now)
         tx.old.conn.now tx.new.conn.now result }
     ensures ok { OnOk result (Turns S.Store tx.old.conn.now tx.new.conn.now (HasContents store_schema)
         (with_element zone existed element.now)) }
@@ -81,7 +81,7 @@ pub fn put_element<S: Alter>(
 {
     let umids = joined_ids(alloc, element.umids.as_slice())?;
     let text = bytes_of(alloc, element.text.as_slice())?;
-    put_element_row(
+    upsert_element_row(
         tx,
         &zone,
         existed,
@@ -116,7 +116,7 @@ fn element_values<'a>(
 }
 
 // Puts the element's row, with these bytes of its UMIDs and records, in place of the one that existed, if one did.
-fn put_element_row<S: Alter>(
+fn upsert_element_row<S: Alter>(
     tx: &mut Transaction<'_, S>,
     zone: &ZoneName,
     existed: bool,
@@ -127,14 +127,14 @@ fn put_element_row<S: Alter>(
     requires umids { umids.now ≡ join_with_byte 44 element.now.umids }
     requires text { HasLines text.now element.now.text }
     ensures continues { Continues S.Store tx.old tx.new }
-    ensures calls { RunsInside S.Store (put_element_calls zone.now existed element.now)
+    ensures calls { RunsInside S.Store (upsert_element_calls zone.now existed element.now)
         tx.old.conn.now tx.new.conn.now result }
     ensures ok { OnOk result (Turns S.Store tx.old.conn.now tx.new.conn.now (HasContents store_schema)
         (with_element zone.now existed element.now)) }
 {
     let row = element_values(zone, element, umids, text);
     if existed {
-        return put(tx, PUT, &row);
+        return upsert(tx, UPSERT, &row);
     }
     insert(tx, INSERT, &row)
 }

@@ -8,8 +8,8 @@ ghost use Rattle.store_rows.specs.Inside.{Continues, Turns};
 ghost use Rattle.store_rows.specs.Rows.{HasContents, in_table, without};
 ghost use Rattle.store_schema.specs.Rows.{entry_row};
 ghost use Rattle.store_schema.specs.Tables.{entry as entry_table, store_schema};
-ghost use Rattle.store_zones.specs.Calls.{insert_entries_calls, put_entry_calls, remove_entry_calls};
-ghost use Rattle.store_zones.specs.Entries.{insert_entry, put_entry as into_entry, delete_entry, entry_key};
+ghost use Rattle.store_zones.specs.Calls.{insert_entries_calls, upsert_entry_calls, remove_entry_calls};
+ghost use Rattle.store_zones.specs.Entries.{insert_entry, upsert_entry as into_entry, delete_entry, entry_key};
 ghost use Rattle.store_zones.specs.Zones.{ChangesZone, HasMoreEntries, HasPutEntry, HasRemovedEntry, rows_with};
 ghost use Rattle.store_zones.specs.Zones.{with_more_entries, with_entry, without_entry};
 ghost use Rattle.sqlite.specs.declared.types.Value.TheVariants.{Text};
@@ -29,7 +29,7 @@ use sqlite::{Alter, Error, Row, Transaction};
 use sqlite_value::row::Row as Cells;
 use sqlite_value::value::ValueRef;
 use std::alloc::{AllocError, Global};
-use store_rows::{FromRow, ReadError, insert, put, remove, row_of_values};
+use store_rows::{FromRow, ReadError, insert, remove, row_of_values, upsert};
 use store_schema::{Columns, Query, entry_columns, joined_ids, text_or_null};
 use zones_maps::{Applied, Entry};
 
@@ -40,7 +40,7 @@ const INSERT: &str = entry_columns!(insert_text);
 // For sixteen rows, as many as one statement adds.
 const INSERT_MANY: &str = entry_columns!(insert_many_text);
 
-const PUT: &str = entry_columns!(put_text);
+const UPSERT: &str = entry_columns!(upsert_text);
 
 const DELETE: &str = "DELETE FROM entry WHERE zone = ?1 AND id = ?2";
 
@@ -67,7 +67,7 @@ pub fn insert_entries<S: Alter>(
 /// Puts the entry into the zone, in place of the one of its id. `number_before` is the number of the `++VER` that
 /// installed the old entry, or none if there is no old entry. Returns an error if the zone has one although
 /// `number_before` says no, if there is no such zone, if the disk fails or if memory runs out.
-pub fn put_entry<S: Alter>(
+pub fn upsert_entry<S: Alter>(
     alloc: Global,
     tx: &mut Transaction<'_, S>,
     zone: ZoneName,
@@ -75,7 +75,7 @@ pub fn put_entry<S: Alter>(
     entry: &Entry,
 ) -> Result<(), Error>
     ensures continues { Continues S.Store tx.old tx.new }
-    ensures calls { RunsInside S.Store (put_entry_calls zone number_before entry.now)
+    ensures calls { RunsInside S.Store (upsert_entry_calls zone number_before entry.now)
         tx.old.conn.now tx.new.conn.now result }
     ensures ok { OnOk result (Turns S.Store tx.old.conn.now tx.new.conn.now (HasContents store_schema)
         (with_entry zone number_before entry.now)) }
@@ -84,7 +84,7 @@ pub fn put_entry<S: Alter>(
 {
     let supby = joined_ids(alloc, entry.supby.as_slice())?;
     let waived = joined_ids(alloc, entry.waived.as_slice())?;
-    put_entry_row(
+    upsert_entry_row(
         tx,
         &zone,
         number_before.is_some(),
@@ -133,7 +133,7 @@ fn entry_values<'a>(
 }
 
 // Puts the entry's row, with these texts of its lists, in place of the one that existed, if one did.
-fn put_entry_row<S: Alter>(
+fn upsert_entry_row<S: Alter>(
     tx: &mut Transaction<'_, S>,
     zone: &ZoneName,
     existed: bool,
@@ -153,7 +153,7 @@ fn put_entry_row<S: Alter>(
 {
     let row = entry_values(zone, entry, supby, waived);
     if existed {
-        return put(tx, PUT, &row);
+        return upsert(tx, UPSERT, &row);
     }
     insert(tx, INSERT, &row)
 }

@@ -8,7 +8,7 @@ ghost use Rattle.store_rows.specs.Rows.{HasContents, as_bound, in_table, with_ro
 ghost use Rattle.store_schema.specs.Rows.{chosen_in, chosen_row};
 ghost use Rattle.store_schema.specs.Tables.{chosen, store_schema};
 ghost use Rattle.store_zones.specs.Calls.{number_calls};
-ghost use Rattle.store_zones.specs.Chosen.{insert_chosen, insert_numbers as insert_many, put_chosen, delete_chosen};
+ghost use Rattle.store_zones.specs.Chosen.{insert_chosen, insert_numbers as insert_many, upsert_chosen, delete_chosen};
 ghost use Rattle.store_zones.specs.Chosen.{number_before};
 ghost use Rattle.store_zones.specs.Entries.{entry_key};
 ghost use Rattle.store_zones.specs.Zones.{numbered};
@@ -26,7 +26,7 @@ use sqlite::{Alter, Error, Row, Transaction};
 use sqlite_value::row::Row as Cells;
 use sqlite_value::value::ValueRef;
 use std::alloc::{AllocError, Global};
-use store_rows::{FromRow, ReadError, insert, insert_rows, put, remove, row_of_values};
+use store_rows::{FromRow, ReadError, insert, insert_rows, remove, row_of_values, upsert};
 use store_schema::{Columns, Query, chosen_columns};
 use zones_maps::Entry;
 
@@ -37,7 +37,7 @@ const INSERT: &str = chosen_columns!(insert_text);
 // For sixteen rows, as many as one statement adds.
 const INSERT_MANY: &str = chosen_columns!(insert_many_text);
 
-const PUT: &str = chosen_columns!(put_text);
+const UPSERT: &str = chosen_columns!(upsert_text);
 
 const DELETE: &str = "DELETE FROM chosen WHERE zone = ?1 AND id = ?2";
 
@@ -115,7 +115,7 @@ fn insert_number_row<S: Alter>(
 }
 
 // Puts the row of the number of this entry, in place of the one that it has.
-fn put_number_row<S: Alter>(
+fn upsert_number_row<S: Alter>(
     tx: &mut Transaction<'_, S>,
     zone: &ZoneName,
     id: &Id,
@@ -123,13 +123,13 @@ fn put_number_row<S: Alter>(
 ) -> Result<(), Error>
     requires { number < 2 ^ 63 }
     ensures continues { Continues S.Store tx.old tx.new }
-    ensures calls { RunsInside S.Store ((put_chosen, chosen_row zone.now id.now number) ∷ [])
+    ensures calls { RunsInside S.Store ((upsert_chosen, chosen_row zone.now id.now number) ∷ [])
         tx.old.conn.now tx.new.conn.now result }
     ensures ok { OnOk result (Turns S.Store tx.old.conn.now tx.new.conn.now (HasContents store_schema)
         (with_put chosen (entry_key zone.now id.now) (chosen_row zone.now id.now number))) }
 {
     let row = number_values(zone, id, number);
-    put(tx, PUT, &row)
+    upsert(tx, UPSERT, &row)
 }
 
 // Removes the row of the number of this entry.
@@ -174,7 +174,7 @@ pub(crate) fn change_number<S: Alter>(
     if old == 1 {
         return insert_number_row(tx, zone, id, new);
     }
-    put_number_row(tx, zone, id, new)
+    upsert_number_row(tx, zone, id, new)
 }
 
 /// The id of an entry, and the number of the `++VER` that installed it, which was not the first.

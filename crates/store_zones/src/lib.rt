@@ -18,7 +18,7 @@ mod related;
 mod zone_load;
 mod zone_rows;
 
-pub use element::{insert_elements, put_element, remove_element};
-pub use entry::{insert_entries, put_entry, remove_entry};
+pub use element::{insert_elements, remove_element, upsert_element};
+pub use entry::{insert_entries, remove_entry, upsert_entry};
 pub use head::{ZoneHead, insert_zone, zone_heads, zone_names};
 pub use zone_load::load_zone;

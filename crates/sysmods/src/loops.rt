@@ -4,7 +4,7 @@ ghost use Rattle.terms.specs.Over.{Reaches};
 ghost use Rattle.terms.specs.Global.{HasLoop, names_for, with_sysmod};
 ghost use Rattle.sysmods.specs.Held.{found, zone_of};
 
-use crate::naming::{Namers, Naming};
+use crate::naming::{Naming, ReferencesTo};
 use crate::received::Received;
 use crate::search::leads_to_from_both_ends;
 use fields::Srel;
@@ -27,7 +27,7 @@ fn leads_back(
         sysmod,
         srel,
     };
-    let namers = Namers {
+    let namers = ReferencesTo {
         received,
         sysmod,
         srel,

@@ -36,13 +36,13 @@ impl IdGraph for Naming<'_> {
 
 /// The same graph in the other direction: for each id the SYSMODs that name it.
 #[derive(Clone, Copy)]
-pub(crate) struct Namers<'a> {
+pub(crate) struct ReferencesTo<'a> {
     pub(crate) received: &'a Received,
     pub(crate) sysmod: &'a Sysmod,
     pub(crate) srel: Srel,
 }
 
-impl IdGraph for Namers<'_> {
+impl IdGraph for ReferencesTo<'_> {
     ghost named = { λ n z. namers_with n.received.now n.sysmod.now n.srel z };
 
     fn append_named(&self, id: Id, found: &mut Vec<Id>) -> Result<(), AllocError> {

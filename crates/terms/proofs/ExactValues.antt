@@ -13,7 +13,7 @@ use Rattle.terms.specs.declared.codes.CommandCode.{CommandCode}
 use Rattle.terms.specs.declared.codes.CommandCode.TheVariants.{UnknownCommand, BadCommandOperand, OperandTwice}
 use Rattle.terms.specs.declared.codes.CommandCode.TheVariants.{NoSingleList}
 use Rattle.terms.specs.declared.codes.CommandCode.TheVariants.{BadCommandForm}
-use Rattle.terms.specs.Types.{Text, Selection, Install, RestoreList, RestoreSelect, RestoreGroup, ReceiveWhat, Command}
+use Rattle.terms.specs.Types.{Text, Selection, Install, RestoreList, RestoreSelect, RestoreGroup, ReceiveOperands, Command}
 use Rattle.terms.specs.Types.{Set, Receive, Reject, Apply, Accept, Restore, ListZone, Report}
 use Rattle.terms.specs.Forms.{IsId, IsSource, IsZoneName}
 use Rattle.terms.specs.Statement.{Piece}
@@ -32,10 +32,10 @@ use Rattle.terms.proofs.OperandWords.{count, count_once, count_same, count_other
 use Rattle.terms.proofs.ExactBypass.{bypass_only, bypass_once}
 use Rattle.terms.proofs.CommandLines.{begins_only, of_command}
 
-abbrev what : Bool → Bool → Option Text → ReceiveWhat
+abbrev what : Bool → Bool → Option Text → ReceiveOperands
 what s h source = record { sysmods = s; holddata = h; source = source }
 
-receive_only : (ws : List Word) (a b : ReceiveWhat) → HasReceive ws a → HasReceive ws b → a ≡ b
+receive_only : (ws : List Word) (a b : ReceiveOperands) → HasReceive ws a → HasReceive ws b → a ≡ b
 receive_only ws a b h k =
     let sysmods = flag_only (operand (codes "SYSMODS") ws) h.sysmods k.sysmods h.has_sysmods k.has_sysmods in
     let holddata = flag_only (operand (codes "HOLDDATA") ws) h.holddata k.holddata h.has_holddata k.has_holddata in

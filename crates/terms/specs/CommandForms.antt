@@ -7,7 +7,7 @@ use Rattle.terms.specs.declared.kinds.HoldKind.TheVariants.{Error, System, User}
 use Rattle.terms.specs.declared.codes.CommandWord.{CommandWord}
 use Rattle.terms.specs.declared.codes.CommandWord.TheVariants as word
 use Rattle.terms.specs.Types.{Text, Reasons, NoReason, AnyReason, TheseReasons, Bypass, Selection, Install, RestoreList}
-use Rattle.terms.specs.Types.{RestoreSelect, RestoreGroup, ReceiveWhat, Command, Set, Receive, Reject, Apply, Accept}
+use Rattle.terms.specs.Types.{RestoreSelect, RestoreGroup, ReceiveOperands, Command, Set, Receive, Reject, Apply, Accept}
 use Rattle.terms.specs.Types.{Restore, ListZone, Report}
 use Rattle.terms.specs.Statement.{Piece, TheWord}
 use Rattle.terms.specs.Spelling.{word_text}
@@ -65,7 +65,7 @@ abbrev pub HasSome : (Text → Type 0) → Option Word → List Text → Type 0
 HasSome form found values = IsSomeAnd found (λ w. HasSorted form w values) × IsShort values
 
 -- RECEIVE. With SYSMODS it reads PTFIN, with HOLDDATA the hold file, and with neither both.
-pub record HasReceive (words : List Word) (what : ReceiveWhat) : Type 0 where
+pub record HasReceive (words : List Word) (what : ReceiveOperands) : Type 0 where
   pub sysmods : Bool
   pub holddata : Bool
   pub has_sysmods : HasFlag (operand (codes "SYSMODS") words) sysmods

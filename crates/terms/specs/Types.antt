@@ -258,7 +258,7 @@ pub data RestoreList : Type 0 where
   RestoreGroup : List Id → RestoreList
 
 -- what RECEIVE reads (PTFIN, the hold file), and the source that it adds
-pub record ReceiveWhat : Type 0 where
+pub record ReceiveOperands : Type 0 where
   pub sysmods : Bool
   pub holddata : Bool
   pub source : Option Source
@@ -266,7 +266,7 @@ pub record ReceiveWhat : Type 0 where
 -- SET BDY, RECEIVE, REJECT, APPLY, ACCEPT, RESTORE (with CHECK), LIST (with TEXT; `List` is the type) and REPORT
 pub data Command : Type 0 where
   Set : ZoneName → Command
-  Receive : ReceiveWhat → Command
+  Receive : ReceiveOperands → Command
   Reject : List Id → Command
   Apply : Install → Command
   Accept : Install → Command

@@ -20,7 +20,7 @@ use Rattle.terms.proofs.Applied.{applied_are}
 use Rattle.judge_system.specs.declared.stated.RequisiteOf.{RequisiteOf}
 use Rattle.undo.specs.Dependences.{dependents}
 use Rattle.sorted.specs.ElementKeys.{key_cmp}
-use Rattle.sorted.specs.Lists.{listed}
+use Rattle.sorted.specs.MultiMap.{listed}
 use Rattle.undo.specs.Elements.{Changers, AreChangers, changed_keys, sharers, beside}
 use Rattle.undo.specs.Pairs.{is_own, AreOwn}
 use Rattle.undo.specs.Needed.{pair_need, HaveElem, HaveDep, AreNeeds}

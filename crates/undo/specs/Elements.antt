@@ -2,7 +2,7 @@
 use Rattle.std.specs.Prelude.{◌≡◌, List, Contains, map}
 use Rattle.std.specs.List.{flat_map}
 use Rattle.sorted.specs.ElementKeys.{Key, key_cmp}
-use Rattle.sorted.specs.Lists.{Lists, listed, Holds, OneOf}
+use Rattle.sorted.specs.MultiMap.{MultiMap, listed, Holds, OneOf}
 use Rattle.terms.specs.Types.{Id, Global}
 use Rattle.terms.specs.Lookups.{change_key, changes_of}
 
@@ -12,7 +12,7 @@ changed_keys g x = map change_key (changes_of g x)
 
 -- for each element some SYSMODs that change it
 abbrev pub Changers : Type 0
-Changers = Lists Key Id
+Changers = MultiMap Key Id
 
 -- x changes the element
 abbrev pub ChangedBy : Global → Id → Key → Id → Type 0

@@ -6,14 +6,14 @@ ghost use Rattle.undo.specs.Scopes.{restoring_of};
 
 use crate::scope::{RestoreScope, unaccepted_among};
 use fields::{Id, IdList, Name};
-use sorted::lists::{Lists, listed};
+use sorted::multi_map::{MultiMap, listed};
 use std::alloc::{AllocError, Global};
 use sysmods::GlobalZone;
 use terms::ElemType;
 use zones::changers_by_element;
 
 /// For each element those of some SYSMODs that change it.
-type Changers = Lists<(ElemType, Name), Id>;
+type Changers = MultiMap<(ElemType, Name), Id>;
 
 // The listed SYSMODs that change an element that this one changes too. One is repeated for each shared element.
 fn sharers_of(

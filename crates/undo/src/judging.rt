@@ -11,7 +11,7 @@ use fields::IdList;
 use judge_system::Judged;
 use std::alloc::{AllocError, Global};
 use sysmods::{GlobalZone, Overs};
-use zones::{Candidates, Zone, choose};
+use zones::{Candidates, Zone, counting_vers};
 
 /// Judges the candidates of a RESTORE of this target zone from its distribution zone. The command takes off the
 /// candidates that a `Solver` keeps of the system. They may be the candidates of any list.
@@ -29,7 +29,7 @@ pub fn restore_system<'a>(
 {
     let ids = &candidates.ids;
     let none = IdList::new(alloc);
-    let vers = choose(alloc, global, zone, &none)?;
+    let vers = counting_vers(alloc, global, zone, &none)?;
     let assessment = assess(alloc, &vers, zone, accepted, ids)?;
     let overs = Overs::new(alloc, &vers).into_known();
     let judged = Judged::new(alloc, ids, assessment, vers, overs)?;

@@ -11,7 +11,7 @@ use crate::steps::all_steps;
 use fields::{IdList, RestoreList};
 use std::alloc::{AllocError, Global};
 use sysmods::GlobalZone;
-use zones::{Zone, choose};
+use zones::{Zone, counting_vers};
 
 /// SELECT's ids, or GROUP's ids with all that a RESTORE of them needs, and all that those need.
 pub(crate) fn restore_list(
@@ -42,7 +42,7 @@ fn group_list(
         ↔ IsListed (restoring_from global.now zone.now accepted.now) (RestoreGroup ids.now) x) }
 {
     let none = IdList::new(alloc);
-    let vers = choose(alloc, global, zone, &none)?;
+    let vers = counting_vers(alloc, global, zone, &none)?;
     let applied = applied_ids(alloc, zone)?;
     let scope = RestoreScope {
         vers: &vers,

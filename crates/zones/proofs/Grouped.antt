@@ -16,7 +16,7 @@ use Rattle.terms.specs.Rising.{Rises}
 use Rattle.terms.specs.Global.{IsGlobal}
 use Rattle.terms.proofs.ChangedElements.{changes_rise}
 use Rattle.terms.proofs.ElementOrder.{element_cmp_total, element_ties, same_key}
-use Rattle.sorted.specs.Lists.{Lists, Adds, AddsToAll, once_each}
+use Rattle.sorted.specs.MultiMap.{MultiMap, Adds, AddsToAll, once_each}
 use Rattle.sorted.specs.ElementKeys.{Key, key_cmp}
 use Rattle.sorted.proofs.ElementKeys.{key_ties}
 use Rattle.sorted.proofs.Listing.{adds_to_next}
@@ -27,7 +27,7 @@ abbrev one_if : Bool → Id → List Id
 one_if b x = cond b (x ∷ []) []
 
 -- by one statement more
-pub by_next : (x : Id) (hs : List Change) (i : ℕ) (h : Change) (base old new : Lists Key Id) → i < length hs
+pub by_next : (x : Id) (hs : List Change) (i : ℕ) (h : Change) (base old new : MultiMap Key Id) → i < length hs
     → h ≡ get_or hs i h → AddsBy x (take i hs) base old → Adds key_cmp (change_key h) x old new
     → AddsBy x (take (i + 1) hs) base new
 by_next x hs i h base old new below is so_far adds =
@@ -69,7 +69,7 @@ once x (h ∷ hs) k rises =
     by false e = refl
 
 -- one SYSMOD more
-pub changers_next : (g : Global) (ids : List Id) (i : ℕ) (x : Id) (old new : Lists Key Id) → IsGlobal g → i < length ids
+pub changers_next : (g : Global) (ids : List Id) (i : ℕ) (x : Id) (old new : MultiMap Key Id) → IsGlobal g → i < length ids
     → x ≡ get_or ids i x → AreByElement g (take i ids) old → AddsBy x (changes_of g x) old new
     → AreByElement g (take (i + 1) ids) new
 changers_next g ids i x old new is below at so_far adds = record {

@@ -3,7 +3,7 @@ ghost use Rattle.std.specs.Prelude.{IfOk};
 ghost use Rattle.zones.specs.Grouping.{AreByElement};
 
 use fields::{Attest, Id, Name};
-use sorted::lists::{Lists, add};
+use sorted::multi_map::{MultiMap, add};
 use std::alloc::{AllocError, Global};
 use std::collections::BTreeMap;
 use sysmods::GlobalZone;
@@ -14,7 +14,7 @@ pub fn changers_by_element(
     alloc: Global,
     global: &GlobalZone,
     ids: &[Id],
-) -> Result<Lists<(ElemType, Name), Id>, AllocError>
+) -> Result<MultiMap<(ElemType, Name), Id>, AllocError>
     ensures { IfOk result (AreByElement global.now ids.now) }
 {
     global.attest();

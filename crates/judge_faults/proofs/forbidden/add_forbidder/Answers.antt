@@ -2,7 +2,7 @@ use Rattle.std.proofs.Common.{◌≡◌, ◌∙◌, Contains, ap, sym, subst}
 use Rattle.std.specs.Prelude.{is_some}
 use Rattle.std.proofs.lemmas.Cmp.{nat_list_cmp_total}
 use Rattle.std.proofs.lemmas.Map.Lookups.{exact_bytes}
-use Rattle.sorted.specs.Lists.{Gains}
+use Rattle.sorted.specs.MultiMap.{Gains}
 use Rattle.sorted.proofs.Gaining.{gains_to_all}
 use Rattle.terms.specs.Lookups.{is_function}
 use Rattle.terms.specs.Choice.{npre_of}

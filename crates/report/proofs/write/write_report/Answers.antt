@@ -10,7 +10,7 @@ returns-clause-sends g c =
     let all =
     sent_all _ _ _ _ _ c.new-page.ensures.waiting c.flush.ensures.waiting
     (paged_as _ _ _ _ _ _ (append-nil _)
-    (paged_then _ _ _ _ _ _ _ _ c.put_outcome-code.ensures.paged c.flush.ensures.paged)) in
+    (paged_then _ _ _ _ _ _ _ _ c.print_outcome-code.ensures.paged c.flush.ensures.paged)) in
     let sent : Sent g.W.Sink c.args.w.now c.flush.new.self.sink.now (text (outcome_view c.args.outcome.now)) =
     rw c.new-page.ensures.sink at all in
     search rules

@@ -10,8 +10,8 @@ restore_system-requires c =
     let has = c.in_ok-candidates.ensures in
     subst (All (λ x. IsTrue (is_applied zone x))) (sym has.ids) (filter_passes (is_applied zone) has.listed)
 
-pub put_judged-requires : goal.put_judged-requires
-put_judged-requires c =
+pub append_judged-requires : goal.append_judged-requires
+append_judged-requires c =
     let has = c.in_ok-candidates.ensures in
     has_parts _ _ _ _ c.in_ok-candidates.candidates.ids c.in_ok-judged.judged
     (c.in_ok-judged.ensures has.listed has.ids)

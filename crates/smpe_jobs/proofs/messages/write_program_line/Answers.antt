@@ -3,4 +3,4 @@ use Rattle.smpe_jobs.proofs.messages.write_program_line.Goals as goal
 
 pub returns-clause-sends : goal.returns-clause-sends
 returns-clause-sends g c =
-    sends_then _ _ _ _ _ _ _ _ c.put.ensures (sends_then _ _ _ _ _ _ _ _ c.put-2.ensures c.write_all.ensures.sends)
+    sends_then _ _ _ _ _ _ _ _ c.print.ensures (sends_then _ _ _ _ _ _ _ _ c.print-2.ensures c.write_all.ensures.sends)

@@ -4,4 +4,4 @@ use Rattle.smpe_jobs.proofs.messages.write_unreadable_file.Goals as goal
 pub returns-clause-sends : goal.returns-clause-sends
 returns-clause-sends g c =
     rw (← c.as_bytes.ensures.value)
-    (sends_then _ _ _ _ _ _ _ _ c.put.ensures (sends_then _ _ _ _ _ _ _ _ c.put-2.ensures c.write_all.ensures.sends))
+    (sends_then _ _ _ _ _ _ _ _ c.print.ensures (sends_then _ _ _ _ _ _ _ _ c.print-2.ensures c.write_all.ensures.sends))

@@ -3,8 +3,8 @@ use Rattle.std.specs.Prelude.{max}
 use Rattle.std.proofs.lemmas.Result.{IfOk-weaker}
 use Rattle.report.specs.Views.{line_view}
 use Rattle.report.specs.FactViews.{fact_view, facts_view}
-use Rattle.report_why.specs.FactText.{facts_text, facts_code}
-use Rattle.report_verdict.specs.Verdict.{verdict_text}
+use Rattle.why_facts.specs.FactText.{facts_text, facts_code}
+use Rattle.why_verdict.specs.Verdict.{verdict_text}
 use Rattle.smpe_why.proofs.told.append_candidate_lines.Goals as goal
 
 pub returns : goal.returns
@@ -16,7 +16,7 @@ returns c =
     let conflicts = c.in_ok-conflicts.conflicts.items in
     let lines = map line_view c.args.lines.now in
     let same : map fact_view c.as_slice.result.now ≡ facts = ap (map fact_view) c.as_slice.ensures.value in
-    IfOk-weaker c.put_verdict.result _ _ (λ done put. (
+    IfOk-weaker c.append_verdict.result _ _ (λ done put. (
       facts_text facts
           ++ verdict_text x (record { bypass = bypass; facts = facts; conflicts = conflicts; lines = lines }),
       facts_code facts,
@@ -34,7 +34,7 @@ returns c =
             facts = map fact_view c.as_slice.result.now;
             conflicts = c.as_slice-2.result.now;
             lines = lines;
-          })) c.in_ok-put_facts.ensures
+          })) c.in_ok-append_facts.ensures
           ∙ append_assoc old _ _
           ∙ ap₂ (λ fs cs. old ++ (facts_text fs ++ verdict_text x (record {
             bypass = bypass;
@@ -43,4 +43,4 @@ returns c =
             lines = lines;
           }))) same c.as_slice-2.ensures.value,
       c.max-answer.ensures ∙ ap (max c.args.answer.now.status) (c.facts_code.ensures ∙ ap facts_code same),
-    )) c.put_verdict.ensures
+    )) c.append_verdict.ensures

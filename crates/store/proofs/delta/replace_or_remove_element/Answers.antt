@@ -20,15 +20,15 @@ returns-then-not-existed-clause-calls g c = rw (c.in-Put.is, c.if-not-existed.tr
 pub returns-else-not-existed-clause-ok : goal.returns-else-not-existed-clause-ok
 returns-else-not-existed-clause-ok g c =
     let e = c.in-Put.element in
-    rw c.in-Put.is (on_ok c.put_element.result _ _ (λ stands zone same.
-    changes_as g.S.Store c.args.name c.args.tx.now.conn.now c.put_element.new.tx.conn.now
+    rw c.in-Put.is (on_ok c.upsert_element.result _ _ (λ stands zone same.
+    changes_as g.S.Store c.args.name c.args.tx.now.conn.now c.upsert_element.new.tx.conn.now
     (HasPutElement (element_of zone e.elem_type e.name) e) (EditsOldElement zone (Put e, c.args.existed))
     (old_element_put zone e c.args.existed c.if-not-existed.false) (stands (element_of zone e.elem_type e.name) same))
-    c.put_element.ensures.stands)
+    c.upsert_element.ensures.stands)
 
 pub returns-else-not-existed-clause-calls : goal.returns-else-not-existed-clause-calls
 returns-else-not-existed-clause-calls g c =
-    rw (c.in-Put.is, c.if-not-existed.false) (rw c.if-not-existed.false at c.put_element.ensures.calls)
+    rw (c.in-Put.is, c.if-not-existed.false) (rw c.if-not-existed.false at c.upsert_element.ensures.calls)
 
 pub returns-in-Remove-clause-ok : goal.returns-in-Remove-clause-ok
 returns-in-Remove-clause-ok g c =

@@ -12,11 +12,11 @@ use Rattle.store.proofs.delta.replace_or_remove_entry.Goals as goal
 pub returns-in-Some-clause-ok : goal.returns-in-Some-clause-ok
 returns-in-Some-clause-ok g c =
     let e = c.in-Put.entry in
-    rw c.in-Put.is (on_ok c.put_entry.result _ _ (λ stands zone same.
-    changes_as g.S.Store c.args.name c.args.tx.now.conn.now c.put_entry.new.tx.conn.now
+    rw c.in-Put.is (on_ok c.upsert_entry.result _ _ (λ stands zone same.
+    changes_as g.S.Store c.args.name c.args.tx.now.conn.now c.upsert_entry.new.tx.conn.now
     (HasPutEntry (entry_of zone e.id) e) (EditsOldEntry zone (Put e, c.args.number_before))
     (old_entry_put zone e c.args.number_before c.in-Some.is) (stands (entry_of zone e.id) same))
-    c.put_entry.ensures.stands)
+    c.upsert_entry.ensures.stands)
 
 pub returns-in-Remove-clause-ok : goal.returns-in-Remove-clause-ok
 returns-in-Remove-clause-ok g c =

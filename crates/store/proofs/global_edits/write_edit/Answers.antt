@@ -6,7 +6,7 @@ use Rattle.terms.specs.Rising.{with_item}
 use Rattle.terms.specs.Types.{Hold}
 use Rattle.store_rows.proofs.InsideLemmas.{on_ok}
 use Rattle.store_sysmods.specs.Calls.{replace_sources_calls, remove_sysmod_calls}
-use Rattle.store_sysmods.specs.Holds.{put_hold_calls, remove_hold_calls}
+use Rattle.store_sysmods.specs.Holds.{upsert_hold_calls, remove_hold_calls}
 use Rattle.store.proofs.GlobalLemmas.{hold_put, hold_removed}
 use Rattle.store.proofs.Waiting.{waits_as, waits_behind, waits_beside, waits_found, waits_stops}
 use Rattle.store.proofs.global_edits.write_edit.Goals as goal
@@ -15,9 +15,9 @@ pub returns-in-PutHold-clause-goes : goal.returns-in-PutHold-clause-goes
 returns-in-PutHold-clause-goes g c ss are =
     let h = c.in-PutHold.hold in
     rw c.in-PutHold.is (waits_beside g.S.Store ss (λ holds. with_item hold_cmp (λ (o : Hold). o) holds h)
-    (put_hold_calls h) _ _ _ c.put_hold.result are c.put_hold.ensures.calls
-    (on_ok c.put_hold.result _ _ (hold_put g.S.Store c.args.tx.now.conn.now c.put_hold.new.tx.conn.now h)
-    c.put_hold.ensures.ok))
+    (upsert_hold_calls h) _ _ _ c.upsert_hold.result are c.upsert_hold.ensures.calls
+    (on_ok c.upsert_hold.result _ _ (hold_put g.S.Store c.args.tx.now.conn.now c.upsert_hold.new.tx.conn.now h)
+    c.upsert_hold.ensures.ok))
 
 pub returns-in-RemoveHold-clause-goes : goal.returns-in-RemoveHold-clause-goes
 returns-in-RemoveHold-clause-goes g c ss are =

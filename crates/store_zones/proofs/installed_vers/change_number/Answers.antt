@@ -23,9 +23,9 @@ pub returns-clause-ok : goal.returns-clause-ok
 returns-clause-ok g c =
     let zone = c.args.zone.now in
     let id = c.args.id.now in
-    turns_number zone id c.args.old c.args.new g.S.Store c.args.tx.now.conn.now c.put_number_row.new.tx.conn.now
-    c.put_number_row.result false false false (search rules)
+    turns_number zone id c.args.old c.args.new g.S.Store c.args.tx.now.conn.now c.upsert_number_row.new.tx.conn.now
+    c.upsert_number_row.result false false false (search rules)
     (search rules) (search rules)
-    (on_ok c.put_number_row.result _ _ (λ put clean contents was.
+    (on_ok c.upsert_number_row.result _ _ (λ put clean contents was.
     number_rows_with (entry_key zone id) (chosen_row zone id c.args.new) contents _ (put clean contents was))
-    c.put_number_row.ensures.ok)
+    c.upsert_number_row.ensures.ok)

@@ -2,7 +2,7 @@ use Rattle.std.proofs.Common.{◌∙◌, subst, take_all, arith}
 use Rattle.terms.specs.Types.{Change}
 use Rattle.terms.specs.Lookups.{change_key}
 use Rattle.sorted.specs.ElementKeys.{key_cmp}
-use Rattle.sorted.specs.Lists.{Adds}
+use Rattle.sorted.specs.MultiMap.{Adds}
 use Rattle.zones.specs.Grouping.{AddsBy}
 use Rattle.zones.proofs.Grouped.{by_next, changers_next}
 use Rattle.zones.proofs.changers.changers_by_element.Goals as goal

@@ -1,6 +1,0 @@
-use Rattle.std.proofs.Common.{refl}
-use Rattle.report.proofs.Paging.{paged_as}
-use Rattle.report.proofs.lines.put_fault.Goals as goal
-
-pub returns : goal.returns
-returns g c = paged_as _ _ _ _ _ _ (rw c.statement_code_text.ensures refl) c.put_words.ensures.paged

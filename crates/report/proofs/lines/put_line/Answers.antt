@@ -1,9 +1,0 @@
-use Rattle.std.proofs.Common.{refl}
-use Rattle.report.proofs.Paging.{paged_then, paged_as}
-use Rattle.report.proofs.lines.put_line.Goals as goal
-
-pub returns-in-Failed : goal.returns-in-Failed
-returns-in-Failed g c =
-    rw c.in-Status.is
-    (paged_as _ _ _ _ _ _ (rw c.in-Failed.is refl)
-    (paged_then _ _ _ _ _ _ _ _ c.put_status.ensures c.put_failure.ensures))

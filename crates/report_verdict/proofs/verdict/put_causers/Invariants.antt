@@ -1,8 +1,0 @@
-use Rattle.std.proofs.Common.{◌≡◌, ◌++◌, take}
-use Rattle.std.specs.List.{flat_map}
-use Rattle.report_verdict.specs.Verdict.{causer_told}
-use Rattle.report_verdict.proofs.verdict.put_causers.Given as goal
-
-abbrev pub invariant-loop-causer : goal.invariant-loop-causer
-invariant-loop-causer l =
-    l.text.items ≡ l.initial.text.items ++ flat_map (causer_told l.id) (take l.causer-index l.causers)

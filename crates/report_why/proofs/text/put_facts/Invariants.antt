@@ -1,9 +1,0 @@
-use Rattle.std.proofs.Common.{◌≡◌, ◌++◌, take}
-use Rattle.std.specs.List.{flat_map}
-use Rattle.report_why.specs.FactText.{fact_text}
-use Rattle.report.specs.FactViews.{fact_view}
-use Rattle.report_why.proofs.text.put_facts.Given as goal
-
-abbrev pub invariant-loop-fact : goal.invariant-loop-fact
-invariant-loop-fact l =
-    l.text.items ≡ l.initial.text.items ++ flat_map (λ f. fact_text (fact_view f)) (take l.fact-index l.facts)

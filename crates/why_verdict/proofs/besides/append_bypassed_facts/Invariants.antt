@@ -1,0 +1,10 @@
+use Rattle.std.proofs.Common.{◌≡◌, ◌++◌, take}
+use Rattle.std.specs.List.{flat_map}
+use Rattle.why_verdict.specs.Verdict.{bypassed_told}
+use Rattle.report.specs.FactViews.{fact_view}
+use Rattle.why_verdict.proofs.besides.append_bypassed_facts.Given as goal
+
+abbrev pub invariant-loop-fact : goal.invariant-loop-fact
+invariant-loop-fact l =
+    l.text.items ≡ l.initial.text.items ++ flat_map (λ f. bypassed_told l.bypass (fact_view f)) (take l.fact-index
+    l.facts)
