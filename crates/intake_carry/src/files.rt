@@ -11,7 +11,7 @@ ghost use Rattle.intake_holds.specs.Outside.{AreCarried};
 use crate::assigns::{append_assigns, carry_assigns};
 use crate::copies::OtherCopies;
 use crate::held_copies::without_held_already;
-use crate::narrowed::{NarrowError, Narrowed};
+use crate::narrowed::{CarryError, Narrowed};
 use crate::notes::{tell_notes, tell_swallowed_statements};
 use crate::scope::CarryScope;
 use crate::stand_ins::sort_and_check_stand_ins;
@@ -160,7 +160,7 @@ pub fn narrow(
     files: &[WideFile],
     mut held: OutsideHolds,
     mut options: Options,
-) -> Result<Narrowed, NarrowError>
+) -> Result<Narrowed, CarryError>
     ensures { (holds : List WideHold) → AreCarried holds held → IfOk result (λ narrowed. FilesBecome options.decide
         files.now holds narrowed.items.items narrowed.hold_items.items) }
 {
@@ -168,8 +168,8 @@ pub fn narrow(
     let users = Users::of_files(alloc, &options, files)?;
     let copies = OtherCopies::of_files(alloc, files)?;
     let mut remarks = Remarks::new(alloc);
-    if held.refuse_bad_statements(alloc, &mut remarks, files)? {
-        return Err(NarrowError::Refused(remarks.list));
+    if held.remark_bad_statements(alloc, &mut remarks, files)? {
+        return Err(CarryError::Refused(remarks.list));
     }
     let mut held_remarks = held.remarks;
     let scope = CarryScope {
@@ -179,8 +179,8 @@ pub fn narrow(
     };
     let gathered = match carry_files(alloc, &scope, &mut remarks, &mut held_remarks, files) {
         Ok(gathered) => gathered,
-        Err(HoldError::Memory) => return Err(NarrowError::Memory),
-        Err(HoldError::BadHold) => return Err(NarrowError::Refused(remarks.list)),
+        Err(HoldError::Memory) => return Err(CarryError::Memory),
+        Err(HoldError::BadHold) => return Err(CarryError::Refused(remarks.list)),
     };
     let CarriedItems { items, outside } = gathered;
     let mut outside = without_held_already(

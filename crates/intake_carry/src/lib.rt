@@ -16,4 +16,4 @@ mod sysmods;
 
 pub use files::narrow;
 pub use intake_holds::{OutsideHolds, read_statements};
-pub use narrowed::{NarrowError, Narrowed, Tally};
+pub use narrowed::{CarryError, Narrowed, Tally};

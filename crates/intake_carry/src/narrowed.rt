@@ -36,22 +36,22 @@ pub struct Narrowed {
 
 /// Why nothing is carried.
 #[derive(Debug, Drop, Error)]
-pub enum NarrowError {
+pub enum CarryError {
     #[error("out of memory")]
     Memory,
     #[error("a hold or a release can't be carried")]
     Refused(RemarkList),
 }
 
-impl From<AllocError> for NarrowError {
-    fn from(_e: AllocError) -> NarrowError {
-        NarrowError::Memory
+impl From<AllocError> for CarryError {
+    fn from(_e: AllocError) -> CarryError {
+        CarryError::Memory
     }
 }
 
-impl<T: Drop> From<AllocFailed<T>> for NarrowError {
-    fn from(_e: AllocFailed<T>) -> NarrowError {
-        NarrowError::Memory
+impl<T: Drop> From<AllocFailed<T>> for CarryError {
+    fn from(_e: AllocFailed<T>) -> CarryError {
+        CarryError::Memory
     }
 }
 

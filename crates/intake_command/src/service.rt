@@ -15,7 +15,7 @@ use crate::keep::keep_service;
 use crate::members::relfile_members;
 use crate::surroundings::IntakeHost;
 use intake_cards::RemarkList;
-use intake_carry::{NarrowError, Narrowed, OutsideHolds, narrow, read_statements};
+use intake_carry::{CarryError, Narrowed, OutsideHolds, narrow, read_statements};
 use intake_read::WideFile;
 use intake_sysmod::{Options, RelfileMember};
 use intake_words::{
@@ -176,8 +176,8 @@ fn service_output(
     };
     let narrowed = match narrow(alloc, files, held, options) {
         Ok(narrowed) => narrowed,
-        Err(NarrowError::Memory) => return Err(IntakeFault::Memory),
-        Err(NarrowError::Refused(remarks)) => return Err(refusal_fault(alloc, inputs, &remarks)),
+        Err(CarryError::Memory) => return Err(IntakeFault::Memory),
+        Err(CarryError::Refused(remarks)) => return Err(refusal_fault(alloc, inputs, &remarks)),
     };
     Ok(narrowed_output(alloc, asked, narrowed)?)
 }

@@ -8,7 +8,7 @@ use thiserror::Error;
 pub enum HoldError {
     #[error("out of memory")]
     Memory,
-    /// Its id, kind, reason or FMID cannot be read. The remark on it comes from `OutsideHolds::refuse_bad_statements`.
+    /// Its id, kind, reason or FMID cannot be read. The remark on it comes from `OutsideHolds::remark_bad_statements`.
     #[error("a hold can't be carried")]
     BadHold,
 }

@@ -7,7 +7,7 @@ ghost use Rattle.intake_holds.specs.Outside.{AreCarried, CarriesHolds};
 use crate::errors::HoldError;
 use crate::holds::carry_hold;
 use crate::placed::PlacedItem;
-use crate::refusals::{refuse_bad_statements, refuse_if_bad_hold};
+use crate::refusals::{refuse_if_bad_hold, remark_bad_statements};
 use intake_cards::{CardNote, CardReader, Remarks};
 use intake_read::{WideError, WideFile, WideHold, WideReader};
 use mcs::HoldItem;
@@ -155,7 +155,7 @@ impl OutsideHolds {
     /// Refuses, with remarks, all holds and releases of the files that cannot be carried. Returns whether there are
     /// any. The holds outside SYSMODs were refused while the files were read: for each file, the remarks on these come
     /// first.
-    pub fn refuse_bad_statements(
+    pub fn remark_bad_statements(
         &mut self,
         alloc: Global,
         remarks: &mut Remarks,
@@ -164,14 +164,14 @@ impl OutsideHolds {
         ensures same { self.new.placed ≡ self.old.placed }
         ensures refused { IfOk result (λ any. IsFalse any → IsFalse self.old.is_refused) }
     {
-        let any = refuse_bad_statements_of_files(alloc, remarks, &mut self.refusals, files)?;
+        let any = remark_bad_statements_of_files(alloc, remarks, &mut self.refusals, files)?;
         Ok(any || self.is_refused)
     }
 }
 
 // Refuses, with remarks, the releases and the holds in SYSMODs that cannot be carried, and adds the remarks on holds
 // outside SYSMODs, which were refused before. Returns whether there are any of the former.
-fn refuse_bad_statements_of_files(
+fn remark_bad_statements_of_files(
     alloc: Global,
     remarks: &mut Remarks,
     refusals: &mut FileRemarks,
@@ -180,7 +180,7 @@ fn refuse_bad_statements_of_files(
     let mut any = false;
     for file in files {
         remarks.append(refusals.take_next_file(alloc))?;
-        if refuse_bad_statements(alloc, remarks, file)? {
+        if remark_bad_statements(alloc, remarks, file)? {
             any = true;
         }
     }

@@ -151,7 +151,7 @@ fn refuse_broken_holds(
 
 /// Refuses, with remarks, the releases of a file and the holds in its SYSMODs that cannot be carried: a part of the key
 /// is missing or is stated twice, or the statement is broken. Returns whether there are any.
-pub(crate) fn refuse_bad_statements(
+pub(crate) fn remark_bad_statements(
     alloc: Global,
     remarks: &mut Remarks,
     file: &WideFile,

@@ -1,7 +1,7 @@
 //! What comes of a file, as lines: what is carried of it, read back, and what is told.
 
 use intake_cards::{CardReader, RemarkList};
-use intake_carry::{NarrowError, Narrowed, OutsideHolds, narrow, read_statements};
+use intake_carry::{CarryError, Narrowed, OutsideHolds, narrow, read_statements};
 use intake_command::{are_same_hold_items, are_same_items, hold_file, ptfin};
 use intake_read::WideFile;
 use intake_sysmod::Options;
@@ -93,13 +93,13 @@ fn outcome(alloc: Global, text: &[u8]) -> Result<String, Fail> {
     let files = read_one_file(alloc, text, &mut held)?;
     let lines = match narrow(alloc, files.as_slice(), held, plain_options(alloc)) {
         Ok(narrowed) => carried_lines(alloc, &narrowed)?,
-        Err(NarrowError::Refused(remarks)) => {
+        Err(CarryError::Refused(remarks)) => {
             let mut lines = Vec::new(alloc);
             lines.extend_from_slice(b"refused\n")?;
             append_remarks(alloc, &mut lines, &remarks)?;
             lines
         }
-        Err(NarrowError::Memory) => return Err("out of memory".into()),
+        Err(CarryError::Memory) => return Err("out of memory".into()),
     };
     Ok(String::from_utf8(lines)?)
 }

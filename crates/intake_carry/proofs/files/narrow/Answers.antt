@@ -13,7 +13,7 @@ returns c = λ holds carried.
     let files = c.args.files.now in
     let held = c.args.held.placed.items in
     let kept = c.in_ok-outside.outside.items in
-    let all = c.in_ok-append.ensures.items ∙ ap (λ p. kept ++ p.items) c.refuse_bad_statements.ensures.same
+    let all = c.in_ok-append.ensures.items ∙ ap (λ p. kept ++ p.items) c.remark_bad_statements.ensures.same
     ∙ ap (λ k. k ++ held) (subst (λ (i : List Item). kept ≡ filter (λ p. not (is_held_by_copy i p))
     gathered.outside.items) c.as_slice.ensures.value c.in_ok-outside.ensures) in
     record {
@@ -25,7 +25,7 @@ returns c = λ holds carried.
       become = subst (λ d. Become (FileBecomes d (run_of files)) files gathered.items.items gathered.outside.items)
           c.sort_members.ensures (subst (λ r. Become (FileBecomes c.sort_members.new.self.decide r) files
           gathered.items.items gathered.outside.items) c.in_ok-users.ensures c.in-Ok.ensures);
-      holds_become = carried (c.in_ok-refuse_bad_statements.ensures.refused c.if-branch.false);
+      holds_become = carried (c.in_ok-remark_bad_statements.ensures.refused c.if-branch.false);
       in_order = subst (λ l. AreInOrder l c.in_ok-finish_narrowed.field-0.hold_items.items) all
           c.in_ok-finish_narrowed.ensures.in_order;
     }
