@@ -17,9 +17,13 @@ mod open;
 mod write;
 
 pub use change::Change;
+pub use fields::YyDdd;
 pub use global_load::{GlobalLists, assemble_global, load_global_lists};
 pub use law::found_again;
 pub use load::map_read_error;
 pub use open::Store;
-pub use store_schema::StoreError;
+pub use store_rows::ReadError;
+pub use store_schema::{Schema, StoreError};
 pub use store_zones::ZoneHead;
+pub use terms::ZoneKind;
+pub use zones_maps::{Applied, Element, Entry, PreparedZone, Zone, ZoneDelta, ZoneEdits};
