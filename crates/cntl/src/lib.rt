@@ -18,7 +18,7 @@ mod tables;
 pub use command::{Command, Install};
 pub use error::CntlError;
 pub use fields::{
-    Bypass, Class, ClassList, Reason, ReasonList, Reasons, ReceiveWhat, RestoreList, Selection,
+    Bypass, Class, ClassList, Reason, ReasonList, Reasons, ReceiveOperands, RestoreList, Selection,
     Source, SourceList, ZoneName,
 };
 pub use file::read_cntl;

@@ -30,7 +30,7 @@ pub use entry::{TakesOut, entry_less};
 pub use fields::{Bypass, ClassList, ReasonList, Reasons, YyDdd};
 pub use orphaned::orphans;
 pub use scope::Scope;
-pub use sorted::lists::Lists;
+pub use sorted::multi_map::MultiMap;
 pub use sysmods::{Chain, VerChoice};
 pub use terms::{NeedKind, NotChosen, ZoneKind};
 pub use zone_less::ZoneLess;
