@@ -53,3 +53,14 @@ EachFits stated edits g = (k : ℕ) (edit : GlobalEdit) → k < length edits →
 abbrev pub StatesThose : Global → Global → Type 0
 StatesThose later g = (x : Id) (s : Sysmod) → sysmod_of g x ≡ Some s
     → (sources : List Text) × (sysmod_of later x ≡ Some (record s { sources = sources }))
+
+-- RECEIVE writes SYSMODs, sources and holds, and removes holds that are released. It removes no SYSMOD.
+abbrev pub IsOfReceive : GlobalEdit → Type 0
+IsOfReceive (RemoveSysmod x) = ⊥
+IsOfReceive _ = Unit {0}
+
+-- REJECT removes SYSMODs and holds, and writes none.
+abbrev pub IsOfReject : GlobalEdit → Type 0
+IsOfReject (RemoveSysmod x) = Unit {0}
+IsOfReject (RemoveHold x kind reason) = Unit {0}
+IsOfReject _ = ⊥
