@@ -4,7 +4,7 @@ ghost use Rattle.std.specs.String.{string_bytes};
 ghost use Rattle.machine.specs.Machine.{RunFiles};
 ghost use Rattle.smpe_jobs.specs.declared.error.JobError.{JobError};
 ghost use Rattle.smpe_jobs.specs.declared.jobs.Answer.{Answer};
-ghost use Rattle.smpe_zones.specs.Definitions.{definition};
+ghost use Rattle.smpe_jobs.specs.ZoneDefinitions.{definition};
 ghost use Rattle.smpe_command.specs.Database.{JobOver};
 ghost use Rattle.smpe_command.specs.Serving.{Serves, ServesList, ServesMigrate, ServesRun, ServesVerify, ServesZone};
 ghost use Rattle.smpe_command.specs.Serving.{job_told, status_told};

@@ -2,17 +2,17 @@
 ghost use Rattle.std.specs.Prelude.{◌≡◌, ◌<◌, ◌++◌, length, false, codes, is_err, IfOk};
 ghost use Rattle.report.specs.Sent.{Sent};
 ghost use Rattle.machine.specs.Machine.{Defined, NotDefined};
-ghost use Rattle.smpe_zones.specs.Definitions.{fault_of};
+ghost use Rattle.smpe_jobs.specs.ZoneDefinitions.{fault_of};
 ghost use Rattle.smpe_jobs.specs.Ending.{answer_of};
 ghost use Rattle.smpe_jobs.specs.Messages.{answer_status, fault_status, fault_text, job_error_text, migrated_text};
 ghost use Rattle.smpe_jobs.specs.Messages.{program_line, refused_text, store_error_text, zone_fault_text, zone_text};
 
 use crate::error::JobError;
 use crate::jobs::Answer;
+use crate::zone_error::ZoneFault;
 use fields::ZoneName;
 use report::{Sink, WriteFault, print, write_all};
 use smpe_invocation::ArgFault;
-use smpe_zones::ZoneFault;
 use store::StoreError;
 use thiserror::Error;
 

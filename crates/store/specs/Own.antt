@@ -3,7 +3,7 @@ use Rattle.std.specs.Prelude.{◌≡◌, All, false}
 use Rattle.terms.specs.Types.{Command, Receive, Reject, Apply, Accept, Restore, Zone as AZone}
 use Rattle.zones_maps.specs.Delta.{IsDelta, KnowsStood}
 use Rattle.machine.specs.Machine.{Act, Perform, Define}
-use Rattle.smpe_global.specs.Edits.{IsOfReceive, IsOfReject}
+use Rattle.sysmods.specs.Edits.{IsOfReceive, IsOfReject}
 use Rattle.store.specs.declared.change.Change.{Change}
 use Rattle.store.specs.declared.change.Change.TheVariants.{NewZone, Zone, Global}
 
