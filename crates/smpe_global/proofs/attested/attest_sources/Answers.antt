@@ -16,7 +16,7 @@ loop-source-preserved c =
     let longer : take (i + 1) all ≡ take i all ++ x ∷ [] =
     take_more all i x c.loop-source-test.true ∙ ap (λ y. take i all ++ y ∷ []) (sym c.source-item.is) in
     subst (All IsSource) (sym longer) (All-append IsSource (take i all) (x ∷ []) c.loop-source.invariant
-    (All-cons IsSource x [] c.as_bytes.ensures.form (All-nil IsSource)))
+    (All-cons IsSource x [] (subst IsSource c.as_bytes.ensures.same c.as_bytes.ensures.form) (All-nil IsSource)))
 
 pub returns : goal.returns
 returns c =
