@@ -35,12 +35,13 @@ returns g c =
       empty,
       elim c.run_jobs_in_new_database.ensures [
         | inl unmade ↦ inl unmade
-        | inr (store, ended) ↦ inr (
-          store,
-          ended (memory_is_clean store) (λ clean is_open. inl (
+        | inr ran ↦ inr (
+          ran.0,
+          ran.1 (memory_is_clean ran.0) (λ clean is_open. inl (
             sym (ap (λ (db : Database). db.schema) empty.0.clean) ∙ empty.2,
             refl,
           )),
+          ran.2,
         )
       ],
     ) in

@@ -17,6 +17,7 @@ returns-in-Ok g c =
             now = opened.tables (kept empty_system) found;
             crash = opened.leaves (kept empty_system) found;
           })),
+      c.run_jobs-answers.ensures.fault,
     )
 
 pub returns-in-Err : goal.returns-in-Err
