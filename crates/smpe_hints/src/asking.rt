@@ -101,3 +101,11 @@ pub(crate) fn listed(alloc: Global, texts: &[String], most: usize) -> Result<Str
     }
     Ok(list)
 }
+
+/// Appends the line, if there is one.
+pub(crate) fn push_if_any(line: Option<String>, lines: &mut Vec<String>) -> Result<(), AllocError> {
+    if let Some(line) = line {
+        lines.push(line)?;
+    }
+    Ok(())
+}

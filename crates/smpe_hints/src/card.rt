@@ -67,6 +67,11 @@ pub(crate) fn is_unprintable(byte: u8) -> bool {
     byte != b' ' && !byte.is_ascii_graphic()
 }
 
+/// Whether all bytes are blanks.
+pub(crate) fn is_blank(card: &[u8]) -> bool {
+    card.iter().all(|byte| *byte == b' ')
+}
+
 /// The text of a record, without the blanks at its end, and with a question mark for each character that is not
 /// printable.
 pub(crate) fn card_text(alloc: Global, record: &[u8]) -> Result<String, AllocError> {

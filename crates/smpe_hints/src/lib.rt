@@ -6,14 +6,21 @@
 
 mod asking;
 mod card;
+mod chosen;
+mod command_operands;
 mod deleted;
 mod fault;
+mod known;
+mod lists;
 mod lowered;
 mod operand;
+mod places;
 mod ran;
 mod received;
 mod related;
 mod report;
+mod statement_operands;
+mod texts;
 mod vocabulary;
 mod warnings;
 mod words;

@@ -24,8 +24,8 @@ impl CardWord {
         self.is_value("BDY", zone)
     }
 
-    // Whether this word is this value of this operand.
-    fn is_value(&self, operand: &str, value: &str) -> bool {
+    /// Whether this word is this value of this operand.
+    pub(crate) fn is_value(&self, operand: &str, value: &str) -> bool {
         self.operand.as_str() == operand
             && self.value.as_ref().is_some_and(|own| own.as_str() == value)
     }
