@@ -17,6 +17,9 @@ const MOST_NAMED: usize = 8;
 /// How many lines there are about one job at most.
 const MOST_WARNINGS: usize = 20;
 
+/// How many commands are looked at.
+const MOST_COMMANDS: usize = 100;
+
 /// What a job has to do with: its words, its commands, and the zones of the database.
 #[derive(Clone, Copy)]
 pub(crate) struct JobView<'a> {
@@ -52,7 +55,12 @@ pub(crate) fn run_warnings<D: Database>(
         commands: commands.as_slice(),
         zones: zones.as_slice(),
     };
-    for command in ran {
+    for zone in &zones {
+        if has_installed_in(ran, zone.name.as_str()) {
+            push_if_any(earlier_date_hint(&view, zone.name.as_str(), database)?, &mut warnings)?;
+        }
+    }
+    for command in ran.iter().take(MOST_COMMANDS) {
         for warning in command_warnings(&view, command, database)? {
             if warnings.len() < MOST_WARNINGS && !warnings.as_slice().contains(&warning) {
                 warnings.push(warning)?;
@@ -60,6 +68,16 @@ pub(crate) fn run_warnings<D: Database>(
         }
     }
     Ok(warnings)
+}
+
+// Whether a command has installed something in the zone, or would have with CHECK.
+fn has_installed_in(ran: &[RanCommand], zone: &str) -> bool {
+    for command in ran {
+        if command.zone.as_str() == zone && command.lines.iter().any(|line| command.installs(line)) {
+            return true;
+        }
+    }
+    false
 }
 
 // The warnings of one command.
@@ -187,12 +205,10 @@ fn installed_hints<D: Database>(
         return Ok(());
     };
     let (name, srel) = (zone.name.as_str(), zone.srel.as_str());
-    let mut has_installed = false;
     for line in &ran.lines {
         if !ran.installs(line) {
             continue;
         }
-        has_installed = true;
         let id = line.id.as_str();
         if line.kind.as_str() == "FUNCTION" {
             let hint = delete_hint(alloc, database, name, srel, id, install.check)?;
@@ -203,9 +219,6 @@ fn installed_hints<D: Database>(
                 warnings.push(hint)?;
             }
         }
-    }
-    if has_installed {
-        push_if_any(earlier_date_hint(view, name, database)?, warnings)?;
     }
     Ok(())
 }
