@@ -45,28 +45,38 @@ pub(crate) fn delete_hint<D: Database>(
         return Ok(None);
     }
     let deleted = listed(alloc, service.functions.as_slice(), MOST_NAMED)?;
-    let usermods = usermods_text(alloc, service.usermods.as_slice())?;
-    let (deleted, usermods, others) = (deleted.as_str(), usermods.as_str(), service.others);
-    Ok(Some(if is_check {
-        format!(in alloc;
-            "{id} would delete {deleted} in {zone}, and take off {usermods}{others} PTFs and APARs of it"
-        )?
-    } else {
-        format!(in alloc;
-            "{id} deletes {deleted} in {zone}; of its service, {usermods}{others} PTFs and APARs are received and not applied now"
-        )?
+    let lost = service_text(alloc, &service)?;
+    let (deleted, lost) = (deleted.as_str(), lost.as_str());
+    Ok(Some(match (is_check, lost.is_empty()) {
+        (true, true) => format!(in alloc; "{id} would delete {deleted} in {zone}")?,
+        (true, false) => format!(in alloc;
+            "{id} would delete {deleted} in {zone}, and take off {lost} of it"
+        )?,
+        (false, true) => format!(in alloc; "{id} deletes {deleted} in {zone}")?,
+        (false, false) => format!(in alloc;
+            "{id} deletes {deleted} in {zone}; of its service, {lost} are received and not applied now"
+        )?,
     }))
 }
 
-// The USERMODs by name, and an `and`; no text if there are none.
-fn usermods_text(alloc: Global, usermods: &[String]) -> Result<String, AllocError> {
+// The USERMODs by name, and how many others there are; no text if there are none of either.
+fn service_text(alloc: Global, service: &Service) -> Result<String, AllocError> {
+    let others = match service.others {
+        0 => String::new(alloc),
+        1 => String::from_str(alloc, "1 PTF or APAR")?,
+        others => format!(in alloc; "{others} PTFs and APARs")?,
+    };
+    let usermods = service.usermods.as_slice();
     if usermods.is_empty() {
-        return Ok(String::new(alloc));
+        return Ok(others);
     }
     let word = if usermods.len() == 1 { "USERMOD" } else { "USERMODs" };
     let list = listed(alloc, usermods, MOST_NAMED)?;
-    let list = list.as_str();
-    format!(in alloc; "{word} {list} and ")
+    let (list, others) = (list.as_str(), others.as_str());
+    if others.is_empty() {
+        return format!(in alloc; "{word} {list}");
+    }
+    format!(in alloc; "{word} {list} and {others}")
 }
 
 // The functions that are named, with those that depend on them, and the service of them all: with CHECK what is applied

@@ -131,8 +131,9 @@ fn boundary_hint(view: &JobView<'_>, ran: &RanCommand) -> Result<String, AllocEr
 fn kind_hint(view: &JobView<'_>, ran: &RanCommand) -> Result<String, AllocError> {
     let (word, zone) = (ran.word.as_str(), ran.zone.as_str());
     let kind = match zone_of_name(view.zones, zone) {
-        Some(zone) => zone.kind.as_str(),
-        None => "global",
+        Some(zone) if zone.kind.as_str() == "target" => "a target zone",
+        Some(_) => "a distribution zone",
+        None => "the global zone",
     };
     let needed = match word {
         "RECEIVE" | "REJECT" => "GLOBAL",
@@ -143,7 +144,7 @@ fn kind_hint(view: &JobView<'_>, ran: &RanCommand) -> Result<String, AllocError>
     let zones = zone_list(view)?;
     let zones = zones.as_str();
     format!(in view.alloc;
-        "{zone} is a {kind} zone, and {word} needs {needed}; there are GLOBAL{zones}"
+        "{zone} is {kind}, and {word} needs {needed}; there are GLOBAL{zones}"
     )
 }
 
