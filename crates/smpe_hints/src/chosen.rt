@@ -69,8 +69,8 @@ fn open_text<D: Database>(
     selection: &Selection,
     database: &mut D,
 ) -> Result<String, AllocError> {
-    let takes_ptfs =
-        selection.ptfs || !(selection.functions || selection.apars || selection.usermods);
+    let takes_ptfs = selection.ptfs
+        || !(selection.functions || selection.apars || selection.usermods);
     let mut open = String::new(alloc);
     for (kind, operand, is_taken) in [
         ("FUNCTION", "FUNCTIONS", selection.functions),
@@ -121,6 +121,6 @@ pub(crate) fn lacking_hint(
     let list = listed(view.alloc, ran.lacking.as_slice(), MOST_NAMED)?;
     let (zone, list) = (ran.zone.as_str(), list.as_str());
     Ok(Some(format!(in view.alloc;
-        "{zone} has not the functions {list} of some of these: FORFMID takes only the service of functions that you name"
+        "{zone} lacks the functions {list}, so their service fails; FORFMID chooses service by function"
     )?))
 }

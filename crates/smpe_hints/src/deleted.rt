@@ -70,7 +70,11 @@ fn service_text(alloc: Global, service: &Service) -> Result<String, AllocError> 
     if usermods.is_empty() {
         return Ok(others);
     }
-    let word = if usermods.len() == 1 { "USERMOD" } else { "USERMODs" };
+    let word = if usermods.len() == 1 {
+        "USERMOD"
+    } else {
+        "USERMODs"
+    };
     let list = listed(alloc, usermods, MOST_NAMED)?;
     let (list, others) = (list.as_str(), others.as_str());
     if others.is_empty() {
@@ -101,7 +105,9 @@ fn service_of<D: Database>(
         };
         let function = String::from_str(alloc, function.as_str())?;
         if is_applied(alloc, database, zone, function.as_str())? == is_check {
-            service.functions.push(String::from_str(alloc, function.as_str())?)?;
+            service
+                .functions
+                .push(String::from_str(alloc, function.as_str())?)?;
         }
         for row in service_rows(database, zone, srel, function.as_str())? {
             let (id, kind) = (column(alloc, &row, 0)?, column(alloc, &row, 1)?);

@@ -117,14 +117,11 @@ fn unknown_command_hint(alloc: Global, name: &str) -> Result<Option<String>, All
 // The hint about a word that is no statement.
 fn unknown_statement_hint(alloc: Global, name: &str) -> Result<Option<String>, AllocError> {
     if name == "++" {
-        return Ok(Some(String::from_str(
-            alloc,
-            "no blank may follow ++, as in ++VER",
-        )?));
+        return Ok(Some(String::from_str(alloc, "no blank may follow ++, as in ++VER")?));
     }
     if is_foreign_statement(name) {
         return Ok(Some(format!(in alloc;
-            "{name} is a statement of SMP/E that smpe does not take; smpe-intake leaves such SYSMODs out and takes the others"
+            "{name} is a statement of SMP/E that smpe does not take; smpe-intake leaves only such SYSMODs out"
         )?));
     }
     match meant_statement(name) {
