@@ -1,7 +1,7 @@
 //! What `smpe` says on standard error next to a report or after a fault: which option has which value and what it
-//! should look like, which card is wrong, which command ran in another zone than it was meant for, and what a job should
-//! be warned of. The crate makes texts, and no contract says which. Every call that makes one returns an error if memory
-//! runs out.
+//! should look like, which card is wrong, which command ran in another zone than it was meant for, and what a job
+//! should be warned of. The crate makes texts, and no contract says which. Every call that makes one returns an error
+//! if memory runs out.
 #![tactic(auto)]
 
 mod asking;

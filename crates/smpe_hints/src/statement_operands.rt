@@ -8,8 +8,8 @@ use crate::vocabulary::{
 use crate::words::CardWords;
 use std::alloc::{AllocError, Global};
 
-/// The hint about the first operand of a statement that is none, or has a bad list; otherwise about what is missing. The
-/// statement begins in this record of the file of this option.
+/// The hint about the first operand of a statement that is none, or has a bad list; otherwise about what is missing.
+/// The statement begins in this record of the file of this option.
 pub(crate) fn statement_operand_hint(
     alloc: Global,
     option: &str,
