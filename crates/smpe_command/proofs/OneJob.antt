@@ -110,11 +110,15 @@ module _ {V W : Type 0} (f : V → List machine.Answer) (k : W → List machine.
       empty,
       inl (why, unmade, failed_as over_memory sink jobs out out' r q (job_error why) same is, out_is),
     )
-    memory_as jobs (inr (conn, new, empty, inr (store, ended))) = inr (
+    memory_as jobs (inr (conn, new, empty, inr (store, ended, fault))) = inr (
       conn,
       new,
       empty,
-      inr (store, ends_as over_memory sink jobs out out' conn store empty_system r q same ended),
+      inr (
+        store,
+        ends_as over_memory sink jobs out out' conn store empty_system r q same ended,
+        λ none. fault none ∙ write_as over_memory sink jobs out out' r q same,
+      ),
     )
 
     with_as : (srel date : Text) (cntl : List ℕ) (files : Files) → TriesWith sink out srel date cntl files f r out'

@@ -15,12 +15,12 @@ use Rattle.store_schema.specs.declared.error.StoreError.TheVariants.{OtherSchema
 use Rattle.store_schema.specs.Known.{HasOtherNumber, HasNoState}
 use Rattle.store.specs.View.{IsFound}
 use Rattle.smpe_invocation.specs.declared.asked.CommandJob.{CommandJob}
-use Rattle.smpe_zones.specs.Definitions.{definition}
-use Rattle.smpe_zones.specs.Kept.{kept}
+use Rattle.smpe_jobs.specs.ZoneDefinitions.{definition}
+use Rattle.store.specs.Kept.{kept}
 use Rattle.smpe_jobs.specs.declared.error.JobError.{JobError}
 use Rattle.smpe_jobs.specs.declared.error.JobError.TheVariants.{Memory}
 use Rattle.smpe_jobs.specs.Errors.{job_error}
-use Rattle.smpe_jobs.specs.Ending.{EndsJobs}
+use Rattle.smpe_jobs.specs.Ending.{EndsJobs, TellsOfSink}
 use Rattle.smpe_jobs.specs.FromEmpty.{empty_system}
 use Rattle.smpe_jobs.specs.ListJob.{two_records}
 use Rattle.smpe_jobs.specs.Messages.{answer_status}
@@ -72,22 +72,24 @@ module _ {S : Type 0} (g : Ghosts S) (conn : Held S) where
   FailsToMake out r out' = (why : StoreError) × Unmade why × (r ≡ Err (job_error why)) × (out' ≡ out)
 
   -- The connection created the tables, or it did not. If it found an empty system, the jobs ran over that. The cause of
-  -- a fault is since the connection was handed over.
+  -- a fault is since the connection was handed over. The error `Write` says that the sink has failed.
   abbrev pub JobsOverNew : {O : Type 0} → SinkGhosts O → List machine.Job → O → {V : Type 0}
       → (V → List machine.Answer) → Result V JobError → O → Type 0
   JobsOverNew sink jobs out answers r out' = FailsToMake out r out'
       ⊎ ((store : Held S) × (HasCleanDisk (state g store) → IsFound g conn (kept empty_system)
-      → EndsJobs g conn store empty_system jobs (sink.taken out) (sink.taken out') answers r))
+      → EndsJobs g conn store empty_system jobs (sink.taken out) (sink.taken out') answers r)
+      × TellsOfSink (sink.has_failed out) (sink.has_failed out') r)
 
--- The jobs ran over an empty system in memory, by a new connection without a limit on steps. Or its tables were not
--- created, or memory ran out for it, and nothing was printed.
+-- The jobs ran over an empty system in memory, by a new connection without a limit on steps, and the error `Write` says
+-- that the sink has failed. Or its tables were not created, or memory ran out for it, and nothing was printed.
 abbrev pub JobsInMemory : {O : Type 0} → SinkGhosts O → List machine.Job → O → {V : Type 0}
     → (V → List machine.Answer) → Result V JobError → O → Type 0
 JobsInMemory sink jobs out answers r out' = ((r ≡ Err Memory) × (out' ≡ out))
     ⊎ ((conn : Held MemStore) × IsNew conn × IsEmpty (state over_memory conn)
     × (FailsToMake over_memory conn out r out'
     ⊎ ((store : Held MemStore)
-    × EndsJobs over_memory conn store empty_system jobs (sink.taken out) (sink.taken out') answers r)))
+    × EndsJobs over_memory conn store empty_system jobs (sink.taken out) (sink.taken out') answers r
+    × TellsOfSink (sink.has_failed out) (sink.has_failed out') r)))
 
 module _ {O : Type 0} (sink : SinkGhosts O) (out : O) (srel : Text) where
   -- The jobs of a service set with these commands ran over an empty system in memory, or memory ran out for the command

@@ -2,16 +2,15 @@
 use Rattle.std.proofs.Common.{◌≡◌, ◌∙◌, List, [], ◌∷◌, ◌++◌, map, refl, sym, ap, subst, append_assoc, append-nil}
 use Rattle.std.proofs.Common.{All}
 use Rattle.std.proofs.lemmas.List.{map-append}
-use Rattle.std.proofs.lemmas.List.Elements.{All-nil, All-append}
+use Rattle.std.proofs.lemmas.List.Elements.{All-nil, All-head, All-tail, All-append}
 use Rattle.std.proofs.lemmas.List.Sums.{fold-append}
 use Rattle.terms.specs.Types.{Global}
 use Rattle.machine.specs.Outcome as machine
 use Rattle.machine.specs.Runs.{Runs}
 use Rattle.machine.proofs.Joined.{runs_append, runs_one}
 use Rattle.report.specs.Views.{line_view}
-use Rattle.sysmods.specs.Edits.{after_edit, EachFits, after_edits, StatesThose}
+use Rattle.sysmods.specs.Edits.{after_edit, EachFits, after_edits, StatesThose, IsOfReceive, HasWrittenForm}
 use Rattle.smpe_global.specs.declared.global_change.GlobalChange.{GlobalChange}
-use Rattle.smpe_global.specs.Edits.{IsOfReceive}
 use Rattle.smpe_global.specs.Taken.{IsTaken}
 use Rattle.smpe_global.proofs.Fitting.{fits_none, fits_append}
 use Rattle.smpe_global.proofs.Stating.{states_same, states_then}
@@ -25,6 +24,7 @@ module _ {I : Type 0} (Takes : Global → I → Global → List machine.Line →
     lines_are = sym (append-nil t.lines.items);
     prints = (refl, refl);
     receives = All-nil IsOfReceive;
+    written = All-nil HasWrittenForm;
     stays = states_same g g refl;
     fits = λ stated states. fits_none stated g;
     after = λ stated states. refl;
@@ -46,6 +46,7 @@ module _ {I : Type 0} (Takes : Global → I → Global → List machine.Line →
         front.prints
         (runs_one Takes middle new item (map line_view back.lines) back.prints));
     receives = All-append IsOfReceive front.own back.own front.receives back.receives;
+    written = All-append HasWrittenForm front.own back.own front.written back.written;
     stays = states_then g middle new front.stays back.stays;
     fits = λ stated states. fits_append stated g front.own back.own (front.fits stated (at_middle stated states))
         (subst (EachFits stated back.own) (sym (front.after stated (at_middle stated states)))
@@ -56,6 +57,13 @@ module _ {I : Type 0} (Takes : Global → I → Global → List machine.Line →
     where
       at_middle : (stated : Global) → StatesThose stated new → StatesThose stated middle
       at_middle stated states = states_then middle new stated back.stays states
+
+-- what holds for all items holds for the next one
+pub next_item : {X Y : Type 0} (f : X → Y) (P : Y → Type 0) (front back : List X) (x : X)
+    → All P (map f (front ++ x ∷ back)) → P (f x)
+next_item f P [] back x all = All-head P (f x) (map f back) all
+next_item f P (y ∷ front) back x all = next_item f P front back x
+    (All-tail P (f y) (map f (front ++ x ∷ back)) all)
 
 module _ (Prints : Global → List machine.Line → Type 0) (g new : Global) (none all : GlobalChange)
     (taken : IsTaken Prints g new none all) where
@@ -69,6 +77,9 @@ module _ (Prints : Global → List machine.Line → Type 0) (g new : Global) (no
 
   pub all_receive : none.edits.items ≡ [] → All IsOfReceive all.edits.items
   all_receive nothing = subst (All IsOfReceive) (edits_own nothing) taken.receives
+
+  pub all_written : none.edits.items ≡ [] → All HasWrittenForm all.edits.items
+  all_written nothing = subst (All HasWrittenForm) (edits_own nothing) taken.written
 
   pub all_fit : none.edits.items ≡ [] → (stated : Global) → StatesThose stated new → EachFits stated all.edits.items g
   all_fit nothing stated states = subst (λ es. EachFits stated es g) (edits_own nothing) (taken.fits stated states)

@@ -1,6 +1,6 @@
 -- A SYSMOD that gains a source.
 use Rattle.std.proofs.Common.{◌≡◌, ◌∙◌, Bool, true, false, [], ◌∷◌, find, refl, sym, ap, subst, Option, None}
-use Rattle.std.proofs.Common.{Some, Contains, All, is_some, if◌then◌else◌}
+use Rattle.std.proofs.Common.{Some, Contains, All, IfSome, is_some, if◌then◌else◌}
 use Rattle.std.specs.Ordering.{nat_cmp}
 use Rattle.std.specs.Cmp.Lexicographic.{slice_cmp, texts_ties}
 use Rattle.std.specs.Option.{option_map}
@@ -9,6 +9,7 @@ use Rattle.std.proofs.lemmas.Cmp.{nat_list_cmp_total}
 use Rattle.std.proofs.lemmas.List.Elements.{All-nil, All-cons, All-weaker, All-contains, All-contains_itself}
 use Rattle.std.proofs.lemmas.List.Folds.{map_fixed}
 use Rattle.terms.proofs.Orderings.{Equal_from_is_eq}
+use Rattle.terms.specs.Forms.{IsSource}
 use Rattle.terms.specs.Types.{Text, Id, Sysmod, Global}
 use Rattle.terms.specs.Rising.{Rises}
 use Rattle.terms.specs.Lookups.{sysmod_of, is_received}
@@ -20,8 +21,8 @@ use Rattle.terms.proofs.Searches.{find_passes, find_gives}
 use Rattle.terms.proofs.Placing.{Rises_with_item}
 use Rattle.terms.proofs.RisingLists.{find_there, Splits_around}
 use Rattle.sysmods.specs.declared.edit.GlobalEdit.TheVariants.{ReplaceSources}
-use Rattle.sysmods.specs.Edits.{AreSources, Fits, EachFits, after_edits}
-use Rattle.smpe_global.specs.Edits.{IsOfReceive, head_of, source_edits}
+use Rattle.sysmods.specs.Edits.{AreSources, Fits, EachFits, after_edits, IsOfReceive, HasWrittenForm}
+use Rattle.smpe_global.specs.Edits.{head_of, source_edits}
 use Rattle.smpe_global.proofs.Fitting.{fits_none, fits_one}
 use Rattle.terms.proofs.Lists.{map_alike}
 
@@ -29,6 +30,10 @@ use Rattle.terms.proofs.Lists.{map_alike}
 pub sources_receive : (o : Option Sysmod) → All IsOfReceive (source_edits o)
 sources_receive None = All-nil IsOfReceive
 sources_receive (Some s) = All-cons IsOfReceive (ReplaceSources (head_of s)) [] tt (All-nil IsOfReceive)
+
+pub sources_written : (o : Option Sysmod) → IfSome o (λ s. All IsSource s.sources) → All HasWrittenForm (source_edits o)
+sources_written None form = All-nil HasWrittenForm
+sources_written (Some s) form = All-cons HasWrittenForm (ReplaceSources (head_of s)) [] form (All-nil HasWrittenForm)
 
 module _ (source : Text) (g : Global) (x : Id) (is : IsGlobal g) where
   -- a SYSMOD of the id is found by it

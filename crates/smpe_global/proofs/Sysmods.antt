@@ -4,6 +4,8 @@ use Rattle.std.proofs.Common.{map, option_map, append-nil}
 use Rattle.std.proofs.lemmas.Bool.{false_from_ne_true}
 use Rattle.std.proofs.lemmas.Option.{same_Some}
 use Rattle.std.proofs.lemmas.List.Elements.{All-nil, All-cons, All-map}
+use Rattle.terms.specs.Forms.{IsSource}
+use Rattle.terms.specs.HoldStatements.{HasShortComment}
 use Rattle.terms.specs.Types.{Text, Global, Sysmod, ASysmod}
 use Rattle.terms.specs.Global.{IsSysmod, ReceiveFault, AlreadyReceived, MakesLoop, WrongRole, NoRoom, Receives}
 use Rattle.terms.specs.Global.{RefusedBy}
@@ -18,8 +20,8 @@ use Rattle.report.specs.Views.{line_view}
 use Rattle.smpe_global.specs.declared.global_change.GlobalChange.{GlobalChange}
 use Rattle.sysmods.specs.declared.edit.GlobalEdit.{GlobalEdit}
 use Rattle.sysmods.specs.declared.edit.GlobalEdit.TheVariants.{PutHold, InsertSysmod}
-use Rattle.sysmods.specs.Edits.{AreSources, StatesThose, EachFits, after_edits}
-use Rattle.smpe_global.specs.Edits.{IsOfReceive, answer_of, AreEditsOf}
+use Rattle.sysmods.specs.Edits.{AreSources, StatesThose, EachFits, after_edits, IsOfReceive, HasWrittenForm}
+use Rattle.smpe_global.specs.Edits.{answer_of, AreEditsOf}
 use Rattle.smpe_global.specs.Taken.{IsTaken}
 use Rattle.smpe_global.proofs.Fitting.{fits_none, sysmod_fits, sysmod_makes}
 use Rattle.smpe_global.proofs.Stating.{states_same, states_received}
@@ -29,6 +31,18 @@ writes_receive : (s : Sysmod) (edits : List GlobalEdit) → AreEditsOf s edits �
 writes_receive s edits (sources, names, are) = subst (All IsOfReceive) (sym are)
     (All-cons IsOfReceive (InsertSysmod s.id sources) (map (λ h. PutHold h) s.holds) tt
     (All-map IsOfReceive (λ h. PutHold h) s.holds (λ i d below. tt)))
+
+-- Sources and comments have their forms.
+writes_formed : (s : Sysmod) (edits : List GlobalEdit) → AreEditsOf s edits → All IsSource s.sources
+    → All HasShortComment s.holds → All HasWrittenForm edits
+writes_formed s edits (sources, names, are) form short = subst (All HasWrittenForm) (sym are)
+    (All-cons HasWrittenForm (InsertSysmod s.id sources) (map (λ h. PutHold h) s.holds)
+    (subst (All IsSource) (sym names) form) (All-map HasWrittenForm (λ h. PutHold h) s.holds short))
+
+-- one more source changes no hold
+same_holds : (source : Option Text) (s : Sysmod) → (sourced source s).holds ≡ s.holds
+same_holds None s = refl
+same_holds (Some source) s = refl
 
 -- the fault that an error stands for is the first, and its status is told
 pub refused_by : (g new : Global) (s : Sysmod) (e : Refused) (status : Status) → IsRefused g s e
@@ -50,9 +64,10 @@ module _ (source : Option Text) (g new : Global) (s : Sysmod) (line : ReportLine
     (told : is.lines.items ≡ was.lines.items ++ line ∷ []) where
   pub sysmod_taken : (own : List GlobalEdit) → AreEditsOf (sourced source s) own
       → is.edits.items ≡ was.edits.items ++ own → IsSysmod (sourced source s)
+      → All IsSource (sourced source s).sources → All HasShortComment s.holds
       → line_view line ≡ StatusLine s.id (OfKind s.kind) Received → Receives g (sourced source s) (Ok new)
       → IsTaken (TakesItem source g (ASysmod s)) g new was is
-  sysmod_taken own (sources, names, are) written known printed came =
+  sysmod_taken own (sources, names, are) written known form short printed came =
       let sent = sourced source s in
       let unknown = false_from_ne_true (is_received g sent.id) (came.0 AlreadyReceived) in
       record {
@@ -62,6 +77,8 @@ module _ (source : Option Text) (g new : Global) (s : Sysmod) (line : ReportLine
         lines_are = told;
         prints = (Ok new, came, refl, ap (λ l. l ∷ []) printed);
         receives = writes_receive sent own (sources, names, are);
+        written = writes_formed sent own (sources, names, are) form
+            (subst (All HasShortComment) (sym (same_holds source s)) short);
         stays = subst (λ n. StatesThose n g) (sym came.1) (states_received g sent unknown);
         fits = λ stated states.
             subst (λ es. EachFits stated es g) (sym are) (sysmod_fits stated g sent sources unknown
@@ -80,6 +97,7 @@ module _ (source : Option Text) (g new : Global) (s : Sysmod) (line : ReportLine
     lines_are = told;
     prints = (Err fault, first, same, ap (λ l. l ∷ []) printed);
     receives = All-nil IsOfReceive;
+    written = All-nil HasWrittenForm;
     stays = states_same g new (ap (λ (n : Global). n.sysmods) same);
     fits = λ stated states. fits_none stated g;
     after = λ stated states. sym same;

@@ -1,4 +1,4 @@
 pub mod Edits
-pub mod External
+pub mod Items
 pub mod Taken
 pub mod Rejections

@@ -1,5 +1,6 @@
 //! `++ASSIGN`: received SYSMODs gain a source.
-ghost use Rattle.std.specs.Prelude.{◌≡◌, ◌++◌, IfOk, OnOk, if◌then◌else◌};
+ghost use Rattle.std.specs.Prelude.{◌≡◌, ◌++◌, All, IfOk, IfSome, OnOk, if◌then◌else◌};
+ghost use Rattle.terms.specs.Forms.{IsSource};
 ghost use Rattle.terms.specs.Lookups.{sysmod_of};
 ghost use Rattle.machine.specs.Outcome.{Assigned, Unknown};
 ghost use Rattle.machine.specs.Receiving.{AssignsId};
@@ -8,6 +9,7 @@ ghost use Rattle.report.specs.Views.{status_view};
 ghost use Rattle.smpe_global.specs.Edits.{head_of, source_edits};
 ghost use Rattle.smpe_global.specs.Taken.{IsTaken};
 
+use crate::attested::attest_sources;
 use crate::global_change::GlobalChange;
 use fields::{Attest, Id, Source};
 use mcs::Assign;
@@ -37,9 +39,11 @@ fn push_source_edit(
     id: Id,
     edits: &mut Vec<GlobalEdit>,
 ) -> Result<(), AllocError>
-    ensures { OnOk result (edits.new.items ≡ edits.old.items ++ source_edits (sysmod_of global.now id)) }
+    ensures edits { OnOk result (edits.new.items ≡ edits.old.items ++ source_edits (sysmod_of global.now id)) }
+    ensures form { OnOk result (IfSome (sysmod_of global.now id) (λ s. All IsSource s.sources)) }
 {
     if let Some(sysmod) = global.get(id) {
+        attest_sources(sysmod);
         edits.push(GlobalEdit::ReplaceSources(sysmod_head(alloc, sysmod)?))?;
     }
     Ok(())

@@ -1,5 +1,5 @@
 //! The items of a hold file.
-ghost use Rattle.std.specs.Prelude.{◌≡◌, ◌++◌, All, Bool, false, IfOk, OnOk, map, if◌then◌else◌};
+ghost use Rattle.std.specs.Prelude.{◌≡◌, ◌++◌, All, Bool, IfOk, OnOk, map, if◌then◌else◌};
 ghost use Rattle.terms.specs.Types as terms;
 ghost use Rattle.terms.specs.Types.{Global as AGlobal, Release as ARelease};
 ghost use Rattle.terms.specs.Global.{hold_of, marked};
@@ -7,9 +7,9 @@ ghost use Rattle.machine.specs.Outcome.{Held, Replaced};
 ghost use Rattle.machine.specs.Receiving.{TakesHoldItem, release_status};
 ghost use Rattle.machine.specs.Runs.{Runs};
 ghost use Rattle.report.specs.Views.{line_view, status_view};
-ghost use Rattle.sysmods.specs.Edits.{StatesThose, EachFits, after_edits};
-ghost use Rattle.smpe_global.specs.Edits.{IsOfReceive, release_answer, release_edits};
-ghost use Rattle.smpe_global.specs.External.{IsExternal};
+ghost use Rattle.sysmods.specs.Edits.{StatesThose, EachFits, after_edits, IsOfReceive, HasWrittenForm};
+ghost use Rattle.smpe_global.specs.Edits.{release_answer, release_edits};
+ghost use Rattle.smpe_global.specs.Items.{IsOfHoldFile};
 ghost use Rattle.mcs.specs.HoldItems.{item_of, items};
 ghost use Rattle.smpe_global.specs.Taken.{IsTaken};
 
@@ -60,7 +60,7 @@ fn receive_hold(
     hold: Hold,
     change: &mut GlobalChange,
 ) -> Result<(), AllocError>
-    requires { hold.internal ≡ false }
+    requires { IsOfHoldFile (terms.AHold hold) }
     ensures { OnOk result (IsTaken (TakesHoldItem global.old (terms.AHold hold)) global.old global.new change.old
         change.new) }
 {
@@ -134,7 +134,7 @@ fn receive_hold_item(
     item: HoldItem,
     change: &mut GlobalChange,
 ) -> Result<(), AllocError>
-    requires { IsExternal (item_of item) }
+    requires { IsOfHoldFile (item_of item) }
     ensures { OnOk result (IsTaken (TakesHoldItem global.old (item_of item)) global.old global.new change.old
         change.new) }
 {
@@ -150,7 +150,7 @@ fn receive_hold_items(
     hold_items: Vec<HoldItem>,
     change: &mut GlobalChange,
 ) -> Result<(), AllocError>
-    requires { All IsExternal (items hold_items.items) }
+    requires { All IsOfHoldFile (items hold_items.items) }
     ensures { OnOk result (IsTaken (Runs TakesHoldItem global.old (items hold_items.items)) global.old global.new
         change.old change.new) }
 {
@@ -166,10 +166,11 @@ pub fn receive_holds(
     global: &mut GlobalZone,
     hold_items: Vec<HoldItem>,
 ) -> Result<GlobalChange, AllocError>
-    requires { All IsExternal (items hold_items.items) }
+    requires { All IsOfHoldFile (items hold_items.items) }
     ensures runs { IfOk result (λ t. Runs TakesHoldItem global.old (items hold_items.items) global.new
         (map line_view t.lines.items)) }
     ensures receives { IfOk result (λ t. All IsOfReceive t.edits.items) }
+    ensures written { IfOk result (λ t. All HasWrittenForm t.edits.items) }
     ensures stays { OnOk result (StatesThose global.new global.old) }
     ensures fits { IfOk result (λ t. (stated : AGlobal) → StatesThose stated global.new
         → EachFits stated t.edits.items global.old) }

@@ -7,6 +7,7 @@
 #![tactic(auto)]
 
 mod assign;
+mod attested;
 mod edits;
 mod global_change;
 mod holddata;

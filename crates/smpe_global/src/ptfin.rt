@@ -2,15 +2,18 @@
 ghost use Rattle.std.specs.Prelude.{◌≡◌, All, Some, IfOk, IfSome, OnOk, map, option_map};
 ghost use Rattle.terms.specs.Types.{Global as AGlobal, ASysmod};
 ghost use Rattle.terms.specs.Forms.{IsSource};
+ghost use Rattle.terms.specs.HoldStatements.{HasShortComment};
 ghost use Rattle.machine.specs.Runs.{Runs};
 ghost use Rattle.machine.specs.Receiving.{TakesItem, sourced, receive_status};
 ghost use Rattle.mcs.specs.Files.{item_of, items};
 ghost use Rattle.report.specs.Views.{line_view, status_view};
-ghost use Rattle.sysmods.specs.Edits.{StatesThose, EachFits, after_edits};
-ghost use Rattle.smpe_global.specs.Edits.{IsOfReceive, answer_of};
+ghost use Rattle.sysmods.specs.Edits.{StatesThose, EachFits, after_edits, IsOfReceive, HasWrittenForm};
+ghost use Rattle.smpe_global.specs.Edits.{answer_of};
+ghost use Rattle.smpe_global.specs.Items.{IsOfPtfin};
 ghost use Rattle.smpe_global.specs.Taken.{IsTaken};
 
 use crate::assign::receive_assign;
+use crate::attested::attest_sources;
 use crate::edits::sysmod_edits;
 use crate::global_change::GlobalChange;
 use fields::Source;
@@ -54,10 +57,12 @@ fn receive_sysmod(
     source: &Option<Source>,
     change: &mut GlobalChange,
 ) -> Result<(), AllocError>
+    requires { All HasShortComment sysmod.holds }
     ensures { OnOk result (IsTaken (TakesItem source.now global.old (ASysmod sysmod)) global.old global.new change.old
         change.new) }
 {
     let sysmod = with_source(sysmod, source)?;
+    attest_sources(&sysmod);
     let id = sysmod.id;
     let kind = sysmod.kind;
     let mut edits = sysmod_edits(alloc, &sysmod)?;
@@ -81,6 +86,7 @@ fn receive_item(
     source: &Option<Source>,
     change: &mut GlobalChange,
 ) -> Result<(), AllocError>
+    requires { IsOfPtfin (item_of item) }
     ensures { OnOk result (IsTaken (TakesItem source.now global.old (item_of item)) global.old global.new change.old
         change.new) }
 {
@@ -98,6 +104,7 @@ fn receive_items(
     source: &Option<Source>,
     change: &mut GlobalChange,
 ) -> Result<(), AllocError>
+    requires { All IsOfPtfin (items ptfin_items.items) }
     ensures { OnOk result (IsTaken (Runs (TakesItem source.now) global.old (items ptfin_items.items)) global.old
         global.new change.old change.new) }
 {
@@ -115,9 +122,11 @@ pub fn receive_ptfin(
     ptfin_items: Vec<Item>,
     source: Option<Source>,
 ) -> Result<GlobalChange, AllocError>
+    requires { All IsOfPtfin (items ptfin_items.items) }
     ensures runs { IfOk result (λ t. Runs (TakesItem source) global.old (items ptfin_items.items) global.new
         (map line_view t.lines.items)) }
     ensures receives { IfOk result (λ t. All IsOfReceive t.edits.items) }
+    ensures written { IfOk result (λ t. All HasWrittenForm t.edits.items) }
     ensures fits { IfOk result (λ t. (stated : AGlobal) → StatesThose stated global.new
         → EachFits stated t.edits.items global.old) }
     ensures edits { IfOk result (λ t. (stated : AGlobal) → StatesThose stated global.new

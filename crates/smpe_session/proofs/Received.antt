@@ -1,9 +1,13 @@
 -- What RECEIVE leads to: a state that the edits make, whose tables are an inventory's.
 use Rattle.std.proofs.Common.{◌≡◌, ◌∙◌, Bool, true, false, ℕ, List, [], ◌++◌, All, Option, None, Some, IfSome, IsTrue}
 use Rattle.std.proofs.Common.{Result, Ok, Err, IfOk, IfErr, refl, sym, ap, subst, inr}
+use Rattle.std.specs.List.{AllByRecursion}
+use Rattle.std.proofs.lemmas.Option.{IfSome_then}
 use Rattle.std.proofs.lemmas.List.Elements.{All-append, All-from_recursion}
 use Rattle.std.proofs.lemmas.List.Sums.{fold-append}
-use Rattle.terms.specs.Types.{Text, Global, Item, HoldItem, AHold, ARelease, ReceiveOperands, Receive}
+use Rattle.terms.specs.Types.{Text, Global, Hold, Item, ASysmod, AnAssign, HoldItem, AHold, ARelease, ReceiveOperands}
+use Rattle.terms.specs.Types.{Receive}
+use Rattle.terms.specs.HoldStatements.{HasShortComment}
 use Rattle.terms.specs.Forms.{IsSource}
 use Rattle.terms.specs.Ptfin.{IsPtfin}
 use Rattle.terms.specs.HoldFile.{IsHoldFile}
@@ -18,36 +22,54 @@ use Rattle.machine.specs.Machine.{Files, HasItems, Performs, Takes, TakesAll}
 use Rattle.report.specs.declared.outcome.Refusal.{Refusal}
 use Rattle.report.specs.Views.{refusal_view}
 use Rattle.sysmods.specs.declared.edit.GlobalEdit.{GlobalEdit}
-use Rattle.sysmods.specs.Edits.{after_edit, EachFits, after_edits, StatesThose}
+use Rattle.sysmods.specs.Edits.{after_edit, EachFits, after_edits, StatesThose, IsOfReceive, HasWrittenForm}
 use Rattle.store.specs.declared.change.Change.{Change}
 use Rattle.store.specs.declared.change.Change.TheVariants as changes
-use Rattle.smpe_zones.specs.Kept.{kept}
-use Rattle.smpe_zones.specs.Own.{IsReceived}
-use Rattle.smpe_global.specs.Edits.{IsOfReceive}
-use Rattle.smpe_global.specs.External.{IsExternal}
+use Rattle.store.specs.Kept.{kept}
+use Rattle.store.specs.Own.{IsReceived}
+use Rattle.smpe_global.specs.Items.{IsOfPtfin, IsOfHoldFile}
 use Rattle.smpe_global.proofs.Fitting.{fits_append}
 use Rattle.smpe_global.proofs.Stating.{states_same}
+use Rattle.store_schema.specs.Forms.{HasHoldForms}
+use Rattle.machine_laws.proofs.PtfinForms.{IsItem, ptfin_formed}
 use Rattle.machine_laws.proofs.HoldFileForms.{IsHoldItem, hold_file_formed}
 use Rattle.machine_laws.proofs.ReceivingForms.{take_forms}
 use Rattle.smpe_session.specs.Received.{AreTaken}
 use Rattle.smpe_session.specs.Writing.{IsAtBoundary}
 use Rattle.smpe_session.proofs.Leading.{LeadsBy, leads_by, headed}
 
-external : (item : HoldItem) → IsHoldItem item → IsExternal item
-external (AHold h) is = is.1
-external (ARelease r) is = tt
+short : (h : Hold) → HasHoldForms h → HasShortComment h
+short h forms = IfSome_then h.comment forms.comment (λ text is. is.most)
 
--- The holds of a hold file, where it is read, are external.
-pub each_external : (reads : Bool) (bytes : List ℕ) (holds : List HoldItem) → HasItems IsHoldFile reads bytes holds
-    → All IsExternal holds
-each_external true bytes holds has = All-from_recursion IsExternal holds
-    (recursion_weaker IsHoldItem IsExternal external holds (hold_file_formed bytes holds has))
-each_external false bytes holds none = subst (All IsExternal) (sym none) (All-from_recursion IsExternal [] tt)
+of_ptfin : (item : Item) → IsItem item → IsOfPtfin item
+of_ptfin (ASysmod s) whole = All-from_recursion HasShortComment s.holds
+    (recursion_weaker HasHoldForms HasShortComment short s.holds whole.growing.held)
+of_ptfin (AnAssign a) is = tt
+
+of_hold_file : (item : HoldItem) → IsHoldItem item → IsOfHoldFile item
+of_hold_file (AHold h) is = (is.1, short h is.0)
+of_hold_file (ARelease r) is = tt
+
+-- A file that is not read has no items.
+each_item : {X : Type 0} (Is : List ℕ → List X → Type 0) (P Q : X → Type 0)
+    → ((bytes : List ℕ) (items : List X) → Is bytes items → AllByRecursion P items) → ((x : X) → P x → Q x)
+    → (reads : Bool) (bytes : List ℕ) (items : List X) → HasItems Is reads bytes items → All Q items
+each_item Is P Q formed weaker true bytes items has = All-from_recursion Q items
+    (recursion_weaker P Q weaker items (formed bytes items has))
+each_item Is P Q formed weaker false bytes items none = subst (All Q) (sym none) (All-from_recursion Q [] tt)
+
+pub each_of_ptfin : (reads : Bool) (bytes : List ℕ) (items : List Item) → HasItems IsPtfin reads bytes items
+    → All IsOfPtfin items
+each_of_ptfin = each_item IsPtfin IsItem IsOfPtfin ptfin_formed of_ptfin
+
+pub each_of_hold_file : (reads : Bool) (bytes : List ℕ) (holds : List HoldItem) → HasItems IsHoldFile reads bytes holds
+    → All IsOfHoldFile holds
+each_of_hold_file = each_item IsHoldFile IsHoldItem IsOfHoldFile hold_file_formed of_hold_file
 
 -- the items of PTFIN, and then those of the hold file
 pub both_taken : (source : Option Text) (items : List Item) (holds : List HoldItem) (g middle new : Global)
     (edits later all : List GlobalEdit) (first more lines : List Line)
-    → All IsOfReceive edits → All IsOfReceive later
+    → All IsOfReceive edits → All IsOfReceive later → All HasWrittenForm edits → All HasWrittenForm later
     → Runs (TakesItem source) g items middle first
     → ((stated : Global) → StatesThose stated middle → EachFits stated edits g)
     → ((stated : Global) → StatesThose stated middle → after_edits stated edits g ≡ middle)
@@ -55,8 +77,8 @@ pub both_taken : (source : Option Text) (items : List Item) (holds : List HoldIt
     → ((stated : Global) → StatesThose stated new → EachFits stated later middle)
     → ((stated : Global) → StatesThose stated new → after_edits stated later middle ≡ new)
     → all ≡ edits ++ later → lines ≡ first ++ more → AreTaken source items holds g new all lines
-both_taken source items holds g middle new edits later all first more lines own others runs fits after runs_holds stays
-    fits_holds after_holds all_are lines_are =
+both_taken source items holds g middle new edits later all first more lines own others form forms runs fits after
+    runs_holds stays fits_holds after_holds all_are lines_are =
     let itself = states_same new new refl in
     let there = after new stays in
     record {
@@ -67,6 +89,7 @@ both_taken source items holds g middle new edits later all first more lines own 
       runs_holds = runs_holds;
       lines_are = lines_are;
       receives = subst (All IsOfReceive) (sym all_are) (All-append IsOfReceive edits later own others);
+      written = subst (All HasWrittenForm) (sym all_are) (All-append HasWrittenForm edits later form forms);
       fits = subst (λ es. EachFits new es g) (sym all_are) (fits_append new g edits later (fits new stays)
           (subst (EachFits new later) (sym there) (fits_holds new itself)));
       after = ap (λ es. after_edits new es g) all_are ∙ fold-append (after_edit new) g edits later

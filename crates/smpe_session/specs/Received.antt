@@ -11,8 +11,7 @@ use Rattle.machine.specs.Machine.{Files, HasItems, Takes}
 use Rattle.report.specs.declared.outcome.Refusal.{Refusal}
 use Rattle.report.specs.Views.{refusal_view}
 use Rattle.sysmods.specs.declared.edit.GlobalEdit.{GlobalEdit}
-use Rattle.sysmods.specs.Edits.{EachFits, after_edits}
-use Rattle.smpe_global.specs.Edits.{IsOfReceive}
+use Rattle.sysmods.specs.Edits.{EachFits, after_edits, IsOfReceive, HasWrittenForm}
 
 -- The files have these items, or otherwise RECEIVE is refused in this way.
 abbrev pub HasFound : Files → ReceiveOperands → {V : Type 0} → (V → List Item) → (V → List HoldItem) → Result V Refusal
@@ -23,7 +22,7 @@ HasFound files what items holds (Err why) =
     (s : State) → Takes files s what s (Refused (header_of (Receive what) s.boundary) (refusal_view why))
 
 -- The items of PTFIN, and then those of the hold file, lead from g to new and print these lines. The edits are
--- RECEIVE's, and lead there too, since new has the statements of the SYSMODs.
+-- RECEIVE's, what they write has its form, and they lead there too, since new has the statements of the SYSMODs.
 pub record AreTaken (source : Option Text) (items : List Item) (holds : List HoldItem) (g new : Global)
     (edits : List GlobalEdit) (lines : List Line) : Type 0 where
   pub middle : Global
@@ -33,5 +32,6 @@ pub record AreTaken (source : Option Text) (items : List Item) (holds : List Hol
   pub runs_holds : Runs TakesHoldItem middle holds new more
   pub lines_are : lines ≡ first ++ more
   pub receives : All IsOfReceive edits
+  pub written : All HasWrittenForm edits
   pub fits : EachFits new edits g
   pub after : after_edits new edits g ≡ new

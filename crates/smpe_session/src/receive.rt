@@ -4,13 +4,13 @@ ghost use Rattle.terms.specs.Types.{Text, Receive};
 ghost use Rattle.terms.specs.Forms.{IsSource};
 ghost use Rattle.mcs.specs.Files.{items};
 ghost use Rattle.mcs.specs.HoldItems.{items as hold_items};
-ghost use Rattle.smpe_global.specs.External.{IsExternal};
+ghost use Rattle.smpe_global.specs.Items.{IsOfPtfin, IsOfHoldFile};
 ghost use Rattle.report.specs.Views.{line_view};
 ghost use Rattle.smpe_session.specs.Sessions.{IsSessionOf, HasPerformed};
 ghost use Rattle.smpe_session.specs.Received.{AreTaken};
 ghost use Rattle.smpe_session.specs.Uses.{UsesStore};
 ghost use Rattle.smpe_session.specs.Writing.{TellsOutcomeOf, TellsRun};
-ghost use Rattle.smpe_zones.specs.Own.{IsReceived};
+ghost use Rattle.store.specs.Own.{IsReceived};
 
 use crate::boundary::refusal_unless_global;
 use crate::commit::commit_change;
@@ -35,7 +35,8 @@ fn receive_found_items(
     found: ReceiveItems,
     source: Option<Source>,
 ) -> Result<GlobalChange, AllocError>
-    requires { All IsExternal (hold_items found.holds.items) }
+    requires items { All IsOfPtfin (items found.items.items) }
+    requires holds { All IsOfHoldFile (hold_items found.holds.items) }
     ensures form { IfSome source IsSource }
     ensures taken { IfOk result (λ t. AreTaken source (items found.items.items) (hold_items found.holds.items)
         global.old global.new t.edits.items (map line_view t.lines.items)) }

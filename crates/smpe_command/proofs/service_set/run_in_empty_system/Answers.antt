@@ -6,7 +6,7 @@ use Rattle.terms.specs.Types.{Text}
 use Rattle.terms.specs.declared.kinds.ZoneKind.TheVariants.{Target, Distribution}
 use Rattle.machine.specs.Machine as machine
 use Rattle.machine.specs.Machine.{NewZone, RunFiles}
-use Rattle.smpe_zones.specs.Definitions.{definition}
+use Rattle.smpe_jobs.specs.ZoneDefinitions.{definition}
 use Rattle.smpe_jobs.specs.Ending.{answer_of}
 use Rattle.smpe_command.specs.ServiceSet.{JobsInMemory}
 use Rattle.smpe_command.proofs.service_set.run_in_empty_system.Goals as goal
@@ -35,12 +35,13 @@ returns g c =
       empty,
       elim c.run_jobs_in_new_database.ensures [
         | inl unmade ↦ inl unmade
-        | inr (store, ended) ↦ inr (
-          store,
-          ended (memory_is_clean store) (λ clean is_open. inl (
+        | inr ran ↦ inr (
+          ran.0,
+          ran.1 (memory_is_clean ran.0) (λ clean is_open. inl (
             sym (ap (λ (db : Database). db.schema) empty.0.clean) ∙ empty.2,
             refl,
           )),
+          ran.2,
         )
       ],
     ) in

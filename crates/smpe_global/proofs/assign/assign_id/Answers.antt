@@ -7,7 +7,7 @@ use Rattle.report.specs.declared.outcome.ReportLine.TheVariants.{Status}
 use Rattle.report.specs.Views.{status_view}
 use Rattle.smpe_global.specs.Edits.{source_edits}
 use Rattle.sysmods.specs.Edits.{StatesThose}
-use Rattle.smpe_global.proofs.Sources.{assigned_written, sources_receive}
+use Rattle.smpe_global.proofs.Sources.{assigned_written, sources_receive, sources_written}
 use Rattle.smpe_global.proofs.Stating.{states_assigned}
 use Rattle.smpe_global.proofs.assign.assign_id.Goals as goal
 
@@ -23,7 +23,7 @@ returns c =
     let status = c.assign_status.result in
     record {
       own = source_edits o;
-      edits_are = c.in_ok-push_source_edit.ensures;
+      edits_are = c.in_ok-push_source_edit.ensures.edits;
       lines = Status x c.place_of-place.result status ∷ [];
       lines_are = c.in_ok-push.ensures.items;
       prints = (
@@ -34,6 +34,7 @@ returns c =
             ∙ ap (λ b. if b then Assigned source else Unknown) c.in_ok-received.ensures.received)),
       );
       receives = sources_receive o;
+      written = sources_written o c.in_ok-push_source_edit.ensures.form;
       stays = subst (λ n. StatesThose n g) (sym is) (states_assigned source g x);
       fits = λ stated states. (written stated o at).0;
       after = λ stated states. (written stated o at).1 ∙ sym is;

@@ -1,4 +1,4 @@
-use Rattle.std.proofs.Common.{◌∷◌, [], ◌∙◌, sym, ap, true≢false, if◌then◌else◌}
+use Rattle.std.proofs.Common.{◌∷◌, [], ◌∙◌, sym, ap, subst, true≢false, if◌then◌else◌}
 use Rattle.terms.specs.Types.{Hold, Global}
 use Rattle.terms.specs.Global.{is_replacing}
 use Rattle.machine.specs.Outcome.{StatusLine, OfHold, Held, Replaced}
@@ -6,14 +6,15 @@ use Rattle.report.specs.declared.outcome.ReportLine.TheVariants.{Status}
 use Rattle.report.specs.declared.outcome.Place.TheVariants as place
 use Rattle.sysmods.specs.declared.edit.GlobalEdit.TheVariants.{PutHold}
 use Rattle.std.proofs.lemmas.List.Elements.{All-nil, All-cons}
-use Rattle.smpe_global.specs.Edits.{IsOfReceive}
+use Rattle.terms.specs.HoldStatements.{HasShortComment}
+use Rattle.sysmods.specs.Edits.{IsOfReceive, HasWrittenForm}
 use Rattle.smpe_global.proofs.Fitting.{fits_one}
 use Rattle.smpe_global.proofs.Holds.{marked_written}
 use Rattle.smpe_global.proofs.Stating.{states_same}
 use Rattle.smpe_global.proofs.holddata.receive_hold.Goals as goal
 
 pub hold-requires : goal.hold-requires
-hold-requires c = λ internal. absurd (true≢false (sym internal ∙ c.requires))
+hold-requires c = λ internal. absurd (true≢false (sym internal ∙ c.requires.0))
 
 pub returns : goal.returns
 returns c =
@@ -35,6 +36,8 @@ returns c =
             c.hold.view_is),
       );
       receives = All-cons IsOfReceive (PutHold copy) [] tt (All-nil IsOfReceive);
+      written = All-cons HasWrittenForm (PutHold copy) []
+          (subst HasShortComment (sym c.in_ok-copy.ensures) c.requires.1) (All-nil HasWrittenForm);
       stays = states_same g c.hold-2.new.self (ap (λ (n : Global). n.sysmods) c.in_ok-placed.ensures.ok);
       fits = λ stated states. fits_one stated g (PutHold copy) tt;
       after = λ stated states. marked_written stated g h copy c.in_ok-copy.ensures ∙ sym c.in_ok-placed.ensures.ok;

@@ -3,11 +3,10 @@ use Rattle.std.specs.Vec.Iter.{into_iter_items}
 use Rattle.std.proofs.lemmas.List.{map-append}
 use Rattle.machine.specs.Runs.{Runs}
 use Rattle.machine.specs.Receiving.{TakesHoldItem}
-use Rattle.smpe_global.specs.External.{IsExternal}
+use Rattle.smpe_global.specs.Items.{IsOfHoldFile}
 use Rattle.mcs.specs.HoldItems.{item_of, items}
 use Rattle.smpe_global.specs.Taken.{IsTaken}
-use Rattle.smpe_global.proofs.Items.{none_taken, more_taken}
-use Rattle.smpe_global.proofs.Holds.{next_external}
+use Rattle.smpe_global.proofs.Items.{none_taken, more_taken, next_item}
 use Rattle.smpe_global.proofs.holddata.receive_hold_items.Goals as goal
 
 pub loop-item-init : goal.loop-item-init
@@ -22,7 +21,7 @@ receive_hold_item-requires c =
     let all : into_iter_items c.into_iter-item-iterator.result ≡ c.args.hold_items.items = search rules in
     let whole : at.yielded ++ x ∷ rest ≡ c.args.hold_items.items =
     ap (λ xs. at.yielded ++ xs) (sym steps) ∙ at.invariant.0 ∙ all in
-    next_external at.yielded rest x (subst (λ xs. All IsExternal (items xs)) (sym whole) c.requires)
+    next_item item_of IsOfHoldFile at.yielded rest x (subst (λ xs. All IsOfHoldFile (items xs)) (sym whole) c.requires)
 
 pub loop-item-preserved : goal.loop-item-preserved
 loop-item-preserved c =

@@ -34,6 +34,7 @@ returns c =
             (c.release_status.ensures new r refl ∙ ap (release_status r) (sym done.answers))),
       );
       receives = done.receives;
+      written = done.written;
       stays = done.stays;
       fits = λ stated states. done.fits stated;
       after = λ stated states. done.after stated;

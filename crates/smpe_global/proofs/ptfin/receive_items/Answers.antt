@@ -1,15 +1,27 @@
-use Rattle.std.proofs.Common.{◌≡◌, ◌∷◌, [], length, refl, sym, ap, ◌∙◌, subst, append_assoc, arith, rules}
+use Rattle.std.proofs.Common.{◌≡◌, ◌∷◌, ◌++◌, All, [], length, refl, sym, ap, ◌∙◌, subst, append_assoc, arith, rules}
 use Rattle.std.specs.Vec.Iter.{into_iter_items}
 use Rattle.std.proofs.lemmas.List.{map-append}
 use Rattle.machine.specs.Runs.{Runs}
 use Rattle.machine.specs.Receiving.{TakesItem}
 use Rattle.mcs.specs.Files.{item_of, items}
+use Rattle.smpe_global.specs.Items.{IsOfPtfin}
 use Rattle.smpe_global.specs.Taken.{IsTaken}
-use Rattle.smpe_global.proofs.Items.{none_taken, more_taken}
+use Rattle.smpe_global.proofs.Items.{none_taken, more_taken, next_item}
 use Rattle.smpe_global.proofs.ptfin.receive_items.Goals as goal
 
 pub loop-item-init : goal.loop-item-init
 loop-item-init c = (refl, none_taken (TakesItem c.args.source.now) c.args.global.now c.args.change.now, search rules)
+
+pub receive_item-requires : goal.receive_item-requires
+receive_item-requires c =
+    let at = c.loop-item in
+    let x = c.in-Some.item in
+    let rest = into_iter_items c.next.new.self in
+    let steps : into_iter_items at.item-iterator ≡ x ∷ rest = c.in-Some.ensures.steps.0 in
+    let all : into_iter_items c.into_iter-item-iterator.result ≡ c.args.ptfin_items.items = search rules in
+    let whole : at.yielded ++ x ∷ rest ≡ c.args.ptfin_items.items =
+    ap (λ xs. at.yielded ++ xs) (sym steps) ∙ at.invariant.0 ∙ all in
+    next_item item_of IsOfPtfin at.yielded rest x (subst (λ xs. All IsOfPtfin (items xs)) (sym whole) c.requires)
 
 pub loop-item-preserved : goal.loop-item-preserved
 loop-item-preserved c =

@@ -1,7 +1,9 @@
-use Rattle.std.proofs.Common.{◌≡◌, ◌∙◌, ◌++◌, List, Option, None, Result, Ok, Err, Some, OnOk, refl, sym, ap, subst}
+use Rattle.std.proofs.Common.{◌≡◌, ◌∙◌, ◌++◌, List, Option, None, Result, Ok, Err, Some, OnOk, All, refl, sym, ap}
+use Rattle.std.proofs.Common.{subst}
 use Rattle.std.specs.Prelude.{is_ok, IfErr, OnErr, option_map, if◌then◌else◌}
 use Rattle.std.proofs.lemmas.Option.{same_Some}
 use Rattle.std.proofs.lemmas.Result.{on_ok_weaker}
+use Rattle.terms.specs.Forms.{IsSource}
 use Rattle.terms.specs.Types.{Text, Sysmod, Global}
 use Rattle.terms.specs.Global.{IsSysmod, Receives}
 use Rattle.machine.specs.Outcome.{OfKind, Received, StatusLine, Status as OutcomeStatus}
@@ -57,6 +59,7 @@ returns-in-Ok c =
     sysmod_taken c.args.source.now g new c.args.sysmod (line p) c.args.change.now now c.in_ok-push.ensures.items own
     (subst (λ s. AreEditsOf s own) c.in_ok-sysmod.ensures c.in_ok-edits.ensures) written
     (subst IsSysmod (c.sysmod.view_is ∙ c.in_ok-sysmod.ensures) c.sysmod.invariant)
+    (subst (λ (s : Sysmod). All IsSource s.sources) c.in_ok-sysmod.ensures c.attest_sources.ensures) c.requires
     (printed p ∙ ap (StatusLine c.args.sysmod.id (OfKind c.args.sysmod.kind)) (sym (same_Some Received status told)))
     came)
     (appended c.append.result c.append.new.self.items c.args.change.now.edits.items own c.append.ensures.items)

@@ -14,6 +14,7 @@ returns-clause-taken c =
     _ first.edits.items more.edits.items c.append.new.self.items
     (map line_view first.lines.items) (map line_view more.lines.items) (map line_view c.append-2.new.self.items)
     c.in_ok-edits.ensures.receives c.in_ok-from_holds.ensures.receives
+    c.in_ok-edits.ensures.written c.in_ok-from_holds.ensures.written
     c.in_ok-edits.ensures.runs c.in_ok-edits.ensures.fits c.in_ok-edits.ensures.edits c.in_ok-from_holds.ensures.runs
     c.in_ok-from_holds.ensures.stays c.in_ok-from_holds.ensures.fits c.in_ok-from_holds.ensures.edits
     c.in_ok-append.ensures.items (ap (map line_view) c.in_ok-append-2.ensures.items

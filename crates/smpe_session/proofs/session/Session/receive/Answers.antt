@@ -6,11 +6,12 @@ use Rattle.mcs.specs.Files.{items}
 use Rattle.mcs.specs.HoldItems.{items as hold_items}
 use Rattle.report.specs.Views.{line_view}
 use Rattle.store.specs.declared.change.Change.TheVariants as Change
-use Rattle.smpe_zones.specs.Own.{IsReceived}
+use Rattle.store.specs.Own.{IsReceived}
 use Rattle.smpe_session.specs.Writing.{TellsOutcomeOf, TellsRun}
 use Rattle.smpe_session.proofs.Leading.{led, refused, stated_in}
 use Rattle.smpe_session.proofs.Places.{receive_at}
-use Rattle.smpe_session.proofs.Received.{each_external, received, received_here, take_faulty}
+use Rattle.smpe_session.proofs.Received.{each_of_ptfin, each_of_hold_file, received, received_here}
+use Rattle.smpe_session.proofs.Received.{take_faulty}
 use Rattle.smpe_session.proofs.Stepping.{stopped}
 use Rattle.smpe_session.proofs.Using.{nothing, answered, ran_short, weaker}
 use Rattle.smpe_session.proofs.session.Session.receive.Goals as goal
@@ -38,8 +39,12 @@ returns-in-Err-clause-uses g c = answered nothing (λ own none. absurd none) (λ
   keeps,
 ))
 
-pub receive_found_items-requires : goal.receive_found_items-requires
-receive_found_items-requires g c = each_external c.args.what.now.holddata c.args.files.now.holds
+pub receive_found_items-requires-clause-items : goal.receive_found_items-requires-clause-items
+receive_found_items-requires-clause-items g c = each_of_ptfin c.args.what.now.sysmods c.args.files.now.ptfin
+    (items c.in-Ok.found.items.items) (rw c.in-Ok.is at c.in_ok-found.ensures).0
+
+pub receive_found_items-requires-clause-holds : goal.receive_found_items-requires-clause-holds
+receive_found_items-requires-clause-holds g c = each_of_hold_file c.args.what.now.holddata c.args.files.now.holds
     (hold_items c.in-Ok.found.holds.items) (rw c.in-Ok.is at c.in_ok-found.ensures).1
 
 pub returns-in_err-edits-clause-uses : goal.returns-in_err-edits-clause-uses
@@ -58,7 +63,8 @@ returns-clause-uses g c =
     search rules in
     rw stays (weaker c.commit_change.ensures.uses
     (λ change is.
-    let own = subst IsReceived (sym is) c.in_ok-edits.ensures.taken.receives in (
+    let taken = c.in_ok-edits.ensures.taken in
+    let own = subst IsReceived (sym is) (taken.receives, taken.written) in (
       own,
       IfOk-weaker c.commit_change.result _ (TellsRun change) (λ told same. subst (TellsRun change) (sym same)
           (received_here change _ own (c.in_default.ensures.global refl))) c.commit_change.ensures.answer,
@@ -79,7 +85,8 @@ returns-clause-uses g c =
     c.in_ok-lines.ensures in
     led g.S.Store c.args.store.now c.commit_change.new.store date files (Receive what) s at.boundary at
     (record at { global = new }) taken.edits.items lines _ is.boundary is refl refl leads
-    (Change.Global (stated_in c.commit_change.ensures.uses) taken.edits) c.in_ok-edits.ensures.taken.receives tt
+    (Change.Global (stated_in c.commit_change.ensures.uses) taken.edits)
+    (c.in_ok-edits.ensures.taken.receives, c.in_ok-edits.ensures.taken.written) tt
     (leads.fits, leads.makes) c.commit_change.result
     (ended (record s { global = new }) (leads.fits, leads.makes) leads.inventory) refl))
 
