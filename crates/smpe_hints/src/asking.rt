@@ -52,11 +52,7 @@ pub(crate) fn texts<D: Database>(
 }
 
 /// The column of a row, or no text if the row has not that many.
-pub(crate) fn column(
-    alloc: Global,
-    row: &Vec<String>,
-    place: usize,
-) -> Result<String, AllocError> {
+pub(crate) fn column(alloc: Global, row: &Vec<String>, place: usize) -> Result<String, AllocError> {
     match row.get(place) {
         Some(text) => String::from_str(alloc, text.as_str()),
         None => Ok(String::new(alloc)),
@@ -69,7 +65,12 @@ pub(crate) fn is_received<D: Database>(
     database: &mut D,
     id: &str,
 ) -> Result<bool, AllocError> {
-    let found = texts(alloc, database, "SELECT id FROM sysmod WHERE id = ?1", &[id])?;
+    let found = texts(
+        alloc,
+        database,
+        "SELECT id FROM sysmod WHERE id = ?1",
+        &[id],
+    )?;
     Ok(!found.is_empty())
 }
 

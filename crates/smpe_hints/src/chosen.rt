@@ -69,8 +69,8 @@ fn open_text<D: Database>(
     selection: &Selection,
     database: &mut D,
 ) -> Result<String, AllocError> {
-    let takes_ptfs =
-        selection.ptfs || !(selection.functions || selection.apars || selection.usermods);
+    let takes_ptfs = selection.ptfs
+        || !(selection.functions || selection.apars || selection.usermods);
     let mut open = String::new(alloc);
     for (kind, operand, is_taken) in [
         ("FUNCTION", "FUNCTIONS", selection.functions),

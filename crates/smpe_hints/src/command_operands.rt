@@ -24,10 +24,7 @@ pub(crate) fn command_operand_hint(
 }
 
 // The hint about the first operand or value that is at fault by itself.
-fn wrong_word_hint(
-    alloc: Global,
-    card_words: &CardWords,
-) -> Result<Option<String>, AllocError> {
+fn wrong_word_hint(alloc: Global, card_words: &CardWords) -> Result<Option<String>, AllocError> {
     for word in card_words.words.iter().skip(1) {
         let operand = word.operand.as_str();
         let hint = match &word.value {

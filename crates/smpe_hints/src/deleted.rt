@@ -63,7 +63,11 @@ fn usermods_text(alloc: Global, usermods: &[String]) -> Result<String, AllocErro
     if usermods.is_empty() {
         return Ok(String::new(alloc));
     }
-    let word = if usermods.len() == 1 { "USERMOD" } else { "USERMODs" };
+    let word = if usermods.len() == 1 {
+        "USERMOD"
+    } else {
+        "USERMODs"
+    };
     let list = listed(alloc, usermods, MOST_NAMED)?;
     let list = list.as_str();
     format!(in alloc; "{word} {list} and ")
@@ -91,7 +95,9 @@ fn service_of<D: Database>(
         };
         let function = String::from_str(alloc, function.as_str())?;
         if is_applied(alloc, database, zone, function.as_str())? == is_check {
-            service.functions.push(String::from_str(alloc, function.as_str())?)?;
+            service
+                .functions
+                .push(String::from_str(alloc, function.as_str())?)?;
         }
         for row in service_rows(database, zone, srel, function.as_str())? {
             let (id, kind) = (column(alloc, &row, 0)?, column(alloc, &row, 1)?);

@@ -117,10 +117,7 @@ fn unknown_command_hint(alloc: Global, name: &str) -> Result<Option<String>, All
 // The hint about a word that is no statement.
 fn unknown_statement_hint(alloc: Global, name: &str) -> Result<Option<String>, AllocError> {
     if name == "++" {
-        return Ok(Some(String::from_str(
-            alloc,
-            "no blank may follow ++, as in ++VER",
-        )?));
+        return Ok(Some(String::from_str(alloc, "no blank may follow ++, as in ++VER")?));
     }
     if is_foreign_statement(name) {
         return Ok(Some(format!(in alloc;

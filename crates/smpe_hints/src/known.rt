@@ -19,7 +19,13 @@ pub(crate) fn selection_hints<D: Database>(
         let known = texts(alloc, database, select, &[])?;
         for source in selection.sourceid.iter() {
             let missing = "no received SYSMOD has source";
-            add_if_unknown(alloc, missing, source.as_bytes(), known.as_slice(), warnings)?;
+            add_if_unknown(
+                alloc,
+                missing,
+                source.as_bytes(),
+                known.as_slice(),
+                warnings,
+            )?;
         }
     }
     if !selection.forfmid.is_empty() {
@@ -28,7 +34,13 @@ pub(crate) fn selection_hints<D: Database>(
         let known = texts(alloc, database, select, &[])?;
         for function in selection.forfmid.iter() {
             let missing = "no received SYSMOD is or belongs to function";
-            add_if_unknown(alloc, missing, function.as_bytes(), known.as_slice(), warnings)?;
+            add_if_unknown(
+                alloc,
+                missing,
+                function.as_bytes(),
+                known.as_slice(),
+                warnings,
+            )?;
         }
     }
     Ok(())

@@ -56,7 +56,9 @@ fn empty_list(card_words: &CardWords) -> Option<&str> {
 // Whether the word, the command's or statement's own or an operand of it, has a list.
 fn needs_list(name: &str, operand: &str) -> bool {
     if operand == name {
-        return is_header(name) || is_element(name) || matches!(name, "++VER" | "++HOLD" | "++RELEASE");
+        return is_header(name)
+            || is_element(name)
+            || matches!(name, "++VER" | "++HOLD" | "++RELEASE");
     }
     let is_own = operands_of(name).is_some_and(|own| own.iter().any(|other| *other == operand));
     is_own && !is_flag(operand) && operand != "COMMENT"
@@ -135,9 +137,7 @@ pub(crate) fn repeated_operand_hint(
 
 // Whether the operand is among these words, without a value.
 fn has_flag(words: &[CardWord], operand: &str) -> bool {
-    words
-        .iter()
-        .any(|word| word.value.is_none() && word.operand.as_str() == operand)
+    words.iter().any(|word| word.value.is_none() && word.operand.as_str() == operand)
 }
 
 // The form of the values of this word, which is an operand or begins a statement; `None` if they have several forms.

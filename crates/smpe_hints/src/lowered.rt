@@ -31,7 +31,11 @@ pub(crate) fn lowered_hints<D: Database>(
             let is_newer = below.iter().any(|own| own.as_str() == id);
             let level = level.as_str();
             let verb = if is_check { "would put" } else { "has put" };
-            let relation = if is_newer { "which is newer" } else { "which it does not name" };
+            let relation = if is_newer {
+                "which is newer"
+            } else {
+                "which it does not name"
+            };
             lines.push(format!(in alloc;
                 "BYPASS(ID): {id} {verb} its {kind} {name} over that of {level}, {relation}"
             )?)?;

@@ -98,12 +98,7 @@ fn extra_card_hint(
 }
 
 // The hint about a statement of PTFIN that is not in order.
-fn order_hint(
-    alloc: Global,
-    file: &[u8],
-    record: usize,
-    name: &str,
-) -> Result<String, AllocError> {
+fn order_hint(alloc: Global, file: &[u8], record: usize, name: &str) -> Result<String, AllocError> {
     if is_header(name) {
         return format!(in alloc; "{name} has no ++VER after it: is the file cut off?");
     }
@@ -113,7 +108,9 @@ fn order_hint(
         return format!(in alloc; "{name} has no header before it, as ++PTF(UA00001).");
     }
     if is_update(name) && header_before(alloc, file, record)?.name() == "++FUNCTION" {
-        return format!(in alloc; "{name} may not be in a ++FUNCTION: a function has whole elements");
+        return format!(in alloc;
+            "{name} may not be in a ++FUNCTION: a function has whole elements"
+        );
     }
     if rank(before) > rank(name) {
         return format!(in alloc;
@@ -173,7 +170,11 @@ pub(crate) fn header_before(
 // The last record before this one in which a statement begins, or a header if only these count; counted from 1.
 fn last_statement_before(file: &[u8], record: usize, is_for_header: bool) -> Option<usize> {
     let mut last = None;
-    for (count, card) in file.chunks(RECORD).take(record.saturating_sub(1)).enumerate() {
+    for (count, card) in file
+        .chunks(RECORD)
+        .take(record.saturating_sub(1))
+        .enumerate()
+    {
         if card.starts_with(b"++") && (!is_for_header || begins_header(card)) {
             last = count.checked_add(1);
         }

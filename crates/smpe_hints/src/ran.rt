@@ -71,7 +71,12 @@ impl RanCommands {
     }
 
     /// Follows the header of a command. LIST and REPORT are not kept unless they are refused.
-    pub(crate) fn begin(&mut self, word: &str, zone: &str, is_check: bool) -> Result<(), AllocError> {
+    pub(crate) fn begin(
+        &mut self,
+        word: &str,
+        zone: &str,
+        is_check: bool,
+    ) -> Result<(), AllocError> {
         let place = self.begun;
         self.begun = self.begun.saturating_add(1);
         self.is_kept = !matches!(word, "LIST" | "SET");
@@ -111,7 +116,9 @@ impl RanCommands {
             command.is_nothing = true;
         } else if line.starts_with("  NEED FMID ") {
             let function = String::from_str(alloc, third)?;
-            if command.lacking.len() < MOST_FUNCTIONS && !command.lacking.as_slice().contains(&function) {
+            if command.lacking.len() < MOST_FUNCTIONS
+                && !command.lacking.as_slice().contains(&function)
+            {
                 command.lacking.push(function)?;
             }
         } else if !line.starts_with(" ") && !third.is_empty() && has_room {

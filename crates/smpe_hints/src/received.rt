@@ -23,9 +23,10 @@ pub(crate) fn receive_hints<D: Database>(
     if !ran.refusal.is_empty() {
         return Ok(());
     }
-    for (is_read, option, operand) in
-        [(asked.sysmods, "--ptfin", "SYSMODS"), (asked.holddata, "--hold", "HOLDDATA")]
-    {
+    for (is_read, option, operand) in [
+        (asked.sysmods, "--ptfin", "SYSMODS"),
+        (asked.holddata, "--hold", "HOLDDATA"),
+    ] {
         if let Some(hint) = file_hint(view, ran, is_read, option, operand)? {
             warnings.push(hint)?;
         }
@@ -63,9 +64,9 @@ fn file_hint(
         Some(name) if is_read && ran.is_nothing => {
             Ok(Some(format!(in view.alloc; "{name} has no statement")?))
         }
-        Some(name) if !is_read && !is_read_elsewhere(view, operand) => Ok(Some(format!(in view.alloc;
-            "{option} {name} is not read: no RECEIVE has {operand}"
-        )?)),
+        Some(name) if !is_read && !is_read_elsewhere(view, operand) => Ok(Some(
+            format!(in view.alloc; "{option} {name} is not read: no RECEIVE has {operand}")?,
+        )),
         _ => Ok(None),
     }
 }

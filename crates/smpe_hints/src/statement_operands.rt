@@ -33,10 +33,7 @@ pub(crate) fn statement_operand_hint(
 }
 
 // The hint about the first operand or value that is at fault by itself.
-fn wrong_word_hint(
-    alloc: Global,
-    card_words: &CardWords,
-) -> Result<Option<String>, AllocError> {
+fn wrong_word_hint(alloc: Global, card_words: &CardWords) -> Result<Option<String>, AllocError> {
     let name = card_words.name();
     for word in &card_words.words {
         let operand = word.operand.as_str();
@@ -143,7 +140,11 @@ fn ver_hint(
             "++VER lacks FMID: {name} is service, and belongs to a function, as FMID(HAA1100)"
         )?));
     }
-    let operand = if card_words.has_operand("NPRE") { "NPRE" } else { "DELETE" };
+    let operand = if card_words.has_operand("NPRE") {
+        "NPRE"
+    } else {
+        "DELETE"
+    };
     Ok(Some(format!(in alloc; "{operand} is for ++FUNCTION, not for {name}")?))
 }
 
@@ -164,8 +165,9 @@ fn hold_hint(
     card_words: &CardWords,
 ) -> Result<Option<String>, AllocError> {
     let name = card_words.name();
-    let has_kind =
-        ["ERROR", "SYSTEM", "USER"].iter().any(|kind| card_words.has_operand(kind));
+    let has_kind = ["ERROR", "SYSTEM", "USER"]
+        .iter()
+        .any(|kind| card_words.has_operand(kind));
     let fault = if !has_kind {
         "lacks its kind: ERROR, SYSTEM or USER"
     } else if option == "--ptfin" {

@@ -23,7 +23,11 @@ pub(crate) fn text_hint(
             "record {first} after it should be ./ CHANGE NAME=, with the name of the element"
         )?));
     }
-    let rest = if is_update(name) { first.saturating_add(1) } else { first };
+    let rest = if is_update(name) {
+        first.saturating_add(1)
+    } else {
+        first
+    };
     match bad_text_card(file, rest, is_update(name)) {
         Some((place, fault)) => Ok(Some(format!(in alloc; "record {place} of its text {fault}")?)),
         None => Ok(None),
@@ -33,14 +37,21 @@ pub(crate) fn text_hint(
 // The first card at fault of a text that goes on in this record, and what is wrong with it.
 fn bad_text_card(file: &[u8], first: usize, is_update: bool) -> Option<(usize, &'static str)> {
     let mut last = 0usize;
-    for (count, card) in file.chunks(RECORD).skip(first.saturating_sub(1)).enumerate() {
+    for (count, card) in file
+        .chunks(RECORD)
+        .skip(first.saturating_sub(1))
+        .enumerate()
+    {
         let place = first.saturating_add(count);
         if card.starts_with(b"++") {
             return None;
         }
         if is_update && card.starts_with(b"./") {
             if !card.starts_with(b"./ DELETE") {
-                return Some((place, "has another word than DELETE; smpe-intake drops ./ ENDUP"));
+                return Some((
+                    place,
+                    "has another word than DELETE; smpe-intake drops ./ ENDUP",
+                ));
             }
             continue;
         }

@@ -1,8 +1,9 @@
 //! The words of commands and statements: those that exist here, those that only SMP/E has, and which are alike.
 
 /// The commands.
-const COMMANDS: &[&str] =
-    &["SET", "RECEIVE", "REJECT", "APPLY", "ACCEPT", "RESTORE", "LIST", "REPORT"];
+const COMMANDS: &[&str] = &[
+    "SET", "RECEIVE", "REJECT", "APPLY", "ACCEPT", "RESTORE", "LIST", "REPORT",
+];
 
 /// The statements.
 const STATEMENTS: &[&str] = &[
@@ -176,7 +177,8 @@ pub(crate) fn counterpart(word: &str) -> Option<&'static str> {
 pub(crate) fn is_foreign_operand(word: &str) -> bool {
     matches!(
         word,
-        "OPTIONS" | "RETRY"
+        "OPTIONS"
+            | "RETRY"
             | "COMPRESS"
             | "C"
             | "RC"
@@ -209,7 +211,8 @@ pub(crate) fn is_foreign_operand(word: &str) -> bool {
 pub(crate) fn is_foreign_statement_operand(word: &str) -> bool {
     matches!(
         word,
-        "REWORK" | "DESC"
+        "REWORK"
+            | "DESC"
             | "FESN"
             | "FILES"
             | "RFDSNPFX"
@@ -244,7 +247,8 @@ pub(crate) fn is_foreign_statement_operand(word: &str) -> bool {
 pub(crate) fn is_foreign_statement(word: &str) -> bool {
     matches!(
         word,
-        "++MOD" | "++ZAP"
+        "++MOD"
+            | "++ZAP"
             | "++JCLIN"
             | "++PROGRAM"
             | "++JAR"
@@ -269,7 +273,8 @@ pub(crate) fn is_foreign_statement(word: &str) -> bool {
 pub(crate) fn is_foreign_command(word: &str) -> bool {
     matches!(
         word,
-        "UCLIN" | "ENDUCL"
+        "UCLIN"
+            | "ENDUCL"
             | "JCLIN"
             | "LINK"
             | "RESETRC"
@@ -333,10 +338,13 @@ pub(crate) fn are_alike(one: &[u8], other: &[u8]) -> bool {
     let shorter = one.len().min(other.len());
     let end = common_end(one, other).min(shorter.saturating_sub(start));
     let one_middle = one.get(start..one.len().saturating_sub(end)).unwrap_or(b"");
-    let other_middle = other.get(start..other.len().saturating_sub(end)).unwrap_or(b"");
+    let other_middle = other
+        .get(start..other.len().saturating_sub(end))
+        .unwrap_or(b"");
     match (one_middle.len(), other_middle.len()) {
         (0, 0) | (0, 1) | (1, 0) | (1, 1) => shorter > 1,
-        (2, 2) => one_middle.first() == other_middle.last() && one_middle.last() == other_middle.first(),
+        (2, 2) => one_middle.first() == other_middle.last()
+            && one_middle.last() == other_middle.first(),
         _ => false,
     }
 }

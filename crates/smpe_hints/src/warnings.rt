@@ -57,7 +57,10 @@ pub(crate) fn run_warnings<D: Database>(
     };
     for zone in &zones {
         if has_installed_in(ran, zone.name.as_str()) {
-            push_if_any(earlier_date_hint(&view, zone.name.as_str(), database)?, &mut warnings)?;
+            push_if_any(
+                earlier_date_hint(&view, zone.name.as_str(), database)?,
+                &mut warnings,
+            )?;
         }
     }
     for command in ran.iter().take(MOST_COMMANDS) {
@@ -73,7 +76,9 @@ pub(crate) fn run_warnings<D: Database>(
 // Whether a command has installed something in the zone, or would have with CHECK.
 fn has_installed_in(ran: &[RanCommand], zone: &str) -> bool {
     for command in ran {
-        if command.zone.as_str() == zone && command.lines.iter().any(|line| command.installs(line)) {
+        if command.zone.as_str() == zone
+            && command.lines.iter().any(|line| command.installs(line))
+        {
             return true;
         }
     }
@@ -103,11 +108,10 @@ fn command_warnings<D: Database>(
                 }
             }
         }
-        Some(Command::Apply(install)) | Some(Command::Accept(install))
-            if ran.refusal.is_empty() =>
-        {
-            install_hints(view, ran, install, database, &mut warnings)?;
-        }
+        Some(Command::Apply(install)) | Some(Command::Accept(install)) if ran.refusal.is_empty() =>
+            {
+                install_hints(view, ran, install, database, &mut warnings)?;
+            }
         _ => {}
     }
     Ok(warnings)
@@ -176,7 +180,10 @@ fn install_hints<D: Database>(
         }
     }
     if ran.is_nothing {
-        push_if_any(nothing_hint(view, ran, &install.selection, database)?, warnings)?;
+        push_if_any(
+            nothing_hint(view, ran, &install.selection, database)?,
+            warnings,
+        )?;
     }
     push_if_any(lacking_hint(view, ran, &install.selection)?, warnings)?;
     installed_hints(view, ran, install, database, warnings)

@@ -127,7 +127,11 @@ impl CardWords {
                 self.add_byte(byte)?;
             }
         }
-        if self.is_done { Ok(()) } else { self.add_byte(b' ') }
+        if self.is_done {
+            Ok(())
+        } else {
+            self.add_byte(b' ')
+        }
     }
 
     // Passes over a byte after the period, where only blanks, commas and comments may be.
@@ -265,7 +269,10 @@ impl CardWords {
 
     /// Whether the words have this operand, with or without a value.
     pub(crate) fn has_operand(&self, operand: &str) -> bool {
-        self.words.iter().skip(1).any(|word| word.operand.as_str() == operand)
+        self.words
+            .iter()
+            .skip(1)
+            .any(|word| word.operand.as_str() == operand)
     }
 
     /// Whether this is a SET of the zone.
