@@ -1,6 +1,7 @@
 //! The summary of a run, which is printed.
 
 use crate::options::IntakeOptions;
+use crate::shown::append_shown;
 use crate::summary_json::json_summary;
 use intake_cards::{Deed, Remark, RemarkList, RemarkReason};
 use intake_carry::{Narrowed, Tally};
@@ -151,10 +152,10 @@ fn append_left_out_line(
 ) -> Result<(), AllocError> {
     lines.extend_from_slice(b"LEFTOUT ")?;
     if cause.statement != remark.statement || cause.id != remark.id {
-        lines.extend_from_slice(&remark.subject_text(alloc)?)?;
+        append_shown(lines, &remark.subject_text(alloc)?)?;
         lines.extend_from_slice(b": ")?;
     }
-    lines.extend_from_slice(cause_text(alloc, cause)?.trim_ascii_end())?;
+    append_shown(lines, cause_text(alloc, cause)?.trim_ascii_end())?;
     lines.push(b'\n')?;
     Ok(())
 }
@@ -212,7 +213,7 @@ pub fn command_summary(
 pub fn refused_command_summary(alloc: Global, remarks: &RemarkList) -> Result<Vec<u8>, AllocError> {
     let mut lines = Vec::from_slice(
         alloc,
-        b"COMMAND none is written: see what is refused in cntl.remarks\n",
+        b"COMMAND none is written: standard error says what is refused\n",
     )?;
     append_remark_counts(alloc, remarks, &mut lines)?;
     Ok(lines)
