@@ -267,6 +267,8 @@ pub struct SwallowedStatement {
 #[derive(Drop)]
 pub struct WideFile {
     pub sysmods: Vec<WideSysmod>,
+    /// Where the holds outside SYSMODs begin, in order, except those of FIXCAT.
+    pub held: Vec<CardPlace>,
     pub releases: Vec<WideRelease>,
     pub assigns: Vec<WideAssign>,
     /// `++FEATURE`, `++PRODUCT` and `++NULL`, wherever they stand, and each `++HOLD`, `++RELEASE` and `++ASSIGN` that

@@ -20,9 +20,9 @@ enum CardPart {
     Inline,
 }
 
-/// Reads the statements of a file's cards, which it is given one after the other.
+/// Reads the statements of a file's cards, which it is given one after the other, and keeps the last hold.
 #[derive(Drop)]
-pub struct WideReader {
+pub(crate) struct StatementReader {
     alloc: Global,
     scanner: CardScanner,
     part: CardPart,
@@ -90,10 +90,10 @@ fn may_be_followed_by_text(pieces: &[CardPiece]) -> bool {
     words.next().is_some_and(may_have_inline_text) && !words.any(excludes_inline_text)
 }
 
-impl WideReader {
+impl StatementReader {
     /// A reader that has read no card.
-    pub fn new(alloc: Global) -> WideReader {
-        WideReader {
+    pub(crate) fn new(alloc: Global) -> StatementReader {
+        StatementReader {
             alloc,
             scanner: CardScanner::new(alloc),
             part: CardPart::Before,
@@ -227,14 +227,14 @@ impl WideReader {
     /// Reads the next card. If this ends a hold outside SYSMODs, hands out that hold. Returns `NoStatement` if more
     /// than blanks and comments precedes the first statement, and `Statement` if a statement that belongs to a SYSMOD,
     /// or that is not known, precedes the first SYSMOD.
-    pub fn read_card(&mut self, card: &Card) -> Result<Option<WideHold>, WideError> {
+    pub(crate) fn read_card(&mut self, card: &Card) -> Result<Option<WideHold>, WideError> {
         self.add_card(card)?;
         Ok(self.gathered.take_hold())
     }
 
     /// Ends the last statement, and hands it out if it is a hold outside SYSMODs. Returns `OpenComment` if a comment is
     /// open after the last card.
-    pub fn read_end(&mut self) -> Result<Option<WideHold>, WideError> {
+    pub(crate) fn read_end(&mut self) -> Result<Option<WideHold>, WideError> {
         if let Open::Comment(place) = self.scanner.open() {
             return Err(WideError::OpenComment { place });
         }
@@ -242,8 +242,8 @@ impl WideReader {
         Ok(self.gathered.take_hold())
     }
 
-    /// All statements but the holds that `read_card` and `read_end` handed out. Call it after `read_end`.
-    pub fn into_file(self) -> Result<WideFile, WideError> {
+    /// All statements but the holds that `read_card` and `read_end` handed out.
+    pub(crate) fn into_file(self) -> Result<WideFile, WideError> {
         self.gathered.into_file()
     }
 }
