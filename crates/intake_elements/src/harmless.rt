@@ -13,7 +13,7 @@ ghost use Rattle.intake_elements.specs.Elements.{
 
 use crate::options::Options;
 use intake_cards::{RemarkReason, Remarks, Subject};
-use intake_read::{FaultyOperand, WideElement, WideOperand};
+use intake_read::{FaultyOperand, WideElement, WideOperand, fault_reason};
 use std::alloc::{AllocError, Global};
 
 // Whether the operand decides nothing about an element that has a text.
@@ -172,8 +172,8 @@ fn tell_module_faults(
     for entry in element.faulty.iter() {
         let name = entry.operand.name.as_slice();
         if is_module_operand(name) {
-            let reason = RemarkReason::from(entry.reason);
-            remarks.tell_left_out(alloc, subject, name, reason, entry.operand.text())?;
+            let text = entry.operand.text();
+            remarks.tell_left_out(alloc, subject, name, fault_reason(entry), text)?;
         }
     }
     Ok(())

@@ -18,5 +18,6 @@ pub use changes::change_of;
 pub use harmless::{are_both, lacks_nothing};
 pub use modules::{keys_of, modules_of};
 pub use options::{Options, RelfileMember, Syslib};
+pub use stand_in_names::change_key;
 pub use stand_ins::module_change;
 pub use subjects::element_subject;

@@ -194,6 +194,9 @@ pub enum OtherReason {
     /// The next statement, or the end of the file, comes before its period.
     #[error("its period is missing")]
     NoPeriod,
+    /// Its period stands in columns 73 to 80, which are not read.
+    #[error("its period stands behind column 72")]
+    LatePeriod,
     /// A parenthesis is open at the next statement, or at the end of the file.
     #[error("a parenthesis is open")]
     OpenParenthesis,

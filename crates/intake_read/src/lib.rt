@@ -24,4 +24,4 @@ pub use items::{
 };
 pub use operands::list_members;
 pub use reader::WideReader;
-pub use remarks::{missing_word, tell_dropped_operands, tell_faulty_operands};
+pub use remarks::{fault_reason, missing_word, tell_dropped_operands, tell_faulty_operands};

@@ -30,6 +30,8 @@ pub(crate) struct StatementReader {
     place: CardPlace,
     /// Whether a card of the statement's own text is cut at column 80, outside comments.
     is_cut: bool,
+    /// Whether columns 73 to 80 of such a card have a period, which is not read.
+    has_late_period: bool,
     /// The statement, once its period has been read.
     whole: Option<WideStatement>,
     gathered: FileSoFar,
@@ -56,7 +58,7 @@ fn swallowed_statement(
     comment: CardPlace,
     card: &Card,
 ) -> Result<SwallowedStatement, AllocError> {
-    let text = card.columns_after_plus_signs();
+    let text = card.columns_after_plus_signs().trim_ascii_start();
     Ok(SwallowedStatement {
         place: card.place,
         comment,
@@ -99,6 +101,7 @@ impl StatementReader {
             part: CardPart::Before,
             place: CardPlace { file: 0, card: 0 },
             is_cut: false,
+            has_late_period: false,
             whole: None,
             gathered: FileSoFar::new(alloc),
         }
@@ -142,8 +145,9 @@ impl StatementReader {
         self.end_statement()?;
         self.part = CardPart::Own;
         self.place = card.place;
-        self.note_tail(card)?;
         self.is_cut = false;
+        self.has_late_period = false;
+        self.note_tail(card)?;
         self.scanner
             .scan_columns(card.place, card.columns_after_plus_signs())?;
         self.end_card(card);
@@ -161,9 +165,10 @@ impl StatementReader {
         }
     }
 
-    // Notes columns 73 to 80 if they hold more than digits and blanks.
+    // Notes columns 73 to 80 if they hold more than digits and blanks, and whether they hold a period.
     fn note_tail(&mut self, card: &Card) -> Result<(), WideError> {
         if card.tail() == Tail::Other {
+            self.has_late_period = self.has_late_period || card.number_columns().contains(&b'.');
             self.gathered.note_tail(card)?;
         }
         Ok(())
@@ -172,6 +177,9 @@ impl StatementReader {
     // Makes a statement of the pieces that were scanned, and takes them out of the scanner.
     fn take_statement(&mut self) -> Result<WideStatement, AllocError> {
         let mut statement = WideStatement::take_scanned(self.alloc, self.place, &mut self.scanner)?;
+        if self.has_late_period && statement.fault == Some(OtherReason::NoPeriod) {
+            statement.fault = Some(OtherReason::LatePeriod);
+        }
         if self.is_cut {
             statement.fault = Some(OtherReason::LongLine);
         }
