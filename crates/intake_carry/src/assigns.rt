@@ -56,6 +56,13 @@ fn distinct_ids(
     Ok(ids)
 }
 
+// Whether one of the texts is no id.
+fn has_bad_id(stated: &[Vec<u8>]) -> bool {
+    stated
+        .iter()
+        .any(|text| Id::read(text.as_slice()).is_none())
+}
+
 // Whether the `++ASSIGN` has all its operands, and none of them is faulty. A remark leaves it out for each operand that
 // is missing or faulty.
 fn has_all_operands(
@@ -124,7 +131,13 @@ fn carry_assign(
     if ids.len() > MOST_IDS {
         remarks.tell_carried(alloc, &subject, b"TO", RemarkReason::Split, b"")?;
     }
-    push_assigns(alloc, assigns, source, ids.as_slice())
+    let before = assigns.len();
+    push_assigns(alloc, assigns, source, ids.as_slice())?;
+    if has_bad_id(stated.to.as_slice()) {
+        let made = assigns.len().saturating_sub(before);
+        remarks.cut_assigns = remarks.cut_assigns.saturating_add(made);
+    }
+    Ok(())
 }
 
 /// Carries the assignments of the files, and adds those of the source id STANDIN to the SYSMODs with stand-ins. Remarks

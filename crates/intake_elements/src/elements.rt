@@ -1,10 +1,10 @@
 //! Statements of the profile that bring or update elements.
 ghost use Rattle.std.specs.Prelude.{◌≡◌, IfOk, IfSome, IsTrue, All, true, false};
 ghost use Rattle.terms.specs.Texts.{IsReplacement, IsUpdate};
-ghost use Rattle.intake_elements.specs.Elements.{is_level_operand, HasNoLevel, is_update, IsChangeOf};
+ghost use Rattle.intake_elements.specs.Elements.{IsHarmless, LacksNothing, is_update, IsChangeOf};
 
 use crate::element_words::{Target, is_update, is_update_word};
-use crate::levels::is_level_operand;
+use crate::harmless::{are_both, can_lack_operand};
 use crate::modules::tell_dropped_module_operands;
 use crate::options::{Libraries, Options};
 use crate::subjects::element_subject;
@@ -20,19 +20,6 @@ use std::alloc::{AllocError, Global};
 use sysmods_values::{Action, ElemChange};
 use terms::{ElemType, Kind};
 use text80::{Line, TextError, Update};
-
-/// Operands of elements without which the SYSMOD can be carried.
-const DROPPED: &[&[u8]] = &[
-    b"SSI", b"ALIAS", b"MALIAS", b"DISTSRC", b"PREFIX", b"VERSION",
-];
-
-// Whether the operand of this name may be dropped. `DROPPED` has no operand that decides whether the SYSMOD goes on:
-// the first test shows that to the proof.
-fn may_drop_operand(name: &[u8]) -> bool
-    ensures { IsTrue result → is_level_operand name.now ≡ false }
-{
-    !is_level_operand(name) && DROPPED.iter().any(|dropped| *dropped == name)
-}
 
 /// Remarks that an operand of an element is dropped. VERSION lets a SYSMOD take over an element of another function, so
 /// without it more SYSMODs fail, as without VERSION of `++VER`. Any other operand changes no decision.
@@ -51,50 +38,41 @@ pub(crate) fn tell_dropped_operand(
     remarks.tell_dropped(alloc, subject, name, reason, operand.text())
 }
 
-// Drops the operand, with a remark, if it may be dropped. Otherwise the SYSMOD is left out, also with a remark. Returns
+// Drops the operand, with a remark, if it decides nothing. Otherwise the SYSMOD is left out, also with a remark. Returns
 // whether the operand is dropped.
 fn drop_operand(
     alloc: Global,
+    options: &Options,
     remarks: &mut Remarks,
     subject: &Subject<'_>,
     operand: &WideOperand,
 ) -> Result<bool, AllocError>
-    ensures { IfOk result (λ dropped. IsTrue dropped → HasNoLevel operand.now) }
+    ensures { IfOk result (λ dropped. IsTrue dropped → IsHarmless options.now.decide operand.now) }
 {
-    let name = operand.name.as_slice();
-    let may_drop = may_drop_operand(name);
+    let may_drop = can_lack_operand(alloc, options, remarks, subject, operand)?;
     if may_drop {
         tell_dropped_operand(alloc, remarks, subject, operand)?;
-    } else {
-        let text = operand.text();
-        remarks.tell_left_out(alloc, subject, name, RemarkReason::UnknownOperand, text)?;
     }
     Ok(may_drop)
 }
 
-// Drops the operands that may be dropped, with remarks. For each of the others the SYSMOD is left out. Returns whether
+// Drops the operands that decide nothing, with remarks. For each of the others the SYSMOD is left out. Returns whether
 // all are dropped.
 fn drop_operands(
     alloc: Global,
+    options: &Options,
     remarks: &mut Remarks,
     subject: &Subject<'_>,
     operands: &[WideOperand],
 ) -> Result<bool, AllocError>
-    ensures { IfOk result (λ dropped. IsTrue dropped → All HasNoLevel operands.now) }
+    ensures { IfOk result (λ dropped. IsTrue dropped → All (IsHarmless options.now.decide) operands.now) }
 {
     let mut all = true;
     for operand in operands {
-        let dropped = drop_operand(alloc, remarks, subject, operand)?;
+        let dropped = drop_operand(alloc, options, remarks, subject, operand)?;
         all = are_both(all, dropped);
     }
     Ok(all)
-}
-
-/// Whether both are true. It is a function because the proofs of its callers need its contract.
-pub fn are_both(first: bool, second: bool) -> bool
-    ensures { IsTrue result → IsTrue first × IsTrue second }
-{
-    first && second
 }
 
 // Remarks, for each of the libraries, that the SYSMOD is left out because the text of the element is in it.
@@ -121,15 +99,15 @@ fn can_drop_all_operands(
     subject: &Subject<'_>,
     element: &WideElement,
 ) -> Result<bool, AllocError>
-    ensures { IfOk result (λ good. IsTrue good → All HasNoLevel element.now.operands.items) }
+    ensures { IfOk result (λ good. IsTrue good → LacksNothing options.now.decide element.now) }
 {
     tell_dropped_module_operands(alloc, options, remarks, subject, element)?;
     let faulty = element.faulty.as_slice();
     tell_faulty_operands(alloc, remarks, subject, faulty, Deed::LeftOut)?;
-    let dropped = drop_operands(alloc, remarks, subject, element.operands.as_slice())?;
+    let dropped = drop_operands(alloc, options, remarks, subject, element.operands.as_slice())?;
     tell_text_libraries(alloc, remarks, subject, element.libraries.as_slice())?;
-    let others_are_good = element.faulty.is_empty() && element.libraries.is_empty();
-    Ok(are_both(dropped, others_are_good))
+    let has_text = element.libraries.is_empty();
+    Ok(are_both(are_both(dropped, element.faulty.is_empty()), has_text))
 }
 
 // The library that the operand states. Returns `None`, with a remark, if it does not have the form of a name.
@@ -429,7 +407,7 @@ pub(crate) fn whole_change(
     target: Target,
 ) -> Result<Option<ElemChange>, AllocError>
     ensures { IfOk result (λ found. IfSome found (λ c. IsChangeOf target.elem_type target.name
-        (is_update kind element.now.word.items) c × All HasNoLevel element.now.operands.items)) }
+        (is_update kind element.now.word.items) c × LacksNothing options.now.decide element.now)) }
 {
     let subject = element_subject(element);
     if !can_drop_all_operands(alloc, options, remarks, &subject, element)? {

@@ -1,18 +1,8 @@
 //! Faulty operands: those that cannot be read as their names demand.
 
-use intake_cards::{RemarkReason, Remarks, Subject};
-use intake_read::{FaultyOperand, OperandFault};
+use intake_cards::{Remarks, Subject};
+use intake_read::{FaultyOperand, fault_reason};
 use std::alloc::{AllocError, Global};
-
-/// What is wrong with an operand without which its statement cannot be carried. Here an operand without its value
-/// counts as missing, whereas `tell_faulty_operands` calls the value bad.
-pub(crate) fn fault_of_needed_operand(faulty: &FaultyOperand) -> RemarkReason {
-    if faulty.reason == OperandFault::BadValue && faulty.operand.text().is_empty() {
-        RemarkReason::Missing
-    } else {
-        RemarkReason::from(faulty.reason)
-    }
-}
 
 /// Whether one of the faulty operands has this name.
 pub fn has_faulty_operand(faulty: &[FaultyOperand], name: &[u8]) -> bool {
@@ -21,8 +11,7 @@ pub fn has_faulty_operand(faulty: &[FaultyOperand], name: &[u8]) -> bool {
         .any(|entry| entry.operand.name.as_slice() == name)
 }
 
-/// Remarks, for each of the faulty operands, that the statement is left out because of it. An operand without the value
-/// that it should have counts as missing.
+/// Remarks, for each of the faulty operands, that the statement is left out because of it.
 pub fn tell_left_out_for_faulty_operands(
     alloc: Global,
     remarks: &mut Remarks,
@@ -36,7 +25,7 @@ pub fn tell_left_out_for_faulty_operands(
             alloc,
             subject,
             name,
-            fault_of_needed_operand(entry),
+            fault_reason(entry),
             operand.text(),
         )?;
     }

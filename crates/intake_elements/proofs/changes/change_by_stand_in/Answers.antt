@@ -12,5 +12,5 @@ returns c =
       target_is = subst (λ decide. IsTarget decide stated.word.items stated.name.items change.elem_type change.name)
           (sym c.if-not-options.false) made.0;
       action_is = made.1;
-      level_free = c.requires.level_free c.if-not-options.false;
+      lacks_nothing = c.requires.lacks_nothing c.if-not-options.false;
     })) c.stand_in_change.ensures

@@ -1,0 +1,210 @@
+//! Why it is not sure that a SYSMOD can be installed, in words.
+
+use intake_elements::{change_key, keys_of, modules_of};
+use intake_read::{WideElement, WideFile, WideSysmod};
+use intake_sysmod::Options;
+use std::alloc::{AllocError, Global};
+use std::collections::BTreeMap;
+use sysmods_values::{ElemChange, Sysmod};
+
+/// Elements that SYSMODs share, each with the first SYSMOD that changes it, and what is said of that SYSMOD.
+#[derive(Drop)]
+pub(crate) struct SharedElements<'a> {
+    by_key: BTreeMap<u64, &'a WideSysmod>,
+    /// The words before its id, and those after it.
+    before_id: &'static [u8],
+    after_id: &'static [u8],
+}
+
+// Whether the element statement has the operand VERSION.
+fn has_version(element: &WideElement) -> bool {
+    element
+        .operands
+        .iter()
+        .any(|operand| operand.name.as_slice() == b"VERSION".as_slice())
+}
+
+// Whether a `++VER` of the SYSMOD has the operand VERSION, which is then one of each of its elements.
+fn has_version_of_all(sysmod: &WideSysmod) -> bool {
+    sysmod.vers.iter().any(|ver| !ver.version.is_empty())
+}
+
+// The type of the elements that statements of this word change, as it is spelled.
+fn type_word(word: &[u8]) -> &[u8] {
+    match word {
+        b"MACUPD" => b"MAC",
+        b"SRCUPD" => b"SRC",
+        b"ZAP" => b"MOD",
+        b"JARUPD" => b"JAR",
+        _ => word,
+    }
+}
+
+// Appends the words with a blank between them.
+fn append_words(text: &mut Vec<u8>, first: &[u8], second: &[u8]) -> Result<(), AllocError> {
+    text.extend_from_slice(first)?;
+    text.push(b' ')?;
+    text.extend_from_slice(second)?;
+    Ok(())
+}
+
+// Appends the type and the name of the element with the key, which the statement changes or which is assembled of its
+// element. Returns `false` if it is neither.
+fn append_element_if_key(
+    alloc: Global,
+    text: &mut Vec<u8>,
+    element: &WideElement,
+    key: u64,
+) -> Result<bool, AllocError> {
+    let keys = keys_of(alloc, element)?;
+    let Some(place) = keys.iter().position(|own| *own == key) else {
+        return Ok(false);
+    };
+    let modules = modules_of(alloc, element)?;
+    match place.checked_sub(1).and_then(|place| modules.get(place)) {
+        Some(module) => append_words(text, b"MOD", module)?,
+        None => append_words(text, type_word(element.word.as_slice()), element.name.as_slice())?,
+    }
+    Ok(true)
+}
+
+// Appends the type and the name of the element with the key, which the SYSMOD changes.
+fn append_element(
+    alloc: Global,
+    text: &mut Vec<u8>,
+    sysmod: &WideSysmod,
+    key: u64,
+) -> Result<(), AllocError> {
+    for element in sysmod.elements.iter() {
+        if append_element_if_key(alloc, text, element, key)? {
+            return Ok(());
+        }
+    }
+    Ok(())
+}
+
+impl<'a> SharedElements<'a> {
+    // No elements.
+    fn new(
+        alloc: Global,
+        before_id: &'static [u8],
+        after_id: &'static [u8],
+    ) -> SharedElements<'a> {
+        SharedElements {
+            by_key: BTreeMap::new(alloc),
+            before_id,
+            after_id,
+        }
+    }
+
+    // Adds what the element statement of the SYSMOD changes.
+    fn add(
+        &mut self,
+        alloc: Global,
+        sysmod: &'a WideSysmod,
+        element: &WideElement,
+    ) -> Result<(), AllocError> {
+        for key in &keys_of(alloc, element)? {
+            if !self.by_key.contains_key(key) {
+                self.by_key.insert(*key, sysmod)?;
+            }
+        }
+        Ok(())
+    }
+
+    /// The elements that these SYSMODs, which are left out, would change.
+    pub(crate) fn of_left_out(
+        alloc: Global,
+        left: &[&'a WideSysmod],
+    ) -> Result<SharedElements<'a>, AllocError> {
+        let mut shared = SharedElements::new(alloc, b"is also changed by", b", which was left out");
+        for sysmod in left {
+            for element in sysmod.elements.iter() {
+                shared.add(alloc, *sysmod, element)?;
+            }
+        }
+        Ok(shared)
+    }
+
+    /// The elements that a SYSMOD of the files takes over from another function by VERSION, if stand-ins are asked for.
+    pub(crate) fn taken_over(
+        alloc: Global,
+        options: &Options,
+        files: &'a [WideFile],
+    ) -> Result<SharedElements<'a>, AllocError> {
+        let mut shared = SharedElements::new(
+            alloc,
+            b"passes to another function by VERSION of",
+            b", which smpe does not do",
+        );
+        if !options.decide {
+            return Ok(shared);
+        }
+        for file in files {
+            for sysmod in file.sysmods.iter() {
+                let has_all = has_version_of_all(sysmod);
+                for element in sysmod.elements.iter() {
+                    if has_all || has_version(element) {
+                        shared.add(alloc, sysmod, element)?;
+                    }
+                }
+            }
+        }
+        Ok(shared)
+    }
+
+    /// What is said of the element that the change changes: nothing if it is not one of these.
+    pub(crate) fn text(&self, alloc: Global, change: &ElemChange) -> Result<Vec<u8>, AllocError> {
+        let key = change_key(change.elem_type, change.name.as_bytes());
+        let mut text = Vec::new(alloc);
+        let Some(sysmod) = self.by_key.get(&key) else {
+            return Ok(text);
+        };
+        append_element(alloc, &mut text, *sysmod, key)?;
+        text.push(b' ')?;
+        append_words(&mut text, self.before_id, sysmod.id.as_slice())?;
+        text.extend_from_slice(self.after_id)?;
+        Ok(text)
+    }
+
+    /// What is said of the first of these changes whose element is one of these, or `None` if none is.
+    pub(crate) fn text_of_any(
+        &self,
+        alloc: Global,
+        changes: &[ElemChange],
+    ) -> Result<Option<Vec<u8>>, AllocError> {
+        let found = changes.iter().find(|change| {
+            let key = change_key(change.elem_type, change.name.as_bytes());
+            self.by_key.contains_key(&key)
+        });
+        match found {
+            Some(change) => Ok(Some(self.text(alloc, change)?)),
+            None => Ok(None),
+        }
+    }
+}
+
+// Whether NPRE of the SYSMOD names the one that is left out.
+fn has_in_npre(sysmod: &Sysmod, left: &WideSysmod) -> bool {
+    sysmod
+        .vers
+        .iter()
+        .any(|ver| ver.npre.iter().any(|id| id.as_bytes() == left.id.as_slice()))
+}
+
+/// What is said of a SYSMOD and one that is left out, if NPRE or DELETE of one of them names the other.
+pub(crate) fn conflict_text(
+    alloc: Global,
+    left: &WideSysmod,
+    sysmod: &Sysmod,
+) -> Result<Vec<u8>, AllocError> {
+    let id = left.id.as_slice();
+    let mut text = Vec::new(alloc);
+    if has_in_npre(sysmod, left) {
+        append_words(&mut text, b"its NPRE names", id)?;
+    } else {
+        append_words(&mut text, b"it or its function is named in NPRE or DELETE of", id)?;
+    }
+    text.extend_from_slice(b", which was left out")?;
+    Ok(text)
+}
