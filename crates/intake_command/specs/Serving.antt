@@ -1,5 +1,6 @@
 -- What a run does.
-use Rattle.std.specs.Prelude.{◌≡◌, ◌⊎◌, ℕ, Bool, false, List, [], ◌∷◌, ◌++◌, Option, Some, None, Vec, map, length, option_map}
+use Rattle.std.specs.Prelude.{◌≡◌, ◌⊎◌, ℕ, Bool, false, List, [], ◌∷◌, ◌++◌, Option, Some, None, Vec, map, length}
+use Rattle.std.specs.Prelude.{option_map}
 use Rattle.std.specs.Prelude.{All, IsTrue, codes, Result, Ok, Err, if◌then◌else◌, option_to_list}
 use Rattle.std.specs.List.{filter, flat_map}
 use Rattle.std.specs.String.{string_bytes}
@@ -14,11 +15,15 @@ use Rattle.mcs.specs.HoldItems as hold
 use Rattle.mcs.specs.declared.file.Item.{Item}
 use Rattle.mcs.specs.declared.file.Item.TheVariants.{Sysmod, Assign}
 use Rattle.mcs.specs.declared.hold_item.HoldItem.{HoldItem}
+use Rattle.intake_cards.specs.declared.place.CardPlace.{CardPlace}
+use Rattle.intake_read.specs.Held.{held_places}
 use Rattle.intake_read.specs.declared.items.WideFile.{WideFile}
 use Rattle.intake_read.specs.declared.items.WideHold.{WideHold}
 use Rattle.intake_holds.specs.Become.{Become}
 use Rattle.intake_sysmod.specs.Users.{run_of}
 use Rattle.intake_carry.specs.Carried.{FilesBecome}
+use Rattle.intake_carry.specs.Unsure.{AreUnsure}
+use Rattle.intake_carry.specs.declared.unsure.Unsure.{Unsure}
 use Rattle.intake_asked.specs.Known.{IsKnownFile, IsGathered}
 use Rattle.intake_asked.specs.declared.known.KnownFile.{KnownFile}
 use Rattle.intake_asked.specs.declared.known.KnownSysmods.{KnownSysmods}
@@ -102,9 +107,13 @@ sysmods_in (Assign a ∷ items) = sysmods_in items
 abbrev pub HasEachSysmod : List WideFile → List Item → Type 0
 HasEachSysmod files items = length (sysmods_in items) ≡ length (run_of files)
 
+-- where the holds of the files begin that are in no SYSMOD, but for those of FIXCAT
+abbrev pub held_in : List WideFile → List CardPlace
+held_in files = flat_map (λ f. f.held.items) files
+
 -- The files that are named were read, one by one, and then those of --relfile; what their statements become was put
--- into the folder. `holds` are the holds outside SYSMODs, in order. With status 0, each SYSMOD is carried, as each hold
--- is with any status.
+-- into the folder. `holds` are the holds outside SYSMODs that the readers of the files handed out, in order. With status
+-- 0, each SYSMOD is carried, as each hold is with any status, and none of them meets one that is left out.
 pub record ServesFiles (asked : IntakeOptions) (status : ℕ) (acts : List HostAct) : Type 0 where
   pub files : List WideFile
   pub reading : List HostAct
@@ -112,11 +121,15 @@ pub record ServesFiles (asked : IntakeOptions) (status : ℕ) (acts : List HostA
   pub more : List HostAct
   pub quiet : All IsQuiet more
   pub holds : List WideHold
+  pub held_are : held_places holds ≡ held_in files
   pub items : List Item
   pub outside : List HoldItem
   pub become : FilesBecome asked.decide files holds items outside
+  pub unsure : List Unsure
+  pub are_unsure : AreUnsure (run_of files) items unsure
   pub status_is : (status ≡ 0) ⊎ (status ≡ 4)
   pub each : status ≡ 0 → HasEachSysmod files items
+  pub sure : status ≡ 0 → unsure ≡ []
   pub keeping : List HostAct
   pub keeps : KeepsService (folder_of asked) asked.decide (ptfin.items items) (hold.items outside) keeping
   pub acts_are : acts ≡ reading ++ more ++ keeping

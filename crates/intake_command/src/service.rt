@@ -1,17 +1,18 @@
 //! A run over files of SYSMODs and of holds.
-ghost use Rattle.std.specs.Prelude.{◌≡◌, ◌⊎◌, ℕ, List, IfOk, IfSome, OnOk, OnErr, All, IsTrue, map, length};
+ghost use Rattle.std.specs.Prelude.{◌≡◌, ◌⊎◌, [], ℕ, List, IfOk, IfSome, OnOk, OnErr, All, IsTrue, map, length};
 ghost use Rattle.std.specs.Prelude.{is_some};
 ghost use Rattle.std.specs.String.{string_bytes};
 ghost use Rattle.mcs.specs.Files as ptfin;
 ghost use Rattle.mcs.specs.HoldItems as hold;
 ghost use Rattle.intake_read.specs.declared.items.WideHold.{WideHold};
 ghost use Rattle.intake_carry.specs.Carried.{FilesBecome};
-ghost use Rattle.intake_holds.specs.Outside.{AreCarried, CarriesHolds};
+ghost use Rattle.intake_holds.specs.Outside.{AreCarried, AddsHoldsAt};
+ghost use Rattle.intake_carry.specs.Unsure.{AreUnsure};
 ghost use Rattle.intake_sysmod.specs.Users.{run_of};
 ghost use Rattle.intake_command.specs.Acts.{IsQuiet, Gives};
 ghost use Rattle.intake_command.specs.Done.{HasDone};
 ghost use Rattle.intake_command.specs.Serving.{AreRead, ServesFiles, KeepsService, DraftsRemarks, IsHarmless, folder_of};
-ghost use Rattle.intake_command.specs.Serving.{HasEachSysmod, sysmods_in};
+ghost use Rattle.intake_command.specs.Serving.{HasEachSysmod, held_in, sysmods_in};
 
 use crate::files::service_line;
 use crate::host_calls::{append_to_draft, print_summary, read_input};
@@ -19,7 +20,7 @@ use crate::keep::keep_service;
 use crate::members::relfile_members;
 use crate::surroundings::IntakeHost;
 use intake_cards::RemarkList;
-use intake_carry::{CarryError, Narrowed, OutsideHolds, narrow, read_statements};
+use intake_carry::{CarryError, Narrowed, OutsideHolds, Unsure, narrow, read_statements};
 use intake_read::WideFile;
 use intake_sysmod::{Options, RelfileMember};
 use intake_words::{
@@ -40,6 +41,8 @@ const DRAFT_SIZE: usize = 65_536;
 struct ServiceOutput {
     items: Vec<Item>,
     hold_items: Vec<HoldItem>,
+    /// The carried SYSMODs of which it is not sure that they can be installed.
+    unsure: Vec<Unsure>,
     stand_ins: Option<Vec<u8>>,
     remarks: RemarkList,
     summary: Vec<u8>,
@@ -60,18 +63,22 @@ pub(crate) fn serve_files<H: IntakeHost>(
     let files = read_files(alloc, host, &mut inputs, asked, &mut held)?;
     let members = relfile_members(alloc, host, &mut inputs, asked, &files)?;
     let made = service_output(alloc, &inputs, asked, &files, held, members)?;
-    let status = exit_status(&files, &made.items, &made.remarks);
+    let status = exit_status(&files, &made);
     keep_files(alloc, host, asked, &mut inputs, made)?;
     Ok(status)
 }
 
-// The status of a run that carries these items of the files, with these remarks. It is 0 only if each SYSMOD is
-// carried.
-fn exit_status(files: &[WideFile], items: &[Item], remarks: &RemarkList) -> u8
+// The status of a run that makes this of the files. It is 0 only if each SYSMOD is carried, and each can be installed as
+// far as what is left out forbids nothing.
+fn exit_status(files: &[WideFile], made: &ServiceOutput) -> u8
     ensures status { (result ≡ 0) ⊎ (result ≡ 4) }
-    ensures each { result ≡ 0 → HasEachSysmod files.now items.now }
+    ensures each { result ≡ 0 → HasEachSysmod files.now made.now.items.items }
+    ensures sure { result ≡ 0 → made.now.unsure.items ≡ [] }
 {
-    if has_remark_that_matters(remarks) || !has_each_sysmod(files, items) {
+    if has_remark_that_matters(&made.remarks)
+        || !made.unsure.is_empty()
+        || !has_each_sysmod(files, &made.items)
+    {
         LEFT_OUT_STATUS
     } else {
         0
@@ -130,7 +137,7 @@ fn read_files<H: IntakeHost>(
 ) -> Result<Vec<WideFile>, IntakeFault>
     ensures ok { IfOk result (λ files. HasDone H.IntakeHost
         (AreRead (map string_bytes asked.now.files.items) files.items) host.old host.new) }
-    ensures held { OnOk result (CarriesHolds held.old → CarriesHolds held.new) }
+    ensures held { IfOk result (λ files. AddsHoldsAt (held_in files.items) held.old held.new) }
     ensures err { OnErr result (HasDone H.IntakeHost (All IsQuiet) host.old host.new) }
 {
     let mut files = Vec::new(alloc);
@@ -155,7 +162,7 @@ fn read_file<H: IntakeHost>(
     held: &mut OutsideHolds,
 ) -> Result<WideFile, IntakeFault>
     ensures ok { OnOk result ((bytes : List ℕ) × H.does host.old (Gives name.now bytes) host.new) }
-    ensures held { OnOk result (CarriesHolds held.old → CarriesHolds held.new) }
+    ensures held { IfOk result (λ file. AddsHoldsAt file.held.items held.old held.new) }
     ensures err { OnErr result (HasDone H.IntakeHost (All IsQuiet) host.old host.new) }
 {
     let bytes = read_input(alloc, host, name)?;
@@ -173,7 +180,7 @@ fn read_file_statements(
     bytes: Vec<u8>,
     held: &mut OutsideHolds,
 ) -> Result<WideFile, IntakeFault>
-    ensures { OnOk result (CarriesHolds held.old → CarriesHolds held.new) }
+    ensures { IfOk result (λ file. AddsHoldsAt file.held.items held.old held.new) }
 {
     let mut cards = inputs.open_cards(alloc, name, &bytes, asked.cards)?;
     let mut notes = Vec::new(alloc);
@@ -205,6 +212,7 @@ fn service_output(
 ) -> Result<ServiceOutput, IntakeFault>
     ensures carries { (holds : List WideHold) → AreCarried holds held → IfOk result (λ made. FilesBecome asked.now.decide
         files.now holds made.items.items made.hold_items.items) }
+    ensures unsure { IfOk result (λ made. AreUnsure (run_of files.now) made.items.items made.unsure.items) }
     ensures decided { IfOk result (λ made. is_some made.stand_ins ≡ asked.now.decide) }
 {
     let options = Options {
@@ -228,6 +236,7 @@ fn narrowed_output(
 ) -> Result<ServiceOutput, AllocError>
     ensures items { IfOk result (λ made. made.items.items ≡ narrowed.items.items) }
     ensures holds { IfOk result (λ made. made.hold_items.items ≡ narrowed.hold_items.items) }
+    ensures unsure { IfOk result (λ made. made.unsure.items ≡ narrowed.unsure.items) }
     ensures decided { IfOk result (λ made. is_some made.stand_ins ≡ asked.now.decide) }
 {
     let summary = service_summary(alloc, asked, &narrowed)?;
@@ -235,6 +244,7 @@ fn narrowed_output(
     Ok(ServiceOutput {
         items: narrowed.items,
         hold_items: narrowed.hold_items,
+        unsure: narrowed.unsure,
         stand_ins,
         remarks: narrowed.remarks,
         summary,

@@ -4,11 +4,14 @@ use crate::options::IntakeOptions;
 use crate::shown::append_shown;
 use crate::summary_json::json_summary;
 use intake_cards::{Deed, Remark, RemarkList, RemarkReason};
-use intake_carry::{Narrowed, Tally};
+use intake_carry::{Narrowed, Tally, Unsure};
 use std::alloc::{AllocError, Global};
 
 /// At most so many SYSMODs that are left out have lines of their own.
 const MOST_LEFT_OUT_LINES: usize = 20;
+
+/// At most so many SYSMODs of which it is not sure that they can be installed have lines of their own.
+const MOST_UNSURE_LINES: usize = 20;
 
 /// How many remarks have a deed and a reason.
 #[derive(Drop)]
@@ -228,6 +231,7 @@ fn text_summary(
     let remarks = &narrowed.remarks;
     let mut lines = Vec::new(alloc);
     append_left_out_lines(alloc, remarks, &mut lines)?;
+    append_unsure_lines(alloc, &narrowed.unsure, &mut lines)?;
     append_warnings(alloc, narrowed, &mut lines)?;
     if asked.decide {
         append_check_line(alloc, narrowed, &mut lines)?;
@@ -238,6 +242,28 @@ fn text_summary(
     append_tally(alloc, "ASSIGN", narrowed.assigns, &mut lines)?;
     append_remark_counts(alloc, remarks, &mut lines)?;
     Ok(lines)
+}
+
+// Appends a line for each SYSMOD of which it is not sure that it can be installed, and after `MOST_UNSURE_LINES` one for
+// all others.
+fn append_unsure_lines(
+    alloc: Global,
+    unsure: &[Unsure],
+    lines: &mut Vec<u8>,
+) -> Result<(), AllocError> {
+    for sysmod in unsure.iter().take(MOST_UNSURE_LINES) {
+        lines.extend_from_slice(b"UNSURE  ")?;
+        lines.extend_from_slice(sysmod.id.as_bytes())?;
+        lines.extend_from_slice(b": ")?;
+        append_shown(lines, sysmod.reason.as_slice())?;
+        lines.push(b'\n')?;
+    }
+    if unsure.len() > MOST_UNSURE_LINES {
+        let more = unsure.len().saturating_sub(MOST_UNSURE_LINES);
+        let line = format!(in alloc; "UNSURE  {more:>7} more\n")?;
+        lines.extend_from_slice(line.as_bytes())?;
+    }
+    Ok(())
 }
 
 // Appends warnings about holds that moved, about statements in comments, and about SYSMODs that are left out and would
