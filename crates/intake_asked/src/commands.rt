@@ -289,6 +289,13 @@ fn receives(command: &Command) -> bool
     }
 }
 
+// Whether SYSMODs are received up to the command. `received` says whether they are before it.
+fn has_received(received: bool, command: &Command) -> bool
+    ensures { result ≡ (received || receives (command_of command.now)) }
+{
+    received || receives(command)
+}
+
 /// Whether the commands say, one after the other, exactly what the shop's commands `wide` ask for. Those of the shop's
 /// commands that change no decision are passed over.
 pub fn are_said(
@@ -311,7 +318,7 @@ pub fn are_said(
         if !says_after(alloc, known, received, command, first)? {
             return Ok(false);
         }
-        received = received || receives(first);
+        received = has_received(received, first);
         left = rest;
     }
     Ok(left.is_empty())

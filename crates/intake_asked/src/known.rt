@@ -1,8 +1,8 @@
 //! The SYSMODs that are known besides those that the commands name: those of lists with their types and source ids, and
 //! those of the PTFIN that the job receives. GROUPEXTEND and a SOURCEID with an asterisk choose among them.
-ghost use Rattle.std.specs.Prelude.{◌≡◌, true, IfOk, IfSome, IfNone, All, map};
+ghost use Rattle.std.specs.Prelude.{◌≡◌, ◌∷◌, true, IfOk, IfSome, IfNone, All, map};
 ghost use Rattle.std.specs.List.{list_all, list_any};
-ghost use Rattle.terms.specs.Forms.{IsSource};
+ghost use Rattle.terms.specs.Forms.{IsId, IsSource};
 ghost use Rattle.intake_asked.specs.Known.{is_separator, is_rule_byte, lines_of, words_of, HasWords};
 ghost use Rattle.intake_asked.specs.Known.{FirstBecomes, AreStated, StatedBecomes};
 ghost use Rattle.intake_asked.specs.Known.{HasListed, HasMore, IsGathered, sysmods_of};
@@ -154,13 +154,30 @@ fn sysmod_of_words(alloc: Global, words: &[&[u8]]) -> Result<Option<KnownSysmod>
     ensures none { IfOk result (λ found. IfNone found
         ((k : KnownSysmod) → HasWords (map (λ word. word.now) words.now) k → ⊥)) }
 {
-    let [id, kind, listed @ ..] = words else {
+    let Some((first, others)) = words.split_first() else {
         return Ok(None);
     };
-    let Some(id) = Id::read(*id) else {
+    let Some(id) = Id::read(*first) else {
         return Ok(None);
     };
-    let Some(kind) = read_kind(*kind) else {
+    sysmod_of_id(alloc, id, others)
+}
+
+// The SYSMOD of this id, or `None` if the words after it are not a type and source ids.
+fn sysmod_of_id(
+    alloc: Global,
+    id: Id,
+    words: &[&[u8]],
+) -> Result<Option<KnownSysmod>, AllocError>
+    requires { IsId id }
+    ensures some { IfOk result (λ found. IfSome found (HasWords (id ∷ map (λ word. word.now) words.now))) }
+    ensures none { IfOk result (λ found. IfNone found
+        ((k : KnownSysmod) → HasWords (id ∷ map (λ word. word.now) words.now) k → ⊥)) }
+{
+    let Some((word, listed)) = words.split_first() else {
+        return Ok(None);
+    };
+    let Some(kind) = read_kind(*word) else {
         return Ok(None);
     };
     let Some(sources) = read_sources(alloc, listed)? else {

@@ -252,7 +252,7 @@ fn append_unsure_lines(
     lines: &mut Vec<u8>,
 ) -> Result<(), AllocError> {
     for sysmod in unsure.iter().take(MOST_UNSURE_LINES) {
-        lines.extend_from_slice(b"UNSURE  ")?;
+        lines.extend_from_slice(b"UNSURE ")?;
         lines.extend_from_slice(sysmod.id.as_bytes())?;
         lines.extend_from_slice(b": ")?;
         append_shown(lines, sysmod.reason.as_slice())?;
