@@ -1,6 +1,6 @@
 -- What a run does.
-use Rattle.std.specs.Prelude.{◌≡◌, ◌⊎◌, ℕ, Bool, false, List, [], ◌∷◌, ◌++◌, Option, Some, None, Vec, map, length}
-use Rattle.std.specs.Prelude.{option_map}
+use Rattle.std.specs.Prelude.{◌≡◌, ◌⊎◌, ℕ, Bool, true, false, List, [], ◌∷◌, ◌++◌, Option, Some, None, Vec, map}
+use Rattle.std.specs.Prelude.{length, option_map}
 use Rattle.std.specs.Prelude.{All, IsTrue, codes, Result, Ok, Err, if◌then◌else◌, option_to_list}
 use Rattle.std.specs.List.{filter, flat_map}
 use Rattle.std.specs.String.{string_bytes}
@@ -98,14 +98,13 @@ pub record KeepsService (folder : Text) (decided : Bool) (items : List terms.Ite
   pub acts_are : acts ≡ Drafts folder (codes "remarks") (first_line (service_names decided)) ∷ drafts
       ++ Prints summary ∷ Puts folder kept removed ∷ []
 
-abbrev pub sysmods_in : List Item → List Item
-sysmods_in [] = []
-sysmods_in (Sysmod s ∷ items) = Sysmod s ∷ sysmods_in items
-sysmods_in (Assign a ∷ items) = sysmods_in items
+abbrev pub is_sysmod : Item → Bool
+is_sysmod (Sysmod s) = true
+is_sysmod (Assign a) = false
 
 -- There are as many SYSMODs as the files state. As each of these becomes at most one, each is carried.
 abbrev pub HasEachSysmod : List WideFile → List Item → Type 0
-HasEachSysmod files items = length (sysmods_in items) ≡ length (run_of files)
+HasEachSysmod files items = length (filter is_sysmod items) ≡ length (run_of files)
 
 -- where the holds of the files begin that are in no SYSMOD, but for those of FIXCAT
 abbrev pub held_in : List WideFile → List CardPlace

@@ -1,5 +1,5 @@
 //! A run over files of SYSMODs and of holds.
-ghost use Rattle.std.specs.Prelude.{◌≡◌, ◌⊎◌, [], ℕ, List, IfOk, IfSome, OnOk, OnErr, All, IsTrue, map, length};
+ghost use Rattle.std.specs.Prelude.{◌≡◌, ◌⊎◌, [], ℕ, List, IfOk, IfSome, OnOk, OnErr, All, IsTrue, map, filter, length};
 ghost use Rattle.std.specs.Prelude.{is_some};
 ghost use Rattle.std.specs.String.{string_bytes};
 ghost use Rattle.mcs.specs.Files as ptfin;
@@ -12,7 +12,7 @@ ghost use Rattle.intake_sysmod.specs.Users.{run_of};
 ghost use Rattle.intake_command.specs.Acts.{IsQuiet, Gives};
 ghost use Rattle.intake_command.specs.Done.{HasDone};
 ghost use Rattle.intake_command.specs.Serving.{AreRead, ServesFiles, KeepsService, DraftsRemarks, IsHarmless, folder_of};
-ghost use Rattle.intake_command.specs.Serving.{HasEachSysmod, held_in, sysmods_in};
+ghost use Rattle.intake_command.specs.Serving.{HasEachSysmod, held_in, is_sysmod};
 
 use crate::files::service_line;
 use crate::host_calls::{append_to_draft, print_summary, read_input};
@@ -89,10 +89,13 @@ fn exit_status(files: &[WideFile], made: &ServiceOutput) -> u8
 fn has_each_sysmod(files: &[WideFile], items: &[Item]) -> bool
     ensures { IsTrue result → HasEachSysmod files.now items.now }
 {
-    match count_stated(files) {
-        Some(stated) => count_sysmods(items) == stated,
-        None => false,
-    }
+    let Some(stated) = count_stated(files) else {
+        return false;
+    };
+    let Some(carried) = count_sysmods(items) else {
+        return false;
+    };
+    carried == stated
 }
 
 // How many SYSMODs the files state, or `None` if a `usize` cannot say it.
@@ -106,17 +109,28 @@ fn count_stated(files: &[WideFile]) -> Option<usize>
     Some(count)
 }
 
-// How many of the items are SYSMODs.
-fn count_sysmods(items: &[Item]) -> usize
-    ensures { result ≡ length (sysmods_in items.now) }
+// How many of the items are SYSMODs, or `None` if a `usize` cannot say it.
+fn count_sysmods(items: &[Item]) -> Option<usize>
+    ensures { IfSome result (λ count. count ≡ length (filter is_sysmod items.now)) }
 {
     let mut count = 0usize;
     for item in items {
-        if matches!(item, Item::Sysmod(_)) {
-            count += 1;
+        if !is_sysmod(item) {
+            continue;
         }
+        count = count.checked_add(1)?;
     }
-    count
+    Some(count)
+}
+
+// Whether the item is a SYSMOD.
+fn is_sysmod(item: &Item) -> bool
+    ensures { result ≡ is_sysmod item.now }
+{
+    match item {
+        Item::Sysmod(_) => true,
+        Item::Assign(_) => false,
+    }
 }
 
 // Whether one of the remarks matters: it says that something is left out that may be asked for.
