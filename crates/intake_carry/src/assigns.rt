@@ -4,9 +4,9 @@ ghost use Rattle.mcs.specs.declared.file.Item.TheVariants as item;
 
 use crate::sysmods::stated_text;
 use fields::{Id, Source};
-use intake_cards::{RemarkReason, Remarks, Subject};
-use intake_holds::{has_faulty_operand, tell_left_out_for_faulty_operands};
-use intake_read::{WideAssign, WideFile};
+use intake_cards::{Deed, RemarkReason, Remarks, Subject};
+use intake_holds::has_faulty_operand;
+use intake_read::{WideAssign, WideFile, tell_faulty_operands};
 use mcs::{Assign, Item};
 use std::alloc::{AllocError, Global};
 use std::collections::BTreeSet;
@@ -72,10 +72,15 @@ fn has_all_operands(
     stated: &WideAssign,
 ) -> Result<bool, AllocError> {
     let faulty = stated.faulty.as_slice();
-    tell_left_out_for_faulty_operands(alloc, remarks, subject, faulty)?;
+    tell_faulty_operands(alloc, remarks, subject, faulty, Deed::LeftOut)?;
     let lacks_source = subject.id.is_empty() && !has_faulty_operand(faulty, b"SOURCEID");
     if lacks_source {
-        remarks.tell_left_out(alloc, subject, b"SOURCEID", RemarkReason::Missing, b"")?;
+        let reason = if stated.source.is_some() {
+            RemarkReason::NoValue
+        } else {
+            RemarkReason::Missing
+        };
+        remarks.tell_left_out(alloc, subject, b"SOURCEID", reason, b"")?;
     }
     let lacks_ids = stated.to.is_empty() && !has_faulty_operand(faulty, b"TO");
     if lacks_ids {

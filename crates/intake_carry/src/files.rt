@@ -170,7 +170,7 @@ pub fn narrow(
     mut held: OutsideHolds,
     mut options: Options,
 ) -> Result<Narrowed, CarryError>
-    ensures become { (holds : List WideHold) → AreCarried holds held → IfOk result (λ narrowed.
+    ensures items { (holds : List WideHold) → AreCarried holds held → IfOk result (λ narrowed.
         FilesBecome options.decide files.now holds narrowed.items.items narrowed.hold_items.items) }
     ensures unsure { IfOk result (λ narrowed. AreUnsure (run_of files.now) narrowed.items.items
         narrowed.unsure.items) }
