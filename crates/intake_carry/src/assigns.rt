@@ -75,7 +75,12 @@ fn has_all_operands(
     tell_faulty_operands(alloc, remarks, subject, faulty, Deed::LeftOut)?;
     let lacks_source = subject.id.is_empty() && !has_faulty_operand(faulty, b"SOURCEID");
     if lacks_source {
-        remarks.tell_left_out(alloc, subject, b"SOURCEID", RemarkReason::Missing, b"")?;
+        let reason = if stated.source.is_some() {
+            RemarkReason::NoValue
+        } else {
+            RemarkReason::Missing
+        };
+        remarks.tell_left_out(alloc, subject, b"SOURCEID", reason, b"")?;
     }
     let lacks_ids = stated.to.is_empty() && !has_faulty_operand(faulty, b"TO");
     if lacks_ids {

@@ -1,0 +1,34 @@
+use Rattle.std.proofs.Common.{◌≡◌, ◌∙◌, List, true, false, sym, ap, refl, subst}
+use Rattle.terms.specs.Types.{Ver, Sysmod}
+use Rattle.intake_carry.specs.PassedOn.{is_passed_on}
+use Rattle.intake_carry.proofs.Passing.{passed_system, fixcat_not_passed, passes_none, passes_one}
+use Rattle.intake_carry.proofs.passed_on.pass_hold_on.Goals as goal
+
+pub returns-then-not-is_passed_on : goal.returns-then-not-is_passed_on
+returns-then-not-is_passed_on c =
+    passes_none c.args.stated.now c.args.sysmod.now
+    (ap (λ (vs : List Ver). is_passed_on vs c.args.stated.now) (sym c.as_slice.ensures.value)
+    ∙ sym c.is_passed_on.ensures ∙ c.if-not-is_passed_on.true)
+
+pub returns-in_default : goal.returns-in_default
+returns-in_default c =
+    passes_none c.args.stated.now c.args.sysmod.now
+    (fixcat_not_passed c.args.sysmod.now.vers c.args.stated.now (rw c.in_default.is at c.in_ok-carried.ensures.none))
+
+pub push_hold-requires : goal.push_hold-requires
+push_hold-requires c =
+    let is = rw c.in-Some.is at c.in_ok-carried.ensures.some in
+    let passed : is_passed_on c.as_slice.result.now c.args.stated.now ≡ true =
+    sym c.is_passed_on.ensures ∙ c.if-not-is_passed_on.false in
+    rw (sym c.as_hold_on.ensures) (
+      refl,
+      passed_system c.as_slice.result.now c.args.stated.now c.in-Some.carried is passed,
+      refl,
+    )
+
+pub returns : goal.returns
+returns c =
+    let is = rw c.in-Some.is at c.in_ok-carried.ensures.some in
+    passes_one c.args.stated.now c.in-Some.carried c.as_hold_on.result c.args.sysmod.now c.push_hold.new.self is
+    (ap (λ (vs : List Ver). is_passed_on vs c.args.stated.now) (sym c.as_slice.ensures.value)
+    ∙ sym c.is_passed_on.ensures ∙ c.if-not-is_passed_on.false) c.as_hold_on.ensures c.in_ok-push_hold.ensures.ok
