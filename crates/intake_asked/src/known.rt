@@ -81,12 +81,7 @@ fn words_of(alloc: Global, line: &[u8]) -> Result<Vec<&[u8]>, AllocError>
 fn is_separator(byte: u8) -> bool
     ensures { result ≡ is_separator byte }
 {
-    byte == b' '
-        || byte == b','
-        || byte == b'|'
-        || byte == b'"'
-        || byte == b'\t'
-        || byte == b'\r'
+    byte == b' ' || byte == b',' || byte == b'|' || byte == b'"' || byte == b'\t' || byte == b'\r'
 }
 
 // Whether the character stands in a rule, or separates words.
@@ -164,11 +159,7 @@ fn sysmod_of_words(alloc: Global, words: &[&[u8]]) -> Result<Option<KnownSysmod>
 }
 
 // The SYSMOD of this id, or `None` if the words after it are not a type and source ids.
-fn sysmod_of_id(
-    alloc: Global,
-    id: Id,
-    words: &[&[u8]],
-) -> Result<Option<KnownSysmod>, AllocError>
+fn sysmod_of_id(alloc: Global, id: Id, words: &[&[u8]]) -> Result<Option<KnownSysmod>, AllocError>
     requires { IsId id }
     ensures some { IfOk result (λ found. IfSome found (HasWords (id ∷ map (λ word. word.now) words.now))) }
     ensures none { IfOk result (λ found. IfNone found
@@ -240,11 +231,7 @@ fn known_of_sysmod(
 }
 
 // The source ids that the `++ASSIGN`s of the file give the SYSMOD.
-fn assigned_sources(
-    alloc: Global,
-    file: &WideFile,
-    id: &[u8],
-) -> Result<Vec<Source>, AllocError> {
+fn assigned_sources(alloc: Global, file: &WideFile, id: &[u8]) -> Result<Vec<Source>, AllocError> {
     let mut sources = Vec::new(alloc);
     for assign in file.assigns.iter() {
         let Some(source) = &assign.source else {

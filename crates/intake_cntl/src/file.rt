@@ -10,9 +10,7 @@ use crate::command_remarks::{CommandRemarks, RemarkWords};
 use crate::print::print_command;
 use crate::received::Received;
 use cntl::{CntlError, Command, read_cntl};
-use intake_asked::{
-    CommandComment, KnownSysmods, WideCommand, WideCommands, are_said, says_after,
-};
+use intake_asked::{CommandComment, KnownSysmods, WideCommand, WideCommands, are_said, says_after};
 use intake_cards::{Deed, PrintedCards, RemarkList, RemarkReason, Tail};
 use intake_read::{Card, CardPlace};
 use std::alloc::{AllocError, Global};

@@ -77,7 +77,9 @@ impl OperandContext<'_> {
     ) -> Result<(), AllocError> {
         let mut text = Vec::from_slice(alloc, member)?;
         if self.lacks_ptfin() {
-            text.extend_from_slice(b", also among those that RECEIVE brings: --known takes its PTFIN")?;
+            text.extend_from_slice(
+                b", also among those that RECEIVE brings: --known takes its PTFIN",
+            )?;
         } else if self.received.source {
             text.extend_from_slice(b", also among those to which RECEIVE gives a source id")?;
         }

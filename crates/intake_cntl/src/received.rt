@@ -37,5 +37,7 @@ fn receives_sysmods(wide: &WideCommand) -> bool {
 
 // Whether the command has an operand of this name.
 fn has_operand(wide: &WideCommand, name: &[u8]) -> bool {
-    wide.operands.iter().any(|operand| operand.name.as_slice() == name)
+    wide.operands
+        .iter()
+        .any(|operand| operand.name.as_slice() == name)
 }

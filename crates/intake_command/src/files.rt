@@ -16,11 +16,7 @@ pub struct NamedFile {
 }
 
 /// The path of a file in the folder.
-pub(crate) fn output_path(
-    alloc: Global,
-    folder: &str,
-    output: &str,
-) -> Result<String, AllocError>
+pub(crate) fn output_path(alloc: Global, folder: &str, output: &str) -> Result<String, AllocError>
     ensures { IfOk result (λ path. string_bytes path ≡ path_of folder.now output.now) }
 {
     let mut path = String::from_str(alloc, folder)?;

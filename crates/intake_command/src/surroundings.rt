@@ -53,7 +53,12 @@ pub trait IntakeHost {
     /// Puts the files into the folder, each with its draft before its bytes, in place of those of an earlier run, and
     /// removes the other ones, if they exist. The folder is made if it does not exist. The error says why that cannot
     /// be done; then the folder has the files that it had.
-    fn keep(&mut self, folder: &str, files: &[NamedFile], removed: &[&'static str]) -> io::Result<()>
+    fn keep(
+        &mut self,
+        folder: &str,
+        files: &[NamedFile],
+        removed: &[&'static str],
+    ) -> io::Result<()>
         ensures ok { OnOk result (does self.old (Puts folder.now (map named files.now) (map (λ name. name.now)
             removed.now)) self.new) }
         ensures err { IfErr result (λ error. does self.old (Leaves folder.now error) self.new) };

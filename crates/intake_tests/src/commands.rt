@@ -174,12 +174,7 @@ fn outcome(alloc: Global, text: &[u8], known: &KnownSysmods) -> Result<String, F
 }
 
 // Fails unless these lines come of these cards. There is a bar between two lines, and between two cards.
-fn check_case(
-    alloc: Global,
-    known: &KnownSysmods,
-    cards: &str,
-    lines: &str,
-) -> Result<(), Fail> {
+fn check_case(alloc: Global, known: &KnownSysmods, cards: &str, lines: &str) -> Result<(), Fail> {
     let file = file_of(alloc, cards)?;
     let got = outcome(alloc, file.as_slice(), known)?;
     let lines = file_of(alloc, lines)?;

@@ -1,8 +1,9 @@
 -- The command line, in the words of `clap`'s contracts.
-use Rattle.std.specs.Prelude.{◌≡◌, true, List, [], ◌∷◌, map, Some, codes}
-use Rattle.clap.specs.Words.{App, Rule, Text, new_app, new_rule}
+use Rattle.std.specs.Prelude.{◌≡◌, true, false, List, [], ◌∷◌, map, Some, codes}
+use Rattle.clap.specs.Words.{App, Rule, Text, app_of, fields_of, new_app, new_rule}
 use Rattle.clap.specs.Lexer.{usize_max}
 use Rattle.clap.specs.declared.builder.action.ArgAction.TheVariants.{Append, SetTrue}
+use Rattle.clap.specs.declared.builder.command.Command.{Command}
 use Rattle.clap.specs.declared.builder.value_parser.ValueParser.{ValueParser}
 use Rattle.clap.specs.declared.builder.value_parser.ValueParser.TheVariants.{Names}
 
@@ -34,18 +35,29 @@ file_arg = record (new_rule (codes "file")) {
   value_names = 1;
 }
 
+-- one that is required
+abbrev pub required_arg : Text → Rule
+required_arg id = record (optional_arg id) { required = true }
+
+-- `smpe-intake --version`, without arguments yet
+abbrev pub bare : App
+bare = record { top = record (new_app (codes "smpe-intake")).top { has_version = true }; subs = [] }
+
+-- the same with these arguments, none of which is global
+abbrev pub HasRules : List Rule → Command → Type 0
+HasRules rules c =
+    (app_of c ≡ record bare { top = record bare.top { rules = rules } }) × ((fields_of c).has_globals ≡ false)
+
 -- `smpe-intake --out DIR [--text|--records] [--code CODE] [--syslib DISTLIB=SYSLIB].. [--relfile DIR] [--decide]
--- [--summary FORM] FILE..`, or with `--cntl FILE [--known FILE]..`, and `--version`
+-- [--summary FORM] FILE..`, or with `--cntl FILE [--known FILE]..` in place of FILE
 abbrev pub intake : ValueParser → ValueParser → App
-intake code_words summary_words = record {
-  top = record (new_app (codes "smpe-intake")).top {
-    has_version = true;
-    rules = record (optional_arg (codes "out")) { required = true } ∷ optional_arg (codes "cntl")
-        ∷ repeatable_arg (codes "known") ∷ flag_arg (codes "text") ∷ flag_arg (codes "records")
-        ∷ word_arg (codes "code") code_words ∷ repeatable_arg (codes "syslib") ∷ optional_arg (codes "relfile")
-        ∷ flag_arg (codes "decide") ∷ word_arg (codes "summary") summary_words ∷ file_arg ∷ [];
+intake code_words summary_words = record bare {
+  top = record bare.top {
+    rules = required_arg (codes "out") ∷ optional_arg (codes "cntl") ∷ repeatable_arg (codes "known")
+        ∷ flag_arg (codes "text") ∷ flag_arg (codes "records") ∷ word_arg (codes "code") code_words
+        ∷ repeatable_arg (codes "syslib") ∷ optional_arg (codes "relfile") ∷ flag_arg (codes "decide")
+        ∷ word_arg (codes "summary") summary_words ∷ file_arg ∷ [];
   };
-  subs = [];
 }
 
 abbrev pub IsCommandLine : App → Type 0

@@ -2,8 +2,8 @@
 ghost use Rattle.std.specs.Prelude.{◌≡◌, ◌∷◌, [], false, codes, IfOk};
 ghost use Rattle.clap.specs.Words.{app_of, rule_of};
 ghost use Rattle.clap.specs.declared.builder.value_parser.ValueParser.{ValueParser};
-ghost use Rattle.intake_words.specs.CommandLine.{IsCommandLine, TakesWords, file_arg, flag_arg, optional_arg};
-ghost use Rattle.intake_words.specs.CommandLine.{repeatable_arg, word_arg};
+ghost use Rattle.intake_words.specs.CommandLine.{HasRules, IsCommandLine, TakesWords, file_arg, flag_arg};
+ghost use Rattle.intake_words.specs.CommandLine.{optional_arg, repeatable_arg, required_arg, word_arg};
 
 use clap::{Arg, ArgAction, Command};
 use std::alloc::{AllocError, Global};
@@ -21,19 +21,13 @@ static CODES: [&str; 3] = ["ascii", "ibm1047", "ibm037"];
 pub(crate) fn command_line<'a>(alloc: Global) -> Result<Command<'a>, AllocError>
     ensures { IfOk result (λ c. IsCommandLine (app_of c)) }
 {
-    Command::new(alloc, "smpe-intake")
-        .version(VERSION)
-        .about("Makes a shop's SMP/E files into files that smpe takes")
-        .after_help("Example: smpe-intake --out taken ptfs.txt holddata.txt")
-        .arg(
-            optional_arg(
-                alloc,
-                "out",
-                "DIR",
-                "The folder for ptfin, hold or cntl, and remarks",
-            )
-            .required(true),
-        )?
+    bare_command(alloc)
+        .arg(required_arg(
+            alloc,
+            "out",
+            "DIR",
+            "The folder for ptfin, hold or cntl, and remarks",
+        ))?
         .arg(optional_arg(
             alloc,
             "cntl",
@@ -47,11 +41,7 @@ pub(crate) fn command_line<'a>(alloc: Global) -> Result<Command<'a>, AllocError>
             "With --cntl: SYSMODs among which GROUPEXTEND(NOAPARS) and SOURCEID(RSU*) choose: a list, the job's PTFIN",
         ))?
         .arg(flag_arg(alloc, "text", "The files have lines"))?
-        .arg(flag_arg(
-            alloc,
-            "records",
-            "The files have records of 80 bytes",
-        ))?
+        .arg(flag_arg(alloc, "records", "The files have records of 80 bytes"))?
         .arg(code_arg(alloc))?
         .arg(repeatable_arg(
             alloc,
@@ -72,6 +62,16 @@ pub(crate) fn command_line<'a>(alloc: Global) -> Result<Command<'a>, AllocError>
         ))?
         .arg(summary_arg(alloc))?
         .arg(file_arg(alloc))
+}
+
+// The command line without options.
+fn bare_command<'a>(alloc: Global) -> Command<'a>
+    ensures { HasRules [] result }
+{
+    Command::new(alloc, "smpe-intake")
+        .version(VERSION)
+        .about("Makes a shop's SMP/E files into files that smpe takes")
+        .after_help("Example: smpe-intake --out taken ptfs.txt holddata.txt")
 }
 
 // `--code`, which takes the name of a code.
@@ -101,6 +101,14 @@ fn optional_arg<'a>(alloc: Global, id: &'a str, value: &'a str, help: &'a str) -
     ensures global { result.global ≡ false }
 {
     Arg::new(alloc, id).long(id).value_name(value).help(help)
+}
+
+// An option that takes a value. `clap` refuses words that lack it.
+fn required_arg<'a>(alloc: Global, id: &'a str, value: &'a str, help: &'a str) -> Arg<'a>
+    ensures rule { rule_of result ≡ required_arg id.entry.now }
+    ensures global { result.global ≡ false }
+{
+    optional_arg(alloc, id, value, help).required(true)
 }
 
 // An option that takes a value, and may be repeated.

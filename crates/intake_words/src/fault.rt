@@ -87,10 +87,7 @@ impl IntakeFault {
 
     /// The fault of an input that is one of the files that would be written.
     pub fn of_overwritten_input(alloc: Global, input: &str, output: &str) -> IntakeFault {
-        match (
-            shown_name(alloc, input),
-            shown_name(alloc, output),
-        ) {
+        match (shown_name(alloc, input), shown_name(alloc, output)) {
             (Ok(input), Ok(output)) => IntakeFault::OutputIsInput { input, output },
             _ => IntakeFault::Memory,
         }

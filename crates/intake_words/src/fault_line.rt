@@ -24,7 +24,9 @@ impl IntakeFault {
             IntakeFault::Memory | IntakeFault::Words(WordsFault::Memory) => format!(in alloc;
                 "out of memory"
             )?,
-            IntakeFault::Words(WordsFault::BadOperand(why)) => format!(in alloc; "bad operand: {why}")?,
+            IntakeFault::Words(WordsFault::BadOperand(why)) => format!(in alloc;
+                "bad operand: {why}"
+            )?,
             IntakeFault::CannotRead { name, why } => {
                 let why = unread_words(*why);
                 format!(in alloc; "cannot read {name}{why}")?

@@ -22,8 +22,6 @@ pub use fault_line::earlier_files_line;
 pub use inputs::InputFiles;
 pub use options::{CardOptions, IntakeOptions, WordsFault, read_options, text_views};
 pub use relfile::{RelfileElement, relfile_elements};
-pub use remarks::{
-    append_remark_line, append_remark_lines, refusal_fault, refused_command_lines,
-};
+pub use remarks::{append_remark_line, append_remark_lines, refusal_fault, refused_command_lines};
 pub use stand_ins::stand_ins_file;
 pub use summary::{command_summary, refused_command_summary, service_summary};

@@ -107,9 +107,7 @@ pub(crate) fn layout_option(found: &ArgMatches<'_>) -> Result<Option<Layout>, Wo
         (false, false) => Ok(None),
         (true, false) => Ok(Some(Layout::Text)),
         (false, true) => Ok(Some(Layout::Records)),
-        (true, true) => Err(WordsFault::BadOperand(
-            "--text and --records exclude each other",
-        )),
+        (true, true) => Err(WordsFault::BadOperand("--text and --records exclude each other")),
     }
 }
 

@@ -111,12 +111,21 @@ fn word_texts(alloc: Global, words: &[Vec<u8>]) -> Result<Vec<String>, WordsFaul
 {
     let mut texts: Vec<String> = Vec::new(alloc);
     for word in words {
-        match str::from_utf8(word.as_slice()) {
-            Ok(text) => texts.push(String::from_str(alloc, text)?)?,
-            Err(_) => return Err(WordsFault::BadOperand("no UTF-8")),
-        }
+        let text = word_text(alloc, word.as_slice())?;
+        texts.push(text)?;
     }
     Ok(texts)
+}
+
+// The word as a text. Returns `BadOperand` if it is not UTF-8.
+fn word_text(alloc: Global, word: &[u8]) -> Result<String, WordsFault>
+    ensures ok { IfOk result (λ text. string_bytes text ≡ word.now) }
+    ensures err { IfErr result IsOwn }
+{
+    match str::from_utf8(word) {
+        Ok(text) => Ok(String::from_str(alloc, text)?),
+        Err(_) => Err(WordsFault::BadOperand("no UTF-8")),
+    }
 }
 
 /// The texts as string slices.
