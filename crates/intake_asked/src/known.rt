@@ -106,9 +106,10 @@ fn read_first_line(alloc: Global, line: &[u8]) -> Result<Vec<KnownSysmod>, Alloc
     if is_rule(line) {
         return Ok(sysmods);
     }
-    if let Some(sysmod) = read_known_sysmod(alloc, line)? {
-        sysmods.push(sysmod)?;
-    }
+    let Some(sysmod) = read_known_sysmod(alloc, line)? else {
+        return Ok(sysmods);
+    };
+    sysmods.push(sysmod)?;
     Ok(sysmods)
 }
 
@@ -219,14 +220,15 @@ fn known_of_sysmod(
     ensures { IfOk result (λ known. StatedBecomes stated.now known.items) }
 {
     let mut known = Vec::new(alloc);
-    if let Some(id) = Id::read(stated.id.as_slice()) {
-        let sources = assigned_sources(alloc, file, stated.id.as_slice())?;
-        known.push(KnownSysmod {
-            id,
-            kind: stated.kind,
-            sources,
-        })?;
-    }
+    let Some(id) = Id::read(stated.id.as_slice()) else {
+        return Ok(known);
+    };
+    let sources = assigned_sources(alloc, file, stated.id.as_slice())?;
+    known.push(KnownSysmod {
+        id,
+        kind: stated.kind,
+        sources,
+    })?;
     Ok(known)
 }
 
