@@ -12,7 +12,7 @@ pub returns-in-Sysmod-clause-named : goal.returns-in-Sysmod-clause-named
 returns-in-Sysmod-clause-named c =
     let new = c.push_sysmod_if_unsure.new.unsure.items in
     let left = c.args.doubts.now.left.now in
-    on_ok_weaker c.push_sysmod_if_unsure.result _ _ (λ named s e.
+    on_ok_weaker c.push_sysmod_if_unsure.result (λ named s e.
     subst (λ (x : terms.Sysmod). All (λ l. Meets l x → IsAmong new x.id) (map (λ l. l.now) left))
     (same_sysmod c.in-Sysmod.sysmod.now s (sym c.in-Sysmod.is ∙ e))
     (All-map (λ l. Meets l c.in-Sysmod.sysmod.now → IsAmong new c.in-Sysmod.sysmod.now.id) (λ l. l.now) left named))
