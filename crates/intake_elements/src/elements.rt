@@ -1,6 +1,9 @@
 //! Statements of the profile that bring or update elements.
-ghost use Rattle.std.specs.Prelude.{◌≡◌, IfOk, IfSome, IsTrue, All, true, false};
+ghost use Rattle.std.specs.Prelude.{◌≡◌, IfOk, IfSome, IsTrue, All, true, false, Some, None};
 ghost use Rattle.terms.specs.Texts.{IsReplacement, IsUpdate};
+ghost use Rattle.terms.specs.Types.{Text};
+ghost use Rattle.intake_read.specs.Stated.{text_in};
+ghost use Rattle.intake_elements.specs.ElementTexts.{AreLibraries, AreRecordsOf, IsStatedText};
 ghost use Rattle.intake_elements.specs.Elements.{IsHarmless, LacksNothing, is_update, IsChangeOf};
 
 use crate::element_words::{Target, is_update, is_update_word};
@@ -117,7 +120,9 @@ fn read_library(
     subject: &Subject<'_>,
     operand: &[u8],
     stated: &[u8],
-) -> Result<Option<Name>, AllocError> {
+) -> Result<Option<Name>, AllocError>
+    ensures { IfOk result (λ found. IfSome found (λ name. name ≡ stated.now)) }
+{
     let name = Name::read(stated);
     if name.is_none() {
         remarks.tell_left_out(alloc, subject, operand, RemarkReason::BadValue, stated)?;
@@ -133,7 +138,10 @@ fn read_libraries(
     remarks: &mut Remarks,
     subject: &Subject<'_>,
     element: &WideElement,
-) -> Result<Option<Libraries>, AllocError> {
+) -> Result<Option<Libraries>, AllocError>
+    ensures { IfOk result (λ found. IfSome found (λ libraries. AreLibraries element.now libraries.distlib
+        libraries.syslib)) }
+{
     let Some(distlib) = &element.distlib else {
         remarks.tell_left_out(alloc, subject, b"DISTLIB", RemarkReason::Missing, b"")?;
         return Ok(None);
@@ -142,10 +150,40 @@ fn read_libraries(
     else {
         return Ok(None);
     };
-    if let Some(syslib) = &element.syslib {
-        let syslib = read_library(alloc, remarks, subject, b"SYSLIB", syslib.as_slice())?;
-        return Ok(syslib.map(|syslib| Libraries { distlib, syslib }));
+    let Some(syslib) = read_syslib(alloc, options, remarks, subject, element, distlib)? else {
+        return Ok(None);
+    };
+    Ok(Some(Libraries { distlib, syslib }))
+}
+
+// The SYSLIB of a replacement with this DISTLIB: the one that is stated, or else that of the options. Returns `None`,
+// with a remark, if it is missing or does not have the form of a name.
+fn read_syslib(
+    alloc: Global,
+    options: &Options,
+    remarks: &mut Remarks,
+    subject: &Subject<'_>,
+    element: &WideElement,
+    distlib: Name,
+) -> Result<Option<Name>, AllocError>
+    ensures { IfOk result (λ found. IfSome found (λ syslib. (library : Text)
+        → text_in element.now.syslib ≡ Some library → syslib ≡ library)) }
+{
+    match &element.syslib {
+        Some(syslib) => read_library(alloc, remarks, subject, b"SYSLIB", syslib.as_slice()),
+        None => given_syslib(alloc, options, remarks, subject, distlib),
     }
+}
+
+// The SYSLIB that the options give for this DISTLIB, with a remark. Returns `None`, with another remark, if there is
+// none.
+fn given_syslib(
+    alloc: Global,
+    options: &Options,
+    remarks: &mut Remarks,
+    subject: &Subject<'_>,
+    distlib: Name,
+) -> Result<Option<Name>, AllocError> {
     let Some(syslib) = options.syslib_for(distlib) else {
         remarks.tell_left_out(
             alloc,
@@ -163,7 +201,7 @@ fn read_libraries(
         RemarkReason::GivenSyslib,
         syslib.as_bytes(),
     )?;
-    Ok(Some(Libraries { distlib, syslib }))
+    Ok(Some(syslib))
 }
 
 // The cards of an element's text: those after its statement, or those of its RELFILE. Returns `None`, with a remark, if
@@ -174,7 +212,10 @@ fn text_cards<'a>(
     remarks: &mut Remarks,
     subject: &Subject<'_>,
     element: &'a WideElement,
-) -> Result<Option<&'a [Card]>, AllocError> {
+) -> Result<Option<&'a [Card]>, AllocError>
+    ensures { IfOk result (λ found. IfSome found (λ cards. text_in element.now.relfile ≡ None
+        → cards.now ≡ element.now.inline.items)) }
+{
     let Some(relfile) = &element.relfile else {
         return Ok(Some(element.inline.as_slice()));
     };
@@ -249,13 +290,29 @@ fn replacement_lines(
     elem_type: ElemType,
     cards: &[Card],
 ) -> Result<Option<Vec<Line>>, AllocError>
-    ensures { IfOk result (λ found. IfSome found (λ lines. IsReplacement elem_type lines.items)) }
+    ensures { IfOk result (λ found. IfSome found (λ lines. IsReplacement elem_type lines.items
+        × AreRecordsOf cards.now lines.items)) }
 {
     if let Some(reason) = text_fault(cards) {
         let text = card_place_text(alloc, cards.iter().find(|card| !card.is_printable()))?;
         remarks.tell_left_out(alloc, subject, b"", reason, text.as_bytes())?;
         return Ok(None);
     }
+    good_lines(alloc, remarks, subject, elem_type, cards)
+}
+
+// The cards, which may be a text, as the records of a replacement of the type. Returns `None`, with a remark, if their
+// numbers do not rise.
+fn good_lines(
+    alloc: Global,
+    remarks: &mut Remarks,
+    subject: &Subject<'_>,
+    elem_type: ElemType,
+    cards: &[Card],
+) -> Result<Option<Vec<Line>>, AllocError>
+    ensures { IfOk result (λ found. IfSome found (λ lines. IsReplacement elem_type lines.items
+        × AreRecordsOf cards.now lines.items)) }
+{
     let text_cards = without_blank_end_if_numbered(elem_type, cards);
     tell_blank_end(alloc, remarks, subject, cards, text_cards)?;
     let Some(lines) = replacement_text(alloc, elem_type, text_cards)? else {
@@ -284,7 +341,8 @@ fn stated_replacement(
     element: &WideElement,
     target: Target,
 ) -> Result<Option<ElemChange>, AllocError>
-    ensures { IfOk result (λ found. IfSome found (IsChangeOf target.elem_type target.name false)) }
+    ensures { IfOk result (λ found. IfSome found (λ c. IsChangeOf target.elem_type target.name false c
+        × IsStatedText element.now c.action)) }
 {
     let Some(libraries) = read_libraries(alloc, options, remarks, subject, element)? else {
         return Ok(None);
@@ -381,8 +439,8 @@ fn stated_change(
     element: &WideElement,
     target: Target,
 ) -> Result<Option<ElemChange>, AllocError>
-    ensures { IfOk result (λ found. IfSome found (IsChangeOf target.elem_type target.name
-        (is_update kind element.now.word.items))) }
+    ensures { IfOk result (λ found. IfSome found (λ c. IsChangeOf target.elem_type target.name
+        (is_update kind element.now.word.items) c × IsStatedText element.now c.action)) }
 {
     let subject = element_subject(element);
     let word = element.word.as_slice();
@@ -407,7 +465,8 @@ pub(crate) fn whole_change(
     target: Target,
 ) -> Result<Option<ElemChange>, AllocError>
     ensures { IfOk result (λ found. IfSome found (λ c. IsChangeOf target.elem_type target.name
-        (is_update kind element.now.word.items) c × LacksNothing options.now.decide element.now)) }
+        (is_update kind element.now.word.items) c × LacksNothing options.now.decide element.now
+        × IsStatedText element.now c.action)) }
 {
     let subject = element_subject(element);
     if !can_drop_all_operands(alloc, options, remarks, &subject, element)? {

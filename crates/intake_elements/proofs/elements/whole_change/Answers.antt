@@ -5,5 +5,6 @@ use Rattle.intake_elements.proofs.elements.whole_change.Goals as goal
 pub returns : goal.returns
 returns c =
     IfOk-weaker c.stated_change.result _ _ (λ found is.
-    IfSome_then found is (λ change stated. (stated, c.in_ok-can_drop_all_operands.ensures c.if-not-branch.false)))
+    IfSome_then found is (λ change stated.
+    (stated.0, (c.in_ok-can_drop_all_operands.ensures c.if-not-branch.false, stated.1))))
     c.stated_change.ensures
