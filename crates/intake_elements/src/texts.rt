@@ -88,7 +88,7 @@ fn is_record_of(card: &Card, line: &Line) -> bool
 
 // How many cards there are up to the last one that is not blank.
 fn length_without_blank_end(cards: &[Card]) -> usize {
-    match cards.iter().rposition(|card| !is_blank(card)) {
+    match cards.iter().rposition(|card| !card.is_blank()) {
         Some(last) => last.saturating_add(1),
         None => 0,
     }
