@@ -1,3 +1,4 @@
 pub mod Keys
+pub mod Lacking
 pub mod Targets
 pub mod Texts

@@ -7,7 +7,7 @@ ghost use Rattle.intake_elements.specs.ElementTexts.{AreLibraries, AreRecordsOf,
 ghost use Rattle.intake_elements.specs.Elements.{IsHarmless, LacksNothing, is_update, IsChangeOf};
 
 use crate::element_words::{Target, is_update, is_update_word};
-use crate::harmless::{are_both, can_lack_operand};
+use crate::harmless::{are_all_read, are_both, can_lack_operand};
 use crate::modules::tell_dropped_module_operands;
 use crate::options::{Libraries, Options};
 use crate::subjects::element_subject;
@@ -109,8 +109,8 @@ fn can_drop_all_operands(
     tell_faulty_operands(alloc, remarks, subject, faulty, Deed::LeftOut)?;
     let dropped = drop_operands(alloc, options, remarks, subject, element.operands.as_slice())?;
     tell_text_libraries(alloc, remarks, subject, element.libraries.as_slice())?;
-    let has_text = element.libraries.is_empty();
-    Ok(are_both(are_both(dropped, element.faulty.is_empty()), has_text))
+    let operands = are_both(dropped, are_all_read(faulty));
+    Ok(are_both(operands, element.libraries.is_empty()))
 }
 
 // The library that the operand states. Returns `None`, with a remark, if it does not have the form of a name.
