@@ -1,11 +1,13 @@
 //! Why it is not sure that a SYSMOD can be installed, in words.
 
+use fields::Id;
 use intake_elements::{change_key, keys_of, modules_of};
-use intake_read::{WideElement, WideFile, WideSysmod};
+use intake_read::{WideElement, WideFile, WideOperand, WideSysmod, list_members};
 use intake_sysmod::Options;
 use std::alloc::{AllocError, Global};
-use std::collections::BTreeMap;
+use std::collections::{BTreeMap, BTreeSet};
 use sysmods_values::{ElemChange, Sysmod};
+use terms::Kind;
 
 /// Elements that SYSMODs share, each with the first SYSMOD that changes it, and what is said of that SYSMOD.
 #[derive(Drop)]
@@ -16,17 +18,88 @@ pub(crate) struct SharedElements<'a> {
     after_id: &'static [u8],
 }
 
-// Whether the element statement has the operand VERSION.
-fn has_version(element: &WideElement) -> bool {
+// The operand VERSION of the element statement, or `None` if it has none.
+fn version_of(element: &WideElement) -> Option<&WideOperand> {
     element
         .operands
         .iter()
-        .any(|operand| operand.name.as_slice() == b"VERSION".as_slice())
+        .find(|operand| operand.name.as_slice() == b"VERSION".as_slice())
 }
 
-// Whether a `++VER` of the SYSMOD has the operand VERSION, which is then one of each of its elements.
-fn has_version_of_all(sysmod: &WideSysmod) -> bool {
+// Whether a `++VER` or an element of the SYSMOD has the operand VERSION.
+fn has_version(sysmod: &WideSysmod) -> bool {
     sysmod.vers.iter().any(|ver| !ver.version.is_empty())
+        || sysmod
+            .elements
+            .iter()
+            .any(|element| version_of(element).is_some())
+}
+
+// Adds the ids among the texts.
+fn push_ids(ids: &mut Vec<Id>, texts: &[Vec<u8>]) -> Result<(), AllocError> {
+    for text in texts {
+        if let Some(id) = Id::read(text.as_slice()) {
+            ids.push(id)?;
+        }
+    }
+    Ok(())
+}
+
+// The functions from which the SYSMOD takes over the element by VERSION: those that the element's operand names, and
+// those that the `++VER`s name.
+fn functions_before(
+    alloc: Global,
+    sysmod: &WideSysmod,
+    element: &WideElement,
+) -> Result<Vec<Id>, AllocError> {
+    let mut ids = Vec::new(alloc);
+    for ver in sysmod.vers.iter() {
+        push_ids(&mut ids, ver.version.as_slice())?;
+    }
+    if let Some(operand) = version_of(element) {
+        for member in list_members(alloc, operand.text())? {
+            let upper = member.to_ascii_uppercase(alloc)?;
+            if let Some(id) = Id::read(upper.as_slice()) {
+                ids.push(id)?;
+            }
+        }
+    }
+    Ok(ids)
+}
+
+// The functions to which the elements of the SYSMOD belong: itself, if it is one, or else those of its `++VER`s.
+fn functions_of(alloc: Global, sysmod: &WideSysmod) -> Result<Vec<Id>, AllocError> {
+    let mut ids = Vec::new(alloc);
+    let texts = sysmod.vers.iter().filter_map(|ver| ver.fmid.as_ref());
+    for text in texts {
+        if let Some(id) = Id::read(text.as_slice()) {
+            ids.push(id)?;
+        }
+    }
+    if sysmod.kind == Kind::Function {
+        ids.clear();
+        if let Some(id) = Id::read(sysmod.id.as_slice()) {
+            ids.push(id)?;
+        }
+    }
+    Ok(ids)
+}
+
+// Adds each element that the SYSMOD changes, by its key, with each function to which it belongs.
+fn add_owned(
+    alloc: Global,
+    owned: &mut BTreeSet<(u64, Id)>,
+    sysmod: &WideSysmod,
+) -> Result<(), AllocError> {
+    let functions = functions_of(alloc, sysmod)?;
+    for element in sysmod.elements.iter() {
+        for key in &keys_of(alloc, element)? {
+            for function in functions.iter() {
+                owned.insert((*key, *function))?;
+            }
+        }
+    }
+    Ok(())
 }
 
 // The type of the elements that statements of this word change, as it is spelled.
@@ -126,7 +199,8 @@ impl<'a> SharedElements<'a> {
         Ok(shared)
     }
 
-    /// The elements that a SYSMOD of the files takes over from another function by VERSION, if stand-ins are asked for.
+    /// The elements that a SYSMOD of the files takes over by VERSION from a function which brings them in these files,
+    /// if stand-ins are asked for.
     pub(crate) fn taken_over(
         alloc: Global,
         options: &Options,
@@ -137,20 +211,45 @@ impl<'a> SharedElements<'a> {
             b"passes to another function by VERSION of",
             b", which smpe does not do",
         );
-        if !options.decide {
+        let has_any = files
+            .iter()
+            .any(|file| file.sysmods.iter().any(|sysmod| has_version(sysmod)));
+        if !options.decide || !has_any {
             return Ok(shared);
+        }
+        let mut owned = BTreeSet::new(alloc);
+        for file in files {
+            for sysmod in file.sysmods.iter() {
+                add_owned(alloc, &mut owned, sysmod)?;
+            }
         }
         for file in files {
             for sysmod in file.sysmods.iter() {
-                let has_all = has_version_of_all(sysmod);
-                for element in sysmod.elements.iter() {
-                    if has_all || has_version(element) {
-                        shared.add(alloc, sysmod, element)?;
-                    }
-                }
+                shared.add_taken_over(alloc, &owned, sysmod)?;
             }
         }
         Ok(shared)
+    }
+
+    // Adds the elements that the SYSMOD takes over from a function to which they belong.
+    fn add_taken_over(
+        &mut self,
+        alloc: Global,
+        owned: &BTreeSet<(u64, Id)>,
+        sysmod: &'a WideSysmod,
+    ) -> Result<(), AllocError> {
+        for element in sysmod.elements.iter() {
+            let functions = functions_before(alloc, sysmod, element)?;
+            for key in &keys_of(alloc, element)? {
+                let is_taken = functions
+                    .iter()
+                    .any(|function| owned.contains(&(*key, *function)));
+                if is_taken && !self.by_key.contains_key(key) {
+                    self.by_key.insert(*key, sysmod)?;
+                }
+            }
+        }
+        Ok(())
     }
 
     /// What is said of the element that the change changes: nothing if it is not one of these.
