@@ -35,12 +35,10 @@ fn has_version(sysmod: &WideSysmod) -> bool {
             .any(|element| version_of(element).is_some())
 }
 
-// Adds the ids among the texts.
-fn push_ids(ids: &mut Vec<Id>, texts: &[Vec<u8>]) -> Result<(), AllocError> {
-    for text in texts {
-        if let Some(id) = Id::read(text.as_slice()) {
-            ids.push(id)?;
-        }
+// Adds the id, if the text is one.
+fn push_id(ids: &mut Vec<Id>, text: &[u8]) -> Result<(), AllocError> {
+    if let Some(id) = Id::read(text) {
+        ids.push(id)?;
     }
     Ok(())
 }
@@ -54,14 +52,13 @@ fn functions_before(
 ) -> Result<Vec<Id>, AllocError> {
     let mut ids = Vec::new(alloc);
     for ver in sysmod.vers.iter() {
-        push_ids(&mut ids, ver.version.as_slice())?;
+        for function in ver.version.iter() {
+            push_id(&mut ids, function.as_slice())?;
+        }
     }
     if let Some(operand) = version_of(element) {
         for member in list_members(alloc, operand.text())? {
-            let upper = member.to_ascii_uppercase(alloc)?;
-            if let Some(id) = Id::read(upper.as_slice()) {
-                ids.push(id)?;
-            }
+            push_id(&mut ids, &member.to_ascii_uppercase(alloc)?)?;
         }
     }
     Ok(ids)
@@ -70,16 +67,13 @@ fn functions_before(
 // The functions to which the elements of the SYSMOD belong: itself, if it is one, or else those of its `++VER`s.
 fn functions_of(alloc: Global, sysmod: &WideSysmod) -> Result<Vec<Id>, AllocError> {
     let mut ids = Vec::new(alloc);
-    let texts = sysmod.vers.iter().filter_map(|ver| ver.fmid.as_ref());
-    for text in texts {
-        if let Some(id) = Id::read(text.as_slice()) {
-            ids.push(id)?;
-        }
-    }
     if sysmod.kind == Kind::Function {
-        ids.clear();
-        if let Some(id) = Id::read(sysmod.id.as_slice()) {
-            ids.push(id)?;
+        push_id(&mut ids, sysmod.id.as_slice())?;
+        return Ok(ids);
+    }
+    for ver in sysmod.vers.iter() {
+        if let Some(fmid) = &ver.fmid {
+            push_id(&mut ids, fmid.as_slice())?;
         }
     }
     Ok(ids)
