@@ -9,7 +9,7 @@ ghost use Rattle.terms.specs.Lookups.{is_in};
 ghost use Rattle.intake_elements.specs.StandInNames.{key_of};
 ghost use Rattle.intake_sysmod.specs.Users.{run_of, IsKnown};
 ghost use Rattle.intake_carry.specs.Unsure.{is_fmid, is_of, forbids_in, forbids, excludes, Meets};
-ghost use Rattle.intake_carry.specs.Unsure.{AreUnsure, IsNamed, KeepsNamed};
+ghost use Rattle.intake_carry.specs.Unsure.{AreUnsure, IsAmong, IsNamed, KeepsNamed};
 
 use crate::left_out_sysmods::{carried_ids, left_out_of_files, users_of_all};
 use crate::unsure_reasons::{SharedElements, conflict_text};
@@ -139,6 +139,24 @@ struct Doubts<'a> {
     taken_over: &'a SharedElements<'a>,
 }
 
+// Why it is not sure that the SYSMOD can be installed, besides elements that it shares with SYSMODs that are left out, or
+// `None` if there is no such reason.
+fn reason_without_shared(
+    alloc: Global,
+    doubts: &Doubts<'_>,
+    sysmod: &Sysmod,
+) -> Result<Option<Vec<u8>>, AllocError>
+    ensures { IfOk result (λ found. IfNone found (All (λ l. (forbids l.now sysmod.now || excludes sysmod.now l.now)
+        ≡ false) doubts.now.left.now)) }
+{
+    let Some(other) = first_in_conflict(doubts.left, sysmod) else {
+        return doubts
+            .taken_over
+            .text_of_any(alloc, sysmod.changes.as_slice());
+    };
+    Ok(Some(conflict_text(alloc, *other, sysmod)?))
+}
+
 // Why it is not sure that the SYSMOD can be installed, or `None` if no SYSMOD that is left out has to do with it.
 fn reason_for(
     alloc: Global,
@@ -148,15 +166,32 @@ fn reason_for(
     requires { All (λ l. IsKnown doubts.now.users.now l.now) doubts.now.left.now }
     ensures { IfOk result (λ found. IfNone found (All (λ l. ¬ Meets l.now sysmod.now) doubts.now.left.now)) }
 {
-    if let Some(change) = first_used(doubts.users, sysmod.changes.as_slice()) {
-        return Ok(Some(doubts.shared.text(alloc, change)?));
-    }
-    if let Some(other) = first_in_conflict(doubts.left, sysmod) {
-        return Ok(Some(conflict_text(alloc, *other, sysmod)?));
-    }
-    doubts
-        .taken_over
-        .text_of_any(alloc, sysmod.changes.as_slice())
+    let Some(change) = first_used(doubts.users, sysmod.changes.as_slice()) else {
+        return reason_without_shared(alloc, doubts, sysmod);
+    };
+    Ok(Some(doubts.shared.text(alloc, change)?))
+}
+
+// Adds the SYSMOD, if it is one of which it is not sure that it can be installed.
+fn push_sysmod_if_unsure(
+    alloc: Global,
+    doubts: &Doubts<'_>,
+    sysmod: &Sysmod,
+    unsure: &mut Vec<Unsure>,
+) -> Result<(), AllocError>
+    requires { All (λ l. IsKnown doubts.now.users.now l.now) doubts.now.left.now }
+    ensures named { OnOk result (All (λ l. Meets l.now sysmod.now → IsAmong unsure.new.items sysmod.now.id)
+        doubts.now.left.now) }
+    ensures kept { OnOk result (KeepsNamed unsure.old.items unsure.new.items) }
+{
+    let Some(reason) = reason_for(alloc, doubts, sysmod)? else {
+        return Ok(());
+    };
+    unsure.push(Unsure {
+        id: sysmod.id,
+        reason,
+    })?;
+    Ok(())
 }
 
 // Adds the SYSMOD of the item, if it is one of which it is not sure that it can be installed.
@@ -170,17 +205,10 @@ fn push_if_unsure(
     ensures named { OnOk result (IsNamed (map (λ l. l.now) doubts.now.left.now) unsure.new.items item.now) }
     ensures kept { OnOk result (KeepsNamed unsure.old.items unsure.new.items) }
 {
-    let Item::Sysmod(sysmod) = item else {
-        return Ok(());
-    };
-    let Some(reason) = reason_for(alloc, doubts, sysmod)? else {
-        return Ok(());
-    };
-    unsure.push(Unsure {
-        id: sysmod.id,
-        reason,
-    })?;
-    Ok(())
+    match item {
+        Item::Sysmod(sysmod) => push_sysmod_if_unsure(alloc, doubts, sysmod, unsure),
+        Item::Assign(_) => Ok(()),
+    }
 }
 
 // Those of the items of which it is not sure that they can be installed.
