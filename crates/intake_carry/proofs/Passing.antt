@@ -46,18 +46,22 @@ pub passes_one : (stated : WideHold) (hold put : Hold) (old new : Sysmod) → Is
     → new ≡ record old { holds = old.holds ++ put ∷ [] } → PassesOneOn stated old new
 passes_one stated hold put old new is e put_is new_is =
     subst (λ p. new ≡ record old { holds = old.holds ++ p ∷ [] } → PassesOneOn stated old new) (sym put_is)
-    (λ n. (on_it old.id hold ∷ [], n, IsPassed e (on_it old.id hold) (record {
-      same = record {
+    (λ n. (
+      on_it old.id hold ∷ [],
+      n,
+      IsPassed e (on_it old.id hold) (record {
+        same = record {
+          id_is = refl;
+          kind_is = is.kind_is;
+          reason_is = is.reason_is;
+          fmid_is = is.fmid_is;
+          class_is = is.class_is;
+          date_is = is.date_is;
+        };
         id_is = refl;
-        kind_is = is.kind_is;
-        reason_is = is.reason_is;
-        fmid_is = is.fmid_is;
-        class_is = is.class_is;
-        date_is = is.date_is;
-      };
-      id_is = refl;
-      internal = refl;
-    }))) new_is
+        internal = refl;
+      }),
+    )) new_is
 
 passes_more : (id : Id) (vers : List Ver) (ws : List WideHold) (holds : List Hold) (w : WideHold) (one : List Hold)
     → PassesOn id vers ws holds → HoldIsPassedOn id vers w one → PassesOn id vers (ws ++ w ∷ []) (holds ++ one)

@@ -141,8 +141,9 @@ impl Narrowed {
             left_out: left_out.sysmods,
         };
         let holds = Tally {
-            carried: count_holds(items.as_slice(), hold_items.as_slice())
-                .saturating_sub(left_out.passed_on),
+            carried: count_holds(items.as_slice(), hold_items.as_slice()).saturating_sub(
+                left_out.passed_on,
+            ),
             left_out: left_out.holds,
         };
         let releases = Tally {

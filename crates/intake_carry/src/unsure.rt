@@ -100,10 +100,7 @@ fn are_in_conflict(left: &WideSysmod, sysmod: &Sysmod) -> bool
 }
 
 // The first of the SYSMODs that are left out which forbids this one, or is forbidden by it, or `None` if none does.
-fn first_in_conflict<'a>(
-    left: &'a [&'a WideSysmod],
-    sysmod: &Sysmod,
-) -> Option<&'a &'a WideSysmod>
+fn first_in_conflict<'a>(left: &'a [&'a WideSysmod], sysmod: &Sysmod) -> Option<&'a &'a WideSysmod>
     ensures { IfNone result (All (λ l. (forbids l.now sysmod.now || excludes sysmod.now l.now) ≡ false) left.now) }
 {
     left.iter().find(|other| are_in_conflict(*other, sysmod))
@@ -153,7 +150,9 @@ fn reason_without_shared(
         ≡ false) doubts.now.left.now)) }
 {
     let Some(other) = first_in_conflict(doubts.left, sysmod) else {
-        return doubts.taken_over.text_of_any(alloc, sysmod.changes.as_slice());
+        return doubts
+            .taken_over
+            .text_of_any(alloc, sysmod.changes.as_slice());
     };
     Ok(Some(conflict_text(alloc, *other, sysmod)?))
 }

@@ -130,7 +130,11 @@ fn append_element_if_key(
     let modules = modules_of(alloc, element)?;
     match place.checked_sub(1).and_then(|place| modules.get(place)) {
         Some(module) => append_words(text, b"MOD", module)?,
-        None => append_words(text, type_word(element.word.as_slice()), element.name.as_slice())?,
+        None => append_words(
+            text,
+            type_word(element.word.as_slice()),
+            element.name.as_slice(),
+        )?,
     }
     Ok(true)
 }
@@ -152,11 +156,7 @@ fn append_element(
 
 impl<'a> SharedElements<'a> {
     // No elements.
-    fn new(
-        alloc: Global,
-        before_id: &'static [u8],
-        after_id: &'static [u8],
-    ) -> SharedElements<'a> {
+    fn new(alloc: Global, before_id: &'static [u8], after_id: &'static [u8]) -> SharedElements<'a> {
         SharedElements {
             by_key: BTreeMap::new(alloc),
             before_id,
@@ -279,10 +279,10 @@ impl<'a> SharedElements<'a> {
 
 // Whether NPRE of the SYSMOD names the one that is left out.
 fn has_in_npre(sysmod: &Sysmod, left: &WideSysmod) -> bool {
-    sysmod
-        .vers
+    sysmod.vers.iter().any(|ver| ver
+        .npre
         .iter()
-        .any(|ver| ver.npre.iter().any(|id| id.as_bytes() == left.id.as_slice()))
+        .any(|id| id.as_bytes() == left.id.as_slice()))
 }
 
 /// What is said of a SYSMOD and one that is left out, if NPRE or DELETE of one of them names the other.
@@ -296,7 +296,11 @@ pub(crate) fn conflict_text(
     if has_in_npre(sysmod, left) {
         append_words(&mut text, b"its NPRE names", id)?;
     } else {
-        append_words(&mut text, b"it or its function is named in NPRE or DELETE of", id)?;
+        append_words(
+            &mut text,
+            b"it or its function is named in NPRE or DELETE of",
+            id,
+        )?;
     }
     text.extend_from_slice(b", which was left out")?;
     Ok(text)

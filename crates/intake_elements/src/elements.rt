@@ -107,7 +107,13 @@ fn can_drop_all_operands(
     tell_dropped_module_operands(alloc, options, remarks, subject, element)?;
     let faulty = element.faulty.as_slice();
     tell_faulty_operands(alloc, remarks, subject, faulty, Deed::LeftOut)?;
-    let dropped = drop_operands(alloc, options, remarks, subject, element.operands.as_slice())?;
+    let dropped = drop_operands(
+        alloc,
+        options,
+        remarks,
+        subject,
+        element.operands.as_slice(),
+    )?;
     tell_text_libraries(alloc, remarks, subject, element.libraries.as_slice())?;
     let operands = are_both(dropped, are_all_read(faulty));
     Ok(are_both(operands, element.libraries.is_empty()))

@@ -208,7 +208,13 @@ pub(crate) fn can_have_stand_in(
     requires { IsTrue options.now.decide }
     ensures { IfOk result (λ can. IsTrue can → LacksNothing options.now.decide element.now) }
 {
-    let can_lack = can_lack_operands(alloc, options, remarks, subject, element.operands.as_slice())?;
+    let can_lack = can_lack_operands(
+        alloc,
+        options,
+        remarks,
+        subject,
+        element.operands.as_slice(),
+    )?;
     tell_module_faults(alloc, remarks, subject, element)?;
     Ok(are_both(can_lack, has_no_module_fault(element)))
 }

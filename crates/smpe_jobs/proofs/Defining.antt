@@ -11,11 +11,11 @@ use Rattle.store.specs.Going.{GoesOver, CommitsOnce}
 use Rattle.store.specs.declared.change.Change.{Change}
 use Rattle.store.specs.declared.change.Change.TheVariants.{NewZone}
 use Rattle.store.proofs.Going.{goes_err}
-use Rattle.smpe_zones.specs.Calls.{GoesCall, FailsAct}
-use Rattle.smpe_zones.specs.declared.error.ZoneError.{ZoneError}
-use Rattle.smpe_zones.specs.declared.error.ZoneError.TheVariants.{Store}
-use Rattle.smpe_zones.specs.Definitions.{GoesDefine, EndsDefine, is_refused, zone_error}
-use Rattle.smpe_zones.specs.Own.{IsOwn}
+use Rattle.store.specs.CallEnds.{GoesCall, FailsAct}
+use Rattle.smpe_jobs.specs.declared.zone_error.ZoneError.{ZoneError}
+use Rattle.smpe_jobs.specs.declared.zone_error.ZoneError.TheVariants.{Store}
+use Rattle.smpe_jobs.specs.ZoneDefinitions.{GoesDefine, EndsDefine, is_refused, zone_error}
+use Rattle.store.specs.Own.{IsOwn}
 
 -- The call of the store failed.
 pub defined_failed : {S U : Type 0} (g : Ghosts S) (old at : Held S) (s : State) (d : ZoneDefinition) (e : StoreError)

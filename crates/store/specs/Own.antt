@@ -3,13 +3,13 @@ use Rattle.std.specs.Prelude.{◌≡◌, All, false}
 use Rattle.terms.specs.Types.{Command, Receive, Reject, Apply, Accept, Restore, Zone as AZone}
 use Rattle.zones_maps.specs.Delta.{IsDelta, KnowsStood}
 use Rattle.machine.specs.Machine.{Act, Perform, Define}
-use Rattle.smpe_global.specs.Edits.{IsOfReceive, IsOfReject}
+use Rattle.sysmods.specs.Edits.{IsOfReceive, IsOfReject, HasWrittenForm}
 use Rattle.store.specs.declared.change.Change.{Change}
 use Rattle.store.specs.declared.change.Change.TheVariants.{NewZone, Zone, Global}
 
--- a change of the global zone that removes no SYSMOD
+-- a change of the global zone that removes no SYSMOD, and writes nothing but what has its form
 abbrev pub IsReceived : Change → Type 0
-IsReceived (Global stated edits) = All IsOfReceive edits.items
+IsReceived (Global stated edits) = All IsOfReceive edits.items × All HasWrittenForm edits.items
 IsReceived _ = ⊥
 
 -- one that only removes SYSMODs and holds

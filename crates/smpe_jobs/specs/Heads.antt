@@ -9,8 +9,8 @@ use Rattle.terms.specs.declared.kinds.ZoneKind.TheVariants.{Target, Distribution
 use Rattle.terms.specs.Types.{Text, is_distribution}
 use Rattle.machine.specs.State.{ZoneDefinition, global_name}
 use Rattle.store_zones.specs.declared.head.ZoneHead.{ZoneHead}
-use Rattle.smpe_zones.specs.declared.error.ZoneFault.{ZoneFault}
-use Rattle.smpe_zones.specs.declared.error.ZoneFault.TheVariants.{NameTaken, WrongRelated, OtherSrel, TooMany}
+use Rattle.smpe_jobs.specs.declared.zone_error.ZoneFault.{ZoneFault}
+use Rattle.smpe_jobs.specs.declared.zone_error.ZoneFault.TheVariants.{NameTaken, WrongRelated, OtherSrel, TooMany}
 
 abbrev pub head_named : List ZoneHead → Text → Option ZoneHead
 head_named heads name = find (λ h. bytes_eq h.name name) heads

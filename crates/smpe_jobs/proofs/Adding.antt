@@ -6,7 +6,7 @@ use Rattle.machine.specs.Machine.{Define, Steps, state_after}
 use Rattle.store_schema.specs.Inventory.{IsInventory}
 use Rattle.store.specs.declared.change.Change.TheVariants.{NewZone}
 use Rattle.store.specs.Changes.{Makes}
-use Rattle.smpe_zones.specs.Kept.{kept, LeadsOn}
+use Rattle.store.specs.Kept.{kept, LeadsOn}
 use Rattle.machine_laws.proofs.Defined.{definition_kept, placed}
 
 module _ (s t : State) (d : ZoneDefinition) (is : define_zone s d ≡ Ok t) (inventory : IsInventory (kept s)) where

@@ -15,7 +15,7 @@ use Rattle.store.proofs.NoState.{found_after, tells_committed}
 use Rattle.store_schema.specs.Inventory.{Inventory}
 use Rattle.store_schema.specs.declared.error.StoreError.{StoreError}
 use Rattle.store_schema.specs.declared.error.StoreError.TheVariants.{Fault, OtherSchema, NoState, Memory}
-use Rattle.smpe_zones.specs.Calls.{Follows, GoesCall}
+use Rattle.store.specs.CallEnds.{Follows, GoesCall}
 
 -- the errors of a commit
 not_other : {X : Type 0} (r : Result X StoreError) → IfErr r (λ e. (e ≡ Fault) ⊎ (e ≡ Memory))

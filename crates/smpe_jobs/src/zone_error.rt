@@ -37,7 +37,7 @@ pub enum ZoneError {
 
 impl From<StoreError> for ZoneError {
     ghost use Rattle.std.specs.Prelude.{◌≡◌};
-    ghost use Rattle.smpe_zones.specs.Definitions.{zone_error};
+    ghost use Rattle.smpe_jobs.specs.ZoneDefinitions.{zone_error};
 
     ghost from_gives = { λ error e. e ≡ zone_error error };
 

@@ -5,16 +5,16 @@ use Rattle.machine.specs.Machine.{Define}
 use Rattle.store.specs.declared.change.Change.TheVariants.{NewZone}
 use Rattle.store.proofs.Going.{loads_alone, alone_short, goes_ok}
 use Rattle.store.proofs.NoState.{loads_read}
-use Rattle.smpe_zones.specs.Kept.{kept, IsAfter, Keeps, LeadsOn}
-use Rattle.smpe_zones.specs.Definitions.{definition}
-use Rattle.smpe_zones.specs.Heads.{first_fault}
-use Rattle.smpe_zones.specs.Own.{IsOwn}
-use Rattle.smpe_zones.proofs.Adding.{makes, leads, steps_defined, leads_on}
-use Rattle.smpe_zones.proofs.Ending.{defined_failed, goes_failed}
-use Rattle.smpe_zones.proofs.Found.{refuses, accepts}
-use Rattle.smpe_zones.proofs.Keeping.{inventory_kept, loaded, committed, act_unmoved, failed_more, failed_since}
-use Rattle.smpe_zones.proofs.Calls.{is_later, call_load, call_commit, call_after}
-use Rattle.smpe_zones.proofs.define.define_zone.Goals as goal
+use Rattle.store.specs.Kept.{kept, IsAfter, Keeps, LeadsOn}
+use Rattle.smpe_jobs.specs.ZoneDefinitions.{definition}
+use Rattle.smpe_jobs.specs.Heads.{first_fault}
+use Rattle.store.specs.Own.{IsOwn}
+use Rattle.smpe_jobs.proofs.Adding.{makes, leads, steps_defined, leads_on}
+use Rattle.smpe_jobs.proofs.Defining.{defined_failed, goes_failed}
+use Rattle.smpe_jobs.proofs.FirstFault.{refuses, accepts}
+use Rattle.store.proofs.Keeping.{inventory_kept, loaded, committed, act_unmoved, failed_more, failed_since}
+use Rattle.store.proofs.GoingCalls.{is_later, call_load, call_commit, call_after}
+use Rattle.smpe_jobs.proofs.zone_definition.add_zone.Goals as goal
 
 -- the heads could not be loaded
 pub returns-in_err-heads-clause-ends : goal.returns-in_err-heads-clause-ends

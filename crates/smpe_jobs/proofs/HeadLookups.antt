@@ -12,7 +12,7 @@ use Rattle.machine.specs.State as state
 use Rattle.machine.specs.State.{zone_named}
 use Rattle.store_zones.specs.declared.head.ZoneHead.{ZoneHead}
 use Rattle.store_zones.specs.Found.{head_of}
-use Rattle.smpe_zones.specs.Heads.{head_named, is_related_to, is_free_distribution, has_right_related, has_same_srel}
+use Rattle.smpe_jobs.specs.Heads.{head_named, is_related_to, is_free_distribution, has_right_related, has_same_srel}
 
 abbrev found : List NamedZone → Text → Option NamedZone
 found zones name = find (λ z. bytes_eq z.name name) zones

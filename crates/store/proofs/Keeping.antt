@@ -18,8 +18,8 @@ use Rattle.store.specs.Loads.{Loads}
 use Rattle.store.specs.declared.change.Change.{Change}
 use Rattle.store.specs.View.{Tables, TablesIfOpen, MayLeave, Leaves}
 use Rattle.store.proofs.Successive.{cause_since}
-use Rattle.smpe_zones.specs.Calls.{StillKeeps, FailsCall, EndsCall, EndsLoad, EndsCommit, FailsAct}
-use Rattle.smpe_zones.specs.Kept.{kept, Keeps, IsAfter, LeadsOn}
+use Rattle.store.specs.CallEnds.{StillKeeps, FailsCall, EndsCall, EndsLoad, EndsCommit, FailsAct}
+use Rattle.store.specs.Kept.{kept, Keeps, IsAfter, LeadsOn}
 
 -- what is kept is an inventory
 pub inventory_kept : {S : Type 0} (g : Ghosts S) (at : Held S) (s : State) → Keeps g at s → HasCleanDisk (state g at)

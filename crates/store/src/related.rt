@@ -4,7 +4,7 @@ ghost use Rattle.std.specs.Option.{option_map_or};
 ghost use Rattle.std.specs.Str.{bytes_eq};
 
 use fields::ZoneName;
-use store::ZoneHead;
+use store_zones::ZoneHead;
 
 /// The name of the first zone that names this one as its related zone, or `None` if no zone does.
 pub fn target_name(heads: &[ZoneHead], name: ZoneName) -> Option<ZoneName>

@@ -13,7 +13,7 @@ use Rattle.store.specs.Causes.{HasCause}
 use Rattle.store.specs.Going.{GoesOver}
 use Rattle.store.specs.View.{TablesIfOpen, Leaves}
 use Rattle.store.specs.declared.change.Change.{Change}
-use Rattle.smpe_zones.specs.Kept.{kept, Keeps, IsAfter, LeadsOn}
+use Rattle.store.specs.Kept.{kept, Keeps, IsAfter, LeadsOn}
 
 -- A moment of a store and a later one. If the disk is clean at the later one, it was clean before. No failure of the
 -- disk is forgotten, and the limit on steps is the same.

@@ -11,7 +11,7 @@ use Rattle.store.specs.Changes.{Makes}
 use Rattle.store.specs.declared.change.Change.{Change}
 use Rattle.store.specs.declared.change.Change.TheVariants.{Zone}
 use Rattle.store.specs.View.{Tables, Leaves}
-use Rattle.smpe_zones.specs.Own.{IsOwn}
+use Rattle.store.specs.Own.{IsOwn}
 
 abbrev pub kept : State → Inventory
 kept s = record { global = s.global; zones = s.zones }

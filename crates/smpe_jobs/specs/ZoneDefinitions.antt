@@ -12,13 +12,13 @@ use Rattle.store_schema.specs.declared.error.StoreError.TheVariants as store
 use Rattle.store.specs.BadRows.{OnlyLoads}
 use Rattle.store.specs.Going.{CommitsOnce}
 use Rattle.store.specs.declared.change.Change.TheVariants.{NewZone}
-use Rattle.smpe_zones.specs.Calls.{GoesCall, FailsAct}
-use Rattle.smpe_zones.specs.Kept.{Keeps}
-use Rattle.smpe_zones.specs.Own.{IsOwn}
-use Rattle.smpe_zones.specs.declared.error.ZoneFault.{ZoneFault}
-use Rattle.smpe_zones.specs.declared.error.ZoneFault.TheVariants.{NameTaken, WrongRelated, OtherSrel, TooMany}
-use Rattle.smpe_zones.specs.declared.error.ZoneError.{ZoneError}
-use Rattle.smpe_zones.specs.declared.error.ZoneError.TheVariants.{Refused, Store, Memory}
+use Rattle.store.specs.CallEnds.{GoesCall, FailsAct}
+use Rattle.store.specs.Kept.{Keeps}
+use Rattle.store.specs.Own.{IsOwn}
+use Rattle.smpe_jobs.specs.declared.zone_error.ZoneFault.{ZoneFault}
+use Rattle.smpe_jobs.specs.declared.zone_error.ZoneFault.TheVariants.{NameTaken, WrongRelated, OtherSrel, TooMany}
+use Rattle.smpe_jobs.specs.declared.zone_error.ZoneError.{ZoneError}
+use Rattle.smpe_jobs.specs.declared.zone_error.ZoneError.TheVariants.{Refused, Store, Memory}
 
 abbrev pub definition : Text → ZoneKind → Text → Option Text → ZoneDefinition
 definition name kind srel related = record { name = name; kind = kind; srel = srel; related = related }

@@ -2,11 +2,11 @@
 ghost use Rattle.std.specs.Prelude.{◌≡◌, ◌==◌, option_copied, is_some};
 ghost use Rattle.std.specs.List.{list_any};
 ghost use Rattle.terms.specs.Forms.{IsSrel, IsZoneName};
-ghost use Rattle.smpe_zones.specs.Definitions.{definition};
-ghost use Rattle.smpe_zones.specs.Heads.{first_fault, has_right_related, has_same_srel, has_srel, head_named};
-ghost use Rattle.smpe_zones.specs.Heads.{is_distribution_head, is_free_distribution, is_name_taken, is_related_to};
+ghost use Rattle.smpe_jobs.specs.ZoneDefinitions.{definition};
+ghost use Rattle.smpe_jobs.specs.Heads.{first_fault, has_right_related, has_same_srel, has_srel, head_named};
+ghost use Rattle.smpe_jobs.specs.Heads.{is_distribution_head, is_free_distribution, is_name_taken, is_related_to};
 
-use crate::error::ZoneFault;
+use crate::zone_error::ZoneFault;
 use fields::{Srel, ZoneName};
 use store::ZoneHead;
 use terms::ZoneKind;

@@ -7,11 +7,11 @@ use Rattle.terms.specs.Types.{a_zone}
 use Rattle.machine.specs.State as state
 use Rattle.machine.specs.State.{State, ZoneDefinition, define_zone, with_zone, global_name, zone_named}
 use Rattle.store_zones.specs.Found.{head_of}
-use Rattle.smpe_zones.specs.declared.error.ZoneFault.{ZoneFault}
-use Rattle.smpe_zones.specs.declared.error.ZoneFault.TheVariants.{NameTaken, WrongRelated, OtherSrel, TooMany}
-use Rattle.smpe_zones.specs.Definitions.{fault_of}
-use Rattle.smpe_zones.specs.Heads.{first_fault, is_name_taken, has_right_related, has_same_srel}
-use Rattle.smpe_zones.proofs.Lookups.{is_named, right_related, same_srel, as_many}
+use Rattle.smpe_jobs.specs.declared.zone_error.ZoneFault.{ZoneFault}
+use Rattle.smpe_jobs.specs.declared.zone_error.ZoneFault.TheVariants.{NameTaken, WrongRelated, OtherSrel, TooMany}
+use Rattle.smpe_jobs.specs.ZoneDefinitions.{fault_of}
+use Rattle.smpe_jobs.specs.Heads.{first_fault, is_name_taken, has_right_related, has_same_srel}
+use Rattle.smpe_jobs.proofs.HeadLookups.{is_named, right_related, same_srel, as_many}
 
 -- the state with the zone, or the fault
 abbrev answer : State → Option ZoneFault → Result State state.ZoneFault
