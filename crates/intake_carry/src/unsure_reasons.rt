@@ -205,9 +205,10 @@ impl<'a> SharedElements<'a> {
             b"passes to another function by VERSION of",
             b", which smpe does not do",
         );
-        let has_any = files
+        let has_any = files.iter().any(|file| file
+            .sysmods
             .iter()
-            .any(|file| file.sysmods.iter().any(|sysmod| has_version(sysmod)));
+            .any(|sysmod| has_version(sysmod)));
         if !options.decide || !has_any {
             return Ok(shared);
         }

@@ -1,6 +1,19 @@
 //! The texts of elements.
-ghost use Rattle.std.specs.Prelude.{◌≡◌, ◌⊎◌, ◌<◌, ◌≤◌, IfOk, IfSome, IfNone, IsTrue, All, true, length, take,
-  drop};
+ghost use Rattle.std.specs.Prelude.{
+  ◌≡◌,
+  ◌⊎◌,
+  ◌<◌,
+  ◌≤◌,
+  IfOk,
+  IfSome,
+  IfNone,
+  IsTrue,
+  All,
+  true,
+  length,
+  take,
+  drop,
+};
 ghost use Rattle.terms.specs.Beside.{Beside};
 ghost use Rattle.terms.specs.Texts.{IsNumbered, IsReplacement};
 ghost use Rattle.intake_elements.specs.ElementTexts.{are_blanks, is_unnumbered, is_blank, IsRecordOf, HasBlankEnd};
