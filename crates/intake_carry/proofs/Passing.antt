@@ -6,7 +6,6 @@ use Rattle.std.proofs.lemmas.Bool.{true≢false, and_parts}
 use Rattle.std.proofs.lemmas.List.{take_more}
 use Rattle.terms.specs.Types.{Id, Ver, Hold, Sysmod}
 use Rattle.terms.specs.Lookups.{is_in}
-use Rattle.terms.specs.declared.kinds.HoldKind.{HoldKind}
 use Rattle.terms.specs.declared.kinds.HoldKind.TheVariants as kind
 use Rattle.intake_read.specs.declared.items.WideHoldKind.{WideHoldKind}
 use Rattle.intake_read.specs.declared.items.WideHoldKind.TheVariants.{Error, System, User, Fixcat}

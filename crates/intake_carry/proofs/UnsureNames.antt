@@ -1,5 +1,5 @@
 -- The SYSMODs that are left out, and those that they meet.
-use Rattle.std.proofs.Common.{◌≡◌, ◌<◌, ◌≤◌, ◌+◌, Bool, true, false, ℕ, List, [], ◌++◌, ◌∷◌, Option, Some, None, Result}
+use Rattle.std.proofs.Common.{◌≡◌, ◌<◌, ◌+◌, Bool, true, false, ℕ, List, [], ◌++◌, ◌∷◌, Option, Some, None, Result}
 use Rattle.std.proofs.Common.{Ok, Err, length, take, get_or, map, subst, sym, ap, ◌∙◌, refl, inl, inr, cond, append-nil}
 use Rattle.std.proofs.Common.{append_assoc, Contains}
 use Rattle.std.specs.Prelude.{◌||◌, IsTrue, All, IfOk, IfNone, is_some}
