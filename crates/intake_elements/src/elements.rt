@@ -4,7 +4,7 @@ ghost use Rattle.terms.specs.Texts.{IsReplacement, IsUpdate};
 ghost use Rattle.terms.specs.Types.{Text};
 ghost use Rattle.intake_read.specs.Stated.{text_in};
 ghost use Rattle.intake_elements.specs.ElementTexts.{AreLibraries, AreRecordsOf, IsStatedText};
-ghost use Rattle.intake_elements.specs.Elements.{IsHarmless, LacksNothing, is_update, IsChangeOf};
+ghost use Rattle.intake_elements.specs.Elements.{IsHarmless, LacksNothing, IsProfileType, is_update, IsChangeOf, IsMadeOf};
 
 use crate::element_words::{Target, is_update, is_update_word};
 use crate::harmless::{are_all_read, are_both, can_lack_operand};
@@ -470,9 +470,9 @@ pub(crate) fn whole_change(
     element: &WideElement,
     target: Target,
 ) -> Result<Option<ElemChange>, AllocError>
-    ensures { IfOk result (λ found. IfSome found (λ c. IsChangeOf target.elem_type target.name
-        (is_update kind element.now.word.items) c × LacksNothing options.now.decide element.now
-        × IsStatedText element.now c.action)) }
+    requires known { IsProfileType element.now.word.items target.elem_type }
+    requires named { target.name ≡ element.now.name.items }
+    ensures { IfOk result (λ found. IfSome found (IsMadeOf options.now.decide kind element.now)) }
 {
     let subject = element_subject(element);
     if !can_drop_all_operands(alloc, options, remarks, &subject, element)? {

@@ -134,11 +134,16 @@ pub(crate) fn without_blank_cards_at_end(cards: &[Card]) -> &[Card]
     front_if_rest_blank(cards, length_without_blank_end(cards))
 }
 
+// Whether blank cards at the end are part of a text of the type: it has no numbers, or none of the cards has one.
+fn keeps_blank_end(elem_type: ElemType, cards: &[Card]) -> bool {
+    !elem_type.is_numbered() || needs_numbers(elem_type, cards)
+}
+
 /// The cards, without the blank ones at their end if texts of the type have numbers and one of the cards has one.
 pub(crate) fn without_blank_end_if_numbered(elem_type: ElemType, cards: &[Card]) -> &[Card]
     ensures { HasBlankEnd cards.now result.now }
 {
-    if !elem_type.is_numbered() || needs_numbers(elem_type, cards) {
+    if keeps_blank_end(elem_type, cards) {
         return cards;
     }
     without_blank_cards_at_end(cards)

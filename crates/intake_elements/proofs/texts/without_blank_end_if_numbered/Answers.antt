@@ -1,5 +1,5 @@
 use Rattle.intake_elements.proofs.Texts.{all_kept}
 use Rattle.intake_elements.proofs.texts.without_blank_end_if_numbered.Goals as goal
 
-pub returns-then-branch : goal.returns-then-branch
-returns-then-branch c = all_kept c.args.cards.now
+pub returns-then-keeps_blank_end : goal.returns-then-keeps_blank_end
+returns-then-keeps_blank_end c = all_kept c.args.cards.now
