@@ -296,8 +296,8 @@ fn replacement_lines(
     elem_type: ElemType,
     cards: &[Card],
 ) -> Result<Option<Vec<Line>>, AllocError>
-    ensures { IfOk result (λ found. IfSome found (λ lines. IsReplacement elem_type lines.items
-        × AreRecordsOf cards.now lines.items)) }
+    ensures replacement { IfOk result (λ found. IfSome found (λ lines. IsReplacement elem_type lines.items)) }
+    ensures records { IfOk result (λ found. IfSome found (λ lines. AreRecordsOf cards.now lines.items)) }
 {
     if let Some(reason) = text_fault(cards) {
         let text = card_place_text(alloc, cards.iter().find(|card| !card.is_printable()))?;
@@ -316,8 +316,8 @@ fn good_lines(
     elem_type: ElemType,
     cards: &[Card],
 ) -> Result<Option<Vec<Line>>, AllocError>
-    ensures { IfOk result (λ found. IfSome found (λ lines. IsReplacement elem_type lines.items
-        × AreRecordsOf cards.now lines.items)) }
+    ensures replacement { IfOk result (λ found. IfSome found (λ lines. IsReplacement elem_type lines.items)) }
+    ensures records { IfOk result (λ found. IfSome found (λ lines. AreRecordsOf cards.now lines.items)) }
 {
     let text_cards = without_blank_end_if_numbered(elem_type, cards);
     tell_blank_end(alloc, remarks, subject, cards, text_cards)?;

@@ -207,7 +207,8 @@ fn record_lines(
 
 // The records as a numbered text, or `None` if there are none, or if their numbers do not rise.
 fn read_numbered_text(lines: Vec<Line>) -> Option<Vec<Line>>
-    ensures { IfSome result (λ text. IsNumbered text.items × (0 < length text.items) × (text.items ≡ lines.items)) }
+    ensures numbered { IfSome result (λ text. IsNumbered text.items × (0 < length text.items)) }
+    ensures same { IfSome result (λ text. text.items ≡ lines.items) }
 {
     if lines.is_empty() {
         return None;
@@ -225,7 +226,8 @@ pub(crate) fn needs_numbers(elem_type: ElemType, cards: &[Card]) -> bool {
 
 // The records as the text of a replacement of this type, or `None` if there are none, or if their numbers do not rise.
 fn replacement_of_lines(elem_type: ElemType, lines: Vec<Line>) -> Option<Vec<Line>>
-    ensures { IfSome result (λ text. IsReplacement elem_type text.items × (text.items ≡ lines.items)) }
+    ensures replacement { IfSome result (λ text. IsReplacement elem_type text.items) }
+    ensures same { IfSome result (λ text. text.items ≡ lines.items) }
 {
     if lines.is_empty() {
         return None;
@@ -242,8 +244,8 @@ pub(crate) fn replacement_text(
     elem_type: ElemType,
     cards: &[Card],
 ) -> Result<Option<Vec<Line>>, AllocError>
-    ensures { IfOk result (λ found. IfSome found (λ lines. IsReplacement elem_type lines.items
-        × Beside (λ _. IsRecordOf) cards.now lines.items)) }
+    ensures replacement { IfOk result (λ found. IfSome found (λ lines. IsReplacement elem_type lines.items)) }
+    ensures records { IfOk result (λ found. IfSome found (λ lines. Beside (λ _. IsRecordOf) cards.now lines.items)) }
 {
     let get_numbers = needs_numbers(elem_type, cards);
     let Some(lines) = record_lines(alloc, cards, get_numbers)? else {
