@@ -122,26 +122,28 @@ pub(crate) fn service_files(
     ensures { IfOk result (λ files. map named files.items
         ≡ service_files ptfin.items hold.items (option_map (λ bytes. bytes.items) stand_ins) remarks.items) }
 {
-    let mut files = Vec::new(alloc);
-    files.push(NamedFile {
+    let ptfin = NamedFile {
         name: "ptfin",
         bytes: ptfin,
-    })?;
-    files.push(NamedFile {
+    };
+    let hold = NamedFile {
         name: "hold",
         bytes: hold,
-    })?;
-    if let Some(stand_ins) = stand_ins {
-        files.push(NamedFile {
-            name: "stand-ins",
-            bytes: stand_ins,
-        })?;
-    }
-    files.push(NamedFile {
+    };
+    let remarks = NamedFile {
         name: "remarks",
         bytes: remarks,
-    })?;
-    Ok(files)
+    };
+    match stand_ins {
+        Some(bytes) => {
+            let stand_ins = NamedFile {
+                name: "stand-ins",
+                bytes,
+            };
+            Ok(Vec::from_array(alloc, [ptfin, hold, stand_ins, remarks])?)
+        }
+        None => Ok(Vec::from_array(alloc, [ptfin, hold, remarks])?),
+    }
 }
 
 /// The files of an earlier run that a run over SYSMODs and holds removes: the stand-ins, if it writes none.

@@ -75,13 +75,16 @@ fn exit_status(files: &[WideFile], made: &ServiceOutput) -> u8
     ensures each { result ≡ 0 → HasEachSysmod files.now made.now.items.items }
     ensures sure { result ≡ 0 → made.now.unsure.items ≡ [] }
 {
-    if has_remark_that_matters(&made.remarks)
-        || !made.unsure.is_empty()
-        || !has_each_sysmod(files, &made.items)
-    {
-        LEFT_OUT_STATUS
-    } else {
+    if has_remark_that_matters(&made.remarks) {
+        return LEFT_OUT_STATUS;
+    }
+    if !made.unsure.is_empty() {
+        return LEFT_OUT_STATUS;
+    }
+    if has_each_sysmod(files, &made.items) {
         0
+    } else {
+        LEFT_OUT_STATUS
     }
 }
 

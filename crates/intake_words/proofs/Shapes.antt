@@ -1,5 +1,7 @@
 -- The command line as `clap` sees it, and what is made of a refusal.
 use Rattle.std.proofs.Common.{◌≡◌, ◌∙◌, ◌++◌, ◌||◌, List, [], ◌∷◌, false, true, ap, ap₂, refl, inl, inr, subst, sym}
+use Rattle.std.specs.Prelude.{Result, Err, IfErr, IsErrAnd}
+use Rattle.std.proofs.lemmas.Result.{err_from_is_err_and}
 use Rattle.clap.specs.Words.{AddsArg, App, HasKind, Rule, app_of, fault_of, is_simple, rule_of, with_rule}
 use Rattle.clap.specs.Faults.{is_simple_and_free}
 use Rattle.clap.specs.declared.builder.arg.Arg.{Arg}
@@ -48,5 +50,9 @@ own_refused words Memory own = tt
 own_refused words (BadOperand why) own = tt
 own_refused words (Clap error) own = absurd own
 
-pub own_memory : (fault : WordsFault) → fault ≡ Memory → IsOwn fault
-own_memory fault e = subst IsOwn (sym e) tt
+-- it is handed on
+pub own_handed_on : {X : Type 0} (r : Result X WordsFault) (fault : WordsFault) → IsErrAnd r (λ y. y ≡ fault)
+    → IsOwn fault → IfErr r IsOwn
+own_handed_on r fault told own =
+    let is = err_from_is_err_and r told in
+    subst (λ q. IfErr q IsOwn) (sym (is.1 ∙ ap (λ y. Err y) is.2)) own

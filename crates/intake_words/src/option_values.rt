@@ -10,6 +10,9 @@ use clap::ArgMatches;
 use intake_cards::{Code, Layout};
 use std::alloc::{AllocError, Global};
 
+/// What is told if `--out` names no folder.
+const NO_FOLDER: &str = "--out takes the name of a folder";
+
 // The text of the option, or `None` if the words lack it.
 fn find_text<'a>(found: &ArgMatches<'a>, id: &str) -> Option<&'a str>
     ensures { option_map (λ text. text.now) result ≡ first_of id.now (rows_of (found_of found.now)) }
@@ -52,10 +55,13 @@ pub(crate) fn required_text(
     ensures ok { IfOk result (λ text. HasText id.now (rows_of (found_of found.now)) (string_bytes text)) }
     ensures err { IfErr result IsOwn }
 {
-    match find_text(found, id) {
-        Some(text) if !text.is_empty() => Ok(String::from_str(alloc, text)?),
-        _ => Err(WordsFault::BadOperand("--out takes the name of a folder")),
+    let Some(text) = find_text(found, id) else {
+        return Err(WordsFault::BadOperand(NO_FOLDER));
+    };
+    if text.is_empty() {
+        return Err(WordsFault::BadOperand(NO_FOLDER));
     }
+    Ok(String::from_str(alloc, text)?)
 }
 
 /// A copy of the text of the option, or `None` if the words lack it.
@@ -93,7 +99,8 @@ fn copy_texts(alloc: Global, texts: &[&str]) -> Result<Vec<String>, AllocError>
 {
     let mut copies = Vec::new(alloc);
     for text in texts {
-        copies.push(String::from_str(alloc, *text)?)?;
+        let copy = String::from_str(alloc, *text)?;
+        copies.push(copy)?;
     }
     Ok(copies)
 }
@@ -103,12 +110,18 @@ pub(crate) fn layout_option(found: &ArgMatches<'_>) -> Result<Option<Layout>, Wo
     ensures ok { IfOk result (HasLayout (rows_of (found_of found.now))) }
     ensures err { IfErr result IsOwn }
 {
-    match (has_flag(found, "text"), has_flag(found, "records")) {
-        (false, false) => Ok(None),
-        (true, false) => Ok(Some(Layout::Text)),
-        (false, true) => Ok(Some(Layout::Records)),
-        (true, true) => Err(WordsFault::BadOperand("--text and --records exclude each other")),
+    let has_lines = has_flag(found, "text");
+    let has_records = has_flag(found, "records");
+    if has_lines {
+        if has_records {
+            return Err(WordsFault::BadOperand("--text and --records exclude each other"));
+        }
+        return Ok(Some(Layout::Text));
     }
+    if has_records {
+        return Ok(Some(Layout::Records));
+    }
+    Ok(None)
 }
 
 /// The code that --code asks for, or `None` without it. Returns `BadOperand` for any other text, which `clap` refuses

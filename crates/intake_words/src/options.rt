@@ -1,5 +1,5 @@
 //! What the words of the command line ask for. `clap` reads them.
-ghost use Rattle.std.specs.Prelude.{◌≡◌, IfOk, IfErr, OnOk, map, option_map};
+ghost use Rattle.std.specs.Prelude.{◌≡◌, ◌≢◌, [], IfOk, IfErr, OnOk, map, option_map};
 ghost use Rattle.std.specs.String.{string_bytes};
 ghost use Rattle.clap.specs.Words.{found_of, rows_of};
 ghost use Rattle.intake_words.specs.Asking.{IsAsked, IsOwn, IsRefused};
@@ -173,15 +173,40 @@ fn check_files(cntl: &Option<String>, files: &[String]) -> Result<(), WordsFault
     ensures err { IfErr result IsOwn }
 {
     match cntl {
-        Some(_) if !files.is_empty() => Err(WordsFault::BadOperand("--cntl takes no other FILE")),
-        None if files.is_empty() => Err(WordsFault::BadOperand("no FILE is given")),
-        _ => Ok(()),
+        Some(_) => check_no_file(files),
+        None => check_some_file(files),
+    }
+}
+
+// Checks that there is no file beside a command file. Returns `BadOperand` otherwise.
+fn check_no_file(files: &[String]) -> Result<(), WordsFault>
+    ensures ok { OnOk result (map string_bytes files.now ≡ []) }
+    ensures err { IfErr result IsOwn }
+{
+    if files.is_empty() {
+        Ok(())
+    } else {
+        Err(WordsFault::BadOperand("--cntl takes no other FILE"))
+    }
+}
+
+// Checks that there is a file. Returns `BadOperand` otherwise.
+fn check_some_file(files: &[String]) -> Result<(), WordsFault>
+    ensures ok { OnOk result (map string_bytes files.now ≢ []) }
+    ensures err { IfErr result IsOwn }
+{
+    if files.is_empty() {
+        Err(WordsFault::BadOperand("no FILE is given"))
+    } else {
+        Ok(())
     }
 }
 
 // The SYSLIBs of all --syslib, each with its DISTLIB. Returns `BadOperand` if a value is not DISTLIB=SYSLIB, `Memory` if
 // memory runs out.
-fn syslib_options(alloc: Global, found: &ArgMatches<'_>) -> Result<Vec<Syslib>, WordsFault> {
+fn syslib_options(alloc: Global, found: &ArgMatches<'_>) -> Result<Vec<Syslib>, WordsFault>
+    ensures { IfErr result IsOwn }
+{
     let mut syslibs = Vec::new(alloc);
     for value in &option_texts(alloc, found, "syslib")? {
         let Some((distlib, syslib)) = value.as_str().split_once('=') else {
@@ -197,7 +222,9 @@ fn syslib_options(alloc: Global, found: &ArgMatches<'_>) -> Result<Vec<Syslib>, 
 
 // The name of a library, in upper case. Returns `BadOperand` if it has not the form of a name, `Memory` if memory runs
 // out.
-fn read_library_name(alloc: Global, name: &str) -> Result<Name, WordsFault> {
+fn read_library_name(alloc: Global, name: &str) -> Result<Name, WordsFault>
+    ensures { IfErr result IsOwn }
+{
     let upper = name.as_bytes().to_ascii_uppercase(alloc)?;
     Name::read(upper.as_slice()).ok_or(WordsFault::BadOperand(BAD_SYSLIB))
 }
