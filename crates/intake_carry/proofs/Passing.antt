@@ -1,6 +1,6 @@
 -- Holds that are passed on to a SYSMOD, one after the other.
-use Rattle.std.proofs.Common.{◌≡◌, ◌<◌, ◌+◌, ◌&&◌, ℕ, Bool, true, false, List, [], ◌++◌, ◌∷◌, Option, Some, None, length, take}
-use Rattle.std.proofs.Common.{get_or, subst, sym, ap, ◌∙◌, refl, append-nil, append_assoc}
+use Rattle.std.proofs.Common.{◌≡◌, ◌<◌, ◌+◌, ◌&&◌, ℕ, true, false, List, [], ◌++◌, ◌∷◌, Option, Some, None, length}
+use Rattle.std.proofs.Common.{take, get_or, subst, sym, ap, ◌∙◌, refl, append-nil, append_assoc}
 use Rattle.std.specs.List.{list_any}
 use Rattle.std.proofs.lemmas.Bool.{true≢false, and_parts}
 use Rattle.std.proofs.lemmas.List.{take_more}

@@ -113,8 +113,8 @@ impl LeftOutCounts {
         }
     }
 
-    // Counts the `++ASSIGN` of the remark once, however many remarks there are on it. One that lost only some of its ids
-    // counts too.
+    // Counts the `++ASSIGN` of the remark once, however many remarks there are on it. One that lost only some of its
+    // ids counts too.
     fn count_assign(&mut self, remark: &Remark<'_>) {
         if self.last_assign != Some(remark.place) {
             self.assigns = self.assigns.saturating_add(1);

@@ -62,8 +62,8 @@ fn as_hold_on(id: Id, hold: Hold) -> Hold
     }
 }
 
-// Gives the SYSMOD the hold as one of its own, with a remark, if the hold holds it too. Returns `BadHold` if the hold has
-// no key, `Memory` if memory runs out.
+// Gives the SYSMOD the hold as one of its own, with a remark, if the hold holds it too. Returns `BadHold` if the hold
+// has no key, `Memory` if memory runs out.
 fn pass_hold_on(
     alloc: Global,
     remarks: &mut Remarks,
@@ -91,8 +91,8 @@ fn pass_hold_on(
     Ok(())
 }
 
-/// Gives the SYSMOD the SYSTEM holds on SYSMODs that it supersedes, as holds of its own, with remarks. Returns `BadHold`
-/// if a hold has no key, `Memory` if memory runs out.
+/// Gives the SYSMOD the SYSTEM holds on SYSMODs that it supersedes, as holds of its own, with remarks. Returns
+/// `BadHold` if a hold has no key, `Memory` if memory runs out.
 pub(crate) fn pass_holds_on(
     alloc: Global,
     remarks: &mut Remarks,

@@ -139,8 +139,8 @@ struct Doubts<'a> {
     taken_over: &'a SharedElements<'a>,
 }
 
-// Why it is not sure that the SYSMOD can be installed, besides elements that it shares with SYSMODs that are left out, or
-// `None` if there is no such reason.
+// Why it is not sure that the SYSMOD can be installed, besides elements that it shares with SYSMODs that are left out,
+// or `None` if there is no such reason.
 fn reason_without_shared(
     alloc: Global,
     doubts: &Doubts<'_>,

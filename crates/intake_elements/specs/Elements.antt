@@ -98,8 +98,8 @@ pub record LacksNothing (decide : Bool) (stated : WideElement) : Type 0 where
   pub read : decide ≡ false → stated.faulty.items ≡ []
   pub modules_read : All IsNoModuleFault stated.faulty.items
 
--- what the statement itself changes; no operand of it decides more, and the text is the stated one, unless a stand-in may
--- take its place
+-- what the statement itself changes; no operand of it decides more, and the text is the stated one, unless a stand-in
+-- may take its place
 pub record IsMadeOf (decide : Bool) (kind : Kind) (stated : WideElement) (change : Change) : Type 0 where
   pub target_is : IsTarget decide stated.word.items stated.name.items change.elem_type change.name
   pub action_is : is_replacement change.action ≡ not (is_update kind stated.word.items)

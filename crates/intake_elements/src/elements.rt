@@ -4,7 +4,8 @@ ghost use Rattle.terms.specs.Texts.{IsReplacement, IsUpdate};
 ghost use Rattle.terms.specs.Types.{Text};
 ghost use Rattle.intake_read.specs.Stated.{text_in};
 ghost use Rattle.intake_elements.specs.ElementTexts.{AreLibraries, AreRecordsOf, IsStatedText};
-ghost use Rattle.intake_elements.specs.Elements.{IsHarmless, LacksNothing, IsProfileType, is_update, IsChangeOf, IsMadeOf};
+ghost use Rattle.intake_elements.specs.Elements.{IsHarmless, LacksNothing, IsProfileType, is_update, IsChangeOf};
+ghost use Rattle.intake_elements.specs.Elements.{IsMadeOf};
 
 use crate::element_words::{Target, is_update, is_update_word};
 use crate::harmless::{are_all_read, are_both, can_lack_operand};
@@ -41,8 +42,8 @@ pub(crate) fn tell_dropped_operand(
     remarks.tell_dropped(alloc, subject, name, reason, operand.text())
 }
 
-// Drops the operand, with a remark, if it decides nothing. Otherwise the SYSMOD is left out, also with a remark. Returns
-// whether the operand is dropped.
+// Drops the operand, with a remark, if it decides nothing. Otherwise the SYSMOD is left out, also with a remark.
+// Returns whether the operand is dropped.
 fn drop_operand(
     alloc: Global,
     options: &Options,

@@ -1,5 +1,6 @@
 -- Holds outside SYSMODs that are added one after the other.
-use Rattle.std.proofs.Common.{◌≡◌, List, [], ◌++◌, Option, subst, sym, ap, ◌∙◌, append_assoc, append-nil, not, map, filter}
+use Rattle.std.proofs.Common.{◌≡◌, List, [], ◌++◌, Option, subst, sym, ap, ◌∙◌, append_assoc, append-nil, not, map}
+use Rattle.std.proofs.Common.{filter}
 use Rattle.std.specs.Prelude.{option_to_list}
 use Rattle.std.proofs.lemmas.List.{map-append}
 use Rattle.std.proofs.lemmas.List.Elements.{filter-append}

@@ -19,4 +19,5 @@ loop-stated-preserved c = λ items are before all.
 pub returns : goal.returns
 returns c = λ items are before all.
     subst (λ l. AreLeftOutOf items (before ++ l) (map (λ s. s.now) c.loop-stated.left.items))
-    (take_all c.loop-stated.stated-index c.args.sysmods.now (omega arith)) (c.loop-stated.invariant items are before all)
+    (take_all c.loop-stated.stated-index c.args.sysmods.now (omega arith))
+    (c.loop-stated.invariant items are before all)
