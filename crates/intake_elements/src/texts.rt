@@ -100,7 +100,7 @@ fn is_record_of(card: &Card, line: &Line) -> bool
 }
 
 // How many cards there are up to the last one that is not blank.
-fn length_without_blank_end(cards: &[Card]) -> usize {
+fn count_without_blank_end(cards: &[Card]) -> usize {
     match cards.iter().rposition(|card| !card.is_blank()) {
         Some(last) => last.saturating_add(1),
         None => 0,
@@ -115,10 +115,10 @@ fn first_not_blank(cards: &[Card]) -> Option<&Card>
 }
 
 // The first cards, as many as these, if the others are blank, or else all.
-fn front_if_rest_blank(cards: &[Card], length: usize) -> &[Card]
+fn front_if_rest_blank(cards: &[Card], count: usize) -> &[Card]
     ensures { HasBlankEnd cards.now result.now }
 {
-    let Some((front, rest)) = cards.split_at_checked(length) else {
+    let Some((front, rest)) = cards.split_at_checked(count) else {
         return cards;
     };
     let Some(_) = first_not_blank(rest) else {
@@ -131,7 +131,7 @@ fn front_if_rest_blank(cards: &[Card], length: usize) -> &[Card]
 pub(crate) fn without_blank_cards_at_end(cards: &[Card]) -> &[Card]
     ensures { HasBlankEnd cards.now result.now }
 {
-    front_if_rest_blank(cards, length_without_blank_end(cards))
+    front_if_rest_blank(cards, count_without_blank_end(cards))
 }
 
 // Whether blank cards at the end are part of a text of the type: it has no numbers, or none of the cards has one.

@@ -9,7 +9,7 @@ pub returns-in_default-2 : goal.returns-in_default-2
 returns-in_default-2 c =
     let split = c.in-Some.ensures.cases in (
       c.in-Some.rest.now,
-      sym (ap₂ (λ a b. a ++ b) split.1 split.2 ∙ take-append-drop c.args.length c.args.cards.now),
+      sym (ap₂ (λ a b. a ++ b) split.1 split.2 ∙ take-append-drop c.args.count c.args.cards.now),
       rw c.in_default-2.is at c.first_not_blank.ensures,
     )
 
