@@ -239,12 +239,13 @@ pub(crate) fn unsure_sysmods(
     ensures { IfOk result (λ unsure. AreUnsure (run_of files.now) items.now unsure.items) }
 {
     let ids = carried_ids(alloc, items)?;
-    let left = left_out_of_files(alloc, &ids, files)?;
-    let users = users_of_all(alloc, left.as_slice())?;
-    let shared = SharedElements::of_left_out(alloc, left.as_slice())?;
+    let gathered = left_out_of_files(alloc, &ids, files)?;
+    let left = gathered.as_slice();
+    let users = users_of_all(alloc, left)?;
+    let shared = SharedElements::of_left_out(alloc, left)?;
     let taken_over = SharedElements::taken_over(alloc, options, files)?;
     let doubts = Doubts {
-        left: left.as_slice(),
+        left,
         users: &users,
         shared: &shared,
         taken_over: &taken_over,
