@@ -12,6 +12,7 @@ ghost use Rattle.intake_carry.specs.Unsure.{is_fmid, is_of, forbids_in, forbids,
 ghost use Rattle.intake_carry.specs.Unsure.{AreUnsure, IsAmong, IsNamed, KeepsNamed};
 
 use crate::left_out_sysmods::{carried_ids, left_out_of_files, users_of_all};
+use crate::parts::{changes_of, id_of, vers_of};
 use crate::unsure_reasons::{SharedElements, conflict_text};
 use fields::Id;
 use intake_elements::change_key;
@@ -51,7 +52,7 @@ fn is_for_function(vers: &[Ver], text: &[u8]) -> bool
 fn is_of(sysmod: &Sysmod, text: &[u8]) -> bool
     ensures { result ≡ is_of sysmod.now text.now }
 {
-    sysmod.id.as_bytes() == text || is_for_function(sysmod.vers.as_slice(), text)
+    id_of(sysmod).as_bytes() == text || is_for_function(vers_of(sysmod), text)
 }
 
 // Whether one of the ids is that of the SYSMOD or of a function that it is for.
@@ -86,8 +87,7 @@ fn excludes_in(ver: &Ver, id: &[u8]) -> bool
 fn excludes(sysmod: &Sysmod, left: &WideSysmod) -> bool
     ensures { result ≡ excludes sysmod.now left.now }
 {
-    sysmod
-        .vers
+    vers_of(sysmod)
         .iter()
         .any(|ver| excludes_in(ver, left.id.as_slice()))
 }
@@ -150,9 +150,7 @@ fn reason_without_shared(
         ≡ false) doubts.now.left.now)) }
 {
     let Some(other) = first_in_conflict(doubts.left, sysmod) else {
-        return doubts
-            .taken_over
-            .text_of_any(alloc, sysmod.changes.as_slice());
+        return doubts.taken_over.text_of_any(alloc, changes_of(sysmod));
     };
     Ok(Some(conflict_text(alloc, *other, sysmod)?))
 }
@@ -166,7 +164,7 @@ fn reason_for(
     requires { All (λ l. IsKnown doubts.now.users.now l.now) doubts.now.left.now }
     ensures { IfOk result (λ found. IfNone found (All (λ l. ¬ Meets l.now sysmod.now) doubts.now.left.now)) }
 {
-    let Some(change) = first_used(doubts.users, sysmod.changes.as_slice()) else {
+    let Some(change) = first_used(doubts.users, changes_of(sysmod)) else {
         return reason_without_shared(alloc, doubts, sysmod);
     };
     Ok(Some(doubts.shared.text(alloc, change)?))
@@ -188,7 +186,7 @@ fn push_sysmod_if_unsure(
         return Ok(());
     };
     unsure.push(Unsure {
-        id: sysmod.id,
+        id: id_of(sysmod),
         reason,
     })?;
     Ok(())

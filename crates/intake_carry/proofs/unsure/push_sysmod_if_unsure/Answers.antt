@@ -1,5 +1,5 @@
 use Rattle.std.proofs.lemmas.List.Elements.{All-weaker}
-use Rattle.std.proofs.Common.{sym, subst, ◌++◌, ◌∷◌, []}
+use Rattle.std.proofs.Common.{subst}
 use Rattle.intake_carry.specs.Unsure.{Meets, IsAmong}
 use Rattle.intake_carry.proofs.UnsureNames.{among_last, among_still, all_named}
 use Rattle.intake_carry.proofs.unsure.push_sysmod_if_unsure.Goals as goal
@@ -16,7 +16,8 @@ returns-in_default-clause-kept c = λ id among. among
 pub returns-clause-named : goal.returns-clause-named
 returns-clause-named c =
     all_named (λ l. l.now) c.args.doubts.now.left.now c.args.sysmod.now c.push.new.self.items
-    (among_last c.args.unsure.now.items c.push.new.self.items _ c.in_ok-push.ensures.items)
+    (subst (IsAmong c.push.new.self.items) c.id_of.ensures
+    (among_last c.args.unsure.now.items c.push.new.self.items _ c.in_ok-push.ensures.items))
 
 pub returns-clause-kept : goal.returns-clause-kept
 returns-clause-kept c = among_still c.args.unsure.now.items c.push.new.self.items _ c.in_ok-push.ensures.items

@@ -13,5 +13,5 @@ returns-in_default c =
     IfOk-weaker c.reason_without_shared.result _ _ (λ found none.
     none_weaker found none (λ no.
     meet_nothing (λ l. l.now) users c.args.doubts.now.left.now c.args.sysmod.now c.requires
-    (subst (All (λ h. is_some (get nat_cmp users (key_of h.elem_type h.name)) ≡ false)) c.as_slice.ensures.value
+    (subst (All (λ h. is_some (get nat_cmp users (key_of h.elem_type h.name)) ≡ false)) c.changes_of.ensures
     (rw c.in_default.is at c.first_used.ensures)) no)) c.reason_without_shared.ensures
