@@ -6,16 +6,15 @@ ghost use Rattle.std.specs.List.{list_any};
 ghost use Rattle.std.specs.Ordering.{nat_cmp};
 ghost use Rattle.std.specs.BTreeMap.{get};
 ghost use Rattle.terms.specs.Lookups.{is_in};
-ghost use Rattle.intake_elements.specs.StandInNames.{key_of};
+ghost use Rattle.intake_elements.specs.StandInNames.{key_of as key_in};
 ghost use Rattle.intake_sysmod.specs.Users.{run_of, IsKnown};
 ghost use Rattle.intake_carry.specs.Unsure.{is_fmid, is_of, forbids_in, forbids, excludes, Meets};
 ghost use Rattle.intake_carry.specs.Unsure.{AreUnsure, IsAmong, IsNamed, KeepsNamed};
 
 use crate::left_out_sysmods::{carried_ids, left_out_of_files, users_of_all};
-use crate::parts::{changes_of, id_of, vers_of};
+use crate::parts::{changes_of, id_of, key_of, vers_of};
 use crate::unsure_reasons::{SharedElements, conflict_text};
 use fields::Id;
-use intake_elements::change_key;
 use intake_read::{WideFile, WideSysmod, WideVer};
 use intake_sysmod::{ElementUser, Options};
 use mcs::Item;
@@ -108,11 +107,9 @@ fn first_in_conflict<'a>(left: &'a [&'a WideSysmod], sysmod: &Sysmod) -> Option<
 
 // Whether a SYSMOD that is left out changes the element.
 fn is_used(users: &BTreeMap<u64, ElementUser>, change: &ElemChange) -> bool
-    ensures { result ≡ is_some (get nat_cmp users.now (key_of change.now.elem_type change.now.name)) }
+    ensures { result ≡ is_some (get nat_cmp users.now (key_in change.now.elem_type change.now.name)) }
 {
-    users
-        .get(&change_key(change.elem_type, change.name.as_bytes()))
-        .is_some()
+    users.get(&key_of(change)).is_some()
 }
 
 // The first of the changes whose element is changed by a SYSMOD that is left out too, or `None` if there is none.
@@ -120,7 +117,7 @@ fn first_used<'a>(
     users: &BTreeMap<u64, ElementUser>,
     changes: &'a [ElemChange],
 ) -> Option<&'a ElemChange>
-    ensures { IfNone result (All (λ c. is_some (get nat_cmp users.now (key_of c.elem_type c.name)) ≡ false)
+    ensures { IfNone result (All (λ c. is_some (get nat_cmp users.now (key_in c.elem_type c.name)) ≡ false)
         changes.now) }
 {
     changes.iter().find(|change| is_used(users, *change))

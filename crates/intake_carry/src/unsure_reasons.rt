@@ -1,7 +1,8 @@
 //! Why it is not sure that a SYSMOD can be installed, in words.
 
+use crate::parts::key_of;
 use fields::Id;
-use intake_elements::{change_key, keys_of, modules_of};
+use intake_elements::{keys_of, modules_of};
 use intake_read::{WideElement, WideFile, WideOperand, WideSysmod, list_members};
 use intake_sysmod::Options;
 use std::alloc::{AllocError, Global};
@@ -249,7 +250,7 @@ impl<'a> SharedElements<'a> {
 
     /// What is said of the element that the change changes: nothing if it is not one of these.
     pub(crate) fn text(&self, alloc: Global, change: &ElemChange) -> Result<Vec<u8>, AllocError> {
-        let key = change_key(change.elem_type, change.name.as_bytes());
+        let key = key_of(change);
         let mut text = Vec::new(alloc);
         let Some(sysmod) = self.by_key.get(&key) else {
             return Ok(text);
@@ -267,10 +268,9 @@ impl<'a> SharedElements<'a> {
         alloc: Global,
         changes: &[ElemChange],
     ) -> Result<Option<Vec<u8>>, AllocError> {
-        let found = changes.iter().find(|change| {
-            let key = change_key(change.elem_type, change.name.as_bytes());
-            self.by_key.contains_key(&key)
-        });
+        let found = changes
+            .iter()
+            .find(|change| self.by_key.contains_key(&key_of(change)));
         match found {
             Some(change) => Ok(Some(self.text(alloc, change)?)),
             None => Ok(None),
