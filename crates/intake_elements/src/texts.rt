@@ -33,20 +33,20 @@ pub(crate) const TEXT_COLUMNS: usize = 72;
 const STEP: u32 = 100;
 
 // Columns 1 to 72 of a record.
-fn columns_of(record: &[u8]) -> &[u8]
-    requires { 72 ≤ length record.now }
-    ensures { result.now ≡ take 72 record.now }
+fn columns_of(bytes: &[u8]) -> &[u8]
+    requires { 72 ≤ length bytes.now }
+    ensures { result.now ≡ take 72 bytes.now }
 {
-    let (columns, _) = record.split_at(TEXT_COLUMNS);
+    let (columns, _) = bytes.split_at(TEXT_COLUMNS);
     columns
 }
 
 // Columns 73 to 80 of a record.
-fn number_columns_of(record: &[u8]) -> &[u8]
-    requires { 72 ≤ length record.now }
-    ensures { result.now ≡ drop 72 record.now }
+fn number_columns_of(bytes: &[u8]) -> &[u8]
+    requires { 72 ≤ length bytes.now }
+    ensures { result.now ≡ drop 72 bytes.now }
 {
-    let (_, number) = record.split_at(TEXT_COLUMNS);
+    let (_, number) = bytes.split_at(TEXT_COLUMNS);
     number
 }
 
