@@ -2,4 +2,4 @@ pub mod Keys
 pub mod Lacking
 pub mod Making
 pub mod Targets
-pub mod Texts
+pub mod TextLemmas
