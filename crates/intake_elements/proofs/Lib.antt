@@ -1,5 +1,5 @@
 pub mod Keys
 pub mod Lacking
 pub mod Making
-pub mod StatedTexts
 pub mod Targets
+pub mod TextLemmas

@@ -3,7 +3,7 @@ use Rattle.std.proofs.lemmas.Result.{IfOk-weaker}
 use Rattle.std.proofs.lemmas.Option.{IfSome_then, same_Some}
 use Rattle.terms.specs.Types.{Text}
 use Rattle.intake_read.specs.Stated.{text_in}
-use Rattle.intake_elements.proofs.StatedTexts.{if_none_stated}
+use Rattle.intake_elements.proofs.TextLemmas.{if_none_stated}
 use Rattle.intake_elements.proofs.elements.read_syslib.Goals as goal
 
 pub returns-in-Some : goal.returns-in-Some

@@ -2,7 +2,7 @@ use Rattle.std.proofs.Common.{◌∙◌, subst, sym, ap}
 use Rattle.std.proofs.lemmas.Result.{IfOk-weaker}
 use Rattle.std.proofs.lemmas.Option.{IfSome_then}
 use Rattle.intake_elements.specs.Elements.{is_update, IsChangeOf}
-use Rattle.intake_elements.proofs.StatedTexts.{of_update}
+use Rattle.intake_elements.proofs.TextLemmas.{of_update}
 use Rattle.intake_elements.proofs.elements.stated_change.Goals as goal
 
 pub returns-then-is_update : goal.returns-then-is_update

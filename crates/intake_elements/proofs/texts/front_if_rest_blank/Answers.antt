@@ -1,5 +1,5 @@
 use Rattle.std.proofs.Common.{◌++◌, ap₂, sym, ◌∙◌, take-append-drop}
-use Rattle.intake_elements.proofs.StatedTexts.{all_kept}
+use Rattle.intake_elements.proofs.TextLemmas.{all_kept}
 use Rattle.intake_elements.proofs.texts.front_if_rest_blank.Goals as goal
 
 pub returns-in_default : goal.returns-in_default

@@ -1,4 +1,4 @@
-use Rattle.intake_elements.proofs.StatedTexts.{all_kept}
+use Rattle.intake_elements.proofs.TextLemmas.{all_kept}
 use Rattle.intake_elements.proofs.texts.without_blank_end_if_numbered.Goals as goal
 
 pub returns-then-keeps_blank_end : goal.returns-then-keeps_blank_end
