@@ -107,7 +107,7 @@ fn whole_or_short_change(
     }
     element_remarks.list.mark_left_out_as_dropped();
     remarks.append(element_remarks)?;
-    short_change(alloc, options, remarks, kind, element, target)
+    short_change(alloc, options, remarks, kind, element, elem_type, name)
 }
 
 // The change of the same element with a text of one record. Returns `None`, with a remark, if it cannot be carried.
@@ -117,16 +117,16 @@ fn short_change(
     remarks: &mut Remarks,
     kind: Kind,
     element: &WideElement,
-    target: Target,
+    elem_type: ElemType,
+    name: Name,
 ) -> Result<Option<ElemChange>, AllocError>
-    requires known { IsProfileType element.now.word.items target.elem_type }
-    requires named { target.name ≡ element.now.name.items }
+    requires known { IsProfileType element.now.word.items elem_type }
+    requires named { name ≡ element.now.name.items }
     requires asked { IsTrue options.now.decide }
     requires lacks_nothing { LacksNothing options.now.decide element.now }
     ensures { IfOk result (λ found. IfSome found (IsMadeOf options.now.decide kind element.now)) }
 {
     let subject = element_subject(element);
-    let Target { elem_type, name } = target;
     let Some(change) = one_record_change(alloc, kind, element, elem_type, name)? else {
         remarks.tell_left_out(alloc, &subject, b"", RemarkReason::BadText, b"")?;
         return Ok(None);
