@@ -17,5 +17,9 @@ mod tables;
 
 pub use command::{Command, Install};
 pub use error::CntlError;
-pub use fields::{Bypass, RestoreList, Selection};
+pub use fields::{
+    Bypass, Class, ClassList, Reason, ReasonList, Reasons, ReceiveOperands, RestoreList, Selection,
+    Source, SourceList, ZoneName,
+};
 pub use file::read_cntl;
+pub use terms::{CommandCode, HoldKind, NeedKind};

@@ -220,7 +220,8 @@ impl RemarkReason {
             RemarkReason::NotInService => "only a function may have it",
             RemarkReason::UpdateInFunction => "a function brings no update",
             RemarkReason::NoPeriod => "its period is missing",
-            RemarkReason::LatePeriod => "its period stands behind column 72: put it on a card of its own",
+            RemarkReason::LatePeriod =>
+                "its period stands behind column 72: put it on a card of its own",
             RemarkReason::OpenParenthesis => "a parenthesis is not closed in columns 1 to 72",
             RemarkReason::StrayParenthesis => "a parenthesis without its partner",
             RemarkReason::StrayCharacter => "a character that stands in no word",

@@ -1,12 +1,11 @@
 -- Holds that are passed on to a SYSMOD, one after the other.
-use Rattle.std.proofs.Common.{◌≡◌, ◌<◌, ◌+◌, ◌&&◌, ℕ, Bool, true, false, List, [], ◌++◌, ◌∷◌, Option, Some, None, length, take}
-use Rattle.std.proofs.Common.{get_or, subst, sym, ap, ◌∙◌, refl, append-nil, append_assoc}
+use Rattle.std.proofs.Common.{◌≡◌, ◌<◌, ◌+◌, ◌&&◌, ℕ, true, false, List, [], ◌++◌, ◌∷◌, Option, Some, None, length}
+use Rattle.std.proofs.Common.{take, get_or, subst, sym, ap, ◌∙◌, refl, append-nil, append_assoc}
 use Rattle.std.specs.List.{list_any}
 use Rattle.std.proofs.lemmas.Bool.{true≢false, and_parts}
 use Rattle.std.proofs.lemmas.List.{take_more}
 use Rattle.terms.specs.Types.{Id, Ver, Hold, Sysmod}
 use Rattle.terms.specs.Lookups.{is_in}
-use Rattle.terms.specs.declared.kinds.HoldKind.{HoldKind}
 use Rattle.terms.specs.declared.kinds.HoldKind.TheVariants as kind
 use Rattle.intake_read.specs.declared.items.WideHoldKind.{WideHoldKind}
 use Rattle.intake_read.specs.declared.items.WideHoldKind.TheVariants.{Error, System, User, Fixcat}
@@ -46,18 +45,22 @@ pub passes_one : (stated : WideHold) (hold put : Hold) (old new : Sysmod) → Is
     → new ≡ record old { holds = old.holds ++ put ∷ [] } → PassesOneOn stated old new
 passes_one stated hold put old new is e put_is new_is =
     subst (λ p. new ≡ record old { holds = old.holds ++ p ∷ [] } → PassesOneOn stated old new) (sym put_is)
-    (λ n. (on_it old.id hold ∷ [], n, IsPassed e (on_it old.id hold) (record {
-      same = record {
+    (λ n. (
+      on_it old.id hold ∷ [],
+      n,
+      IsPassed e (on_it old.id hold) (record {
+        same = record {
+          id_is = refl;
+          kind_is = is.kind_is;
+          reason_is = is.reason_is;
+          fmid_is = is.fmid_is;
+          class_is = is.class_is;
+          date_is = is.date_is;
+        };
         id_is = refl;
-        kind_is = is.kind_is;
-        reason_is = is.reason_is;
-        fmid_is = is.fmid_is;
-        class_is = is.class_is;
-        date_is = is.date_is;
-      };
-      id_is = refl;
-      internal = refl;
-    }))) new_is
+        internal = refl;
+      }),
+    )) new_is
 
 passes_more : (id : Id) (vers : List Ver) (ws : List WideHold) (holds : List Hold) (w : WideHold) (one : List Hold)
     → PassesOn id vers ws holds → HoldIsPassedOn id vers w one → PassesOn id vers (ws ++ w ∷ []) (holds ++ one)

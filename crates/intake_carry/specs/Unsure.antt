@@ -72,5 +72,5 @@ IsNamed left unsure item = (s : terms.Sysmod) → item ≡ Sysmod s → All (λ 
 
 -- each SYSMOD of these items that meets one that is left out is named
 abbrev pub AreUnsure : List WideSysmod → List Item → List Unsure → Type 0
-AreUnsure run items unsure = (left : WideSysmod) (s : terms.Sysmod) → Contains run left → IsTrue (is_left_out items left)
-    → Contains items (Sysmod s) → Meets left s → IsAmong unsure s.id
+AreUnsure run items unsure = (left : WideSysmod) (s : terms.Sysmod) → Contains run left
+    → IsTrue (is_left_out items left) → Contains items (Sysmod s) → Meets left s → IsAmong unsure s.id

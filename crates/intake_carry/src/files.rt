@@ -135,8 +135,8 @@ fn carry_files(
 }
 
 // The items of PTFIN, with the assignments after them, and those of the hold file in their order, with all remarks and
-// the SYSMODs of which it is not sure that they can be installed. The names of stand-ins are checked here, because any of
-// the files may have an element of such a name.
+// the SYSMODs of which it is not sure that they can be installed. The names of stand-ins are checked here, because any
+// of the files may have an element of such a name.
 fn finish_narrowed(
     alloc: Global,
     options: &Options,
@@ -161,9 +161,9 @@ fn finish_narrowed(
 
 /// Makes items that RECEIVE takes of what the files state, in the order of the files. Each SYSMOD that is carried is no
 /// looser than it is stated, and no ERROR, SYSTEM or USER hold or release is lost. `held` has the files' holds outside
-/// SYSMODs, which were carried as they were read. Remarks say what is left out or changed, and each carried SYSMOD that has
-/// to do with one that is left out is named. Returns `Refused`,
-/// with all remarks, if a hold or a release of such a kind cannot be carried, and `Memory` if memory runs out.
+/// SYSMODs, which were carried as they were read. Remarks say what is left out or changed, and each carried SYSMOD that
+/// has to do with one that is left out is named. Returns `Refused`, with all remarks, if a hold or a release of such a
+/// kind cannot be carried, and `Memory` if memory runs out.
 pub fn narrow(
     alloc: Global,
     files: &[WideFile],

@@ -6,6 +6,7 @@ ghost use Rattle.intake_read.specs.declared.items.WideSysmod.{WideSysmod as AnyS
 ghost use Rattle.intake_sysmod.specs.Users.{run_of, IsKnown};
 ghost use Rattle.intake_carry.specs.Unsure.{has_id, AreIdsOf, AreLeftOutOf};
 
+use crate::parts::id_of;
 use fields::Id;
 use intake_read::{WideFile, WideSysmod};
 use intake_sysmod::{ElementUser, add_users_of_sysmod};
@@ -20,7 +21,7 @@ fn add_id(ids: &mut BTreeSet<Id>, item: &Item) -> Result<(), AllocError>
 {
     match item {
         Item::Sysmod(sysmod) => {
-            ids.insert(sysmod.id)?;
+            ids.insert(id_of(sysmod))?;
             Ok(())
         }
         Item::Assign(_) => Ok(()),

@@ -11,6 +11,7 @@ mod left_out;
 mod left_out_sysmods;
 mod narrowed;
 mod notes;
+mod parts;
 mod passed_on;
 mod scope;
 mod stand_ins;

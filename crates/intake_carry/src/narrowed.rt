@@ -113,8 +113,8 @@ impl LeftOutCounts {
         }
     }
 
-    // Counts the `++ASSIGN` of the remark once, however many remarks there are on it. One that lost only some of its ids
-    // counts too.
+    // Counts the `++ASSIGN` of the remark once, however many remarks there are on it. One that lost only some of its
+    // ids counts too.
     fn count_assign(&mut self, remark: &Remark<'_>) {
         if self.last_assign != Some(remark.place) {
             self.assigns = self.assigns.saturating_add(1);
@@ -141,8 +141,9 @@ impl Narrowed {
             left_out: left_out.sysmods,
         };
         let holds = Tally {
-            carried: count_holds(items.as_slice(), hold_items.as_slice())
-                .saturating_sub(left_out.passed_on),
+            carried: count_holds(items.as_slice(), hold_items.as_slice()).saturating_sub(
+                left_out.passed_on,
+            ),
             left_out: left_out.holds,
         };
         let releases = Tally {

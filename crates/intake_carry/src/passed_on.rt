@@ -5,6 +5,7 @@ ghost use Rattle.std.specs.List.{list_any};
 ghost use Rattle.terms.specs.Lookups.{is_in};
 ghost use Rattle.intake_carry.specs.PassedOn.{is_system_kind, is_passed_on, PassesOneOn, PassesOn};
 
+use crate::parts::{id_of, vers_of};
 use fields::{Id, IdList};
 use intake_cards::{RemarkReason, Remarks};
 use intake_holds::{HoldError, carry_hold, hold_subject};
@@ -62,8 +63,8 @@ fn as_hold_on(id: Id, hold: Hold) -> Hold
     }
 }
 
-// Gives the SYSMOD the hold as one of its own, with a remark, if the hold holds it too. Returns `BadHold` if the hold has
-// no key, `Memory` if memory runs out.
+// Gives the SYSMOD the hold as one of its own, with a remark, if the hold holds it too. Returns `BadHold` if the hold
+// has no key, `Memory` if memory runs out.
 fn pass_hold_on(
     alloc: Global,
     remarks: &mut Remarks,
@@ -72,10 +73,10 @@ fn pass_hold_on(
 ) -> Result<(), HoldError>
     ensures { OnOk result (PassesOneOn stated.now sysmod.old sysmod.new) }
 {
-    if !is_passed_on(sysmod.vers.as_slice(), stated) {
+    if !is_passed_on(vers_of(sysmod), stated) {
         return Ok(());
     }
-    let id = sysmod.id;
+    let id = id_of(sysmod);
     let mut unheard = Remarks::new(alloc);
     let Some(carried) = carry_hold(alloc, &mut unheard, stated, None)? else {
         return Ok(());
@@ -91,8 +92,8 @@ fn pass_hold_on(
     Ok(())
 }
 
-/// Gives the SYSMOD the SYSTEM holds on SYSMODs that it supersedes, as holds of its own, with remarks. Returns `BadHold`
-/// if a hold has no key, `Memory` if memory runs out.
+/// Gives the SYSMOD the SYSTEM holds on SYSMODs that it supersedes, as holds of its own, with remarks. Returns
+/// `BadHold` if a hold has no key, `Memory` if memory runs out.
 pub(crate) fn pass_holds_on(
     alloc: Global,
     remarks: &mut Remarks,

@@ -51,8 +51,8 @@ fn place_hold(
     }
 }
 
-// Puts the internal holds into the SYSMOD, after those that it has, and returns the others, which go to the hold file. Remarks say what is
-// changed. Returns `BadHold` if a hold has no key, `Memory` if memory runs out.
+// Puts the internal holds into the SYSMOD, after those that it has, and returns the others, which go to the hold file.
+// Remarks say what is changed. Returns `BadHold` if a hold has no key, `Memory` if memory runs out.
 fn place_holds(
     alloc: Global,
     remarks: &mut Remarks,
@@ -114,8 +114,8 @@ fn tell_replaced_holds(
     Ok(())
 }
 
-// Carries the holds of a SYSMOD that is carried: the internal ones in it, after those of SYSMODs that it supersedes, and
-// the others in the hold file. RECEIVE keeps the last hold of each reason, which is the SYSMOD's own. Returns
+// Carries the holds of a SYSMOD that is carried: the internal ones in it, after those of SYSMODs that it supersedes,
+// and the others in the hold file. RECEIVE keeps the last hold of each reason, which is the SYSMOD's own. Returns
 // `BadHold` if a hold has no key, `Memory` if memory runs out.
 fn carry_holds(
     alloc: Global,

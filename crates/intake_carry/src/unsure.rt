@@ -6,15 +6,15 @@ ghost use Rattle.std.specs.List.{list_any};
 ghost use Rattle.std.specs.Ordering.{nat_cmp};
 ghost use Rattle.std.specs.BTreeMap.{get};
 ghost use Rattle.terms.specs.Lookups.{is_in};
-ghost use Rattle.intake_elements.specs.StandInNames.{key_of};
+ghost use Rattle.intake_elements.specs.StandInNames.{key_of as key_in};
 ghost use Rattle.intake_sysmod.specs.Users.{run_of, IsKnown};
 ghost use Rattle.intake_carry.specs.Unsure.{is_fmid, is_of, forbids_in, forbids, excludes, Meets};
-ghost use Rattle.intake_carry.specs.Unsure.{AreUnsure, IsNamed, KeepsNamed};
+ghost use Rattle.intake_carry.specs.Unsure.{AreUnsure, IsAmong, IsNamed, KeepsNamed};
 
 use crate::left_out_sysmods::{carried_ids, left_out_of_files, users_of_all};
+use crate::parts::{changes_of, id_of, key_of, vers_of};
 use crate::unsure_reasons::{SharedElements, conflict_text};
 use fields::Id;
-use intake_elements::change_key;
 use intake_read::{WideFile, WideSysmod, WideVer};
 use intake_sysmod::{ElementUser, Options};
 use mcs::Item;
@@ -51,7 +51,7 @@ fn is_for_function(vers: &[Ver], text: &[u8]) -> bool
 fn is_of(sysmod: &Sysmod, text: &[u8]) -> bool
     ensures { result ≡ is_of sysmod.now text.now }
 {
-    sysmod.id.as_bytes() == text || is_for_function(sysmod.vers.as_slice(), text)
+    id_of(sysmod).as_bytes() == text || is_for_function(vers_of(sysmod), text)
 }
 
 // Whether one of the ids is that of the SYSMOD or of a function that it is for.
@@ -86,8 +86,7 @@ fn excludes_in(ver: &Ver, id: &[u8]) -> bool
 fn excludes(sysmod: &Sysmod, left: &WideSysmod) -> bool
     ensures { result ≡ excludes sysmod.now left.now }
 {
-    sysmod
-        .vers
+    vers_of(sysmod)
         .iter()
         .any(|ver| excludes_in(ver, left.id.as_slice()))
 }
@@ -100,10 +99,7 @@ fn are_in_conflict(left: &WideSysmod, sysmod: &Sysmod) -> bool
 }
 
 // The first of the SYSMODs that are left out which forbids this one, or is forbidden by it, or `None` if none does.
-fn first_in_conflict<'a>(
-    left: &'a [&'a WideSysmod],
-    sysmod: &Sysmod,
-) -> Option<&'a &'a WideSysmod>
+fn first_in_conflict<'a>(left: &'a [&'a WideSysmod], sysmod: &Sysmod) -> Option<&'a &'a WideSysmod>
     ensures { IfNone result (All (λ l. (forbids l.now sysmod.now || excludes sysmod.now l.now) ≡ false) left.now) }
 {
     left.iter().find(|other| are_in_conflict(*other, sysmod))
@@ -111,11 +107,9 @@ fn first_in_conflict<'a>(
 
 // Whether a SYSMOD that is left out changes the element.
 fn is_used(users: &BTreeMap<u64, ElementUser>, change: &ElemChange) -> bool
-    ensures { result ≡ is_some (get nat_cmp users.now (key_of change.now.elem_type change.now.name)) }
+    ensures { result ≡ is_some (get nat_cmp users.now (key_in change.now.elem_type change.now.name)) }
 {
-    users
-        .get(&change_key(change.elem_type, change.name.as_bytes()))
-        .is_some()
+    users.get(&key_of(change)).is_some()
 }
 
 // The first of the changes whose element is changed by a SYSMOD that is left out too, or `None` if there is none.
@@ -123,7 +117,7 @@ fn first_used<'a>(
     users: &BTreeMap<u64, ElementUser>,
     changes: &'a [ElemChange],
 ) -> Option<&'a ElemChange>
-    ensures { IfNone result (All (λ c. is_some (get nat_cmp users.now (key_of c.elem_type c.name)) ≡ false)
+    ensures { IfNone result (All (λ c. is_some (get nat_cmp users.now (key_in c.elem_type c.name)) ≡ false)
         changes.now) }
 {
     changes.iter().find(|change| is_used(users, *change))
@@ -142,6 +136,22 @@ struct Doubts<'a> {
     taken_over: &'a SharedElements<'a>,
 }
 
+// Why it is not sure that the SYSMOD can be installed, besides elements that it shares with SYSMODs that are left out,
+// or `None` if there is no such reason.
+fn reason_without_shared(
+    alloc: Global,
+    doubts: &Doubts<'_>,
+    sysmod: &Sysmod,
+) -> Result<Option<Vec<u8>>, AllocError>
+    ensures { IfOk result (λ found. IfNone found (All (λ l. (forbids l.now sysmod.now || excludes sysmod.now l.now)
+        ≡ false) doubts.now.left.now)) }
+{
+    let Some(other) = first_in_conflict(doubts.left, sysmod) else {
+        return doubts.taken_over.text_of_any(alloc, changes_of(sysmod));
+    };
+    Ok(Some(conflict_text(alloc, *other, sysmod)?))
+}
+
 // Why it is not sure that the SYSMOD can be installed, or `None` if no SYSMOD that is left out has to do with it.
 fn reason_for(
     alloc: Global,
@@ -151,13 +161,32 @@ fn reason_for(
     requires { All (λ l. IsKnown doubts.now.users.now l.now) doubts.now.left.now }
     ensures { IfOk result (λ found. IfNone found (All (λ l. ¬ Meets l.now sysmod.now) doubts.now.left.now)) }
 {
-    if let Some(change) = first_used(doubts.users, sysmod.changes.as_slice()) {
-        return Ok(Some(doubts.shared.text(alloc, change)?));
-    }
-    if let Some(other) = first_in_conflict(doubts.left, sysmod) {
-        return Ok(Some(conflict_text(alloc, *other, sysmod)?));
-    }
-    doubts.taken_over.text_of_any(alloc, sysmod.changes.as_slice())
+    let Some(change) = first_used(doubts.users, changes_of(sysmod)) else {
+        return reason_without_shared(alloc, doubts, sysmod);
+    };
+    Ok(Some(doubts.shared.text(alloc, change)?))
+}
+
+// Adds the SYSMOD, if it is one of which it is not sure that it can be installed.
+fn push_sysmod_if_unsure(
+    alloc: Global,
+    doubts: &Doubts<'_>,
+    sysmod: &Sysmod,
+    unsure: &mut Vec<Unsure>,
+) -> Result<(), AllocError>
+    requires { All (λ l. IsKnown doubts.now.users.now l.now) doubts.now.left.now }
+    ensures named { OnOk result (All (λ l. Meets l.now sysmod.now → IsAmong unsure.new.items sysmod.now.id)
+        doubts.now.left.now) }
+    ensures kept { OnOk result (KeepsNamed unsure.old.items unsure.new.items) }
+{
+    let Some(reason) = reason_for(alloc, doubts, sysmod)? else {
+        return Ok(());
+    };
+    unsure.push(Unsure {
+        id: id_of(sysmod),
+        reason,
+    })?;
+    Ok(())
 }
 
 // Adds the SYSMOD of the item, if it is one of which it is not sure that it can be installed.
@@ -171,17 +200,10 @@ fn push_if_unsure(
     ensures named { OnOk result (IsNamed (map (λ l. l.now) doubts.now.left.now) unsure.new.items item.now) }
     ensures kept { OnOk result (KeepsNamed unsure.old.items unsure.new.items) }
 {
-    let Item::Sysmod(sysmod) = item else {
-        return Ok(());
-    };
-    let Some(reason) = reason_for(alloc, doubts, sysmod)? else {
-        return Ok(());
-    };
-    unsure.push(Unsure {
-        id: sysmod.id,
-        reason,
-    })?;
-    Ok(())
+    match item {
+        Item::Sysmod(sysmod) => push_sysmod_if_unsure(alloc, doubts, sysmod, unsure),
+        Item::Assign(_) => Ok(()),
+    }
 }
 
 // Those of the items of which it is not sure that they can be installed.
@@ -212,12 +234,13 @@ pub(crate) fn unsure_sysmods(
     ensures { IfOk result (λ unsure. AreUnsure (run_of files.now) items.now unsure.items) }
 {
     let ids = carried_ids(alloc, items)?;
-    let left = left_out_of_files(alloc, &ids, files)?;
-    let users = users_of_all(alloc, left.as_slice())?;
-    let shared = SharedElements::of_left_out(alloc, left.as_slice())?;
+    let gathered = left_out_of_files(alloc, &ids, files)?;
+    let left = gathered.as_slice();
+    let users = users_of_all(alloc, left)?;
+    let shared = SharedElements::of_left_out(alloc, left)?;
     let taken_over = SharedElements::taken_over(alloc, options, files)?;
     let doubts = Doubts {
-        left: left.as_slice(),
+        left,
         users: &users,
         shared: &shared,
         taken_over: &taken_over,

@@ -16,6 +16,7 @@ use Rattle.intake_read.specs.declared.items.WideElement.{WideElement}
 use Rattle.intake_read.specs.declared.items.WideOperand.{WideOperand}
 use Rattle.intake_read.specs.declared.items.FaultyOperand.{FaultyOperand}
 use Rattle.intake_elements.specs.StandInNames.{stand_in_name, key_of}
+use Rattle.intake_elements.specs.ElementTexts.{IsStatedText}
 
 -- the type of what stands for an element that the profile lacks, by its statement's word
 abbrev pub stand_in_type : Text → ElemType
@@ -97,11 +98,13 @@ pub record LacksNothing (decide : Bool) (stated : WideElement) : Type 0 where
   pub read : decide ≡ false → stated.faulty.items ≡ []
   pub modules_read : All IsNoModuleFault stated.faulty.items
 
--- what the statement itself changes; no operand of it decides more
+-- what the statement itself changes; no operand of it decides more, and the text is the stated one, unless a stand-in
+-- may take its place
 pub record IsMadeOf (decide : Bool) (kind : Kind) (stated : WideElement) (change : Change) : Type 0 where
   pub target_is : IsTarget decide stated.word.items stated.name.items change.elem_type change.name
   pub action_is : is_replacement change.action ≡ not (is_update kind stated.word.items)
   pub lacks_nothing : LacksNothing decide stated
+  pub text_is : decide ≡ false → IsStatedText stated change.action
 
 -- The modules that are assembled of an element: of a source the one of its name, whether or not DISTMOD says where that
 -- one is, and those that ASSEM names.

@@ -1,5 +1,5 @@
 //! What an element statement changes.
-ghost use Rattle.std.specs.Prelude.{IfOk, IfSome, IsTrue};
+ghost use Rattle.std.specs.Prelude.{◌≡◌, IfOk, IfSome, IsTrue};
 ghost use Rattle.intake_elements.specs.Elements.{IsProfileType, IsLacked, IsMadeOf, LacksNothing};
 
 use crate::element_words::{Target, profile_type};
@@ -107,6 +107,26 @@ fn whole_or_short_change(
     }
     element_remarks.list.mark_left_out_as_dropped();
     remarks.append(element_remarks)?;
+    short_change(alloc, options, remarks, kind, element, elem_type, name)
+}
+
+// The change of the same element with a text of one record. Returns `None`, with a remark, if it cannot be carried.
+fn short_change(
+    alloc: Global,
+    options: &Options,
+    remarks: &mut Remarks,
+    kind: Kind,
+    element: &WideElement,
+    elem_type: ElemType,
+    name: Name,
+) -> Result<Option<ElemChange>, AllocError>
+    requires known { IsProfileType element.now.word.items elem_type }
+    requires named { name ≡ element.now.name.items }
+    requires asked { IsTrue options.now.decide }
+    requires lacks_nothing { LacksNothing options.now.decide element.now }
+    ensures { IfOk result (λ found. IfSome found (IsMadeOf options.now.decide kind element.now)) }
+{
+    let subject = element_subject(element);
     let Some(change) = one_record_change(alloc, kind, element, elem_type, name)? else {
         remarks.tell_left_out(alloc, &subject, b"", RemarkReason::BadText, b"")?;
         return Ok(None);

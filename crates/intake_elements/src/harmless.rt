@@ -1,5 +1,5 @@
 //! Operands of elements without which a SYSMOD can be carried, and those without which it cannot.
-ghost use Rattle.std.specs.Prelude.{◌≡◌, IfOk, IfNone, IsTrue, IsFalse, All, true};
+ghost use Rattle.std.specs.Prelude.{◌≡◌, ◌||◌, [], IfOk, IfNone, IsTrue, All, true};
 ghost use Rattle.intake_elements.specs.Elements.{
   is_harmless_of_text,
   is_harmless_of_module,
@@ -137,11 +137,11 @@ fn first_module_fault(faulty: &[FaultyOperand]) -> Option<&FaultyOperand>
         .find(|entry| is_module_operand(entry.operand.name.as_slice()))
 }
 
-// Whether an operand that states the modules that are assembled, or their library, is faulty.
-fn has_module_fault(element: &WideElement) -> bool
-    ensures { IsFalse result → All IsNoModuleFault element.now.faulty.items }
+// Whether each operand that states the modules that are assembled, or their library, can be read.
+fn has_no_module_fault(element: &WideElement) -> bool
+    ensures { IsTrue result → All IsNoModuleFault element.now.faulty.items }
 {
-    first_module_fault(element.faulty.as_slice()).is_some()
+    first_module_fault(element.faulty.as_slice()).is_none()
 }
 
 // The first operand without which the SYSMOD cannot be carried even if stand-ins are asked for, or `None` if there is
@@ -154,11 +154,28 @@ fn first_harmful_operand(operands: &[WideOperand]) -> Option<&WideOperand>
         .find(|operand| !is_harmless(true, operand.name.as_slice()))
 }
 
+// Whether the SYSMOD can be carried without each of the operands if stand-ins are asked for.
+fn has_no_harmful_operand(element: &WideElement) -> bool
+    ensures { IsTrue result → All (IsHarmless true) element.now.operands.items }
+{
+    first_harmful_operand(element.operands.as_slice()).is_none()
+}
+
 /// Whether something stands for the element if stand-ins are asked for: its operands decide nothing that would be lost.
 pub fn lacks_nothing(element: &WideElement) -> bool
     ensures { IsTrue result → LacksNothing true element.now }
 {
-    first_harmful_operand(element.operands.as_slice()).is_none() && !has_module_fault(element)
+    are_both(
+        has_no_harmful_operand(element),
+        has_no_module_fault(element),
+    )
+}
+
+/// Whether the reader could read all operands of a statement: none is among these faulty ones.
+pub fn are_all_read(faulty: &[FaultyOperand]) -> bool
+    ensures { IsTrue result → faulty.now ≡ [] }
+{
+    faulty.is_empty()
 }
 
 // Remarks, for each faulty DISTMOD and ASSEM, that the SYSMOD is left out, because it is not known which modules are
@@ -191,7 +208,13 @@ pub(crate) fn can_have_stand_in(
     requires { IsTrue options.now.decide }
     ensures { IfOk result (λ can. IsTrue can → LacksNothing options.now.decide element.now) }
 {
-    let can_lack = can_lack_operands(alloc, options, remarks, subject, element.operands.as_slice())?;
+    let can_lack = can_lack_operands(
+        alloc,
+        options,
+        remarks,
+        subject,
+        element.operands.as_slice(),
+    )?;
     tell_module_faults(alloc, remarks, subject, element)?;
-    Ok(are_both(can_lack, !has_module_fault(element)))
+    Ok(are_both(can_lack, has_no_module_fault(element)))
 }

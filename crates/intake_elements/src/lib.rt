@@ -15,7 +15,7 @@ mod texts;
 mod updates;
 
 pub use changes::change_of;
-pub use harmless::{are_both, lacks_nothing};
+pub use harmless::{are_all_read, are_both, lacks_nothing};
 pub use modules::{keys_of, modules_of};
 pub use options::{Options, RelfileMember, Syslib};
 pub use stand_in_names::change_key;

@@ -62,8 +62,8 @@ fn has_modules(element: &WideElement) -> bool {
     is_source(element.word.as_slice()) || !element.assem.is_empty()
 }
 
-/// Remarks that DISTMOD and ASSEM are dropped. If stand-ins are asked for, modules have stand-ins, so only a DISTMOD of an
-/// element without modules is dropped.
+/// Remarks that DISTMOD and ASSEM are dropped. If stand-ins are asked for, modules have stand-ins, so only a DISTMOD of
+/// an element without modules is dropped.
 pub(crate) fn tell_dropped_module_operands(
     alloc: Global,
     options: &Options,

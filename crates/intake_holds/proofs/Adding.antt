@@ -1,5 +1,6 @@
 -- Holds outside SYSMODs that are added one after the other.
-use Rattle.std.proofs.Common.{◌≡◌, List, [], ◌++◌, Option, subst, sym, ap, ◌∙◌, append_assoc, append-nil, not, map, filter}
+use Rattle.std.proofs.Common.{◌≡◌, List, [], ◌++◌, Option, subst, sym, ap, ◌∙◌, append_assoc, append-nil, not, map}
+use Rattle.std.proofs.Common.{filter}
 use Rattle.std.specs.Prelude.{option_to_list}
 use Rattle.std.proofs.lemmas.List.{map-append}
 use Rattle.std.proofs.lemmas.List.Elements.{filter-append}
@@ -21,15 +22,14 @@ adds_none held places e =
 pub adds_then : (old mid new : OutsideHolds) (hold : Option WideHold) (places after : List CardPlace)
     → after ≡ places ++ held_places (option_to_list hold) → AddsHolds (option_to_list hold) mid new
     → AddsHoldsAt places old mid → AddsHoldsAt after old new
-adds_then old mid new hold places after e more so_far =
-    (
-      so_far.0 ++ option_to_list hold,
-      places_append so_far.0 (option_to_list hold) ∙ ap (λ l. l ++ held_places (option_to_list hold)) so_far.1
-          ∙ sym e,
-      λ before carried.
-          subst (λ l. AreCarried l new) (append_assoc before so_far.0 (option_to_list hold))
-          (more (before ++ so_far.0) (so_far.2 before carried)),
-    )
+adds_then old mid new hold places after e more so_far = (
+  so_far.0 ++ option_to_list hold,
+  places_append so_far.0 (option_to_list hold) ∙ ap (λ l. l ++ held_places (option_to_list hold)) so_far.1
+      ∙ sym e,
+  λ before carried.
+      subst (λ l. AreCarried l new) (append_assoc before so_far.0 (option_to_list hold))
+      (more (before ++ so_far.0) (so_far.2 before carried)),
+)
 
 pub adds_kept : (old mid new : OutsideHolds) (places after : List CardPlace) → after ≡ places
     → KeepsHolds mid new → AddsHoldsAt places old mid → AddsHoldsAt after old new

@@ -184,9 +184,9 @@ fn remark_bad_statements_of_files(
     Ok(any)
 }
 
-/// The statements of a file of these cards. Its holds outside SYSMODs are added to `held` while they are read: each that
-/// the reader hands out, and no other. Returns `NoStatement`, `OpenComment` or `Statement` if the file has a fault that
-/// leaving out a SYSMOD does not mend, and `Memory` if memory runs out.
+/// The statements of a file of these cards. Its holds outside SYSMODs are added to `held` while they are read: each
+/// that the reader hands out, and no other. Returns `NoStatement`, `OpenComment` or `Statement` if the file has a fault
+/// that leaving out a SYSMOD does not mend, and `Memory` if memory runs out.
 pub fn read_statements(
     alloc: Global,
     cards: &mut CardReader<'_>,

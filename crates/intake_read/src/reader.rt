@@ -30,10 +30,7 @@ fn is_fixcat(hold: &WideHold) -> bool
 }
 
 // Adds where the hold begins, if there is one that is not of FIXCAT.
-fn add_held_place(
-    held: &mut Vec<CardPlace>,
-    hold: &Option<WideHold>,
-) -> Result<(), AllocError>
+fn add_held_place(held: &mut Vec<CardPlace>, hold: &Option<WideHold>) -> Result<(), AllocError>
     ensures { OnOk result (held.new.items ≡ held.old.items ++ held_places (option_to_list hold.now)) }
 {
     let Some(hold) = hold else {

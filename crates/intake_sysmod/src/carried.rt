@@ -10,7 +10,7 @@ use crate::users::Users;
 use crate::vers::read_vers;
 use fields::spelling::kind_text;
 use intake_cards::{Deed, RemarkReason, Remarks, Subject};
-use intake_elements::{Options, are_both};
+use intake_elements::{Options, are_all_read, are_both};
 use intake_read::{WideSysmod, tell_dropped_operands, tell_faulty_operands};
 use std::alloc::{AllocError, Global};
 use sysmods_values::{Sysmod, Ver};
@@ -37,19 +37,14 @@ fn can_carry_header_and_others(
 {
     let subject = header_subject(stated);
     tell_dropped_operands(alloc, remarks, &subject, stated.dropped.as_slice())?;
-    tell_faulty_operands(
-        alloc,
-        remarks,
-        &subject,
-        stated.faulty.as_slice(),
-        Deed::LeftOut,
-    )?;
+    let faulty = stated.faulty.as_slice();
+    tell_faulty_operands(alloc, remarks, &subject, faulty, Deed::LeftOut)?;
     let may_lack_others = tell_other_statements(alloc, options, remarks, stated.others.as_slice())?;
     if stated.elements.len() > MOST_ELEMENTS && !options.decide {
         remarks.tell_left_out(alloc, &subject, b"", RemarkReason::TooMany, b"")?;
         return Ok(false);
     }
-    Ok(are_both(stated.faulty.is_empty(), may_lack_others))
+    Ok(are_both(are_all_read(faulty), may_lack_others))
 }
 
 // The SYSMOD with these `++VER`s.

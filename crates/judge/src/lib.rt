@@ -9,4 +9,7 @@ mod installing;
 mod surviving;
 
 pub use installing::install_system;
-pub use judge_system::Judged;
+pub use judge_system::{
+    Assessment, Decided, Failure, Judged, OpenNeed, RequisiteOf, TestSet, Tests,
+};
+pub use terms::Test;

@@ -31,8 +31,11 @@ mod statement_kinds;
 mod ver;
 
 pub use error::McsError;
+pub use fields::{Class, HoldDate, Name, Reason, Source, SourceList, Srel};
 pub use file::{Assign, Item};
 pub use hold_file::read_hold;
 pub use hold_item::HoldItem;
 pub use hold_operands::Release;
 pub use ptfin::read_ptfin;
+pub use sysmods_values::{Action, ElemChange, Hold, IfReq, Sysmod, Ver};
+pub use terms::{ElemType, HoldKind, Kind, StatementCode, StatementWord};

@@ -33,6 +33,7 @@ mod words;
 pub use among::{are_members, is_among};
 pub use commands::{CommandError, CommandWords, Commands};
 pub use error::{RecError, StmtError};
+pub use fields::{Field, Id, IdList, Rising};
 pub use find::{named_member, operand};
 pub use groups::{Group, Groups, StartsOutside};
 pub use member::Member;

@@ -29,6 +29,7 @@ pub use fact::{
     Standing,
 };
 pub use held_for_error::errsysmods;
+pub use judge_system::{Failure, OpenNeed, TestSet, Tests};
 pub use line_words::{
     ELEM_TYPE_WIDTH, HOLD_WIDTH, LineWord, NAME_WIDTH, TYPE_WIDTH, append_words, applied_word,
 };
@@ -39,5 +40,6 @@ pub use pieces::{print, write_all};
 pub use places::place_of;
 pub use sink::{Out, Sink, WriteFault};
 pub use superseders::serving_ids;
+pub use terms::{CommandCode, CommandWord, IdRefusal, StatementCode, Test};
 pub use write::write_report;
 pub use zone_lines::entry_words;

@@ -17,4 +17,5 @@ mod scope;
 mod selected;
 mod start;
 
+pub use fields::Selection;
 pub use selected::candidates;

@@ -18,7 +18,7 @@ use Rattle.machine.specs.Machine.{Files, Perform, Performs, Steps}
 use Rattle.machine.specs.Runs.{Runs}
 use Rattle.machine.proofs.Joined.{runs_append, runs_one}
 use Rattle.store.specs.Causes.{IsLater}
-use Rattle.smpe_zones.specs.Kept.{Keeps}
+use Rattle.store.specs.Kept.{Keeps}
 use Rattle.smpe_session.specs.declared.session.Session.{Session}
 use Rattle.smpe_session.specs.Sessions.{IsSessionOf}
 use Rattle.smpe_jobs.specs.declared.error.JobError.{JobError}

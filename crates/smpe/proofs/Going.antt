@@ -23,7 +23,7 @@ use Rattle.store.specs.Going.{CommitsOnce, GoesOver}
 use Rattle.store.specs.declared.change.Change.{Change}
 use Rattle.store.specs.declared.change.Change.TheVariants as change
 use Rattle.store.proofs.Going.{alone_loads, goes_err, goes_ok}
-use Rattle.smpe_zones.specs.Own.{IsOwn, IsOwnOf}
+use Rattle.store.specs.Own.{IsOwn, IsOwnOf}
 use Rattle.smpe_session.specs.declared.session.Performed.{Performed}
 use Rattle.smpe_session.specs.Writing.{IsOutcomeOf, IsRan, AnswersRun}
 use Rattle.smpe_jobs.specs.declared.error.JobError.{JobError}

@@ -21,13 +21,13 @@ use Rattle.store_schema.specs.declared.error.StoreError.{StoreError}
 use Rattle.store_schema.specs.declared.error.StoreError.TheVariants as store
 use Rattle.report.specs.Sent.{WrotePart}
 use Rattle.store.specs.Causes.{IsLater}
-use Rattle.smpe_zones.specs.Kept.{Keeps}
+use Rattle.store.specs.Kept.{Keeps}
 use Rattle.smpe_session.specs.declared.session.Session.{Session}
 use Rattle.smpe_session.specs.Sessions.{HasBegun}
-use Rattle.smpe_zones.specs.declared.error.ZoneFault.{ZoneFault}
-use Rattle.smpe_zones.specs.declared.error.ZoneError.{ZoneError}
-use Rattle.smpe_zones.specs.declared.error.ZoneError.TheVariants as zone_error
-use Rattle.smpe_zones.specs.Definitions.{EndsDefine, fault_of, is_refused}
+use Rattle.smpe_jobs.specs.declared.zone_error.ZoneFault.{ZoneFault}
+use Rattle.smpe_jobs.specs.declared.zone_error.ZoneError.{ZoneError}
+use Rattle.smpe_jobs.specs.declared.zone_error.ZoneError.TheVariants as zone_error
+use Rattle.smpe_jobs.specs.ZoneDefinitions.{EndsDefine, fault_of, is_refused}
 use Rattle.smpe_jobs.specs.declared.error.JobError.{JobError}
 use Rattle.smpe_jobs.specs.declared.error.JobError.TheVariants.{Memory, Write}
 use Rattle.smpe_jobs.specs.Ending.{EndsLast, EndsEarly, EndsAmong, EndsJob}

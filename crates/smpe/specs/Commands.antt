@@ -10,7 +10,7 @@ use Rattle.machine.specs.Outcome.{Outcome, job_code}
 use Rattle.machine.specs.Report.{text}
 use Rattle.machine.specs.Machine.{Files, Perform, Steps}
 use Rattle.machine.specs.Runs.{Runs}
-use Rattle.smpe_zones.specs.Kept.{Keeps}
+use Rattle.store.specs.Kept.{Keeps}
 use Rattle.smpe_session.specs.declared.session.Session.{Session}
 use Rattle.smpe_session.specs.Sessions.{IsSessionOf}
 use Rattle.smpe_jobs.specs.declared.error.JobError.{JobError}

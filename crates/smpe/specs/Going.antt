@@ -14,7 +14,7 @@ use Rattle.store.specs.BadRows.{OnlyLoads, FoundNoState}
 use Rattle.store.specs.Going.{CommitsOnce, GoesOver}
 use Rattle.store.specs.Whole.{ShowsGlobal}
 use Rattle.store.specs.declared.change.Change.TheVariants as change
-use Rattle.smpe_zones.specs.Own.{IsOwn}
+use Rattle.store.specs.Own.{IsOwn}
 use Rattle.smpe_session.specs.Writing.{IsOutcomeOf, IsRan}
 use Rattle.smpe_jobs.specs.Course.{AllRan, Course, Unreported, AtNext}
 use Rattle.smpe_jobs.specs.declared.error.JobError.{JobError}

@@ -1,7 +1,7 @@
 //! How a command is performed.
 ghost use Rattle.std.specs.Prelude.{◌≡◌, IfOk, IsErrOf};
 ghost use Rattle.cntl.specs.Views.{command_of};
-ghost use Rattle.smpe_zones.specs.Own.{IsOwnOf};
+ghost use Rattle.store.specs.Own.{IsOwnOf};
 ghost use Rattle.smpe_session.specs.Sessions.{IsSessionOf, HasDone, LooksOnly, told};
 ghost use Rattle.smpe_session.specs.Uses.{UsesStore};
 ghost use Rattle.smpe_session.specs.Writing.{AnswersOf, AnswersRun};

@@ -6,7 +6,7 @@ ghost use Rattle.machine.specs.Machine.{Files};
 ghost use Rattle.smpe_session.specs.Sessions.{IsSessionOf, HasPerformed};
 ghost use Rattle.smpe_session.specs.Uses.{UsesStore};
 ghost use Rattle.smpe_session.specs.Writing.{TellsOutcomeOf, TellsRun};
-ghost use Rattle.smpe_zones.specs.Own.{IsOfZone};
+ghost use Rattle.store.specs.Own.{IsOfZone};
 
 use fields::RestoreList;
 use report::{Header, Outcome, Refusal};

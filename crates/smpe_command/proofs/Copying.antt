@@ -7,7 +7,7 @@ use Rattle.terms.specs.Types.{Text}
 use Rattle.machine.specs.State.{State}
 use Rattle.machine.specs.Machine as machine
 use Rattle.report.specs.declared.sink.Sink.{Ghosts as SinkGhosts}
-use Rattle.smpe_zones.specs.Kept.{kept, Keeps}
+use Rattle.store.specs.Kept.{kept, Keeps}
 use Rattle.smpe_jobs.specs.declared.error.JobError.{JobError}
 use Rattle.smpe_jobs.specs.Ending.{EndsJobs, TellsOfSink}
 use Rattle.smpe.specs.Going.{GoesJobs}

@@ -11,9 +11,9 @@ use Rattle.store_schema.specs.Stands.{StandsFor}
 use Rattle.store.specs.Causes.{IsLater}
 use Rattle.store.specs.Going.{LoadsAlone}
 use Rattle.store.specs.Loads.{Loads}
-use Rattle.smpe_zones.specs.Calls.{EndsLoad}
-use Rattle.smpe_zones.specs.Kept.{kept, Keeps}
-use Rattle.smpe_zones.proofs.Keeping.{loaded, ended_since}
+use Rattle.store.specs.CallEnds.{EndsLoad}
+use Rattle.store.specs.Kept.{kept, Keeps}
+use Rattle.store.proofs.Keeping.{loaded, ended_since}
 use Rattle.smpe_jobs.specs.Ending.{StaysClosed}
 use Rattle.smpe_jobs.proofs.Closing.{keeps_closed}
 

@@ -20,7 +20,7 @@ use Rattle.store_schema.specs.declared.error.StoreError.{StoreError}
 use Rattle.store_schema.specs.Known.{told}
 use Rattle.store.specs.Loads.{Loads}
 use Rattle.store.specs.View.{IsFound}
-use Rattle.smpe_zones.specs.Kept.{kept}
+use Rattle.store.specs.Kept.{kept}
 use Rattle.smpe_invocation.specs.declared.asked.CommandJob.{CommandJob}
 use Rattle.smpe_invocation.specs.declared.asked.SystemCopy.{SystemCopy}
 use Rattle.smpe_jobs.specs.declared.error.JobError.{JobError}

@@ -19,8 +19,8 @@ use Rattle.store_schema.specs.Known.{HasOtherNumber, HasNoState, HasOwnTables, t
 use Rattle.store_schema.specs.Stands.{IsSetUp}
 use Rattle.store.specs.BadRows.{TellsNoState}
 use Rattle.store.specs.Going.{LoadsAlone}
-use Rattle.smpe_zones.specs.Calls.{EndsLoad}
-use Rattle.smpe_zones.specs.Kept.{kept}
+use Rattle.store.specs.CallEnds.{EndsLoad}
+use Rattle.store.specs.Kept.{kept}
 use Rattle.store_migration.specs.Migrated.{Migrated, Unmigrated}
 use Rattle.store.specs.View.{Tables, Leaves, LeavesFound, IsFound}
 use Rattle.smpe_verify.specs.Verified.{verification}

@@ -15,8 +15,8 @@ use Rattle.store_schema.specs.declared.error.StoreError.TheVariants.{OtherSchema
 use Rattle.store_schema.specs.Known.{HasOtherNumber, HasNoState}
 use Rattle.store.specs.View.{IsFound}
 use Rattle.smpe_invocation.specs.declared.asked.CommandJob.{CommandJob}
-use Rattle.smpe_zones.specs.Definitions.{definition}
-use Rattle.smpe_zones.specs.Kept.{kept}
+use Rattle.smpe_jobs.specs.ZoneDefinitions.{definition}
+use Rattle.store.specs.Kept.{kept}
 use Rattle.smpe_jobs.specs.declared.error.JobError.{JobError}
 use Rattle.smpe_jobs.specs.declared.error.JobError.TheVariants.{Memory}
 use Rattle.smpe_jobs.specs.Errors.{job_error}

@@ -8,7 +8,7 @@ use Rattle.terms.specs.Types.{Text, Bypass}
 use Rattle.machine.specs.State.{ZoneDefinition}
 use Rattle.machine.specs.Machine.{Files, NewZone, RunFiles}
 use Rattle.report.specs.declared.sink.Sink.{Ghosts as SinkGhosts}
-use Rattle.smpe_zones.specs.Definitions.{definition}
+use Rattle.smpe_jobs.specs.ZoneDefinitions.{definition}
 use Rattle.smpe_invocation.specs.declared.asked.CheckedSystem.{CheckedSystem}
 use Rattle.smpe_invocation.specs.declared.asked.CheckedSystem.TheVariants.{Empty, Copied}
 use Rattle.smpe_invocation.specs.declared.asked.CommandJob.{CommandJob}

@@ -20,8 +20,7 @@ use Rattle.terms.proofs.GlobalKept.{hold_cmp_total}
 use Rattle.terms.proofs.HoldOrder.{has_key_ties}
 use Rattle.sysmods.specs.declared.edit.GlobalEdit.TheVariants.{RemoveSysmod}
 use Rattle.sysmods_values.specs.Edited.{less_sysmod}
-use Rattle.sysmods.specs.Edits.{after_edits}
-use Rattle.smpe_global.specs.Edits.{IsOfReject}
+use Rattle.sysmods.specs.Edits.{after_edits, IsOfReject}
 use Rattle.smpe_global.specs.Rejections.{removal, edits_of}
 
 module _ {X : Type 0} where

@@ -8,8 +8,8 @@ use Rattle.machine.specs.Receiving.{global_after}
 use Rattle.sysmods.specs.declared.holds.ReleaseError.{ReleaseError}
 use Rattle.sysmods.specs.Faults.{a_release, release_fault}
 use Rattle.sysmods.specs.declared.edit.GlobalEdit.TheVariants.{PutHold, RemoveHold}
-use Rattle.sysmods.specs.Edits.{with_hold, EachFits, after_edits, StatesThose}
-use Rattle.smpe_global.specs.Edits.{IsOfReceive, release_answer, release_edits}
+use Rattle.sysmods.specs.Edits.{with_hold, EachFits, after_edits, StatesThose, IsOfReceive}
+use Rattle.smpe_global.specs.Edits.{release_answer, release_edits}
 use Rattle.smpe_global.specs.External.{IsExternal}
 use Rattle.mcs.specs.HoldItems.{item_of, items}
 use Rattle.mcs.specs.declared.hold_item.HoldItem.{HoldItem}

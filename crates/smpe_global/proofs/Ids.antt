@@ -21,8 +21,7 @@ use Rattle.report.specs.Views.{line_view, status_view}
 use Rattle.sysmods.specs.declared.edit.GlobalEdit.{GlobalEdit}
 use Rattle.sysmods.specs.declared.edit.GlobalEdit.TheVariants.{RemoveHold, RemoveSysmod, PutHold, InsertSysmod}
 use Rattle.sysmods.specs.declared.edit.GlobalEdit.TheVariants.{ReplaceSources}
-use Rattle.sysmods.specs.Edits.{Fits, after_edit, after_edits, EachFits}
-use Rattle.smpe_global.specs.Edits.{IsOfReject}
+use Rattle.sysmods.specs.Edits.{Fits, after_edit, after_edits, EachFits, IsOfReject}
 use Rattle.smpe_global.specs.Rejections.{AppliesAlike, edits_of, IsAnswered, AreRejected, IsRejected}
 use Rattle.smpe_global.proofs.Dropping.{edits_make, edits_reject}
 

@@ -9,9 +9,8 @@ use Rattle.machine.specs.Outcome as machine
 use Rattle.machine.specs.Runs.{Runs}
 use Rattle.machine.proofs.Joined.{runs_append, runs_one}
 use Rattle.report.specs.Views.{line_view}
-use Rattle.sysmods.specs.Edits.{after_edit, EachFits, after_edits, StatesThose}
+use Rattle.sysmods.specs.Edits.{after_edit, EachFits, after_edits, StatesThose, IsOfReceive}
 use Rattle.smpe_global.specs.declared.global_change.GlobalChange.{GlobalChange}
-use Rattle.smpe_global.specs.Edits.{IsOfReceive}
 use Rattle.smpe_global.specs.Taken.{IsTaken}
 use Rattle.smpe_global.proofs.Fitting.{fits_none, fits_append}
 use Rattle.smpe_global.proofs.Stating.{states_same, states_then}

@@ -20,8 +20,8 @@ use Rattle.terms.proofs.Searches.{find_passes, find_gives}
 use Rattle.terms.proofs.Placing.{Rises_with_item}
 use Rattle.terms.proofs.RisingLists.{find_there, Splits_around}
 use Rattle.sysmods.specs.declared.edit.GlobalEdit.TheVariants.{ReplaceSources}
-use Rattle.sysmods.specs.Edits.{AreSources, Fits, EachFits, after_edits}
-use Rattle.smpe_global.specs.Edits.{IsOfReceive, head_of, source_edits}
+use Rattle.sysmods.specs.Edits.{AreSources, Fits, EachFits, after_edits, IsOfReceive}
+use Rattle.smpe_global.specs.Edits.{head_of, source_edits}
 use Rattle.smpe_global.proofs.Fitting.{fits_none, fits_one}
 use Rattle.terms.proofs.Lists.{map_alike}
 

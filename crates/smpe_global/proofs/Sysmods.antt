@@ -18,8 +18,8 @@ use Rattle.report.specs.Views.{line_view}
 use Rattle.smpe_global.specs.declared.global_change.GlobalChange.{GlobalChange}
 use Rattle.sysmods.specs.declared.edit.GlobalEdit.{GlobalEdit}
 use Rattle.sysmods.specs.declared.edit.GlobalEdit.TheVariants.{PutHold, InsertSysmod}
-use Rattle.sysmods.specs.Edits.{AreSources, StatesThose, EachFits, after_edits}
-use Rattle.smpe_global.specs.Edits.{IsOfReceive, answer_of, AreEditsOf}
+use Rattle.sysmods.specs.Edits.{AreSources, StatesThose, EachFits, after_edits, IsOfReceive}
+use Rattle.smpe_global.specs.Edits.{answer_of, AreEditsOf}
 use Rattle.smpe_global.specs.Taken.{IsTaken}
 use Rattle.smpe_global.proofs.Fitting.{fits_none, sysmod_fits, sysmod_makes}
 use Rattle.smpe_global.proofs.Stating.{states_same, states_received}

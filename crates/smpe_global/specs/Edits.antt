@@ -10,18 +10,6 @@ use Rattle.sysmods.specs.declared.holds.ReleaseError.{ReleaseError}
 use Rattle.sysmods.specs.Faults.{release_fault}
 use Rattle.sysmods.specs.declared.edit.GlobalEdit.{GlobalEdit}
 use Rattle.sysmods.specs.declared.edit.GlobalEdit.TheVariants.{PutHold, RemoveHold, InsertSysmod, ReplaceSources}
-use Rattle.sysmods.specs.declared.edit.GlobalEdit.TheVariants.{RemoveSysmod}
-
--- RECEIVE writes SYSMODs, sources and holds, and removes holds that are released. It removes no SYSMOD.
-abbrev pub IsOfReceive : GlobalEdit → Type 0
-IsOfReceive (RemoveSysmod x) = ⊥
-IsOfReceive _ = Unit {0}
-
--- REJECT removes SYSMODs and holds, and writes none.
-abbrev pub IsOfReject : GlobalEdit → Type 0
-IsOfReject (RemoveSysmod x) = Unit {0}
-IsOfReject (RemoveHold x kind reason) = Unit {0}
-IsOfReject _ = ⊥
 
 -- what RECEIVE returns for a SYSMOD, unless memory runs out
 abbrev pub answer_of : Global → Result (Unit {0}) Refused → Option (Result Global rule.ReceiveFault)

@@ -14,8 +14,7 @@ use Rattle.report.specs.declared.outcome.ReportLine.{ReportLine}
 use Rattle.report.specs.Views.{line_view, status_view}
 use Rattle.sysmods.specs.declared.edit.GlobalEdit.{GlobalEdit}
 use Rattle.sysmods.specs.declared.edit.GlobalEdit.TheVariants.{RemoveHold, RemoveSysmod}
-use Rattle.sysmods.specs.Edits.{after_edits}
-use Rattle.smpe_global.specs.Edits.{IsOfReject}
+use Rattle.sysmods.specs.Edits.{after_edits, IsOfReject}
 
 -- Some zone of the map has an id applied exactly if one of the named zones has.
 abbrev pub AppliesAlike : {S : Type 0} → IndexMap Text Zone S → List NamedZone → Type 0

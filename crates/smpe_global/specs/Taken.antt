@@ -5,9 +5,8 @@ use Rattle.machine.specs.Outcome as machine
 use Rattle.report.specs.declared.outcome.ReportLine.{ReportLine}
 use Rattle.report.specs.Views.{line_view}
 use Rattle.sysmods.specs.declared.edit.GlobalEdit.{GlobalEdit}
-use Rattle.sysmods.specs.Edits.{StatesThose, EachFits, after_edits}
+use Rattle.sysmods.specs.Edits.{StatesThose, EachFits, after_edits, IsOfReceive}
 use Rattle.smpe_global.specs.declared.global_change.GlobalChange.{GlobalChange}
-use Rattle.smpe_global.specs.Edits.{IsOfReceive}
 
 -- The global zone g has become new, in which the statements of SYSMODs stay, and these lines are printed about it. The
 -- edits are RECEIVE's. Over any global zone that contains the statements of those of new, they fit and lead there too.

@@ -6,8 +6,8 @@ ghost use Rattle.machine.specs.Runs.{Runs};
 ghost use Rattle.machine.specs.Receiving.{TakesItem, sourced, receive_status};
 ghost use Rattle.mcs.specs.Files.{item_of, items};
 ghost use Rattle.report.specs.Views.{line_view, status_view};
-ghost use Rattle.sysmods.specs.Edits.{StatesThose, EachFits, after_edits};
-ghost use Rattle.smpe_global.specs.Edits.{IsOfReceive, answer_of};
+ghost use Rattle.sysmods.specs.Edits.{StatesThose, EachFits, after_edits, IsOfReceive};
+ghost use Rattle.smpe_global.specs.Edits.{answer_of};
 ghost use Rattle.smpe_global.specs.Taken.{IsTaken};
 
 use crate::assign::receive_assign;

@@ -8,8 +8,7 @@ ghost use Rattle.terms.specs.Lookups.{is_applied};
 ghost use Rattle.machine.specs.Runs.{Runs};
 ghost use Rattle.machine.specs.Rejecting.{RejectsId};
 ghost use Rattle.report.specs.Views.{line_view};
-ghost use Rattle.sysmods.specs.Edits.{EachFits, after_edits};
-ghost use Rattle.smpe_global.specs.Edits.{IsOfReject};
+ghost use Rattle.sysmods.specs.Edits.{EachFits, after_edits, IsOfReject};
 ghost use Rattle.smpe_global.specs.Rejections.{AppliesAlike, IsAnswered, IsRejected};
 
 use crate::global_change::GlobalChange;

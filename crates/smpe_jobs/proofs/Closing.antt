@@ -19,17 +19,17 @@ use Rattle.store_schema.specs.Inventory.{Inventory}
 use Rattle.store_schema.specs.Stands.{StandsFor}
 use Rattle.store_schema.specs.Tables.{store_schema}
 use Rattle.store_schema.proofs.OneState.{one_state}
-use Rattle.smpe_zones.specs.Calls.{StillKeeps}
-use Rattle.smpe_zones.specs.Kept.{kept, Keeps, IsAfter}
+use Rattle.store.specs.CallEnds.{StillKeeps}
+use Rattle.store.specs.Kept.{kept, Keeps, IsAfter}
 use Rattle.store.specs.View.{Leaves, IsFound}
-use Rattle.smpe_zones.proofs.Adding.{steps_defined}
-use Rattle.smpe_zones.proofs.Keeping.{inventory_kept, leaves_more}
+use Rattle.smpe_jobs.proofs.Adding.{steps_defined}
+use Rattle.store.proofs.Keeping.{inventory_kept, leaves_more}
 use Rattle.machine_laws.specs.Storable.{HasActForms, HasJobForms}
 use Rattle.machine_laws.proofs.StepKeeps.{IsClosedState, step_keeps}
 use Rattle.machine_laws.proofs.JobsKeep.{first_formed, runs_keep, job_keeps, jobs_keep}
-use Rattle.smpe_zones.specs.declared.error.ZoneError.{ZoneError}
-use Rattle.smpe_zones.specs.declared.error.ZoneError.TheVariants as zone
-use Rattle.smpe_zones.specs.Definitions.{EndsDefine}
+use Rattle.smpe_jobs.specs.declared.zone_error.ZoneError.{ZoneError}
+use Rattle.smpe_jobs.specs.declared.zone_error.ZoneError.TheVariants as zone
+use Rattle.smpe_jobs.specs.ZoneDefinitions.{EndsDefine}
 use Rattle.smpe_jobs.specs.declared.error.JobError.{JobError}
 use Rattle.smpe_jobs.specs.declared.error.JobError.TheVariants.{Memory, Store, Write}
 use Rattle.smpe_jobs.specs.Ending.{IsAfterNext, EndsLast, StaysClosed, EndsEarly, EndsJob, EndsJobs}

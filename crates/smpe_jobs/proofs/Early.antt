@@ -11,9 +11,9 @@ use Rattle.store_schema.specs.declared.error.StoreError.TheVariants as store
 use Rattle.store_schema.specs.Inventory.{Inventory}
 use Rattle.report.specs.Sent.{WrotePart}
 use Rattle.store.specs.Causes.{IsLater}
-use Rattle.smpe_zones.specs.Calls.{FailsAct}
-use Rattle.smpe_zones.specs.Kept.{Keeps, IsAfter, LeadsOn}
-use Rattle.smpe_zones.proofs.Keeping.{still_kept, still_more, failed_since}
+use Rattle.store.specs.CallEnds.{FailsAct}
+use Rattle.store.specs.Kept.{Keeps, IsAfter, LeadsOn}
+use Rattle.store.proofs.Keeping.{still_kept, still_more, failed_since}
 use Rattle.smpe_jobs.specs.declared.error.JobError.{JobError}
 use Rattle.smpe_jobs.specs.declared.error.JobError.TheVariants.{Memory, Store, Write}
 use Rattle.smpe_jobs.specs.Errors.{job_error}

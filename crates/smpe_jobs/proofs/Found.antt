@@ -11,7 +11,7 @@ use Rattle.store_schema.specs.declared.error.StoreError.TheVariants as store
 use Rattle.store_schema.specs.Inventory.{Inventory}
 use Rattle.store.specs.View.{Tables, IsFound, MayLeave, Leaves, ShowsLeft}
 use Rattle.store.proofs.Reopening.{found_left}
-use Rattle.smpe_zones.specs.Kept.{kept, Keeps}
+use Rattle.store.specs.Kept.{kept, Keeps}
 use Rattle.smpe_jobs.specs.declared.error.JobError.{JobError}
 use Rattle.smpe_jobs.specs.declared.error.JobError.TheVariants.{Memory, Store, Write}
 use Rattle.smpe_jobs.specs.Course.{Unreported}

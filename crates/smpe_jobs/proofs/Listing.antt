@@ -16,7 +16,7 @@ use Rattle.machine.specs.Machine.{Act, Steps, Job, Answer, AreFirstActs, RunsJob
 use Rattle.machine.specs.Runs.{Runs}
 use Rattle.machine.proofs.Joined.{runs_append}
 use Rattle.store.specs.Causes.{IsLater}
-use Rattle.smpe_zones.specs.Kept.{Keeps}
+use Rattle.store.specs.Kept.{Keeps}
 use Rattle.smpe_jobs.specs.declared.error.JobError.{JobError}
 use Rattle.smpe_jobs.specs.Course.{AllRan}
 use Rattle.smpe_jobs.specs.Ending.{EndsAmong, EndsJob, EndsJobs}

@@ -13,9 +13,9 @@ use Rattle.machine.specs.Machine.{Act, Steps, RunsJob, RunsJobs, AreFirstActs}
 use Rattle.store_schema.specs.declared.error.StoreError.TheVariants as store
 use Rattle.store_schema.specs.Inventory.{Inventory}
 use Rattle.store_schema.specs.Stands.{StandsFor}
-use Rattle.smpe_zones.specs.Definitions.{definition, fault_of}
-use Rattle.smpe_zones.specs.Calls.{StillKeeps, FailsAct}
-use Rattle.smpe_zones.specs.Kept.{Keeps, IsAfter}
+use Rattle.smpe_jobs.specs.ZoneDefinitions.{definition, fault_of}
+use Rattle.store.specs.CallEnds.{StillKeeps, FailsAct}
+use Rattle.store.specs.Kept.{Keeps, IsAfter}
 use Rattle.smpe_jobs.specs.Course.{Course, Unreported, AtNext}
 use Rattle.smpe_jobs.specs.declared.error.JobError.{JobError}
 use Rattle.smpe_jobs.specs.declared.error.JobError.TheVariants.{Memory, Store, Write}

@@ -1,7 +1,9 @@
 pub mod Course
 pub mod Ending
 pub mod Errors
+pub mod Heads
 pub mod Messages
 pub mod ListJob
 pub mod Reopened
 pub mod FromEmpty
+pub mod ZoneDefinitions

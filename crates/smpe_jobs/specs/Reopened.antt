@@ -9,7 +9,7 @@ use Rattle.machine.specs.Runs.{Stands}
 use Rattle.store_schema.specs.declared.error.StoreError.TheVariants as store
 use Rattle.store_schema.specs.Inventory.{Inventory}
 use Rattle.store_schema.specs.Stands.{StandsFor}
-use Rattle.smpe_zones.specs.Kept.{kept, Keeps}
+use Rattle.store.specs.Kept.{kept, Keeps}
 use Rattle.store.specs.View.{Tables, Leaves, ShowsLeft}
 use Rattle.smpe_jobs.specs.declared.error.JobError.{JobError}
 use Rattle.smpe_jobs.specs.declared.error.JobError.TheVariants.{Memory, Store, Write}

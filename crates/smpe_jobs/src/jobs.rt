@@ -1,7 +1,7 @@
 //! Jobs, and their answers.
 
+use crate::zone_error::ZoneFault;
 use fields::{Srel, YyDdd, ZoneName};
-use smpe_zones::ZoneFault;
 use terms::ZoneKind;
 
 /// A command file over a PTFIN and a hold file on a date, or a zone to define.

@@ -15,7 +15,7 @@ use Rattle.store_schema.specs.Inventory.{IsInventory}
 use Rattle.machine.specs.State.{State, global_name, zone_named}
 use Rattle.smpe_global.specs.Rejections.{AppliesAlike}
 use Rattle.smpe_global.proofs.Zones.{applies_alike}
-use Rattle.smpe_zones.specs.Kept.{kept}
+use Rattle.store.specs.Kept.{kept}
 use Rattle.smpe_session.specs.declared.session.Session.{Session}
 use Rattle.smpe_session.specs.KnownZones.{is_known, IsSought, AreSought, HasAllZones}
 use Rattle.smpe_session.proofs.Places.{none_global}

@@ -18,9 +18,9 @@ use Rattle.machine.specs.State.{State, with_zone}
 use Rattle.machine.specs.Machine.{Files, Performs}
 use Rattle.report.specs.declared.outcome.Outcome.{Outcome as Told}
 use Rattle.report.specs.Views.{outcome_view}
-use Rattle.smpe_zones.specs.Calls.{EndsCommit}
-use Rattle.smpe_zones.specs.Kept.{kept}
-use Rattle.smpe_zones.specs.Own.{IsOwnOf}
+use Rattle.store.specs.CallEnds.{EndsCommit}
+use Rattle.store.specs.Kept.{kept}
+use Rattle.store.specs.Own.{IsOwnOf}
 use Rattle.smpe_session.specs.declared.session.Session.{Session}
 use Rattle.smpe_session.specs.Places.{ChangesZone}
 use Rattle.smpe_session.specs.Sessions.{IsSessionOf, HasPerformed}

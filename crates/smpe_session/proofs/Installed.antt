@@ -26,8 +26,8 @@ use Rattle.machine.specs.Outcome.{Header, Line, Refusal, Outcome, Ran, Refused, 
 use Rattle.machine.specs.State.{State, zone_named, with_zone, misplaced}
 use Rattle.machine.specs.Machine.{Files, InstallsThere, RunsThere, Performs}
 use Rattle.store.specs.declared.change.Change.{Change}
-use Rattle.smpe_zones.specs.Kept.{kept}
-use Rattle.smpe_zones.specs.Own.{IsOfZone, IsOwnOf}
+use Rattle.store.specs.Kept.{kept}
+use Rattle.store.specs.Own.{IsOfZone, IsOwnOf}
 use Rattle.machine_laws.proofs.ZonesKept.{stands_among}
 use Rattle.machine_laws.proofs.InstallForms.{apply_kept}
 use Rattle.smpe_session.specs.declared.session.Session.{Session}

@@ -19,9 +19,9 @@ use Rattle.sysmods.specs.Edits.{EachFits, after_edits}
 use Rattle.store.specs.Changes.{Makes}
 use Rattle.store.specs.declared.change.Change.{Change}
 use Rattle.store.specs.declared.change.Change.TheVariants as changes
-use Rattle.smpe_zones.specs.Calls.{EndsCommit}
-use Rattle.smpe_zones.specs.Kept.{kept, IsHere}
-use Rattle.smpe_zones.specs.Own.{IsOwnOf}
+use Rattle.store.specs.CallEnds.{EndsCommit}
+use Rattle.store.specs.Kept.{kept, IsHere}
+use Rattle.store.specs.Own.{IsOwnOf}
 use Rattle.smpe_session.specs.declared.session.Session.{Session}
 use Rattle.smpe_session.specs.Sessions.{IsSessionOf, HasPerformed}
 use Rattle.smpe_session.specs.Uses.{UsesStore}

@@ -12,7 +12,7 @@ use Rattle.machine.specs.State.{State, global_name, zone_named, misplaced}
 use Rattle.machine.specs.Errsysmods.{AreErrsysmods}
 use Rattle.machine.specs.Machine.{Files, Performs, listed}
 use Rattle.store_schema.specs.Inventory.{IsInventory}
-use Rattle.smpe_zones.specs.Kept.{kept}
+use Rattle.store.specs.Kept.{kept}
 use Rattle.smpe_session.specs.declared.session.Session.{Session}
 use Rattle.smpe_session.specs.Sessions.{IsSessionOf}
 use Rattle.smpe_session.proofs.Places.{none_global}

@@ -14,7 +14,7 @@ use Rattle.terms.proofs.Searches.{All_find, find_gives}
 use Rattle.machine.specs.Outcome.{Refusal, NoBoundary, WrongKind}
 use Rattle.store_schema.specs.Inventory.{IsInventory, IsZoneNamed}
 use Rattle.machine.specs.State.{State, global_name, zone_named, at_global, at_kind, unless_at, misplaced}
-use Rattle.smpe_zones.specs.Kept.{kept}
+use Rattle.store.specs.Kept.{kept}
 use Rattle.smpe_session.specs.declared.session.Session.{Session}
 use Rattle.smpe_session.specs.Sessions.{IsSessionOf}
 use Rattle.smpe_session.specs.Places.{install_command}

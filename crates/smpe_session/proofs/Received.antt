@@ -18,12 +18,11 @@ use Rattle.machine.specs.Machine.{Files, HasItems, Performs, Takes, TakesAll}
 use Rattle.report.specs.declared.outcome.Refusal.{Refusal}
 use Rattle.report.specs.Views.{refusal_view}
 use Rattle.sysmods.specs.declared.edit.GlobalEdit.{GlobalEdit}
-use Rattle.sysmods.specs.Edits.{after_edit, EachFits, after_edits, StatesThose}
+use Rattle.sysmods.specs.Edits.{after_edit, EachFits, after_edits, StatesThose, IsOfReceive}
 use Rattle.store.specs.declared.change.Change.{Change}
 use Rattle.store.specs.declared.change.Change.TheVariants as changes
-use Rattle.smpe_zones.specs.Kept.{kept}
-use Rattle.smpe_zones.specs.Own.{IsReceived}
-use Rattle.smpe_global.specs.Edits.{IsOfReceive}
+use Rattle.store.specs.Kept.{kept}
+use Rattle.store.specs.Own.{IsReceived}
 use Rattle.smpe_global.specs.External.{IsExternal}
 use Rattle.smpe_global.proofs.Fitting.{fits_append}
 use Rattle.smpe_global.proofs.Stating.{states_same}

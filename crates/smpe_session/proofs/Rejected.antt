@@ -11,8 +11,8 @@ use Rattle.sysmods.specs.declared.edit.GlobalEdit.{GlobalEdit}
 use Rattle.sysmods.specs.Edits.{EachFits, after_edits}
 use Rattle.store.specs.declared.change.Change.{Change}
 use Rattle.store.specs.declared.change.Change.TheVariants as changes
-use Rattle.smpe_zones.specs.Kept.{kept}
-use Rattle.smpe_zones.specs.Own.{IsRejected}
+use Rattle.store.specs.Kept.{kept}
+use Rattle.store.specs.Own.{IsRejected}
 use Rattle.smpe_session.specs.Writing.{IsAtBoundary}
 use Rattle.machine_laws.proofs.RejectingForms.{reject_forms}
 use Rattle.smpe_session.proofs.Leading.{LeadsBy, leads_by}

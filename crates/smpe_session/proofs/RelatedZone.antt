@@ -13,7 +13,7 @@ use Rattle.store_schema.specs.Inventory.{IsInventory}
 use Rattle.store_zones.specs.declared.head.ZoneHead.{ZoneHead}
 use Rattle.store_zones.specs.Found.{head_of}
 use Rattle.machine.specs.State.{State, zone_named, target_of}
-use Rattle.smpe_zones.specs.Kept.{kept}
+use Rattle.store.specs.Kept.{kept}
 use Rattle.smpe_session.specs.declared.session.Session.{Session}
 use Rattle.smpe_session.specs.Sessions.{IsSessionOf}
 use Rattle.smpe_session.specs.KnownZones.{IsSought}

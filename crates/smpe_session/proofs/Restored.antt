@@ -13,7 +13,7 @@ use Rattle.machine.specs.Outcome.{Line, Ran, header_of}
 use Rattle.machine.specs.Restoring.{RestoresListed}
 use Rattle.machine.specs.State.{State, zone_named, with_zone}
 use Rattle.machine.specs.Machine.{Files}
-use Rattle.smpe_zones.specs.Kept.{kept}
+use Rattle.store.specs.Kept.{kept}
 use Rattle.machine_laws.proofs.RestoreForms.{restore_kept}
 use Rattle.smpe_session.specs.declared.session.Session.{Session}
 use Rattle.smpe_session.specs.Sessions.{IsSessionOf}

@@ -15,7 +15,7 @@ use Rattle.terms.proofs.Pairs.{pairs_unmap}
 use Rattle.terms.proofs.Searches.{All_find}
 use Rattle.store_schema.specs.Inventory.{IsInventory}
 use Rattle.machine.specs.State.{State, global_name, zone_named}
-use Rattle.smpe_zones.specs.Kept.{kept}
+use Rattle.store.specs.Kept.{kept}
 use Rattle.machine_laws.proofs.Lists.{find_itself}
 use Rattle.smpe_session.specs.declared.session.Session.{Session}
 use Rattle.smpe_session.specs.KnownZones.{IsSought}

@@ -10,11 +10,11 @@ use Rattle.report.specs.Views.{outcome_view}
 use Rattle.terms.specs.Types.{Text, Command}
 use Rattle.store.specs.declared.change.Change.{Change}
 use Rattle.store.specs.Changes.{Makes}
-use Rattle.smpe_zones.specs.Calls.{Follows, StillKeeps, FailsCall, EndsCommit}
-use Rattle.smpe_zones.specs.Kept.{kept, Keeps, IsAfter, IsHere, LeadsOn}
-use Rattle.smpe_zones.specs.Own.{IsOwnOf}
-use Rattle.smpe_zones.proofs.Keeping.{still_kept, failed_more, failed_since, ended_since}
-use Rattle.smpe_zones.proofs.Calls.{is_later}
+use Rattle.store.specs.CallEnds.{Follows, StillKeeps, FailsCall, EndsCommit}
+use Rattle.store.specs.Kept.{kept, Keeps, IsAfter, IsHere, LeadsOn}
+use Rattle.store.specs.Own.{IsOwnOf}
+use Rattle.store.proofs.Keeping.{still_kept, failed_more, failed_since, ended_since}
+use Rattle.store.proofs.GoingCalls.{is_later}
 use Rattle.smpe_session.specs.declared.session.Session.{Session}
 use Rattle.smpe_session.specs.Sessions.{IsSessionOf, HasPerformed}
 

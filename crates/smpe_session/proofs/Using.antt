@@ -22,11 +22,11 @@ use Rattle.store_schema.specs.Stands.{StandsFor}
 use Rattle.store_schema.specs.Tables.{store_schema}
 use Rattle.store_schema.specs.declared.error.StoreError.{StoreError}
 use Rattle.store_schema.specs.declared.error.StoreError.TheVariants.{Fault, Memory}
-use Rattle.smpe_zones.specs.Calls.{EndsLoad, EndsCommit}
-use Rattle.smpe_zones.specs.Kept.{kept, Keeps}
-use Rattle.smpe_zones.proofs.Keeping.{inventory_kept, loaded, committed}
-use Rattle.smpe_zones.proofs.Calls.{call_load, call_commit, call_own, call_ok, call_err, call_short, call_none}
-use Rattle.smpe_zones.proofs.Calls.{call_after}
+use Rattle.store.specs.CallEnds.{EndsLoad, EndsCommit}
+use Rattle.store.specs.Kept.{kept, Keeps}
+use Rattle.store.proofs.Keeping.{inventory_kept, loaded, committed}
+use Rattle.store.proofs.GoingCalls.{call_load, call_commit, call_own, call_ok, call_err, call_short, call_none}
+use Rattle.store.proofs.GoingCalls.{call_after}
 use Rattle.smpe_session.specs.declared.session.Session.{Session}
 use Rattle.smpe_session.specs.declared.session.Performed.{Performed}
 use Rattle.smpe_session.specs.Sessions.{IsSessionOf, HasPerformed, HasDone, told}

@@ -14,8 +14,8 @@ use Rattle.report.specs.declared.outcome.Refusal.{Refusal}
 use Rattle.report.specs.Views.{refusal_view}
 use Rattle.store_schema.specs.Inventory.{IsInventory}
 use Rattle.store.specs.declared.change.Change.{Change}
-use Rattle.smpe_zones.specs.Kept.{kept}
-use Rattle.smpe_zones.specs.Own.{IsOfZone, IsOwnOf}
+use Rattle.store.specs.Kept.{kept}
+use Rattle.store.specs.Own.{IsOfZone, IsOwnOf}
 use Rattle.smpe_session.specs.declared.session.Session.{Session}
 use Rattle.smpe_session.specs.Sessions.{IsSessionOf}
 

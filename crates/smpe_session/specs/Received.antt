@@ -11,8 +11,7 @@ use Rattle.machine.specs.Machine.{Files, HasItems, Takes}
 use Rattle.report.specs.declared.outcome.Refusal.{Refusal}
 use Rattle.report.specs.Views.{refusal_view}
 use Rattle.sysmods.specs.declared.edit.GlobalEdit.{GlobalEdit}
-use Rattle.sysmods.specs.Edits.{EachFits, after_edits}
-use Rattle.smpe_global.specs.Edits.{IsOfReceive}
+use Rattle.sysmods.specs.Edits.{EachFits, after_edits, IsOfReceive}
 
 -- The files have these items, or otherwise RECEIVE is refused in this way.
 abbrev pub HasFound : Files → ReceiveOperands → {V : Type 0} → (V → List Item) → (V → List HoldItem) → Result V Refusal

@@ -10,8 +10,8 @@ use Rattle.machine.specs.Machine.{Files, Begin, Perform, Performs}
 use Rattle.report.specs.declared.outcome.Outcome.{Outcome}
 use Rattle.report.specs.Views.{outcome_view}
 use Rattle.store_schema.specs.declared.error.StoreError.{StoreError}
-use Rattle.smpe_zones.specs.Calls.{EndsAct, FailsAct}
-use Rattle.smpe_zones.specs.Kept.{Keeps}
+use Rattle.store.specs.CallEnds.{EndsAct, FailsAct}
+use Rattle.store.specs.Kept.{Keeps}
 use Rattle.smpe_session.specs.declared.session.Session.{Session}
 use Rattle.smpe_session.specs.declared.session.Performed.{Performed}
 use Rattle.smpe_session.specs.declared.session.Performed.TheVariants.{Told, Lists}

@@ -7,8 +7,8 @@ use Rattle.machine.specs.State.{State}
 use Rattle.store.specs.declared.change.Change.{Change}
 use Rattle.store_schema.specs.declared.error.StoreError.{StoreError}
 use Rattle.store_schema.specs.declared.error.StoreError.TheVariants.{OtherSchema, NoState}
-use Rattle.smpe_zones.specs.Calls.{GoesCall}
-use Rattle.smpe_zones.specs.Kept.{Keeps}
+use Rattle.store.specs.CallEnds.{GoesCall}
+use Rattle.store.specs.Kept.{Keeps}
 
 -- A call began at `old` and has ended. Whatever the tables hold, it has loaded, or made one of its own changes besides.
 -- If they stood for a state, it has ended as `Ends` says of the state and the result.

@@ -6,7 +6,7 @@ ghost use Rattle.indexmap.specs.IndexMap.{get};
 ghost use Rattle.machine.specs.State.{State, at_global, global_name, unless_at};
 ghost use Rattle.report.specs.Views.{refusal_view};
 ghost use Rattle.store_schema.specs.Inventory.{IsInventory};
-ghost use Rattle.smpe_zones.specs.Kept.{kept};
+ghost use Rattle.store.specs.Kept.{kept};
 ghost use Rattle.smpe_session.specs.Places.{HasPlace};
 ghost use Rattle.smpe_session.specs.Sessions.{IsSessionOf};
 

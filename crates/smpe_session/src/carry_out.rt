@@ -9,7 +9,7 @@ ghost use Rattle.smpe_session.specs.Sessions.{IsSessionOf, HasPerformed};
 ghost use Rattle.smpe_session.specs.Places.{ChangesZone};
 ghost use Rattle.smpe_session.specs.Uses.{UsesStore};
 ghost use Rattle.smpe_session.specs.Writing.{TellsOutcomeOf, TellsRun};
-ghost use Rattle.smpe_zones.specs.Own.{IsOfZone};
+ghost use Rattle.store.specs.Own.{IsOfZone};
 
 use crate::commit::commit_change;
 use crate::session::Session;

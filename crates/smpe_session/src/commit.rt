@@ -3,8 +3,8 @@ ghost use Rattle.std.specs.Prelude.{◌≡◌, IfOk};
 ghost use Rattle.machine.specs.State.{State};
 ghost use Rattle.store_schema.specs.Inventory.{IsInventory};
 ghost use Rattle.store.specs.Changes.{Makes};
-ghost use Rattle.smpe_zones.specs.Kept.{kept};
-ghost use Rattle.smpe_zones.specs.Calls.{EndsCommit};
+ghost use Rattle.store.specs.Kept.{kept};
+ghost use Rattle.store.specs.CallEnds.{EndsCommit};
 ghost use Rattle.smpe_session.specs.Uses.{UsesStore};
 
 use sqlite::Alter;

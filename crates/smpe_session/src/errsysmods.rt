@@ -6,7 +6,7 @@ ghost use Rattle.machine.specs.State.{State};
 ghost use Rattle.machine.specs.Machine.{Files, Performs};
 ghost use Rattle.store_schema.specs.Inventory.{IsInventory};
 ghost use Rattle.report.specs.Views.{outcome_view};
-ghost use Rattle.smpe_zones.specs.Kept.{kept};
+ghost use Rattle.store.specs.Kept.{kept};
 ghost use Rattle.smpe_session.specs.Sessions.{IsSessionOf};
 ghost use Rattle.smpe_session.specs.Writing.{TellsOutcomeOf};
 

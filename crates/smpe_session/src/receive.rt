@@ -10,7 +10,7 @@ ghost use Rattle.smpe_session.specs.Sessions.{IsSessionOf, HasPerformed};
 ghost use Rattle.smpe_session.specs.Received.{AreTaken};
 ghost use Rattle.smpe_session.specs.Uses.{UsesStore};
 ghost use Rattle.smpe_session.specs.Writing.{TellsOutcomeOf, TellsRun};
-ghost use Rattle.smpe_zones.specs.Own.{IsReceived};
+ghost use Rattle.store.specs.Own.{IsReceived};
 
 use crate::boundary::refusal_unless_global;
 use crate::commit::commit_change;

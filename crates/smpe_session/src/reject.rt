@@ -4,10 +4,10 @@ ghost use Rattle.terms.specs.Types.{Text, Reject};
 ghost use Rattle.machine.specs.Machine.{Files};
 ghost use Rattle.smpe_session.specs.Sessions.{IsSessionOf, HasPerformed};
 ghost use Rattle.smpe_session.specs.KnownZones.{HasAllZones};
-ghost use Rattle.smpe_zones.specs.Calls.{EndsLoad};
+ghost use Rattle.store.specs.CallEnds.{EndsLoad};
 ghost use Rattle.smpe_session.specs.Uses.{UsesStore};
 ghost use Rattle.smpe_session.specs.Writing.{TellsOutcomeOf, TellsRun};
-ghost use Rattle.smpe_zones.specs.Own.{IsRejected};
+ghost use Rattle.store.specs.Own.{IsRejected};
 
 use crate::boundary::refusal_unless_global;
 use crate::commit::commit_change;

@@ -1,5 +1,5 @@
 //! At which other zone a command looks: ACCEPT at a target zone, RESTORE at the distribution zone.
-ghost use Rattle.smpe_zones.specs.Calls.{EndsLoad};
+ghost use Rattle.store.specs.CallEnds.{EndsLoad};
 ghost use Rattle.smpe_session.specs.Places.{HasRelated};
 ghost use Rattle.smpe_session.specs.Restored.{HasAccepted};
 ghost use Rattle.smpe_session.specs.Sessions.{IsSessionOf};
@@ -7,9 +7,8 @@ ghost use Rattle.smpe_session.specs.Uses.{UsesStore};
 
 use crate::session::Session;
 use fields::ZoneName;
-use smpe_zones::target_name;
 use sqlite::Alter;
-use store::{Store, StoreError};
+use store::{Store, StoreError, target_name};
 use terms::ZoneKind;
 
 impl Session {

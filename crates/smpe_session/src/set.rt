@@ -6,7 +6,7 @@ ghost use Rattle.terms.specs.Types.{Text, Set};
 ghost use Rattle.machine.specs.Machine.{Files};
 ghost use Rattle.smpe_session.specs.Sessions.{IsSessionOf, HasPerformed};
 ghost use Rattle.smpe_session.specs.KnownZones.{IsSought};
-ghost use Rattle.smpe_zones.specs.Calls.{EndsLoad};
+ghost use Rattle.store.specs.CallEnds.{EndsLoad};
 ghost use Rattle.smpe_session.specs.Uses.{UsesStore};
 ghost use Rattle.smpe_session.specs.Writing.{TellsOutcomeOf};
 

@@ -4,9 +4,8 @@ ghost use Rattle.store.specs.Loads.{Loads};
 ghost use Rattle.smpe_why.specs.Telling.{IsFoundIn, related_target_name};
 
 use fields::ZoneName;
-use smpe_zones::target_name;
 use sqlite::Alter;
-use store::{Store, StoreError, ZoneHead};
+use store::{Store, StoreError, ZoneHead, target_name};
 use sysmods::GlobalZone;
 use terms::ZoneKind;
 use zones::Zone;

@@ -4,6 +4,8 @@ mod EditCalls
 mod EditLoop
 mod GlobalLemmas
 pub mod Going
+pub mod GoingCalls
+pub mod Keeping
 mod Loading
 mod NewLast
 mod News

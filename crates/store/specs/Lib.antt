@@ -1,10 +1,13 @@
 pub mod BadRows
 pub mod Calls
+pub mod CallEnds
 pub mod Causes
 pub mod Changes
 pub mod Commits
 pub mod Going
+pub mod Kept
 pub mod Loads
+pub mod Own
 pub mod Reopened
 pub mod View
 pub mod Waiting

@@ -4,7 +4,9 @@ use Rattle.std.specs.Ordering.{nat_cmp}
 use Rattle.std.specs.Cmp.Lexicographic.{slice_cmp}
 use Rattle.std.specs.Option.{option_map_or}
 use Rattle.terms.specs.Types.{Text, Id, Hold, Sysmod, Global}
+use Rattle.terms.specs.Forms.{IsSource}
 use Rattle.terms.specs.Global.{hold_cmp, with_sysmod, without_hold}
+use Rattle.terms.specs.HoldStatements.{HasShortComment}
 use Rattle.terms.specs.Lookups.{is_received, sysmod_of}
 use Rattle.terms.specs.Rising.{Rises, with_item}
 use Rattle.sysmods_values.specs.Edited.{with_sources, less_sysmod}
@@ -53,3 +55,21 @@ EachFits stated edits g = (k : ℕ) (edit : GlobalEdit) → k < length edits →
 abbrev pub StatesThose : Global → Global → Type 0
 StatesThose later g = (x : Id) (s : Sysmod) → sysmod_of g x ≡ Some s
     → (sources : List Text) × (sysmod_of later x ≡ Some (record s { sources = sources }))
+
+-- RECEIVE writes SYSMODs, sources and holds, and removes holds that are released. It removes no SYSMOD.
+abbrev pub IsOfReceive : GlobalEdit → Type 0
+IsOfReceive (RemoveSysmod x) = ⊥
+IsOfReceive _ = Unit {0}
+
+-- REJECT removes SYSMODs and holds, and writes none.
+abbrev pub IsOfReject : GlobalEdit → Type 0
+IsOfReject (RemoveSysmod x) = Unit {0}
+IsOfReject (RemoveHold x kind reason) = Unit {0}
+IsOfReject _ = ⊥
+
+-- What it writes has a form that the tables take: a comment of at most 200 characters, sources that are source ids.
+abbrev pub HasWrittenForm : GlobalEdit → Type 0
+HasWrittenForm (PutHold h) = HasShortComment h
+HasWrittenForm (InsertSysmod x sources) = All IsSource sources.items
+HasWrittenForm (ReplaceSources s) = All IsSource s.sources
+HasWrittenForm _ = Unit {0}

@@ -33,11 +33,16 @@ mod ways;
 
 pub use chain::Chain;
 pub use edit::GlobalEdit;
-pub use fields::{Class, Id, Name, Reason, Source, Srel, ZoneName};
+pub use fields::{
+    Class, Field, HoldDate, Id, IdList, Name, Reason, Rising, Source, SourceList, Srel, VerNumber,
+    ZoneName,
+};
 pub use global_zone::{GlobalZone, RejectError};
 pub use holds::{Placed, ReleaseError};
+pub use iter::Iter;
 pub use overs::{KnownOvers, Overs};
 pub use refused::Refused;
-pub use sysmods_values::{ElemChange, Hold, IfReq, Sysmod, Ver};
-pub use terms::Kind;
+pub use sorted::{Edit, Keyed, Prepared, Table};
+pub use sysmods_values::{Action, ElemChange, Hold, IfReq, Sysmod, Ver};
+pub use terms::{ElemType, HoldKind, Kind, StatementWord};
 pub use ver_choice::{Pick, VerChoice, has_ver, numbered_ver};

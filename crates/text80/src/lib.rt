@@ -15,4 +15,5 @@ pub use error::TextError;
 pub use line::{Line, RECORD, bytes_of, lines_of};
 pub use merging::merge;
 pub use numbered::Numbered;
+pub use terms::{TextCode, TextFault};
 pub use update::Update;

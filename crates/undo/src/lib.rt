@@ -23,5 +23,10 @@ mod tests;
 
 pub use candidates::restore_candidates;
 pub use dependences::suppliers;
+pub use fields::RestoreList;
+pub use judge_system::{
+    Assessment, Decided, Failure, Judged, OpenNeed, RequisiteOf, TestSet, Tests,
+};
 pub use judging::restore_system;
 pub use scope::applied_ids;
+pub use terms::Test;

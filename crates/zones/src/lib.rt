@@ -27,10 +27,12 @@ pub use changers::changers_by_element;
 pub use counting::{counting_vers, fits};
 pub use deleting::deletions;
 pub use entry::{TakesOut, entry_less};
+pub use fields::{Bypass, ClassList, ReasonList, Reasons, YyDdd};
 pub use orphaned::orphans;
 pub use scope::Scope;
+pub use sorted::multi_map::MultiMap;
 pub use sysmods::{Chain, VerChoice};
-pub use terms::ZoneKind;
+pub use terms::{NeedKind, NotChosen, ZoneKind};
 pub use zone_less::ZoneLess;
 pub use zones_maps::{
     Applied, Element, Entry, PreparedZone, Zone, ZoneDelta, ZoneEdits, are_same_elements,

@@ -1,8 +1,11 @@
-use Rattle.std.proofs.Common.{ap, length, arith, subst}
+use Rattle.std.proofs.Common.{ap, length, arith, subst, refl}
 use Rattle.std.proofs.lemmas.List.{take_all}
 use Rattle.intake_carry.specs.PassedOn.{PassesOn}
 use Rattle.intake_carry.proofs.Passing.{passed_next}
 use Rattle.intake_carry.proofs.passed_on.pass_holds_on.Goals as goal
+
+pub loop-hold-init : goal.loop-hold-init
+loop-hold-init c = record { same = refl; held = c.requires }
 
 pub loop-hold-preserved : goal.loop-hold-preserved
 loop-hold-preserved c =

@@ -3,7 +3,7 @@ use Rattle.intake_holds.proofs.Adding.{adds_none, adds_then, adds_kept}
 use Rattle.intake_holds.proofs.outside.read_statements.Goals as goal
 
 pub loop-init : goal.loop-init
-loop-init c = adds_none c.args.held.now c.new.result.held.items c.new.ensures
+loop-init c = adds_none c.args.held.now c.new-reader.result.held.items c.new-reader.ensures
 
 pub loop-preserved : goal.loop-preserved
 loop-preserved c =

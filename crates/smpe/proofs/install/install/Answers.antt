@@ -2,7 +2,7 @@ use Rattle.std.proofs.Common.{◌∙◌, map, refl, sym, ap}
 use Rattle.machine.specs.Machine.{Perform}
 use Rattle.machine.specs.Outcome.{header_of}
 use Rattle.report.specs.Views.{line_view, header_view, refusal_view}
-use Rattle.smpe_zones.proofs.Keeping.{act_unmoved}
+use Rattle.store.proofs.Keeping.{act_unmoved}
 use Rattle.smpe_session.specs.Places.{install_command}
 use Rattle.smpe_session.proofs.Installed.{install_changes, install_refused}
 use Rattle.smpe_session.proofs.Places.{install_at}

@@ -7,7 +7,7 @@ use Rattle.smpe_jobs.specs.Errors.{job_error}
 use Rattle.smpe.proofs.Reports.{sent_all, sent_part}
 use Rattle.smpe.proofs.Commanding.{commands_err, reported}
 use Rattle.smpe_jobs.proofs.Early.{failed_first, broke_first}
-use Rattle.smpe_zones.specs.Own.{IsOwnOf}
+use Rattle.store.specs.Own.{IsOwnOf}
 use Rattle.smpe_session.specs.Writing.{AnswersOf, AnswersRun, IsOutcomeOf}
 use Rattle.smpe.proofs.Going.{goes_one, early_first, fails_by, fails_told, performs_passes, goes_early}
 use Rattle.smpe.proofs.job.run_command.Goals as goal

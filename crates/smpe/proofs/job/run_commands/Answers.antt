@@ -5,7 +5,7 @@ use Rattle.smpe_jobs.specs.Ending.{EndsEarly}
 use Rattle.machine.specs.Machine.{Perform}
 use Rattle.smpe.specs.Commands.{EndsCommands}
 use Rattle.smpe.specs.Going.{GoesCommands, GoesEarly}
-use Rattle.smpe_zones.proofs.Calls.{follows_itself, follows_on}
+use Rattle.store.proofs.GoingCalls.{follows_itself, follows_on}
 use Rattle.smpe.proofs.Taken.{taken_more, taken_split}
 use Rattle.smpe.proofs.Commanding.{commands_err, commands_more, commands_stop, commands_early}
 use Rattle.smpe.proofs.Going.{goes_none, commands_passed, early_commands, goes_early}

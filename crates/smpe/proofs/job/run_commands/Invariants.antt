@@ -4,11 +4,11 @@ use Rattle.sqlite.specs.State.{HasCleanDisk}
 use Rattle.machine.specs.State.{State}
 use Rattle.cntl.specs.Views.{command_of}
 use Rattle.smpe_session.specs.Sessions.{IsSessionOf}
-use Rattle.smpe_zones.specs.Kept.{Keeps}
+use Rattle.store.specs.Kept.{Keeps}
 use Rattle.machine.specs.Machine.{Perform}
 use Rattle.smpe.specs.Commands.{EndsCommands}
 use Rattle.smpe.specs.Going.{GoesCommands}
-use Rattle.smpe_zones.specs.Calls.{Follows}
+use Rattle.store.specs.CallEnds.{Follows}
 use Rattle.smpe.proofs.job.run_commands.Given as goal
 
 abbrev pub invariant-loop-command : goal.invariant-loop-command

@@ -7,7 +7,7 @@ use Rattle.machine.specs.Machine.{RunFiles, Begin, Code, Files}
 use Rattle.store.proofs.NoState.{loads_read}
 use Rattle.smpe_jobs.specs.declared.error.JobError.TheVariants.{Write}
 use Rattle.smpe_jobs.specs.Errors.{job_error}
-use Rattle.smpe_zones.proofs.Calls.{is_later, follows_on}
+use Rattle.store.proofs.GoingCalls.{is_later, follows_on}
 use Rattle.smpe_jobs.proofs.Early.{ends_unbegun}
 use Rattle.smpe.proofs.Reports.{sent_all, sent_part}
 use Rattle.smpe.proofs.Single.{control_same, job_err, faulty_ran, faulty_broke, unbegun, begun}

@@ -1,9 +1,9 @@
 use Rattle.std.proofs.Common.{Err, [], ◌∷◌, ◌∙◌, refl, sym, ap, subst}
 use Rattle.machine.specs.Machine.{Define, NewZone}
 use Rattle.store.proofs.Going.{goes_err}
-use Rattle.smpe_zones.specs.declared.error.ZoneError.TheVariants.{Store}
-use Rattle.smpe_zones.specs.Definitions.{definition, fault_of}
-use Rattle.smpe_zones.specs.Own.{IsOwn}
+use Rattle.smpe_jobs.specs.declared.zone_error.ZoneError.TheVariants.{Store}
+use Rattle.smpe_jobs.specs.ZoneDefinitions.{definition, fault_of}
+use Rattle.store.specs.Own.{IsOwn}
 use Rattle.smpe_jobs.specs.declared.error.JobError.TheVariants.{Memory}
 use Rattle.smpe_jobs.specs.Errors.{job_error}
 use Rattle.smpe.proofs.Single.{define_done, define_refused, define_memory, define_fault, refused_so}

@@ -2,7 +2,7 @@ use Rattle.std.proofs.Common.{◌∷◌, [], ◌++◌, ◌+◌, map, take, drop,
 use Rattle.std.proofs.lemmas.List.{map-append, take_all}
 use Rattle.smpe_jobs.specs.declared.error.JobError.TheVariants.{Memory}
 use Rattle.smpe_jobs.specs.Ending.{EndsAmong, EndsJobs, job_of, answer_of}
-use Rattle.smpe_zones.proofs.Calls.{follows_itself, follows_on}
+use Rattle.store.proofs.GoingCalls.{follows_itself, follows_on}
 use Rattle.smpe_jobs.proofs.Early.{ends_unbegun}
 use Rattle.smpe.proofs.Taken.{taken_more, taken_split}
 use Rattle.smpe_jobs.proofs.Listing.{jobs_err, jobs_more, jobs_stop}

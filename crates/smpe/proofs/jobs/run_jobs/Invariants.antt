@@ -3,8 +3,8 @@ use Rattle.std.specs.Vec.{vec_capacity}
 use Rattle.sqlite.specs.Held.{state}
 use Rattle.sqlite.specs.State.{HasCleanDisk}
 use Rattle.machine.specs.State.{State}
-use Rattle.smpe_zones.specs.Kept.{Keeps}
-use Rattle.smpe_zones.specs.Calls.{Follows}
+use Rattle.store.specs.Kept.{Keeps}
+use Rattle.store.specs.CallEnds.{Follows}
 use Rattle.smpe_jobs.specs.Ending.{EndsJobs, KeepsClosed, job_of, answer_of}
 use Rattle.smpe.specs.Going.{JobsRan}
 use Rattle.smpe.proofs.jobs.run_jobs.Given as goal

@@ -3,7 +3,7 @@ use Rattle.terms.specs.Types.{Restore}
 use Rattle.fields.specs.Choices.{restore_list_of}
 use Rattle.machine.specs.Machine.{Perform}
 use Rattle.report.specs.Views.{line_view, refusal_view}
-use Rattle.smpe_zones.proofs.Keeping.{act_unmoved}
+use Rattle.store.proofs.Keeping.{act_unmoved}
 use Rattle.smpe_session.proofs.Leading.{refused}
 use Rattle.smpe_session.proofs.Places.{restore_at}
 use Rattle.smpe_session.proofs.Restored.{beside, not_none, restore_changes}

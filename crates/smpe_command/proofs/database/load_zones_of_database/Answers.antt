@@ -1,7 +1,7 @@
 use Rattle.std.proofs.Common.{inl, inr, subst, ◌∙◌, ap, Err}
 use Rattle.std.proofs.lemmas.Result.{err_from_is_err_and}
 use Rattle.store.proofs.Going.{loads_alone}
-use Rattle.smpe_zones.specs.Kept.{kept}
+use Rattle.store.specs.Kept.{kept}
 use Rattle.smpe_why.specs.Telling.{IsFoundIn}
 use Rattle.smpe_command.proofs.Looked.{looked, looked_closed}
 use Rattle.smpe_command.proofs.database.load_zones_of_database.Goals as goal

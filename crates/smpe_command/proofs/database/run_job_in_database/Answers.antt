@@ -1,7 +1,7 @@
 use Rattle.std.proofs.Common.{◌∷◌, [], ◌∙◌, List, map, Ok, ap, inr, sym, subst, refl}
 use Rattle.std.specs.String.{string_bytes}
 use Rattle.std.proofs.lemmas.Result.{err_from_is_err_and}
-use Rattle.smpe_zones.specs.Kept.{kept}
+use Rattle.store.specs.Kept.{kept}
 use Rattle.smpe_jobs.specs.Ending.{answer_of, job_of}
 use Rattle.smpe_jobs.specs.declared.jobs.Job.{Job}
 use Rattle.smpe_jobs.proofs.Early.{jobs_since}

@@ -6,7 +6,7 @@ use Rattle.terms.specs.Types.{Text}
 use Rattle.terms.specs.declared.kinds.ZoneKind.TheVariants.{Target, Distribution}
 use Rattle.machine.specs.Machine as machine
 use Rattle.machine.specs.Machine.{NewZone, RunFiles}
-use Rattle.smpe_zones.specs.Definitions.{definition}
+use Rattle.smpe_jobs.specs.ZoneDefinitions.{definition}
 use Rattle.smpe_jobs.specs.Ending.{answer_of}
 use Rattle.smpe_command.specs.ServiceSet.{JobsInMemory}
 use Rattle.smpe_command.proofs.service_set.run_in_empty_system.Goals as goal

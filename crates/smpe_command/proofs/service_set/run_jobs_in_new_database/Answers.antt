@@ -2,7 +2,7 @@ use Rattle.std.proofs.Common.{Err, map, ap, inl, inr, refl}
 use Rattle.smpe_jobs.specs.Ending.{answer_of, job_of}
 use Rattle.smpe_jobs.specs.FromEmpty.{empty_system}
 use Rattle.smpe_jobs.proofs.Early.{jobs_since}
-use Rattle.smpe_zones.specs.Kept.{kept}
+use Rattle.store.specs.Kept.{kept}
 use Rattle.smpe_command.proofs.service_set.run_jobs_in_new_database.Goals as goal
 
 pub returns-in-Ok : goal.returns-in-Ok

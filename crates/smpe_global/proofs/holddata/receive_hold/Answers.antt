@@ -6,7 +6,7 @@ use Rattle.report.specs.declared.outcome.ReportLine.TheVariants.{Status}
 use Rattle.report.specs.declared.outcome.Place.TheVariants as place
 use Rattle.sysmods.specs.declared.edit.GlobalEdit.TheVariants.{PutHold}
 use Rattle.std.proofs.lemmas.List.Elements.{All-nil, All-cons}
-use Rattle.smpe_global.specs.Edits.{IsOfReceive}
+use Rattle.sysmods.specs.Edits.{IsOfReceive}
 use Rattle.smpe_global.proofs.Fitting.{fits_one}
 use Rattle.smpe_global.proofs.Holds.{marked_written}
 use Rattle.smpe_global.proofs.Stating.{states_same}

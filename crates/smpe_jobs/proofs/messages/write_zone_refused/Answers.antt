@@ -1,7 +1,7 @@
 use Rattle.report.proofs.Sending.{sends_then, sends_as}
 use Rattle.smpe_jobs.specs.Messages.{zone_fault_text}
 use Rattle.smpe_jobs.proofs.ZoneLines.{refused_parts}
-use Rattle.smpe_zones.specs.Definitions.{fault_of}
+use Rattle.smpe_jobs.specs.ZoneDefinitions.{fault_of}
 use Rattle.smpe_jobs.proofs.messages.write_zone_refused.Goals as goal
 
 pub returns-in_err-write_all-clause-sends : goal.returns-in_err-write_all-clause-sends

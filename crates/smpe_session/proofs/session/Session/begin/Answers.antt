@@ -1,7 +1,7 @@
 use Rattle.std.proofs.Common.{refl, rules}
 use Rattle.store_rows.proofs.Queries.{reads_err, reads_more}
 use Rattle.machine.specs.Machine.{Begin}
-use Rattle.smpe_zones.proofs.Keeping.{act_unmoved}
+use Rattle.store.proofs.Keeping.{act_unmoved}
 use Rattle.smpe_session.proofs.Using.{answered, handed_on, load_uses, no_answer}
 use Rattle.smpe_session.proofs.session.Session.begin.Goals as goal
 

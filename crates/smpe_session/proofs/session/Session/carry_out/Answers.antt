@@ -11,7 +11,7 @@ use Rattle.store.specs.declared.change.Change.{Change}
 use Rattle.terms.specs.Types.{Zone}
 use Rattle.zones_maps.specs.Changed.{delta_of}
 use Rattle.zones_maps.specs.Delta.{IsEdited}
-use Rattle.smpe_zones.specs.Own.{IsOfZone}
+use Rattle.store.specs.Own.{IsOfZone}
 use Rattle.smpe_session.specs.Writing.{IsAtBoundary, TellsOutcomeOf, TellsRun}
 use Rattle.smpe_session.proofs.CarriedOut.{checks, fails, carries}
 use Rattle.smpe_session.proofs.Installed.{install_session}

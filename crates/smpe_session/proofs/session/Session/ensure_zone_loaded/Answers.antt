@@ -1,6 +1,6 @@
 use Rattle.std.proofs.Common.{◌∙◌, refl, sym, rules}
 use Rattle.smpe_session.proofs.Seeking.{some_updated, sought_loaded}
-use Rattle.smpe_zones.proofs.Keeping.{still_kept}
+use Rattle.store.proofs.Keeping.{still_kept}
 use Rattle.smpe_session.proofs.Using.{nothing, answered, handed_on, load_uses, short}
 use Rattle.smpe_session.proofs.session.Session.ensure_zone_loaded.Goals as goal
 

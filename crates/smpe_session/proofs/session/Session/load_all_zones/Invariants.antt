@@ -1,5 +1,5 @@
 use Rattle.std.proofs.Common.{◌≡◌, Ok, map, take}
-use Rattle.smpe_zones.specs.Calls.{EndsLoad}
+use Rattle.store.specs.CallEnds.{EndsLoad}
 use Rattle.smpe_session.specs.Sessions.{IsSessionOf}
 use Rattle.smpe_session.specs.KnownZones.{AreSought}
 use Rattle.smpe_session.specs.Uses.{UsesStore}

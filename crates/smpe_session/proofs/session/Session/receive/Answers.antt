@@ -6,7 +6,7 @@ use Rattle.mcs.specs.Files.{items}
 use Rattle.mcs.specs.HoldItems.{items as hold_items}
 use Rattle.report.specs.Views.{line_view}
 use Rattle.store.specs.declared.change.Change.TheVariants as Change
-use Rattle.smpe_zones.specs.Own.{IsReceived}
+use Rattle.store.specs.Own.{IsReceived}
 use Rattle.smpe_session.specs.Writing.{TellsOutcomeOf, TellsRun}
 use Rattle.smpe_session.proofs.Leading.{led, refused, stated_in}
 use Rattle.smpe_session.proofs.Places.{receive_at}

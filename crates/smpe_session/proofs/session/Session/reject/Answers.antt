@@ -4,8 +4,8 @@ use Rattle.terms.specs.Types.{Reject}
 use Rattle.machine.specs.Machine.{Perform}
 use Rattle.report.specs.Views.{line_view}
 use Rattle.store.specs.declared.change.Change.TheVariants as Change
-use Rattle.smpe_zones.specs.Own.{IsRejected}
-use Rattle.smpe_zones.proofs.Keeping.{act_unmoved}
+use Rattle.store.specs.Own.{IsRejected}
+use Rattle.store.proofs.Keeping.{act_unmoved}
 use Rattle.smpe_session.specs.Writing.{TellsOutcomeOf, TellsRun}
 use Rattle.smpe_session.proofs.AllZones.{alike}
 use Rattle.smpe_session.proofs.Leading.{led, refused, stated_in}

@@ -1,7 +1,7 @@
 use Rattle.std.proofs.Common.{refl, Some}
 use Rattle.terms.specs.Types.{Set}
 use Rattle.machine.specs.Machine.{Perform}
-use Rattle.smpe_zones.proofs.Keeping.{act_unmoved}
+use Rattle.store.proofs.Keeping.{act_unmoved}
 use Rattle.smpe_session.proofs.Seeking.{set_refused, set_ran, set_session}
 use Rattle.smpe_session.proofs.Using.{answered, handed_on}
 use Rattle.smpe_session.proofs.session.Session.set.Goals as goal
