@@ -81,7 +81,8 @@ AreStated (stated ∷ all) known =
 
 -- The file is a PTFIN with these statements, and its SYSMODs are those that they state; or it is a list.
 abbrev pub IsKnownFile : Text → KnownFile → Type 0
-IsKnownFile bytes file = ((file.is_ptfin ≡ true) × (stated : WideFile) × AreStated stated.sysmods.items file.sysmods.items)
+IsKnownFile bytes file =
+    ((file.is_ptfin ≡ true) × (stated : WideFile) × AreStated stated.sysmods.items file.sysmods.items)
     ⊎ ((file.is_ptfin ≡ false) × AreListed (lines_of bytes) file.sysmods.items)
 
 abbrev pub sysmods_of : List KnownFile → List KnownSysmod
@@ -97,6 +98,7 @@ abbrev pub IsGathered : List KnownFile → KnownSysmods → Type 0
 IsGathered files known = (option_map (λ list. list.items) known.list ≡ gathered files)
     × (known.has_ptfin ≡ list_any (λ f. f.is_ptfin) files)
 
--- What is known when a command runs. After a RECEIVE of SYSMODs nothing is known without the PTFIN, as it may bring any.
+-- What is known when a command runs. After a RECEIVE of SYSMODs nothing is known without the PTFIN, as it may bring
+-- any.
 abbrev pub known_after : KnownSysmods → Bool → Option (Vec KnownSysmod Global)
 known_after known received = if received && not known.has_ptfin then None else known.list

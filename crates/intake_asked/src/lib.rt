@@ -1,6 +1,7 @@
 //! What a shop's commands ask for. The commands of a file are read with SMP/E's own words (`wide_commands`), and so is
-//! a list of SYSMODs (`read_known`), whose contract says what it has. `are_said` tells whether commands of the profile say exactly what these ask for:
-//! its contract defines that, operand by operand. Every call that allocates fails with `AllocError` if memory runs out.
+//! a list of SYSMODs (`read_known`), whose contract says what it has. `are_said` tells whether commands of the profile
+//! say exactly what these ask for: its contract defines that, operand by operand. Every call that allocates fails with
+//! `AllocError` if memory runs out.
 #![tactic(auto)]
 
 mod bypasses;

@@ -7,8 +7,8 @@ use Rattle.std.specs.declared.io.Error.{Error}
 use Rattle.terms.specs.Types as terms
 use Rattle.terms.specs.Types.{Text}
 use Rattle.intake_read.specs.declared.items.WideFile.{WideFile}
-use Rattle.intake_command.specs.Acts.{HostAct, Gives, Withholds, Begins, Finds, Compares, Drafts, Discards, Puts, Leaves}
-use Rattle.intake_command.specs.Acts.{Prints, Speaks, IsQuiet}
+use Rattle.intake_command.specs.Acts.{HostAct, Gives, Withholds, Begins, Finds, Compares, Drafts, Discards, Puts}
+use Rattle.intake_command.specs.Acts.{Leaves, Prints, Speaks, IsQuiet}
 use Rattle.intake_command.specs.Done.{HasDone}
 use Rattle.intake_command.specs.Files.{first_line, command_outputs, service_names}
 use Rattle.intake_command.specs.Keeping.{IsServiceFiles, IsCommandFiles, KeepsFiles, KeepsNothing}

@@ -111,8 +111,8 @@ abbrev pub held_in : List WideFile → List CardPlace
 held_in files = flat_map (λ f. f.held.items) files
 
 -- The files that are named were read, one by one, and then those of --relfile; what their statements become was put
--- into the folder. `holds` are the holds outside SYSMODs that the readers of the files handed out, in order. With status
--- 0, each SYSMOD is carried, as each hold is with any status, and none of them meets one that is left out.
+-- into the folder. `holds` are the holds outside SYSMODs that the readers of the files handed out, in order. With
+-- status 0, each SYSMOD is carried, as each hold is with any status, and none of them meets one that is left out.
 pub record ServesFiles (asked : IntakeOptions) (status : ℕ) (acts : List HostAct) : Type 0 where
   pub files : List WideFile
   pub reading : List HostAct

@@ -22,7 +22,8 @@ loop-command-preserved c = λ rest.
     l.invariant (one_said c.args.known.now l.received c.args.wide.now l.command-index c.command-item.result
     (map command_of l.left.now) (map command_of c.in-Some.rest.now) (command_of c.in-Some.first.now) (omega arith)
     c.command-item.is (ap (map command_of) c.in-Some.ensures.cases.0) (c.in_ok-says_after.ensures c.if-not-branch.false)
-    (subst (λ r. AreSaidAfter c.args.known.now r _ (map command_of c.in-Some.rest.now)) c.has_received-received.ensures rest))
+    (subst (λ r. AreSaidAfter c.args.known.now r _ (map command_of c.in-Some.rest.now))
+    c.has_received-received.ensures rest))
 
 pub returns : goal.returns
 returns c = λ t.

@@ -24,7 +24,8 @@ returns-clause-ok g c =
     ∙ ap₂ path_of c.as_str-folder.ensures.value c.remarks_of.ensures in
     let begun = subst (λ p. h.does c.args.host.now (Begins p start) c.read_start.new.host) path
     c.in_ok-start.ensures.ok in
-    both h (did h {Are = λ acts. acts ≡ Begins (path_of folder (remarks_of c.args.asked.now)) start ∷ []} _ _ _ begun refl)
+    both h
+    (did h {Are = λ acts. acts ≡ Begins (path_of folder (remarks_of c.args.asked.now)) start ∷ []} _ _ _ begun refl)
     c.in_ok-check_files.ensures.ok
     (λ ones others e f. (
       start,

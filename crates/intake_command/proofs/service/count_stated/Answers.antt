@@ -14,4 +14,5 @@ loop-file-preserved c =
     grind (arith, grown, was)
 
 pub returns : goal.returns
-returns c = c.loop-file.invariant ∙ ap (λ l. length (run_of l)) (take_all c.loop-file.file-index c.args.files.now (omega arith))
+returns c =
+    c.loop-file.invariant ∙ ap (λ l. length (run_of l)) (take_all c.loop-file.file-index c.args.files.now (omega arith))
