@@ -22,7 +22,7 @@ pub use smpe_invocation::{
 };
 pub use smpe_jobs::{
     Answer, FAULT_STATUS, Fault, Job, JobError, ZoneError, ZoneFault, commands_in_zone,
-    define_zone, ends_closed, listing_commands, next_open_finds, reopen, status_of, two_commands,
-    write_fault_line, write_migrated_line, write_zone_line,
+    define_zone, ends_closed, fault_line, listing_commands, next_open_finds, reopen, status_of,
+    two_commands, write_migrated_line, zone_line,
 };
 pub use smpe_session::{BoundaryZone, Files, Performed, Session, ZoneChange};

@@ -20,7 +20,7 @@ use fields::{YyDdd, ZoneName};
 use report::{Sink, write_all};
 use smpe::{
     DatabaseFile, Fault, Invocation, Job, JobError, listing_commands, status_of,
-    write_migrated_line, write_zone_line,
+    write_migrated_line, zone_line,
 };
 use smpe_invocation::{RunOptions, ZoneDefinition};
 use smpe_verify::describe_verification;
@@ -77,7 +77,7 @@ fn serve_zone<H: Host, O: Sink>(
         related: zone.related,
     };
     let answer = run_job_in_database(alloc, host, db, &job, out)?;
-    Ok(write_zone_line(name, &answer, out)?)
+    Ok(zone_line(name, &answer, out)?)
 }
 
 // Runs the commands of a file, and returns the status. All files are read before the database is opened, also those of

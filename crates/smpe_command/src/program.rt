@@ -9,7 +9,7 @@ use crate::host::Host;
 use crate::jobs::serve;
 use clap::error::ErrorKind;
 use report::Sink;
-use smpe::{ArgFault, FAULT_STATUS, Fault, write_fault_line};
+use smpe::{ArgFault, FAULT_STATUS, Fault, fault_line};
 use sqlite_disk::{Disk, Memory};
 use std::alloc::{AllocError, Global};
 
@@ -71,5 +71,5 @@ fn report_fault<H: Host, E: Sink>(host: &mut H, fault: &Fault<'_>, err: &mut E) 
         Fault::NoCommand => {}
         Fault::NoZone(_) => {}
     }
-    write_fault_line(fault, err).unwrap_or(FAULT_STATUS)
+    fault_line(fault, err).unwrap_or(FAULT_STATUS)
 }

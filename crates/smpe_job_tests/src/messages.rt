@@ -4,8 +4,7 @@ use fields::ZoneName;
 use report::Out;
 use scripts::compare;
 use smpe::{
-    Answer, ArgFault, Fault, JobError, ZoneFault, write_fault_line, write_migrated_line,
-    write_zone_line,
+    Answer, ArgFault, Fault, JobError, ZoneFault, fault_line, write_migrated_line, zone_line,
 };
 use std::alloc::Global;
 use std::test::Fail;
@@ -35,10 +34,7 @@ fn check_status(status: u8, wanted: u8) -> Result<(), Fail> {
 fn check_zone_line(alloc: Global, answer: &Answer, status: u8, line: &str) -> Result<(), Fail> {
     let name = ZoneName::read(b"DLB1").ok_or("no name of a zone")?;
     let mut bytes: Vec<u8> = Vec::new(alloc);
-    check_status(
-        write_zone_line(name, answer, &mut Out::new(&mut bytes))?,
-        status,
-    )?;
+    check_status(zone_line(name, answer, &mut Out::new(&mut bytes))?, status)?;
     compare("the line of a zone", bytes.as_slice(), line)
 }
 
@@ -60,7 +56,7 @@ fn a_migration_has_its_line(rt: HostRuntime) -> Result<(), Fail> {
 // A failure, unless the fault has this line and the status 16.
 fn check_fault_line(alloc: Global, fault: &Fault<'_>, line: &str) -> Result<(), Fail> {
     let mut bytes: Vec<u8> = Vec::new(alloc);
-    check_status(write_fault_line(fault, &mut Out::new(&mut bytes))?, 16)?;
+    check_status(fault_line(fault, &mut Out::new(&mut bytes))?, 16)?;
     compare("the line of a fault", bytes.as_slice(), line)
 }
 

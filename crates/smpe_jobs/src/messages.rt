@@ -78,11 +78,7 @@ pub fn status_of(answer: &Answer) -> u8
 
 /// Writes the line of a defined or refused zone, and returns the program's status. For a job, which has no line here,
 /// it writes nothing and returns the job's return code. Returns an error if the line cannot be written.
-pub fn write_zone_line<W: Sink>(
-    name: ZoneName,
-    answer: &Answer,
-    w: &mut W,
-) -> Result<u8, WriteFault>
+pub fn zone_line<W: Sink>(name: ZoneName, answer: &Answer, w: &mut W) -> Result<u8, WriteFault>
     ensures sends { Sent W.Sink w.old w.new (zone_text name (answer_of answer.now)) }
     ensures fault { W.has_failed w.old ≡ false → W.has_failed w.new ≡ is_err result }
     ensures after { 0 < length (zone_text name (answer_of answer.now)) → W.has_failed w.new ≡ is_err result }
@@ -192,7 +188,7 @@ fn write_undefined_zone<W: Sink>(name: &ZoneName, w: &mut W) -> Result<(), Write
 }
 
 // Writes the line of a fault, or nothing for an error of `clap`, whose text the caller shows. It stands apart from
-// `write_fault_line` because the calls in its arms return no status.
+// `fault_line` because the calls in its arms return no status.
 fn write_fault<W: Sink>(fault: &Fault<'_>, w: &mut W) -> Result<(), WriteFault>
     ensures sends { Sent W.Sink w.old w.new (fault_text fault.now) }
     ensures fault { W.has_failed w.old ≡ false → W.has_failed w.new ≡ is_err result }
@@ -211,7 +207,7 @@ fn write_fault<W: Sink>(fault: &Fault<'_>, w: &mut W) -> Result<(), WriteFault>
 
 /// Writes the line of a fault, and returns `FAULT_STATUS`. It leaves the text of an error of `clap` to the caller.
 /// Returns an error if the line cannot be written.
-pub fn write_fault_line<W: Sink>(fault: &Fault<'_>, w: &mut W) -> Result<u8, WriteFault>
+pub fn fault_line<W: Sink>(fault: &Fault<'_>, w: &mut W) -> Result<u8, WriteFault>
     ensures sends { Sent W.Sink w.old w.new (fault_text fault.now) }
     ensures fault { W.has_failed w.old ≡ false → W.has_failed w.new ≡ is_err result }
     ensures after { 0 < length (fault_text fault.now) → W.has_failed w.new ≡ is_err result }

@@ -27,7 +27,7 @@ use Rattle.sysmods.specs.declared.key.HoldKey.{HoldKey}
 use Rattle.sysmods.specs.Keys.{key_of, key_cmp, key_cmp_total, place_cmp, before_kind, behind_kind, IsByKey}
 use Rattle.sysmods.specs.Lists.{is_internal_on}
 use Rattle.sysmods.specs.Internal.{goes_on, IsFirstInternal}
-use Rattle.sysmods.proofs.Keyed.{Entries, found_key}
+use Rattle.sysmods.proofs.HoldMaps.{Entries, found_key}
 use Rattle.std.proofs.lemmas.Bool.{and_parts}
 use Rattle.terms.proofs.Orderings.{between_then}
 

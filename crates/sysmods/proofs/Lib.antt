@@ -1,7 +1,7 @@
 pub mod Growth
 pub mod Going
 pub mod Internal
-pub mod Keyed
+pub mod HoldMaps
 pub mod Listed
 pub mod Undoing
 pub mod KeyedMaps

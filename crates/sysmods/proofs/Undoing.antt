@@ -15,7 +15,7 @@ use Rattle.sysmods.specs.declared.undo.Undo.TheVariants.{Remove, Restore}
 use Rattle.sysmods.specs.Keys.{key_of, key_cmp, key_cmp_total, IsByKey}
 use Rattle.sysmods.specs.Lists.{held, with_hold}
 use Rattle.sysmods.specs.Undone.{Undoes, UndoesAll}
-use Rattle.sysmods.proofs.Keyed.{Entries, found, found_key, put, listed_put, listed_removed}
+use Rattle.sysmods.proofs.HoldMaps.{Entries, found, found_key, put, listed_put, listed_removed}
 
 module _ (es fs : Entries) (m : IsByKey es) (h : Hold) (is : fs ≡ insert_entry key_cmp es (key_of h) h)
     (after : IsStrictlySortedBy key_cmp (keys_of fs)) where

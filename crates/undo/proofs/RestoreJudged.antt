@@ -22,7 +22,7 @@ use Rattle.terms.specs.Restore.{restore_candidates}
 use Rattle.judge_system.specs.declared.stated.RequisiteOf.{RequisiteOf}
 use Rattle.judge_system.specs.Said.{AreTests}
 use Rattle.judge_system.specs.Judged.{AreJudged}
-use Rattle.undo.specs.Tests.{fails_test}
+use Rattle.undo.specs.RestoreTests.{fails_test}
 use Rattle.undo.specs.Needed.{AreNeeds}
 use Rattle.undo.proofs.Testing.{fails_is}
 

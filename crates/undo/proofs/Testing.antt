@@ -14,7 +14,7 @@ use Rattle.terms.specs.Types.{Id, Applied, Entry, Element, Change, Zone}
 use Rattle.terms.specs.Lookups.{is_nil, applied_of, element_of, entry_of, is_applied, changes_of}
 use Rattle.terms.specs.Choice.{del_of}
 use Rattle.terms.specs.Restore.{Restoring, FailsRestore, are_alike, is_alike, may_return}
-use Rattle.undo.specs.Tests.{is_behind, fails_test}
+use Rattle.undo.specs.RestoreTests.{is_behind, fails_test}
 
 -- ---- an element that may return
 

@@ -5,7 +5,7 @@ pub mod NodeOrder
 pub mod ByNumbers
 pub mod Dependences
 pub mod Elements
-pub mod Tests
+pub mod RestoreTests
 pub mod Pairs
 pub mod Needed
-pub mod Judged
+pub mod Assessed

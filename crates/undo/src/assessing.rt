@@ -3,7 +3,7 @@ ghost use Rattle.std.specs.Prelude.{◌≡◌, List, All, IsTrue, IfOk};
 ghost use Rattle.terms.specs.Types.{Id as AnId};
 ghost use Rattle.terms.specs.Lookups.{IsRising, is_applied};
 ghost use Rattle.terms.specs.Restore.{restore_candidates};
-ghost use Rattle.undo.specs.Judged.{IsRestoreAssessed};
+ghost use Rattle.undo.specs.Assessed.{IsRestoreAssessed};
 ghost use Rattle.undo.specs.Scopes.{restoring};
 
 use crate::needed::needs_in_restore;

@@ -4,7 +4,7 @@ ghost use Rattle.terms.specs.Types.{Id as AnId};
 ghost use Rattle.terms.specs.Lookups.{is_applied};
 ghost use Rattle.terms.specs.Restore.{restore_candidates};
 ghost use Rattle.judge_system.specs.Judged.{HasParts};
-ghost use Rattle.undo.specs.Judged.{IsRestoreJudged};
+ghost use Rattle.undo.specs.Assessed.{IsRestoreJudged};
 ghost use Rattle.undo.specs.Scopes.{restoring_from};
 
 use crate::assessing::assess;

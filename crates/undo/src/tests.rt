@@ -3,7 +3,7 @@ ghost use Rattle.std.specs.Prelude.{◌≡◌, not, map, IfOk};
 ghost use Rattle.std.specs.List.{list_any};
 ghost use Rattle.terms.specs.Restore.{are_alike, is_alike, may_return};
 ghost use Rattle.undo.specs.Scopes.{restoring_of};
-ghost use Rattle.undo.specs.Tests.{is_behind, failed_tests};
+ghost use Rattle.undo.specs.RestoreTests.{is_behind, failed_tests};
 
 use crate::scope::RestoreScope;
 use fields::Id;

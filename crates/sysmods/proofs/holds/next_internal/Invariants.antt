@@ -1,6 +1,6 @@
 use Rattle.std.proofs.Common.{◌≡◌, ◌++◌, filter}
 use Rattle.sysmods.specs.Internal.{goes_on}
-use Rattle.sysmods.proofs.Keyed.{Entries}
+use Rattle.sysmods.proofs.HoldMaps.{Entries}
 use Rattle.sysmods.proofs.Internal.{External}
 use Rattle.sysmods.proofs.holds.next_internal.Given as goal
 

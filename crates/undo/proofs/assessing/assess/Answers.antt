@@ -3,7 +3,7 @@ use Rattle.std.proofs.lemmas.Simd.{map-map}
 use Rattle.terms.specs.Lookups.{IsRising}
 use Rattle.judge_system.specs.TestSets.{tests_of}
 use Rattle.undo.specs.Scopes.{restoring}
-use Rattle.undo.specs.Tests.{failed_tests}
+use Rattle.undo.specs.RestoreTests.{failed_tests}
 use Rattle.undo.proofs.RestoreJudged.{are_judged}
 use Rattle.undo.proofs.assessing.assess.Goals as goal
 

@@ -8,7 +8,7 @@ use Rattle.terms.proofs.Searches.{filter_all}
 use Rattle.judge_system.specs.declared.stated.Assessment.{Assessment}
 use Rattle.judge_system.specs.TestSets.{tests_of}
 use Rattle.judge_system.proofs.Judging.{judged_of, rows_of}
-use Rattle.undo.specs.Judged.{IsRestoreAssessed, IsRestoreJudged}
+use Rattle.undo.specs.Assessed.{IsRestoreAssessed, IsRestoreJudged}
 use Rattle.undo.specs.Scopes.{restoring}
 use Rattle.undo.proofs.Settings.{restoring_is}
 use Rattle.undo.proofs.judging.restore_system.Goals as goal

@@ -1,6 +1,6 @@
 use Rattle.std.proofs.Common.{◌∙◌, refl, sym, ap, filter}
 use Rattle.std.specs.Map.{values_of}
-use Rattle.sysmods.proofs.Keyed.{removed}
+use Rattle.sysmods.proofs.HoldMaps.{removed}
 use Rattle.sysmods.proofs.Internal.{stays, done_first, same_id, dropped_next, done_next, done_all}
 use Rattle.sysmods.proofs.holds.Holds.drop_internal.Goals as goal
 

@@ -1,5 +1,5 @@
 use Rattle.std.proofs.Common.{◌∙◌}
-use Rattle.sysmods.proofs.Keyed.{found}
+use Rattle.sysmods.proofs.HoldMaps.{found}
 use Rattle.sysmods.proofs.holds.Holds.get.Goals as goal
 
 pub returns : goal.returns

@@ -2,7 +2,7 @@ use Rattle.std.proofs.Common.{◌∙◌, ap, arith, length, filter}
 use Rattle.std.specs.Map.{values_of}
 use Rattle.std.proofs.lemmas.Map.Entries.{length-values_of}
 use Rattle.sysmods.specs.Lists.{is_on}
-use Rattle.sysmods.proofs.Keyed.{listed_kind}
+use Rattle.sysmods.proofs.HoldMaps.{listed_kind}
 use Rattle.sysmods.proofs.holds.Holds.holds_on.Goals as goal
 
 pub returns-clause-rest : goal.returns-clause-rest

@@ -1,7 +1,7 @@
 use Rattle.std.proofs.Common.{◌∙◌, ap, arith, length}
 use Rattle.std.specs.Map.{values_of}
 use Rattle.std.proofs.lemmas.Map.Entries.{length-values_of}
-use Rattle.sysmods.proofs.Keyed.{listed_all}
+use Rattle.sysmods.proofs.HoldMaps.{listed_all}
 use Rattle.sysmods.proofs.holds.Holds.iter.Goals as goal
 
 pub returns-clause-rest : goal.returns-clause-rest

@@ -1,6 +1,6 @@
 use Rattle.std.proofs.Common.{◌∙◌, ap}
 use Rattle.std.specs.Map.{values_of}
-use Rattle.sysmods.proofs.Keyed.{removed, listed_released}
+use Rattle.sysmods.proofs.HoldMaps.{removed, listed_released}
 use Rattle.sysmods.proofs.holds.Holds.release.Goals as goal
 
 pub invariant_of-self : goal.invariant_of-self

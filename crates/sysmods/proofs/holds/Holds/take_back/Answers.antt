@@ -1,7 +1,7 @@
 use Rattle.std.proofs.Common.{sym, subst}
 use Rattle.sysmods.specs.Undone.{Undoes}
 use Rattle.sysmods.specs.declared.undo.Undo.TheVariants.{Remove, Restore}
-use Rattle.sysmods.proofs.Keyed.{removed}
+use Rattle.sysmods.proofs.HoldMaps.{removed}
 use Rattle.sysmods.proofs.Undoing.{kept_restored, takes_new, takes_replaced}
 use Rattle.sysmods.proofs.holds.Holds.take_back.Goals as goal
 

@@ -2,7 +2,7 @@ use Rattle.std.proofs.Common.{sym, subst}
 use Rattle.report.specs.Sent.{Sent}
 use Rattle.smpe_jobs.specs.Ending.{answer_of}
 use Rattle.smpe_jobs.specs.Messages.{zone_text}
-use Rattle.smpe_jobs.proofs.messages.write_zone_line.Goals as goal
+use Rattle.smpe_jobs.proofs.messages.zone_line.Goals as goal
 
 pub returns-in-Refused-clause-sends : goal.returns-in-Refused-clause-sends
 returns-in-Refused-clause-sends g c =
