@@ -7,7 +7,7 @@ ghost use Rattle.terms.specs.Tests.{ShareElement};
 ghost use Rattle.sysmods.specs.Choices.{choice};
 ghost use Rattle.sysmods.specs.Overs.{AreOver};
 ghost use Rattle.change.specs.Elements.{HasBases};
-ghost use Rattle.change.specs.Judged.{MayBeInstalled, install_by, install_of};
+ghost use Rattle.change.specs.Together.{MayBeInstalled, install_by, install_of};
 ghost use Rattle.zones_maps.specs.Delta.{IsChanged, KnowsStood};
 
 use crate::installing::{Installed, Installing, install};

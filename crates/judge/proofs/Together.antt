@@ -15,7 +15,7 @@ use Rattle.sysmods.specs.Choices.{choice}
 use Rattle.sysmods.specs.Overs.{AreOver}
 use Rattle.judge_system.specs.declared.judged.Judged.{Judged}
 use Rattle.judge_system.proofs.Judging.{decided_of}
-use Rattle.change.specs.Judged.{install_of}
+use Rattle.change.specs.Together.{install_of}
 use Rattle.change.proofs.KeptTogether.{install_over, changed_base, unsupplied}
 use Rattle.judge.specs.Installs.{IsInstallJudged, KeepsTogether}
 

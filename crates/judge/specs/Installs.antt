@@ -10,7 +10,7 @@ use Rattle.judge_system.specs.declared.stated.Assessment.{Assessment}
 use Rattle.judge_system.specs.ByNumber.{IsDecidedBy}
 use Rattle.judge_system.specs.Judged.{AreJudged, IsJudged}
 use Rattle.judge_system.specs.TestSets.{tests_of}
-use Rattle.change.specs.Judged.{MayBeInstalled}
+use Rattle.change.specs.Together.{MayBeInstalled}
 use Rattle.judge_needs.specs.Pairs.{AreBypassed}
 
 -- It follows the command's tests and needs. The needs depend on the survivors.

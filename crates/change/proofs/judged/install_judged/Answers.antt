@@ -5,7 +5,7 @@ use Rattle.terms.specs.Types.{Id, Zone}
 use Rattle.terms.specs.Lookups.{is_in}
 use Rattle.terms.specs.Install.{HasInstalled, TakesEffect}
 use Rattle.change.specs.Elements.{HasBases}
-use Rattle.change.specs.Judged.{install_by, install_of}
+use Rattle.change.specs.Together.{install_by, install_of}
 use Rattle.change.proofs.judged.install_judged.Goals as goal
 use Rattle.change.proofs.judged.install_judged.Goals.{After-as_slice-2}
 

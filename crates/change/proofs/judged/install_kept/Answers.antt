@@ -7,7 +7,7 @@ use Rattle.terms.specs.Over.{IsOver}
 use Rattle.terms.specs.Tests.{ShareElement}
 use Rattle.sysmods.specs.Choices.{choice}
 use Rattle.change.specs.Elements.{HasBases}
-use Rattle.change.specs.Judged.{install_by}
+use Rattle.change.specs.Together.{install_by}
 use Rattle.change.proofs.judged.install_kept.Goals as goal
 
 pub install-requires-clause-order : goal.install-requires-clause-order

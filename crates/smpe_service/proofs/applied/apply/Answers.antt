@@ -12,7 +12,7 @@ use Rattle.report.specs.Views.{line_view}
 use Rattle.change.specs.Plans.{installation}
 use Rattle.judge_system.specs.Views.{why_failed}
 use Rattle.smpe_service.specs.Decided.{IsDecided}
-use Rattle.change.specs.Judged.{install_by}
+use Rattle.change.specs.Together.{install_by}
 use Rattle.smpe_service.specs.Statuses.{all_statuses, AreById}
 use Rattle.smpe_service.proofs.Bypassed.{bypassed_kept}
 use Rattle.smpe_service.proofs.Deciding.{is_decided}
