@@ -1,5 +1,5 @@
-//! What an APPLY of a service set into an empty target zone would install, asked of the library: without a database, and
-//! without a job. Standard input is a PTFIN and the file `holddata` a hold file, both in records of 80 bytes.
+//! What an APPLY of a service set into an empty target zone would install, asked of the library: without a database,
+//! and without a job. Standard input is a PTFIN and the file `holddata` a hold file, both in records of 80 bytes.
 #![tactic(auto)]
 
 use anyhow::{Context, Result};
@@ -11,7 +11,7 @@ use solve::{Solver, Worklist};
 use std::alloc::Global;
 use std::fs;
 use std::io::{Read, Write};
-use sysmods::{GlobalZone, IdList, SourceList, Srel, ZoneName};
+use sysmods::{GlobalZone, Srel, ZoneName};
 use zones::{Bypass, YyDdd, Zone, ZoneKind};
 
 // A global zone that has received the SYSMODs of this PTFIN. The first one that is refused ends the program.
@@ -39,18 +39,10 @@ fn hold(alloc: Global, global: &mut GlobalZone, holddata: &[u8]) -> Result<()> {
 
 // What the operands FUNCTIONS and PTFS choose: all functions and PTFs.
 fn functions_and_ptfs(alloc: Global) -> Selection {
-    Selection {
-        functions: true,
-        ptfs: true,
-        apars: false,
-        usermods: false,
-        select: IdList::new(alloc),
-        exclude: IdList::new(alloc),
-        sourceid: SourceList::new(alloc),
-        forfmid: IdList::new(alloc),
-        group: IdList::new(alloc),
-        groupextend: false,
-    }
+    let mut selection = Selection::none(alloc);
+    selection.functions = true;
+    selection.ptfs = true;
+    selection
 }
 
 // Which candidates an APPLY into the zone keeps, and the zone that it makes of the old one.
@@ -67,28 +59,23 @@ fn apply(alloc: Global, global: &GlobalZone, zone: &Zone) -> Result<(Decided, Zo
 // Writes a line for each candidate, which says that it is kept, or which SYSMODs cause its failure.
 fn write_decided<W: Write>(decided: &Decided, out: &mut W) -> Result<()> {
     for id in decided.kept.as_slice() {
-        out.write_all(id.as_bytes())?;
-        out.write_all(b" is kept\n")?;
+        writeln!(out, "{id} is kept")?;
     }
     for (id, failure) in decided.failed.as_slice() {
-        out.write_all(id.as_bytes())?;
-        out.write_all(b" fails because of")?;
+        write!(out, "{id} fails because of")?;
         for causer in failure.causers.as_slice() {
-            out.write_all(b" ")?;
-            out.write_all(causer.as_bytes())?;
+            write!(out, " {causer}")?;
         }
-        out.write_all(b"\n")?;
+        writeln!(out)?;
     }
     Ok(())
 }
 
-// Writes a line for each element of the zone, which says what SYSMOD brought it last.
+// Writes a line for each element of the zone, which says which SYSMOD brought it last.
 fn write_elements<W: Write>(zone: &Zone, out: &mut W) -> Result<()> {
     for element in zone.elements() {
-        out.write_all(element.name.as_bytes())?;
-        out.write_all(b" comes from ")?;
-        out.write_all(element.rmid.as_bytes())?;
-        out.write_all(b"\n")?;
+        let (name, rmid) = (element.name, element.rmid);
+        writeln!(out, "{name} comes from {rmid}")?;
     }
     Ok(())
 }
