@@ -1,5 +1,5 @@
-//! What an APPLY of a service set into an empty target zone would install, asked of the library: without a database, and
-//! without a job. Standard input is a PTFIN and the file `holddata` a hold file, both in records of 80 bytes.
+//! What an APPLY of a service set into an empty target zone would install, asked of the library: without a database,
+//! and without a job. Standard input is a PTFIN and the file `holddata` a hold file, both in records of 80 bytes.
 #![tactic(auto)]
 
 use anyhow::{Context, Result};
@@ -82,7 +82,7 @@ fn write_decided<W: Write>(decided: &Decided, out: &mut W) -> Result<()> {
     Ok(())
 }
 
-// Writes a line for each element of the zone, which says what SYSMOD brought it last.
+// Writes a line for each element of the zone, which says which SYSMOD brought it last.
 fn write_elements<W: Write>(zone: &Zone, out: &mut W) -> Result<()> {
     for element in zone.elements() {
         out.write_all(element.name.as_bytes())?;
