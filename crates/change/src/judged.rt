@@ -18,8 +18,8 @@ use std::alloc::{AllocError, Global};
 use sysmods::{KnownOvers, Overs, VerChoice};
 use zones::Zone;
 
-/// Installs the kept ones of judged candidates into the zone. Each waives those of its requisites that BYPASS covers and
-/// nothing supplies.
+/// Installs the kept ones of judged candidates into the zone. Each waives those of its requisites that BYPASS covers
+/// and nothing supplies.
 pub fn install_judged(
     alloc: Global,
     judged: Judged<'_>,
