@@ -1,7 +1,8 @@
 -- What is found zone by zone, by their names, is what is found of the inventory's zones.
 use Rattle.std.proofs.Common.{◌≡◌, ◌∙◌, ◌+◌, ℕ, false, List, [], ◌∷◌, Option, Some, None, find, map, length}
 use Rattle.std.proofs.Common.{refl, sym, ap, ap₂, subst, IsTrue, inl, inr, ◌⊎◌, ◌<◌, ◌≤◌, drop, get_or}
-use Rattle.std.specs.Prelude.{AllPairs, Contains, fold, option_map, option_and_then, unwrap_or}
+use Rattle.std.proofs.Common.{Result, Ok, Err, OnOk}
+use Rattle.std.specs.Prelude.{AllPairs, Contains, IsErrAnd, fold, option_map, option_and_then, unwrap_or}
 use Rattle.std.specs.Option.{option_map_or}
 use Rattle.std.specs.Ordering.{nat_cmp}
 use Rattle.std.specs.Cmp.Lexicographic.{slice_cmp}
@@ -123,3 +124,9 @@ module _ (i : Inventory) (names : List Text) (k : ℕ) (counts : Counts)
   -- all are
   pub ends : length names ≤ k → Closed counts ≡ verification i
   ends all = sym (ap (verified_from i counts) (drop_all k names all)) ∙ before
+
+-- ---- an error
+
+pub no_answer : {X E : Type 0} {P : E → Type 0} (r : Result X E) (Q : Type 0) → IsErrAnd r P → OnOk r Q
+no_answer (Ok x) Q is = absurd is
+no_answer (Err e) Q is = tt

@@ -1,6 +1,10 @@
 //! The zones of a store, one after the other.
 ghost use Rattle.std.specs.Prelude.{◌≡◌, ◌+◌, IfOk, OnOk};
+ghost use Rattle.sqlite.specs.Held.{state};
+ghost use Rattle.sqlite.specs.State.{HasCleanDisk};
+ghost use Rattle.terms.specs.Types.{Global as GlobalTerm};
 ghost use Rattle.store.specs.Loads.{Loads};
+ghost use Rattle.store.specs.Whole.{ShowsGlobal};
 ghost use Rattle.smpe_verify.specs.Verified.{verification, begun, breach_at, counted, IsCounted};
 
 use crate::breach::Breach;
@@ -18,7 +22,9 @@ use zones::Zone;
 /// fails, and `NoState` if the rows of the global zone, or of a zone up to the first that is not closed, stand for
 /// no state.
 pub fn verify<S: Alter>(alloc: Global, store: &mut Store<S>) -> Result<Verification, StoreError>
-    ensures { Loads S.Store store.old store.new (λ i found. found ≡ verification i) result }
+    ensures loads { Loads S.Store store.old store.new (λ i found. found ≡ verification i) result }
+    ensures rows { HasCleanDisk (state S.Store store.new) → OnOk result ((global : GlobalTerm)
+        × ShowsGlobal S.Store store.old global) }
 {
     let global = store.load_global()?;
     let names = store.zone_names()?;
