@@ -3,6 +3,7 @@ ghost use Rattle.std.specs.Prelude.{◌≡◌, List, All, IsTrue, IfOk};
 ghost use Rattle.terms.specs.Types.{Id as AnId};
 ghost use Rattle.terms.specs.Lookups.{is_applied};
 ghost use Rattle.terms.specs.Restore.{restore_candidates};
+ghost use Rattle.judge_system.specs.Judged.{HasParts};
 ghost use Rattle.undo.specs.Assessed.{IsRestoreJudged};
 ghost use Rattle.undo.specs.Scopes.{restoring_from};
 
@@ -23,9 +24,10 @@ pub fn restore_system<'a>(
     candidates: &Candidates,
 ) -> Result<Judged<'a>, AllocError>
     requires { All (λ x. IsTrue (is_applied zone.now x)) candidates.now.ids }
-    ensures { IfOk result (λ j. (list : List AnId)
+    ensures judged { IfOk result (λ j. (list : List AnId)
         → candidates.now.ids ≡ restore_candidates (restoring_from global.now zone.now accepted.now) list
         → IsRestoreJudged (restoring_from global.now zone.now accepted.now) list candidates.now.ids j) }
+    ensures parts { IfOk result (λ j. HasParts j) }
 {
     let ids = &candidates.ids;
     let none = IdList::new(alloc);

@@ -35,8 +35,8 @@ new-requires-2-clause-by c =
     (own_said (restoring c.in_ok-vers.vers c.args.zone.now c.args.accepted.now) c.args.candidates.now.ids
     c.in_ok-assessment.assessment c.in_ok-assessment.ensures.assessed c.requires).by
 
-pub returns : goal.returns
-returns c = λ list are.
+pub returns-clause-judged : goal.returns-clause-judged
+returns-clause-judged c = λ list are.
     let g = c.args.global.now in
     let zone = c.args.zone.now in
     let accepted = c.args.accepted.now in

@@ -5,9 +5,9 @@ use Rattle.terms.specs.Types.{Id, Zone}
 use Rattle.terms.specs.Lookups.{is_in}
 use Rattle.terms.specs.Install.{HasInstalled, TakesEffect}
 use Rattle.change.specs.Elements.{HasBases}
-use Rattle.smpe_service.specs.Installs.{install_by, install_of}
-use Rattle.smpe_service.proofs.applied.install_judged.Goals as goal
-use Rattle.smpe_service.proofs.applied.install_judged.Goals.{After-as_slice-2}
+use Rattle.change.specs.Together.{install_by, install_of}
+use Rattle.change.proofs.judged.install_judged.Goals as goal
+use Rattle.change.proofs.judged.install_judged.Goals.{After-as_slice-2}
 
 -- what is installed
 same : (c : After-as_slice-2)
@@ -19,7 +19,7 @@ same c =
     ∙ ap (filter (λ (p : Id × Id). is_in c.args.kept.now p.0)) c.as_slice.ensures.value)
 
 pub install_kept-requires-clause-base : goal.install_kept-requires-clause-base
-install_kept-requires-clause-base c = subst HasBases (sym (same c)) c.requires.base
+install_kept-requires-clause-base c = subst HasBases (sym (same c)) (c.requires.base c.args.date)
 
 pub returns-clause-installs : goal.returns-clause-installs
 returns-clause-installs c =

@@ -7,8 +7,8 @@ use Rattle.terms.specs.Over.{IsOver}
 use Rattle.terms.specs.Tests.{ShareElement}
 use Rattle.sysmods.specs.Choices.{choice}
 use Rattle.change.specs.Elements.{HasBases}
-use Rattle.smpe_service.specs.Installs.{install_by}
-use Rattle.smpe_service.proofs.applied.install_kept.Goals as goal
+use Rattle.change.specs.Together.{install_by}
+use Rattle.change.proofs.judged.install_kept.Goals as goal
 
 pub install-requires-clause-order : goal.install-requires-clause-order
 install-requires-clause-order c =
