@@ -1,1 +1,6 @@
 mod Firsts
+mod Printed
+mod FactsSay
+mod TestsTold
+mod ConflictsTold
+mod NeedsTold

@@ -1,3 +1,4 @@
 pub mod Verdict
 pub mod Conflicts
 pub mod VerdictFacts
+pub mod Witnesses
