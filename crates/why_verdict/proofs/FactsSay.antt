@@ -61,9 +61,9 @@ in_numbered fit counts n (w ∷ vs) v is =
     let rest = numbered_facts fit counts (n + 1) vs in
     elim (here_or w vs v is) [
       | inl same ↦ (
-          n,
-          subst (λ (u : Ver). Contains (first ∷ rest) (VerFact n u.fmid (fit u) (n == counts))) same (here first rest),
-        )
+        n,
+        subst (λ (u : Ver). Contains (first ∷ rest) (VerFact n u.fmid (fit u) (n == counts))) same (here first rest),
+      )
       | inr later ↦ let it = in_numbered fit counts (n + 1) vs v later in (it.0, there first rest _ it.1)
     ]
 

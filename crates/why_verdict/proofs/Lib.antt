@@ -4,3 +4,4 @@ mod FactsSay
 mod TestsTold
 mod ConflictsTold
 mod NeedsTold
+pub mod Witnessed

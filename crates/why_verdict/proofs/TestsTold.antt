@@ -233,13 +233,13 @@ module _ (s : Setting) (is_global : IsGlobal s.global) (is_zone : IsZone s.zone)
       ] in
       let each : All (IsLower s x it.0) (lower_makers level) = All_from_each (IsLower s x it.0) (lower_makers level)
       (λ m lower.
-          let both = filter_in (λ (m : Maker). not (is_over m.relation)) makers m lower in
-          let made = in_beside (λ n z (m : Maker). (m.id ≡ z) × IsRelation s.choice x z m.relation)
-          (it.0.rmid ∷ it.0.umids) makers it.2.makers m both.0 in (
-            subst (Contains (it.0.rmid ∷ it.0.umids)) (sym made.3.0) made.2,
-            subst (λ z. ¬ IsOver s.choice x z) (sym made.3.0)
-                (not_over s.choice x made.0 itself m.relation made.3.1 both.1),
-          )) in
+      let both = filter_in (λ (m : Maker). not (is_over m.relation)) makers m lower in
+      let made = in_beside (λ n z (m : Maker). (m.id ≡ z) × IsRelation s.choice x z m.relation)
+      (it.0.rmid ∷ it.0.umids) makers it.2.makers m both.0 in (
+        subst (Contains (it.0.rmid ∷ it.0.umids)) (sym made.3.0) made.2,
+        subst (λ z. ¬ IsOver s.choice x z) (sym made.3.0)
+            (not_over s.choice x made.0 itself m.relation made.3.1 both.1),
+      )) in
       (it.0, changes h type name it.0 is t n it.1, told, each)
   regressed (ElementFact type name replaces brought None) is some = absurd (some refl)
   regressed f is some = absurd (some refl)
@@ -450,7 +450,7 @@ module _ (s : Setting) (is_global : IsGlobal s.global) (is_zone : IsZone s.zone)
         let counts = place s.global s.zone s.cands x + 1 in
         let it = in_numbered (fits s.zone (is_in s.cands)) counts 1 (vers_of s.global s.zone.srel x) v both.0 in (
           VerFact it.0 v.fmid (fits s.zone (is_in s.cands) v) (it.0 == counts),
-          has_ver s x facts are _ it.1,
+          has_ver s x facts are (VerFact it.0 v.fmid (fits s.zone (is_in s.cands) v) (it.0 == counts)) it.1,
           some_if (fits s.zone (is_in s.cands) v) 32 _ both.1,
         )
 
