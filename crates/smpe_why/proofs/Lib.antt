@@ -2,3 +2,4 @@ mod Alone
 mod Cards
 pub mod Parts
 pub mod Related
+mod Witnessed

@@ -1,3 +1,4 @@
 pub mod BypassText
 pub mod Scopes
 pub mod Telling
+pub mod Reasons
