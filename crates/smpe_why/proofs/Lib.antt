@@ -2,4 +2,3 @@ mod Alone
 mod Cards
 pub mod Parts
 pub mod Related
-mod Witnessed

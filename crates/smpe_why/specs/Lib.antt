@@ -1,4 +1,3 @@
 pub mod BypassText
 pub mod Scopes
 pub mod Telling
-pub mod Reasons

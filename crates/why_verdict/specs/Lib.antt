@@ -1,4 +1,3 @@
 pub mod Verdict
 pub mod Conflicts
 pub mod VerdictFacts
-pub mod Witnesses

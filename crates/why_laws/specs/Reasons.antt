@@ -7,7 +7,7 @@ use Rattle.terms.specs.Tests.{AreSurvivors}
 use Rattle.terms.specs.Types.{Text, Id, Global, Zone}
 use Rattle.machine.specs.Outcome.{Failed, Failure, Line, StatusLine, Place}
 use Rattle.report.specs.Facts.{among}
-use Rattle.why_verdict.specs.Witnesses.{IsWitnessed}
+use Rattle.why_laws.specs.Witnesses.{IsWitnessed}
 use Rattle.smpe_why.specs.Telling.{Inquiry, Prints, IsToldOf}
 
 -- If these lines of an install say that x failed, then each reason that is told below a failed test of x witnesses the

@@ -36,9 +36,9 @@ use Rattle.report.specs.Facts.{conditions, holds_on, is_waived, is_waivable, sup
 use Rattle.report.specs.Facts.{Resolution, Supplied, Waived, ByItself, Open, IsResolution, HasResolution}
 use Rattle.report.specs.Facts.{Fact, RequisiteFact, HoldFact, IsRequisiteFact}
 use Rattle.why_verdict.specs.Verdict.{answered, or_other, first_answer}
-use Rattle.why_verdict.specs.Witnesses.{IsTakenFrom, WitnessesNeed}
-use Rattle.why_verdict.proofs.FactsSay.{Says, says, has_requisite, has_hold}
-use Rattle.why_verdict.proofs.Printed.{if_in, member_some}
+use Rattle.why_laws.specs.Witnesses.{IsTakenFrom, WitnessesNeed}
+use Rattle.why_laws.proofs.FactsSay.{Says, says, has_requisite, has_hold}
+use Rattle.why_laws.proofs.Printed.{if_in, member_some}
 
 -- ---- kinds
 

@@ -44,12 +44,12 @@ use Rattle.report.specs.Facts.{AreFacts, IsResolution, Resolution, Relation, Its
 use Rattle.report.specs.Facts.{Maker, ElementLevel, IsElementLevel, HasElementLevel, forbids, holds_on, numbered_facts}
 use Rattle.report.specs.Facts.{Fact, VerFact, HoldFact, ElementFact, DeleteFact, NpreFact, ForbiddenFact}
 use Rattle.why_verdict.specs.Verdict.{by_hold, by_target, maker_reason, reason}
-use Rattle.why_verdict.specs.Witnesses.{IsStandingHold, IsForbidding, ChangesElement, IsOfAnother, IsLower, lower_makers}
-use Rattle.why_verdict.specs.Witnesses.{IsRegressed, IsLacking, IsOwnDeletion, IsFittingVer, Witnesses}
-use Rattle.why_verdict.proofs.FactsSay.{Says, says, beside_in, in_beside, in_numbered, level_some, level_none}
-use Rattle.why_verdict.proofs.FactsSay.{has_ver, has_hold, has_element, has_delete, has_npre}
-use Rattle.why_verdict.proofs.Printed.{true_if, false_if, cons_some, some_if, some_unless, front_or_back, some_front}
-use Rattle.why_verdict.proofs.Printed.{some_back, some_flat, flat_some, some_member, member_some}
+use Rattle.why_laws.specs.Witnesses.{IsStandingHold, IsForbidding, ChangesElement, IsOfAnother, IsLower, lower_makers}
+use Rattle.why_laws.specs.Witnesses.{IsRegressed, IsLacking, IsOwnDeletion, IsFittingVer, Witnesses}
+use Rattle.why_laws.proofs.FactsSay.{Says, says, beside_in, in_beside, in_numbered, level_some, level_none}
+use Rattle.why_laws.proofs.FactsSay.{has_ver, has_hold, has_element, has_delete, has_npre}
+use Rattle.why_laws.proofs.Printed.{true_if, false_if, cons_some, some_if, some_unless, front_or_back, some_front}
+use Rattle.why_laws.proofs.Printed.{some_back, some_flat, flat_some, some_member, member_some}
 
 -- ---- holds
 

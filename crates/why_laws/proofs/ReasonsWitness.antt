@@ -32,15 +32,15 @@ use Rattle.change.proofs.ChosenVers.{counting_for, names_no_loop}
 use Rattle.report.specs.Facts.{AreFacts, among, with_id}
 use Rattle.why_verdict.specs.Conflicts.{AreConflicts}
 use Rattle.why_verdict.specs.Verdict.{is_candidate, Basis}
-use Rattle.why_verdict.specs.Witnesses.{NamesTests, AreLinesOf, IsWitnessed}
-use Rattle.why_verdict.proofs.Witnessed.{witnessed}
+use Rattle.why_laws.specs.Witnesses.{NamesTests, AreLinesOf, IsWitnessed}
+use Rattle.why_laws.proofs.Witnessed.{witnessed}
 use Rattle.machine_laws.proofs.Causes.{each_test, failure_stably}
 use Rattle.machine_laws.proofs.Decided.{candidates_only}
 use Rattle.machine_laws.proofs.Decisions.{candidate_open}
 use Rattle.machine_laws.proofs.Finitely.{either_stably}
 use Rattle.machine_laws.proofs.InstallLines.{IsSound, sound, in_kept, chosen}
 use Rattle.smpe_why.specs.Telling.{Inquiry, Prints, IsToldOf}
-use Rattle.smpe_why.specs.Reasons.{ReasonsWitness}
+use Rattle.why_laws.specs.Reasons.{ReasonsWitness}
 use Rattle.smpe_why.proofs.Parts.{with_candidate}
 
 -- an eligible candidate fails no test

@@ -23,12 +23,12 @@ use Rattle.report.specs.Facts.{Fact, AreFacts, MayServe, Resolution, Supplied, W
 use Rattle.why_verdict.specs.declared.conflict.Conflict.{Conflict}
 use Rattle.why_verdict.specs.Conflicts.{AreConflicts}
 use Rattle.why_verdict.specs.Verdict.{Basis, by_target, reason, conflict_reason, test_told}
-use Rattle.why_verdict.specs.Witnesses.{Witnesses, NamesTests, AreLinesOf, WitnessesNeed, IsWitnessed}
-use Rattle.why_verdict.proofs.ConflictsTold.{witnesses_by, IsToldBy, deletion_told_by, clash_told}
-use Rattle.why_verdict.proofs.FactsSay.{says}
-use Rattle.why_verdict.proofs.NeedsTold.{need_witnessed}
-use Rattle.why_verdict.proofs.Printed.{cons_some, some_front, some_back, some_flat}
-use Rattle.why_verdict.proofs.TestsTold.{witnesses, IsTold, told_alone, deletion_told}
+use Rattle.why_laws.specs.Witnesses.{Witnesses, NamesTests, AreLinesOf, WitnessesNeed, IsWitnessed}
+use Rattle.why_laws.proofs.ConflictsTold.{witnesses_by, IsToldBy, deletion_told_by, clash_told}
+use Rattle.why_laws.proofs.FactsSay.{says}
+use Rattle.why_laws.proofs.NeedsTold.{need_witnessed}
+use Rattle.why_laws.proofs.Printed.{cons_some, some_front, some_back, some_flat}
+use Rattle.why_laws.proofs.TestsTold.{witnesses, IsTold, told_alone, deletion_told}
 
 unless_told : (b : Bool) (first rest : Text) → b ≡ false → rest ≢ [] → (if b then first else rest) ≢ []
 unless_told true first rest off some = absurd (true≢false off)

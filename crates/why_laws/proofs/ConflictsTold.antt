@@ -32,9 +32,9 @@ use Rattle.why_verdict.specs.Conflicts.{by_delete, by_clash, by_others, is_chain
 use Rattle.why_verdict.specs.Conflicts.{id_where, ids_where, others, deleters, clashing, deletion_of, deletions_by}
 use Rattle.why_verdict.specs.Conflicts.{IsApart, IsPartner, share_of, shares, clashes_with, AreConflicts}
 use Rattle.why_verdict.specs.Verdict.{conflict_reason, is_candidate}
-use Rattle.why_verdict.specs.Witnesses.{IsDeletion, IsRival, IsClash, ConflictWitnesses, NamesTests, AreLinesOf}
-use Rattle.why_verdict.proofs.FactsSay.{beside_in, in_beside}
-use Rattle.why_verdict.proofs.Printed.{cons_some, if_in, in_if}
+use Rattle.why_laws.specs.Witnesses.{IsDeletion, IsRival, IsClash, ConflictWitnesses, NamesTests, AreLinesOf}
+use Rattle.why_laws.proofs.FactsSay.{beside_in, in_beside}
+use Rattle.why_laws.proofs.Printed.{cons_some, if_in, in_if}
 
 -- ---- the tests that other candidates decide
 
