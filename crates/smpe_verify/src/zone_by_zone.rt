@@ -20,9 +20,9 @@ use sysmods::GlobalZone;
 use zones::Zone;
 
 /// Loads the global zone and then each zone by its name, rising, until one is not closed. One zone is in memory at a
-/// time, and nothing changes. So if all are closed, all rows of the store's tables were read. Returns `Memory` if memory runs out, or a count does not fit, `Fault` if the database
-/// fails, and `NoState` if the rows of the global zone, or of a zone up to the first that is not closed, stand for
-/// no state.
+/// time, and nothing changes. If all are closed, all rows were read, and the tables stand for a state. Returns `Memory`
+/// if memory runs out, or a count does not fit, `Fault` if the database fails, and `NoState` if the rows of the global
+/// zone, or of a zone up to the first that is not closed, stand for no state.
 pub fn verify<S: Alter>(alloc: Global, store: &mut Store<S>) -> Result<Verification, StoreError>
     ensures loads { Loads S.Store store.old store.new (λ i found. found ≡ verification i) result }
     ensures stands { HasCleanDisk (state S.Store store.new) → HasOwnTables (state S.Store store.old).now
