@@ -7,7 +7,7 @@ pub(crate) const RECORD: usize = 80;
 
 /// The bytes of the record with this number, counted from 1: fewer than 80 if the file ends within the record, and none
 /// if the file ends before.
-pub(crate) fn record_bytes(file: &[u8], record: usize) -> &[u8] {
+pub fn record_bytes(file: &[u8], record: usize) -> &[u8] {
     file.chunks(RECORD)
         .nth(record.saturating_sub(1))
         .unwrap_or(b"")
@@ -29,7 +29,7 @@ pub fn has_whole_records(file: &[u8]) -> bool {
 
 /// What the bytes of a record are.
 #[derive(Clone, Copy)]
-pub(crate) enum RecordForm {
+pub enum RecordForm {
     /// All are printable.
     Card,
     /// One is not ASCII, as nearly all bytes of EBCDIC are.
@@ -45,7 +45,7 @@ pub(crate) enum RecordForm {
 impl RecordForm {
     /// The form of a record with these bytes. The first byte that is not ASCII or ends a line decides, and if there is
     /// none, the first one that is not printable.
-    pub(crate) fn of_record(record: &[u8]) -> RecordForm {
+    pub fn of_record(record: &[u8]) -> RecordForm {
         for &byte in record {
             if !byte.is_ascii() {
                 return RecordForm::NotAscii;
@@ -74,7 +74,7 @@ pub(crate) fn is_blank(card: &[u8]) -> bool {
 
 /// The text of a record, without the blanks at its end, and with a question mark for each character that is not
 /// printable.
-pub(crate) fn card_text(alloc: Global, record: &[u8]) -> Result<String, AllocError> {
+pub fn card_text(alloc: Global, record: &[u8]) -> Result<String, AllocError> {
     let mut text = String::new(alloc);
     for &byte in record {
         text.push(shown_char(byte))?;
@@ -84,11 +84,7 @@ pub(crate) fn card_text(alloc: Global, record: &[u8]) -> Result<String, AllocErr
 
 /// The record, counted from 1, in which the first SET of the zone begins; `None` if there is none. Each command of the
 /// file begins in a new record, as it does in every file whose form the job has accepted.
-pub(crate) fn find_set(
-    alloc: Global,
-    file: &[u8],
-    zone: &str,
-) -> Result<Option<usize>, AllocError> {
+pub fn find_set(alloc: Global, file: &[u8], zone: &str) -> Result<Option<usize>, AllocError> {
     let mut command = CardWords::new(alloc);
     let mut start = None;
     for (place, card) in file.chunks(RECORD).enumerate() {

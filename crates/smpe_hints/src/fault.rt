@@ -13,7 +13,7 @@ use std::alloc::{AllocError, Global};
 
 /// What is wrong with the command that begins in the record: the word at fault, if that shows, otherwise what the code
 /// says of the whole command.
-pub(crate) fn command_fault(
+pub fn command_fault(
     alloc: Global,
     file: &[u8],
     record: usize,
@@ -35,7 +35,7 @@ pub(crate) fn command_fault(
 }
 
 /// What is wrong with the statement that begins in the record, of the file of this option, in the same way.
-pub(crate) fn statement_fault(
+pub fn statement_fault(
     alloc: Global,
     option: &str,
     file: &[u8],

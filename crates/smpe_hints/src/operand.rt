@@ -70,8 +70,8 @@ impl Form {
 
 /// The words as `clap` took them: the value of an option is the next word, or follows its `=`.
 #[derive(Clone, Copy)]
-pub(crate) struct CommandLine<'a> {
-    pub(crate) words: &'a [Vec<u8>],
+pub struct CommandLine<'a> {
+    pub words: &'a [Vec<u8>],
 }
 
 impl<'a> CommandLine<'a> {
@@ -92,7 +92,7 @@ impl<'a> CommandLine<'a> {
 
     /// The value of the first option of this name; `None` if the words do not have the option, or have it without a
     /// value.
-    pub(crate) fn value(self, option: &str) -> Option<&'a str> {
+    pub fn value(self, option: &str) -> Option<&'a str> {
         for place in 0..self.words.len() {
             if let Some((name, value)) = self.option_at(place)
                 && name == option
@@ -104,7 +104,7 @@ impl<'a> CommandLine<'a> {
     }
 
     /// The subcommand; `None` if there is none.
-    pub(crate) fn subcommand(self) -> Option<&'a str> {
+    pub fn subcommand(self) -> Option<&'a str> {
         self.word_at(1)
     }
 

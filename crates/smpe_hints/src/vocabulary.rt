@@ -57,7 +57,7 @@ pub(crate) const BYPASS_MEMBERS: &[&str] = &[
 ];
 
 /// Whether the word begins a command.
-pub(crate) fn is_command(word: &str) -> bool {
+pub fn is_command(word: &str) -> bool {
     is_among(COMMANDS, word)
 }
 

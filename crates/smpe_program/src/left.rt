@@ -1,6 +1,6 @@
 //! The database that a job has left, as the hints ask it.
 use crate::host::DatabaseFiles;
-use smpe_hints::Database;
+use smpe_warnings::Database;
 use sqlite::types::ValueRef;
 use sqlite::{Connection, Row};
 use std::alloc::{AllocError, Global};

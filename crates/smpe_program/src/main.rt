@@ -16,7 +16,7 @@ use command_line::read_words;
 use host::ProgramHost;
 use report::Out;
 use smpe_command::command;
-use smpe_hints::related_name;
+use smpe_warnings::related_name;
 use std::process::ExitCode;
 use telling::{job_warnings, write_hints};
 use watched::{Progress, Watched};

@@ -1,12 +1,12 @@
 //! What in a report needs an explanation.
 use crate::asking::Database;
-use crate::card::{RecordForm, card_text, find_set, has_whole_records, record_bytes};
-use crate::fault::{command_fault, statement_fault};
-use crate::operand::CommandLine;
 use crate::ran::RanCommands;
 use crate::related::{RelatedZone, related_hint};
-use crate::vocabulary::is_command;
 use crate::warnings::run_warnings;
+use smpe_hints::{
+    CommandLine, RecordForm, card_text, command_fault, find_set, has_whole_records, is_command,
+    record_bytes, statement_fault,
+};
 use std::alloc::{AllocError, Global};
 
 /// How many bytes of a line the watch looks at.

@@ -4,10 +4,10 @@ use crate::chosen::{lacking_hint, nothing_hint, unknown_id_hint};
 use crate::deleted::delete_hint;
 use crate::known::{bypass_hints, selection_hints};
 use crate::lowered::lowered_hints;
-use crate::operand::CommandLine;
 use crate::ran::RanCommand;
 use crate::received::{receive_hints, rejected_hint};
 use cntl::{Command, Install, read_cntl};
+use smpe_hints::CommandLine;
 use smpe_invocation::read_date;
 use std::alloc::{AllocError, Global};
 
