@@ -70,7 +70,7 @@ impl RanCommands {
         }
     }
 
-    /// Follows the header of a command. LIST and REPORT are not kept unless they are refused.
+    /// Follows the header of a command. SET and LIST are not kept.
     pub(crate) fn begin(
         &mut self,
         word: &str,
