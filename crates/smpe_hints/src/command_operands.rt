@@ -9,7 +9,7 @@ pub(crate) fn command_operand_hint(
     alloc: Global,
     card_words: &CardWords,
 ) -> Result<Option<String>, AllocError> {
-    let hint = wrong_word_hint(alloc, card_words)?;
+    let hint = command_word_hint(alloc, card_words)?;
     if hint.is_some() {
         return Ok(hint);
     }
@@ -23,8 +23,11 @@ pub(crate) fn command_operand_hint(
     }
 }
 
-// The hint about the first operand or value that is at fault by itself.
-fn wrong_word_hint(alloc: Global, card_words: &CardWords) -> Result<Option<String>, AllocError> {
+/// The hint about the first operand or value that is at fault by itself.
+pub(crate) fn command_word_hint(
+    alloc: Global,
+    card_words: &CardWords,
+) -> Result<Option<String>, AllocError> {
     for word in card_words.words.iter().skip(1) {
         let operand = word.operand.as_str();
         let hint = match &word.value {

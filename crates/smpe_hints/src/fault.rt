@@ -1,6 +1,6 @@
 //! What is wrong with a card, as far as that shows without the grammar.
 use crate::card::record_bytes;
-use crate::command_operands::command_operand_hint;
+use crate::command_operands::{command_operand_hint, command_word_hint};
 use crate::lists::repeated_operand_hint;
 use crate::places::place_hint;
 use crate::statement_operands::statement_operand_hint;
@@ -28,6 +28,7 @@ pub fn command_fault(
         "Cn1" => unknown_command_hint(alloc, name)?,
         "Cn2" => command_operand_hint(alloc, &card_words)?,
         "Cn3" => repeated_operand_hint(alloc, card_words.words.as_slice())?,
+        "Cn4" => command_word_hint(alloc, &card_words)?,
         "Cn5" => form_hint(alloc, &card_words)?,
         _ => None,
     };
@@ -107,9 +108,7 @@ fn unknown_command_hint(alloc: Global, name: &str) -> Result<Option<String>, All
         )?));
     }
     match meant_command(name) {
-        Some(meant) => Ok(Some(format!(in alloc;
-            "{name} is no command; did you mean {meant}? (SET, RECEIVE, REJECT, APPLY, ACCEPT, RESTORE, LIST, REPORT)"
-        )?)),
+        Some(meant) => Ok(Some(format!(in alloc; "{name} is no command; did you mean {meant}?")?)),
         None => Ok(None),
     }
 }
