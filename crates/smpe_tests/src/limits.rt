@@ -112,9 +112,9 @@ const ROWS: [&str; 2] = [
         || syslib || '/' || hex(text) FROM zelem ORDER BY zone, type, name",
 ];
 
-// Appends the bytes of a card of this text in hexadecimal, as the database prints them.
+// Appends the bytes of the card of this text in hexadecimal, as `hex` gives them.
 fn append_hex_card(alloc: Global, text: &mut String, card: &str) -> Result<(), Fail> {
-    for byte in card_file(alloc, card)?.as_slice() {
+    for byte in card_file(alloc, card)? {
         text.push_str(format!(in alloc; "{byte:02X}")?.as_str())?;
     }
     Ok(())

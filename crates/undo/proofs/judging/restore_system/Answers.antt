@@ -70,7 +70,7 @@ pub returns-clause-overs : goal.returns-clause-overs
 returns-clause-overs c =
     subst₂ (λ (v : VerChoice) (known : List (Id × Id)). AreOver (choice v) known) (sym c.in_ok-judged.ensures.vers)
     (sym c.in_ok-judged.ensures.overs)
-    (subst (λ (v : VerChoice). AreOver (choice v) c.into_known-overs.result) c.new-2.ensures
+    (subst (λ (v : VerChoice). AreOver (choice v) c.into_known-overs.result) c.new.ensures
     c.into_known-overs.ensures)
 
 pub returns-clause-bypassed : goal.returns-clause-bypassed
