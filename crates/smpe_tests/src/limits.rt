@@ -122,8 +122,14 @@ fn append_hex_card(alloc: Global, text: &mut String, card: &str) -> Result<(), F
 
 // Appends the row of a data element.
 fn append_element_row(alloc: Global, text: &mut String, number: u32) -> Result<(), Fail> {
-    text.push_str(format!(in alloc; "TGT1/DATA/N{number:05}/HBB1100/HBB1100//ADATA/DATA/")?.as_str())?;
-    append_hex_card(alloc, text, format!(in alloc; "RECORD OF N{number:05}")?.as_str())?;
+    text.push_str(format!(in alloc;
+        "TGT1/DATA/N{number:05}/HBB1100/HBB1100//ADATA/DATA/"
+    )?.as_str())?;
+    append_hex_card(
+        alloc,
+        text,
+        format!(in alloc; "RECORD OF N{number:05}")?.as_str(),
+    )?;
     text.push_str("\n")?;
     Ok(())
 }
