@@ -1,8 +1,12 @@
 use Rattle.std.proofs.Common.{◌≡◌, map, refl}
+use Rattle.sqlite.specs.Held.{state}
+use Rattle.store_rows.specs.Rows.{HasContents}
+use Rattle.store_schema.specs.Tables.{store_schema}
 use Rattle.store_zones.specs.Found.{head_of}
+use Rattle.store_zones.specs.Held.{HoldsHeads}
 use Rattle.store_schema.specs.declared.schema.Schema.TheVariants.{Third}
 use Rattle.store.specs.Whole.{ShowsHeads}
-use Rattle.store.proofs.Loading.{loads_by, rows_told}
+use Rattle.store.proofs.Loading.{for_each, loads_by, rows_told}
 use Rattle.store.proofs.open.Store.zone_heads.Goals as goal
 
 pub returns-clause-loads : goal.returns-clause-loads
@@ -18,7 +22,8 @@ returns-clause-loads g c =
 pub returns-clause-rows : goal.returns-clause-rows
 returns-clause-rows g c clean = rows_told (λ at heads. ShowsHeads g.S.Store at heads.items) c.self.inside.conn
     c.args.self.now c.self.view_is c.zone_heads.result c.map_read_error.result c.map_read_error.ensures
-    (c.zone_heads.ensures.rows clean Third)
+    (for_each (λ contents. HasContents store_schema contents (state g.S.Store c.self.inside.conn).now)
+    (λ contents heads. HoldsHeads contents heads.items) c.zone_heads.result (c.zone_heads.ensures.rows clean Third))
 
 pub invariant_of-self : goal.invariant_of-self
 invariant_of-self g c = (c.zone_heads.ensures.reads Third).mode c.self.invariant
