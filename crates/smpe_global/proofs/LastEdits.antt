@@ -1,25 +1,31 @@
 -- An edit of sources that a later one replaces.
 use Rattle.std.proofs.Common.{◌≡◌, ◌∙◌, zero, Bool, true, false, List, [], ◌∷◌, ◌++◌, map, filter, find, not, reverse, refl, sym}
-use Rattle.std.proofs.Common.{ap, subst, All, Option, None, Some, inl, inr, is_some, if◌then◌else◌, append_assoc, arith}
+use Rattle.std.proofs.Common.{ap, subst, All, Contains, Option, None, Some, inl, inr, is_some, if◌then◌else◌, append_assoc}
+use Rattle.std.proofs.Common.{◌⊎◌, true≢false, arith}
 use Rattle.std.proofs.lemmas.List.{map-append, reverse-append}
-use Rattle.std.proofs.lemmas.List.Elements.{All-map, All-weaker}
+use Rattle.std.proofs.lemmas.List.Elements.{All-contains, All-map, All-weaker}
+use Rattle.std.proofs.lemmas.Map.Text.{is_eq-slice_cmp}
+use Rattle.std.proofs.lemmas.Map.Views.{All-insert_key, Contains-from_any}
+use Rattle.std.specs.Bool.{OnFalse}
+use Rattle.std.specs.BTreeSet.{insert_key}
+use Rattle.std.specs.List.{list_any}
 use Rattle.std.specs.Option.{option_map}
-use Rattle.std.specs.Ordering.{is_lt, nat_cmp}
+use Rattle.std.specs.Ordering.{is_eq, is_lt, nat_cmp}
 use Rattle.std.specs.Cmp.Lexicographic.{slice_cmp}
 use Rattle.std.specs.Str.{bytes_eq}
 use Rattle.terms.specs.Types.{Text, Id, Hold, Sysmod, Global, a_global}
 use Rattle.terms.specs.Rising.{before, behind, with_item}
 use Rattle.terms.specs.Lookups.{sysmod_of, is_received}
 use Rattle.terms.specs.Global.{with_sysmod, without_hold}
-use Rattle.terms.proofs.Each.{All_skip, All_unmap}
+use Rattle.terms.proofs.Each.{All_from_each, All_skip, All_unmap}
 use Rattle.terms.proofs.Searches.{find_map}
-use Rattle.terms.proofs.TextOrder.{same_itself}
+use Rattle.terms.proofs.TextOrder.{same_from}
 use Rattle.sysmods_values.specs.Edited.{with_sources, less_sysmod}
 use Rattle.sysmods.specs.declared.edit.GlobalEdit.{GlobalEdit}
 use Rattle.sysmods.specs.declared.edit.GlobalEdit.TheVariants.{PutHold, RemoveHold, InsertSysmod, ReplaceSources}
 use Rattle.sysmods.specs.declared.edit.GlobalEdit.TheVariants.{RemoveSysmod}
 use Rattle.sysmods.specs.Edits.{with_hold, Fits, after_edit, after_edits, EachFits, IsOfReceive, HasWrittenForm}
-use Rattle.smpe_global.specs.LastEdits.{Replaces, HasLater, MakesSame}
+use Rattle.smpe_global.specs.LastEdits.{Replaces, HasLater, IsLast, MakesSame}
 use Rattle.smpe_global.proofs.Fitting.{fits_first, fits_rest}
 
 -- two functions, one after the other
@@ -110,10 +116,11 @@ module _ (x : Id) where
   inserted r ss =
       let low = λ (s : Sysmod). is_lt (slice_cmp nat_cmp s.id r.id) in
       let high = λ (s : Sysmod). is_lt (slice_cmp nat_cmp r.id s.id) in
-      map-append bare (filter low ss) (r ∷ filter high ss)
-      ∙ ap (λ rs. rs ++ bare r ∷ map bare (filter high ss))
+      map-append bare (filter low ss ++ r ∷ []) (filter high ss)
+      ∙ ap (λ rs. rs ++ map bare (filter high ss)) (map-append bare (filter low ss) (r ∷ []))
+      ∙ ap (λ rs. rs ++ bare r ∷ [] ++ map bare (filter high ss))
       (filtered low (λ s. ap (λ y. is_lt (slice_cmp nat_cmp y r.id)) (given_id x [] s)) ss)
-      ∙ ap (λ rs. filter low (map bare ss) ++ bare r ∷ rs)
+      ∙ ap (λ rs. filter low (map bare ss) ++ bare r ∷ [] ++ rs)
       (filtered high (λ s. ap (λ y. is_lt (slice_cmp nat_cmp r.id y)) (given_id x [] s)) ss)
 
   module _ (stated g h : Global) (alike : Alike g h) where
@@ -151,7 +158,7 @@ module _ (x : Id) where
         }
     after_alike (RemoveSysmod y) =
         let stays = λ (s : Sysmod). not (bytes_eq s.id y) in
-        let same = λ s. ap (λ z. not (bytes_eq z y)) (given_id x [] s) in
+        let same : (s : Sysmod) → stays (bare s) ≡ stays s = λ s. ap (λ z. not (bytes_eq z y)) (given_id x [] s) in
         record {
           sysmods = filtered stays same g.sysmods ∙ ap (filter stays) alike.sysmods
               ∙ sym (filtered stays same h.sysmods);
@@ -217,25 +224,27 @@ module _ (x : Id) where
   agree : (stated g h : Global) (edits : List GlobalEdit) → Alike g h → HasLater edits x
       → (EachFits stated edits g → EachFits stated edits h) × (after_edits stated edits g ≡ after_edits stated edits h)
   agree stated g h [] alike none = absurd none
-  agree stated g h (e ∷ edits) alike has = by has
+  agree stated g h (e ∷ edits) alike has =
+      by (agree stated (after_edit stated g e) (after_edit stated h e) edits (after_alike stated g h alike e)) has
     where
+      Agree : List GlobalEdit → Global → Global → Type 0
+      Agree es a b = (EachFits stated es a → EachFits stated es b) × (after_edits stated es a ≡ after_edits stated es b)
+
       first : EachFits stated (e ∷ edits) g → Fits h e
       first fits = fits_alike stated g h alike e (fits zero e (omega arith) refl)
 
-      by : HasLater (e ∷ edits) x → (EachFits stated (e ∷ edits) g → EachFits stated (e ∷ edits) h)
-          × (after_edits stated (e ∷ edits) g ≡ after_edits stated (e ∷ edits) h)
-      by (inl here) =
+      by : (HasLater edits x → Agree edits (after_edit stated g e) (after_edit stated h e)) → HasLater (e ∷ edits) x
+          → Agree (e ∷ edits) g h
+      by rest (inl here) =
           let same = same_after stated g h e here alike in (
             λ fits. fits_first stated h e edits (first fits)
                 (subst (EachFits stated edits) same (fits_rest stated g e edits fits)),
             ap (after_edits stated edits) same,
           )
-      by (inr later) =
-          let rest = agree stated (after_edit stated g e) (after_edit stated h e) edits
-          (after_alike stated g h alike e) later in (
-            λ fits. fits_first stated h e edits (first fits) (rest.0 (fits_rest stated g e edits fits)),
-            rest.1,
-          )
+      by rest (inr later) = (
+        λ fits. fits_first stated h e edits (first fits) ((rest later).0 (fits_rest stated g e edits fits)),
+        (rest later).1,
+      )
 
   -- An edit of these sources before such edits is not needed.
   module _ (stated : Global) (e : GlobalEdit) (back : List GlobalEdit) (here : Replaces x e)
@@ -269,10 +278,51 @@ same_edits edits = record {
   after = λ stated g. refl;
 }
 
--- the front of the edits, and the last ones of the others in reverse
-pub more : (edits front back new : List GlobalEdit) (e : GlobalEdit) → back ++ e ∷ [] ≡ new
-    → MakesSame edits ((front ++ e ∷ []) ++ reverse back) → MakesSame edits (front ++ reverse new)
-more edits front back new e grown so_far = subst (MakesSame edits) (
-    append_assoc front (e ∷ []) (reverse back)
-    ∙ ap (λ es. front ++ es) (sym (reverse-append back (e ∷ [])))
-    ∙ ap (λ es. front ++ reverse es) grown) so_far
+-- An edit that the set does not have yet is the last, and then the set has it.
+pub is_last_inserted : (e : GlobalEdit) (x : Id) (later new : List Id) (added : Bool) → Replaces x e
+    → added ≡ not (list_any (λ y. is_eq (slice_cmp nat_cmp x y)) later)
+    → new ≡ insert_key (slice_cmp nat_cmp) later x → OnFalse added (new ≡ later)
+    → IsLast e later new added
+is_last_inserted e x later new true here added inserted same =
+    let P = λ y. Replaces y e ⊎ Contains later y in
+    subst (All P) (sym inserted) (All-insert_key (slice_cmp nat_cmp) x P later
+    (All_from_each P later (λ y there. inr there)) (inl here))
+is_last_inserted e x later new false here added inserted same = (same, x, here, there)
+  where
+    compared : Id → Id → Bool
+    compared a b = is_eq (slice_cmp nat_cmp a b)
+
+    met : (b : Bool) → false ≡ not b → b ≡ true
+    met true is = refl
+    met false is = absurd (true≢false (sym is))
+
+    there : Contains later x
+    there = Contains-from_any {eq = compared} (λ a b tied. same_from a b (sym (is_eq-slice_cmp a b) ∙ tied)) x later
+        (met (list_any (compared x) later) added)
+
+-- The edits before an edit, and the last ones of those after it in reverse: it is one more of these,
+pub kept : (edits front back new : List GlobalEdit) (e : GlobalEdit) (later now : List Id)
+    → IsLast e later now true → new ≡ back ++ e ∷ []
+    → MakesSame edits ((front ++ e ∷ []) ++ reverse back) × All (HasLater (reverse back)) later
+    → MakesSame edits (front ++ reverse new) × All (HasLater (reverse new)) now
+kept edits front back new e later now last grown so_far =
+    subst (λ es. MakesSame edits (front ++ es) × All (HasLater es) now)
+    (sym (ap reverse grown ∙ reverse-append back (e ∷ []))) (
+      subst (MakesSame edits) (append_assoc front (e ∷ []) (reverse back)) so_far.0,
+      All-weaker (λ x. Replaces x e ⊎ Contains later x) (HasLater (e ∷ reverse back)) either now last,
+    )
+  where
+    either : (x : Id) → Replaces x e ⊎ Contains later x → HasLater (e ∷ reverse back) x
+    either x (inl here) = inl here
+    either x (inr there) = inr (All-contains (HasLater (reverse back)) later x so_far.1 there)
+
+-- or is left out.
+pub left_out : (edits front back : List GlobalEdit) (e : GlobalEdit) (later now : List Id) → IsLast e later now false
+    → MakesSame edits ((front ++ e ∷ []) ++ reverse back) × All (HasLater (reverse back)) later
+    → MakesSame edits (front ++ reverse back) × All (HasLater (reverse back)) now
+left_out edits front back e later now last so_far = (
+  without edits front e (reverse back) last.1 last.2
+      (All-contains (HasLater (reverse back)) later last.1 so_far.1 last.3)
+      (subst (MakesSame edits) (append_assoc front (e ∷ []) (reverse back)) so_far.0),
+  subst (All (HasLater (reverse back))) (sym last.0) so_far.1,
+)

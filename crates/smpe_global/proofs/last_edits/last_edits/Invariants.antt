@@ -1,4 +1,4 @@
-use Rattle.std.proofs.Common.{◌++◌, All, length, reverse}
+use Rattle.std.proofs.Common.{◌++◌, All, reverse, vec_len}
 use Rattle.smpe_global.specs.LastEdits.{HasLater, MakesSame}
 use Rattle.smpe_global.proofs.last_edits.last_edits.Given as goal
 
@@ -9,4 +9,4 @@ invariant-loop-edit l =
     × All (HasLater (reverse l.last.items)) l.later.keys
 
 abbrev pub decreases-loop-edit : goal.decreases-loop-edit
-decreases-loop-edit l = length l.edits.items
+decreases-loop-edit l = vec_len l.edits
