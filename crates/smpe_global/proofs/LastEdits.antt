@@ -43,7 +43,8 @@ given x sources s = if bytes_eq s.id x then record s { sources = sources } else 
 
 -- All else stays.
 given_same : {Y : Type 0} (f : Sysmod → Y)
-    → ((s : Sysmod) (sources : List Text) → f (record s { sources = sources }) ≡ f s) → (x : Id) (sources : List Text) (s : Sysmod) → f (given x sources s) ≡ f s
+    → ((s : Sysmod) (sources : List Text) → f (record s { sources = sources }) ≡ f s)
+    → (x : Id) (sources : List Text) (s : Sysmod) → f (given x sources s) ≡ f s
 given_same f same x sources s = by (bytes_eq s.id x) refl
   where
     by : (b : Bool) → bytes_eq s.id x ≡ b → f (given x sources s) ≡ f s
@@ -261,7 +262,7 @@ module _ (x : Id) where
     after_without g [] = sym (agree stated (after_edit stated g e) g back (replaced_by stated g e here) later).1
     after_without g (f ∷ front) = after_without (after_edit stated g f) front
 
-pub without : (edits : List GlobalEdit) (front : List GlobalEdit) (e : GlobalEdit) (back : List GlobalEdit) (x : Id)
+without : (edits : List GlobalEdit) (front : List GlobalEdit) (e : GlobalEdit) (back : List GlobalEdit) (x : Id)
     → Replaces x e → HasLater back x → MakesSame edits (front ++ e ∷ back) → MakesSame edits (front ++ back)
 without edits front e back x here later so_far = record {
   receives = λ all. All_skip IsOfReceive front back e (so_far.receives all);
@@ -270,24 +271,16 @@ without edits front e back x here later so_far = record {
   after = λ stated g. after_without x stated e back here later g front ∙ so_far.after stated g;
 }
 
-pub same_edits : (edits : List GlobalEdit) → MakesSame edits edits
-same_edits edits = record {
-  receives = λ all. all;
-  written = λ all. all;
-  fits = λ stated g fits. fits;
-  after = λ stated g. refl;
-}
-
 -- An edit that the set does not have yet is the last, and then the set has it.
 pub is_last_inserted : (e : GlobalEdit) (x : Id) (later new : List Id) (added : Bool) → Replaces x e
     → added ≡ not (list_any (λ y. is_eq (slice_cmp nat_cmp x y)) later)
     → new ≡ insert_key (slice_cmp nat_cmp) later x → OnFalse added (new ≡ later)
     → IsLast e later new added
-is_last_inserted e x later new true here added inserted same =
-    let P = λ y. Replaces y e ⊎ Contains later y in
-    subst (All P) (sym inserted) (All-insert_key (slice_cmp nat_cmp) x P later
+is_last_inserted e x later new true here added grown same =
+    let P : Id → Type 0 = λ y. Replaces y e ⊎ Contains later y in
+    subst (All P) (sym grown) (All-insert_key (slice_cmp nat_cmp) x P later
     (All_from_each P later (λ y there. inr there)) (inl here))
-is_last_inserted e x later new false here added inserted same = (same, x, here, there)
+is_last_inserted e x later new false here added grown same = (same, (x, here, there))
   where
     compared : Id → Id → Bool
     compared a b = is_eq (slice_cmp nat_cmp a b)
@@ -321,8 +314,8 @@ pub left_out : (edits front back : List GlobalEdit) (e : GlobalEdit) (later now 
     → MakesSame edits ((front ++ e ∷ []) ++ reverse back) × All (HasLater (reverse back)) later
     → MakesSame edits (front ++ reverse back) × All (HasLater (reverse back)) now
 left_out edits front back e later now last so_far = (
-  without edits front e (reverse back) last.1 last.2
-      (All-contains (HasLater (reverse back)) later last.1 so_far.1 last.3)
+  without edits front e (reverse back) last.1.0 last.1.1
+      (All-contains (HasLater (reverse back)) later last.1.0 so_far.1 last.1.2)
       (subst (MakesSame edits) (append_assoc front (e ∷ []) (reverse back)) so_far.0),
   subst (All (HasLater (reverse back))) (sym last.0) so_far.1,
 )

@@ -1,4 +1,5 @@
-use Rattle.std.proofs.Common.{◌⊎◌, inr, refl, Contains}
+use Rattle.std.proofs.Common.{◌⊎◌, inr, Contains, sym, ap}
+use Rattle.terms.specs.Types.{Sysmod}
 use Rattle.terms.proofs.Each.{All_from_each}
 use Rattle.smpe_global.specs.LastEdits.{Replaces}
 use Rattle.smpe_global.proofs.LastEdits.{is_last_inserted}
@@ -6,8 +7,9 @@ use Rattle.smpe_global.proofs.last_edits.is_last.Goals as goal
 
 pub returns-in_ok-insert-in-ReplaceSources : goal.returns-in_ok-insert-in-ReplaceSources
 returns-in_ok-insert-in-ReplaceSources c =
-    let x = c.in-ReplaceSources.sysmod.id in
-    let here : Replaces x c.args.edit.now = rw c.in-ReplaceSources.is refl in
+    let x = c.sysmod.inside.id in
+    let here : Replaces x c.args.edit.now = rw c.in-ReplaceSources.is
+    (sym (ap (λ (s : Sysmod). s.id) c.sysmod.view_is)) in
     let inserted = c.in_ok-insert-in-ReplaceSources in
     is_last_inserted c.args.edit.now x c.args.later.now.keys c.insert.new.self.keys inserted.field-0 here
     inserted.ensures.added inserted.ensures.keys inserted.ensures.unchanged

@@ -29,14 +29,14 @@ pub returns-clause-fits : goal.returns-clause-fits
 returns-clause-fits c =
     let now = c.receive_items.new in
     λ stated states. c.in_ok-edits.ensures.fits stated c.args.global.now
-        (all_fit (Runs (TakesItem c.args.source) c.args.global.now (items c.args.ptfin_items.items)) c.args.global.now
-        now.global c.new-change.result now.change c.in_ok-receive_items.ensures c.new-change.ensures.edits
-        stated states)
+    (all_fit (Runs (TakesItem c.args.source) c.args.global.now (items c.args.ptfin_items.items)) c.args.global.now
+    now.global c.new-change.result now.change c.in_ok-receive_items.ensures c.new-change.ensures.edits
+    stated states)
 
 pub returns-clause-edits : goal.returns-clause-edits
 returns-clause-edits c =
     let now = c.receive_items.new in
     λ stated states. c.in_ok-edits.ensures.after stated c.args.global.now
-        ∙ all_after (Runs (TakesItem c.args.source) c.args.global.now (items c.args.ptfin_items.items))
-        c.args.global.now now.global c.new-change.result now.change c.in_ok-receive_items.ensures
-        c.new-change.ensures.edits stated states
+    ∙ all_after (Runs (TakesItem c.args.source) c.args.global.now (items c.args.ptfin_items.items))
+    c.args.global.now now.global c.new-change.result now.change c.in_ok-receive_items.ensures
+    c.new-change.ensures.edits stated states
