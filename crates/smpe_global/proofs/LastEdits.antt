@@ -16,11 +16,11 @@ use Rattle.std.specs.Str.{bytes_eq}
 use Rattle.terms.specs.Types.{Text, Id, Hold, Sysmod, Global, a_global}
 use Rattle.terms.specs.Rising.{before, behind, with_item}
 use Rattle.terms.specs.Lookups.{sysmod_of, is_received}
-use Rattle.terms.specs.Global.{with_sysmod, without_hold}
+use Rattle.terms.specs.Global.{without_hold}
 use Rattle.terms.proofs.Each.{All_from_each, All_skip, All_unmap}
 use Rattle.terms.proofs.Searches.{find_map}
 use Rattle.terms.proofs.TextOrder.{same_from}
-use Rattle.sysmods_values.specs.Edited.{with_sources, less_sysmod}
+use Rattle.sysmods_values.specs.Edited.{with_sources}
 use Rattle.sysmods.specs.declared.edit.GlobalEdit.{GlobalEdit}
 use Rattle.sysmods.specs.declared.edit.GlobalEdit.TheVariants.{PutHold, RemoveHold, InsertSysmod, ReplaceSources}
 use Rattle.sysmods.specs.declared.edit.GlobalEdit.TheVariants.{RemoveSysmod}
