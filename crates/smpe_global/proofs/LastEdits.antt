@@ -13,7 +13,7 @@ use Rattle.std.specs.Option.{option_map}
 use Rattle.std.specs.Ordering.{is_eq, is_lt, nat_cmp}
 use Rattle.std.specs.Cmp.Lexicographic.{slice_cmp}
 use Rattle.std.specs.Str.{bytes_eq}
-use Rattle.terms.specs.Types.{Text, Id, Hold, Sysmod, Global, a_global}
+use Rattle.terms.specs.Types.{Text, Id, Sysmod, Global, a_global}
 use Rattle.terms.specs.Rising.{before, behind, with_item}
 use Rattle.terms.specs.Lookups.{sysmod_of, is_received}
 use Rattle.terms.specs.Global.{without_hold}
