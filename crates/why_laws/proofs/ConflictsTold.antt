@@ -15,8 +15,8 @@ use Rattle.terms.specs.Types.{Id, Change}
 use Rattle.terms.specs.Lookups.{is_in, changes_of, has_change}
 use Rattle.terms.specs.Choice.{npre_of, del_of}
 use Rattle.terms.specs.Over.{chain}
-use Rattle.terms.specs.Tests.{Setting, FailsAlone, PassesAlone, IsChainDeleted, Survives, ShareElement, MayNotShare, Clash}
-use Rattle.terms.specs.Tests.{IsInClash, Fails}
+use Rattle.terms.specs.Tests.{Setting, FailsAlone, PassesAlone, IsChainDeleted, Survives, ShareElement, MayNotShare}
+use Rattle.terms.specs.Tests.{Clash, IsInClash, Fails}
 use Rattle.terms.proofs.ChangedElements.{change_found, change_has}
 use Rattle.terms.proofs.Ids.{is_in_from_Contains, Contains_from_is_in}
 use Rattle.terms.proofs.ListMembers.{here, here_or, none_in, in_filter, filter_in, in_flat, flat_in}
@@ -57,7 +57,8 @@ fails_too s y ChainDeleted fails = absurd fails
 fails_too s y InClash fails = absurd fails
 fails_too s y t fails = fails
 
-by_others_only : (s : Setting) (y : Id) (t : Test) → Fails s y t → ((t : Test) → ¬ FailsAlone s y t) → by_others t ≡ true
+by_others_only : (s : Setting) (y : Id) (t : Test) → Fails s y t → ((t : Test) → ¬ FailsAlone s y t)
+    → by_others t ≡ true
 by_others_only s y ChainDeleted fails alone = refl
 by_others_only s y InClash fails alone = refl
 by_others_only s y t fails alone = absurd (alone t fails)
@@ -279,8 +280,8 @@ module _ (s : Setting) (lines : List Line) (are : AreLinesOf s lines) where
             | inr later ↦
                 let from = flat_in (clashes_with s x) all.partners k later in
                 let p = from.0 in
-                let it = in_beside (λ n y p. IsPartner s x y p) (clashing lines x) all.partners all.are_partners p from.1
-                in
+                let it = in_beside (λ n y p. IsPartner s x y p) (clashing lines x) all.partners all.are_partners p
+                from.1 in
                 let rival = subst (IsRival s x) (sym it.3.0) (clashing_in it.0 it.2) in
                 let apart = subst (λ y. IsApart s x y p.apart) (sym it.3.0) it.3.1 in
                 clash_says p rival apart k from.2
@@ -359,8 +360,8 @@ module _ (s : Setting) (lines : List Line) (are : AreLinesOf s lines) where
                 cons_some 32 _,
               )
 
-      clash_told_by : (p : Partner) → Contains all.partners p → (y : Id) → p.id ≡ y → IsApart s x y p.apart → Clash s x y
-          → IsToldBy InClash
+      clash_told_by : (p : Partner) → Contains all.partners p → (y : Id) → p.id ≡ y → IsApart s x y p.apart
+          → Clash s x y → IsToldBy InClash
       clash_told_by p is y same apart (inl names) =
           partner_told p is (Forbids p.id) (Contains-append_left _ (shares s x p.id p.apart) _
           (Contains-append_left _ _ _ (in_one (is_in (npre_of s.choice x) p.id) (Forbids p.id)

@@ -18,8 +18,8 @@ use Rattle.terms.specs.Tests.{Setting, view_of, has_candidate_base}
 use Rattle.report.specs.Facts.{AreFacts, standing_facts, ver_facts, numbered_facts, Requisite, requisites, holds_on}
 use Rattle.report.specs.Facts.{IsRequisiteFact, IsHoldFact, IsElementFact, IsResolution, HasResolution}
 use Rattle.report.specs.Facts.{ElementLevel, IsElementLevel, HasElementLevel, delete_facts, npre_facts, forbids}
-use Rattle.report.specs.Facts.{Fact, SupersederFact, EntryFact, VerFact, RequisiteFact, HoldFact, ElementFact, DeleteFact}
-use Rattle.report.specs.Facts.{TakesFact, NpreFact, ForbiddenFact, NeededFact}
+use Rattle.report.specs.Facts.{Fact, SupersederFact, EntryFact, VerFact, RequisiteFact, HoldFact, ElementFact}
+use Rattle.report.specs.Facts.{DeleteFact, TakesFact, NpreFact, ForbiddenFact, NeededFact}
 
 -- what stands beside a member, and what a member stands beside
 pub beside_in : {X Y : Type 0} (R : ℕ → X → Y → Type 0) (xs : List X) (ys : List Y) → Beside R xs ys → (v : X)
@@ -38,7 +38,8 @@ in_beside R xs ys beside w is =
 
 -- ---- the ++VERs
 
-numbered_say : (fit : Ver → Bool) (counts n : ℕ) (vs : List Ver) (f : Fact) → Contains (numbered_facts fit counts n vs) f
+numbered_say : (fit : Ver → Bool) (counts n : ℕ) (vs : List Ver) (f : Fact)
+    → Contains (numbered_facts fit counts n vs) f
     → (k : ℕ) × (v : Ver) × (slice_get vs k ≡ Some v) × (VerFact (n + k) v.fmid (fit v) (n + k == counts) ≡ f)
 numbered_say fit counts n [] f is = absurd (none_in f is)
 numbered_say fit counts n (v ∷ vs) f is =
@@ -136,8 +137,8 @@ module _ (s : Setting) (x : Id) (facts : List Fact) (are : AreFacts s x facts) w
             of.requisites_are f first in
             subst (Says s x) (sym it.3.1) it.3.2
         | inr later ↦
-            let it = in_beside (λ n h fact. IsHoldFact s x h fact) (holds_on s.global x) of.of_holds of.holds_are f later
-            in
+            let it = in_beside (λ n h fact. IsHoldFact s x h fact) (holds_on s.global x) of.of_holds of.holds_are f
+            later in
             subst (Says s x) (sym it.3.1) (it.2, it.3.2)
       ]
 

@@ -1,6 +1,6 @@
 -- Each open need of a candidate has an answer among its facts, which witnesses it.
-use Rattle.std.proofs.Common.{◌≡◌, ◌≢◌, ◌∙◌, ◌⊎◌, inl, inr, Bool, true, false, not, List, [], ◌∷◌, ◌++◌, Option, None, Some}
-use Rattle.std.proofs.Common.{map, filter, Contains, IsTrue, All, refl, sym, ap, subst, subst₂, true≢false}
+use Rattle.std.proofs.Common.{◌≡◌, ◌≢◌, ◌∙◌, ◌⊎◌, inl, inr, Bool, true, false, not, List, [], ◌∷◌, ◌++◌, Option}
+use Rattle.std.proofs.Common.{None, Some, map, filter, Contains, IsTrue, All, refl, sym, ap, subst, subst₂, true≢false}
 use Rattle.std.specs.Prelude.{◌↔◌, ◌&&◌, ◌||◌, ◌==◌, if◌then◌else◌}
 use Rattle.std.specs.List.{flat_map}
 use Rattle.std.specs.Option.{option_map_or}
@@ -26,7 +26,8 @@ use Rattle.terms.specs.Tests.{Setting, view_of, is_bypassed_hold, standing_holds
 use Rattle.terms.specs.Needs.{asked, orphans, is_met, zone_left, Needs}
 use Rattle.terms.proofs.Each.{All_from_each}
 use Rattle.terms.proofs.Ids.{is_in_from_Contains, Contains_from_is_in}
-use Rattle.terms.proofs.ListMembers.{here, there, here_or, none_in, in_map, map_in, in_filter, filter_in, in_flat, flat_in}
+use Rattle.terms.proofs.ListMembers.{here, there, here_or, none_in, in_map, map_in, in_filter, filter_in, in_flat}
+use Rattle.terms.proofs.ListMembers.{flat_in}
 use Rattle.terms.proofs.Nil.{nil_from}
 use Rattle.terms.proofs.Searches.{some_passes, passes_some}
 use Rattle.terms.proofs.TextOrder.{same_from, same_itself}
@@ -228,7 +229,8 @@ module _ (s : Setting) (is_zone : IsZone s.zone) (survivors : List Id) (x : Id) 
               by false [] e = refl
               by false (w ∷ ws) e = absurd (true≢false e)
 
-          gone : (b : Bool) → is_taken_out s.global s.choice all s.zone y ≡ b → Contains (supby_of s.zone z) y → b ≡ true
+          gone : (b : Bool) → is_taken_out s.global s.choice all s.zone y ≡ b → Contains (supby_of s.zone z) y
+              → b ≡ true
           gone true at was = refl
           gone false at was = absurd (none_in y (subst (λ ids. Contains ids y)
               (sym (supby_of_less s.global s.choice all s.zone is_zone z) ∙ none)
@@ -241,7 +243,8 @@ module _ (s : Setting) (is_zone : IsZone s.zone) (survivors : List Id) (x : Id) 
     pub answer_witnesses : (kind : NeedKind) (z : Id) → is_met (zone_left s survivors) kind z ≡ false → (r : Requisite)
         → r.kind ≡ kind → r.id ≡ z → (a : Resolution) → IsResolution s x r a → WitnessesNeed s survivors x kind z a
     answer_witnesses kind z unmet r of_kind of_id (Supplied ids) (met, are) =
-        let met' : is_met (left_by s x) kind z ≡ true = subst₂ (λ k v. is_met (left_by s x) k v ≡ true) of_kind of_id met in
+        let met' : is_met (left_by s x) kind z ≡ true =
+        subst₂ (λ k v. is_met (left_by s x) k v ≡ true) of_kind of_id met in
         let are' : ids ≡ suppliers (left_by s x) kind z =
         subst₂ (λ k v. ids ≡ suppliers (left_by s x) k v) of_kind of_id are in (
           subst (λ l. l ≢ []) (sym are') (met_by_some (left_by s x) kind z met'),
@@ -359,7 +362,8 @@ module _ (s : Setting) (x : Id) (cand : Contains s.cands x) (facts : List Fact) 
   stated_if : (b : Bool) (ids : List Id) (z : Id)
       → Contains (if b then flat_map (if_reqs s.choice (bytes_eq x)) ids else []) z
       → Contains (if_reqs s.choice present x) z
-      ⊎ HasIf (if b then flat_map (conditions_of s.choice (bytes_eq x)) (filter (λ y. not (bytes_eq x y)) ids) else []) z
+      ⊎ HasIf (if b then flat_map (conditions_of s.choice (bytes_eq x)) (filter (λ y. not (bytes_eq x y)) ids)
+      else []) z
   stated_if true ids z is =
       let at = flat_in (if_reqs s.choice (bytes_eq x)) ids z is in
       by at.0 at.1 at.2 (bytes_eq x at.0) refl
@@ -417,11 +421,13 @@ module _ (s : Setting) (x : Id) (cand : Contains s.cands x) (facts : List Fact) 
   error_answered : (h : Hold) → Contains (standing_holds s Error x) h → IsAnswered HoldError h.reason
   error_answered h is =
       let held = (filter_in (λ (h : Hold). not (is_bypassed_hold s.bypass h)) (holds_of s.global Error x) h is).0 in
-      let on = Contains-append_left (holds_of s.global Error x ++ holds_of s.global System x) (holds_of s.global User x) h
-      (Contains-append_left (holds_of s.global Error x) (holds_of s.global System x) h held) in
+      let on = Contains-append_left (holds_of s.global Error x ++ holds_of s.global System x)
+      (holds_of s.global User x) h (Contains-append_left (holds_of s.global Error x) (holds_of s.global System x) h
+      held) in
       let it = has_hold s x facts are h on in
       let of_kind = and_parts (bytes_eq h.id x) (hold_number h.kind == hold_number Error)
-      (filter_in (λ (h : Hold). bytes_eq h.id x && (hold_number h.kind == hold_number Error)) s.global.holds h held).1 in
+      (filter_in (λ (h : Hold). bytes_eq h.id x && (hold_number h.kind == hold_number Error)) s.global.holds h
+      held).1 in
       let res = resolution h.kind of_kind.1 it.2.0 it.2.2 in (
         it.0,
         res.0,

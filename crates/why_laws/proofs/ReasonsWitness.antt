@@ -204,12 +204,14 @@ module _ (g : Global) (is_global : IsGlobal g) (zone : Zone) (is_zone : IsZone z
   eligible y is = let stays = (prints.installs.decides.kept.members y).0 is in stays.1.eligible y stays.2
 
   of_lines : AreLinesOf s lines
-  of_lines = subst (λ it. AreLinesOf it lines) setting_is (lines_of d sel is_sound eligible lines prints.installs.lines_are)
+  of_lines = subst (λ it. AreLinesOf it lines) setting_is
+      (lines_of d sel is_sound eligible lines prints.installs.lines_are)
 
   -- what is told of x
   told_of : (x : Id) (text : Text) (code : ℕ) (told : IsToldOf (among g zone cands a.bypass x) lines x text code)
       (place : Place) (f : Failure) → Contains lines (StatusLine x place (Failed f))
-      → IsWitnessed s d.survivors x (record { bypass = a.bypass; facts = told.facts; conflicts = told.conflicts; lines = lines }) f
+      → IsWitnessed s d.survivors x
+      (record { bypass = a.bypass; facts = told.facts; conflicts = told.conflicts; lines = lines }) f
   told_of x text code told place f there =
       let fit : Contains s.cands x × NamesTests s x (Failed f)
       × ((n : OpenNeed) → Contains f.needs n → Needs s d.survivors x n.kind n.id) =

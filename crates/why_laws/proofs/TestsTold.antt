@@ -1,6 +1,7 @@
 -- The facts that are told of a failed test witness it, and each failed test has one, or a conflict.
 use Rattle.std.proofs.Common.{◌≡◌, ◌≢◌, ◌∙◌, ◌⊎◌, inl, inr, ◌-◌, ◌<◌, ◌+◌, Bool, true, false, not, List, [], ◌∷◌, ◌++◌}
-use Rattle.std.proofs.Common.{Option, None, Some, map, filter, find, length, Contains, IsTrue, All, refl, sym, ap, subst}
+use Rattle.std.proofs.Common.{Option, None, Some, map, filter, find, length, Contains, IsTrue, All, refl, sym, ap}
+use Rattle.std.proofs.Common.{subst}
 use Rattle.std.proofs.Common.{subst₂, true≢false, eq-eqb, arith, slice_get, is_some, ◌≤◌}
 use Rattle.std.specs.Prelude.{◌&&◌, ◌==◌, codes}
 use Rattle.std.specs.List.{flat_map}
@@ -198,7 +199,8 @@ module _ (s : Setting) (is_global : IsGlobal s.global) (is_zone : IsZone s.zone)
 
   -- the element of a fact, as the view has it
   changes : (h : Change) (type : ElemType) (name : Text) (e : Element) → Contains (changes_of s.global x) h
-      → h.elem_type ≡ type → h.name ≡ name → element_of (view_of s x) type name ≡ Some e → ChangesElement s x type name e
+      → h.elem_type ≡ type → h.name ≡ name → element_of (view_of s x) type name ≡ Some e
+      → ChangesElement s x type name e
   changes h type name e is of_type of_name at = (
     subst₂ (λ t n. IsTrue (has_change s.global x t n)) of_type of_name (change_has s.global x h is),
     at,
@@ -248,7 +250,8 @@ module _ (s : Setting) (is_global : IsGlobal s.global) (is_zone : IsZone s.zone)
   lacking (ElementFact type name replaces brought None) (h, is, t, n, r, b, has) some =
       let both = and_parts (not replaces) (not brought) (true_if (not replaces && not brought) _ some) in
       let updates : IsTrue (has_update s.global x h.elem_type h.name) =
-      ap (λ o. option_map_or (λ (h : Change). not (is_replacement h.action)) o false) (change_own s.global is_global x h is)
+      ap (λ o. option_map_or (λ (h : Change). not (is_replacement h.action)) o false)
+      (change_own s.global is_global x h is)
       ∙ ap not r ∙ both.0 in (
         subst₂ (λ t n. IsTrue (has_update s.global x t n)) t n updates,
         level_none s x (element_of (view_of s x) type name) has,
@@ -441,7 +444,8 @@ module _ (s : Setting) (is_global : IsGlobal s.global) (is_zone : IsZone s.zone)
       some_if (is_in (chain s.global s.choice x) z) 32 _ (is_in_from_Contains (chain s.global s.choice x) z within),
     )
 
-    several_told : 2 ≤ length (filter (fits s.zone (is_in s.cands)) (vers_of s.global s.zone.srel x)) → IsTold SeveralFit
+    several_told : 2 ≤ length (filter (fits s.zone (is_in s.cands)) (vers_of s.global s.zone.srel x))
+        → IsTold SeveralFit
     several_told several =
         let one = some_member (filter (fits s.zone (is_in s.cands)) (vers_of s.global s.zone.srel x))
         (λ none. omega (arith, several, ap length none)) in
@@ -457,8 +461,9 @@ module _ (s : Setting) (is_global : IsGlobal s.global) (is_zone : IsZone s.zone)
     -- a test that looks only at x, except NotInTarget
     pub told_alone : (t : Test) → by_target t ≡ false → FailsAlone s x t → IsTold t
     told_alone HeldBySystem of fails = hold_told HeldBySystem System kind_system
-        (λ h is. Contains-append_left (holds_of s.global Error x ++ holds_of s.global System x) (holds_of s.global User x)
-        h (Contains-append_right (holds_of s.global Error x) (holds_of s.global System x) h is)) fails
+        (λ h is. Contains-append_left (holds_of s.global Error x ++ holds_of s.global System x)
+        (holds_of s.global User x) h (Contains-append_right (holds_of s.global Error x) (holds_of s.global System x) h
+        is)) fails
     told_alone HeldByUser of fails = hold_told HeldByUser User kind_user
         (λ h is. Contains-append_right (holds_of s.global Error x ++ holds_of s.global System x)
         (holds_of s.global User x) h is) fails

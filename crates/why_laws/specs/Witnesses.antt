@@ -14,10 +14,11 @@ use Rattle.terms.specs.Choice.{vers_of, fits, npre_of, del_of}
 use Rattle.terms.specs.Over.{IsOver, chain}
 use Rattle.terms.specs.Changes.{has_update}
 use Rattle.terms.specs.Deleted.{is_taken_out}
-use Rattle.terms.specs.Tests.{Setting, view_of, owner_of, standing_holds, has_candidate_base, PassesAlone, Survives, Fails}
+use Rattle.terms.specs.Tests.{Setting, view_of, owner_of, standing_holds, has_candidate_base, PassesAlone, Survives}
+use Rattle.terms.specs.Tests.{Fails}
 use Rattle.machine.specs.Outcome.{Status, Failed, Failure, OpenNeed, Line, StatusLine, Place}
-use Rattle.report.specs.Facts.{MayServe, Resolution, Supplied, Waived, ByItself, Open, is_over, Maker, ElementLevel, Fact}
-use Rattle.report.specs.Facts.{VerFact, HoldFact, ElementFact, DeleteFact, NpreFact, ForbiddenFact}
+use Rattle.report.specs.Facts.{MayServe, Resolution, Supplied, Waived, ByItself, Open, is_over, Maker, ElementLevel}
+use Rattle.report.specs.Facts.{Fact, VerFact, HoldFact, ElementFact, DeleteFact, NpreFact, ForbiddenFact}
 use Rattle.why_verdict.specs.declared.conflict.Conflict.{Conflict}
 use Rattle.why_verdict.specs.declared.conflict.Conflict.TheVariants.{Deletes, Forbids, ForbiddenBy, Shares}
 use Rattle.why_verdict.specs.Conflicts.{IsApart}
