@@ -1,27 +1,24 @@
 -- The conflicts that are told of a failed test witness it, and each test that other candidates decide has one.
-use Rattle.std.proofs.Common.{◌≡◌, ◌≢◌, ◌∙◌, ◌⊎◌, inl, inr, Bool, true, false, not, List, [], ◌∷◌, ◌++◌, Option, None}
+use Rattle.std.proofs.Common.{◌≡◌, ◌≢◌, ◌∙◌, inl, inr, Bool, true, false, not, List, [], ◌∷◌, ◌++◌, Option, None}
 use Rattle.std.proofs.Common.{Some, Contains, IsTrue, refl, sym, ap, subst, subst₂, true≢false}
 use Rattle.std.specs.Prelude.{◌↔◌, if◌then◌else◌}
 use Rattle.std.specs.List.{flat_map}
 use Rattle.std.specs.Str.{bytes_eq}
 use Rattle.std.proofs.lemmas.Bool.{not-true, not_from_false}
 use Rattle.std.proofs.lemmas.List.Elements.{Contains-append_left, Contains-append_right, Contains-append_cases}
-use Rattle.terms.specs.Beside.{Beside}
 use Rattle.terms.specs.declared.codes.Test.{Test}
-use Rattle.terms.specs.declared.codes.Test.TheVariants.{HeldBySystem, HeldByUser, ForbiddenByNpre, OwnedByAnother}
-use Rattle.terms.specs.declared.codes.Test.TheVariants.{Regression, NothingToUpdate, NotInTarget, ChainDeleted}
-use Rattle.terms.specs.declared.codes.Test.TheVariants.{InClash, AlreadyAccepted, HasDelete, OtherLevel, SeveralFit}
-use Rattle.terms.specs.Types.{Id, Change}
+use Rattle.terms.specs.declared.codes.Test.TheVariants.{ChainDeleted, InClash}
+use Rattle.terms.specs.Types.{Id}
 use Rattle.terms.specs.Lookups.{is_in, changes_of, has_change}
 use Rattle.terms.specs.Choice.{npre_of, del_of}
 use Rattle.terms.specs.Over.{chain}
-use Rattle.terms.specs.Tests.{Setting, FailsAlone, PassesAlone, IsChainDeleted, Survives, ShareElement, MayNotShare}
+use Rattle.terms.specs.Tests.{Setting, FailsAlone, PassesAlone, IsChainDeleted, ShareElement, MayNotShare}
 use Rattle.terms.specs.Tests.{Clash, IsInClash, Fails}
 use Rattle.terms.proofs.ChangedElements.{change_found, change_has}
 use Rattle.terms.proofs.Ids.{is_in_from_Contains, Contains_from_is_in}
 use Rattle.terms.proofs.ListMembers.{here, here_or, none_in, in_filter, filter_in, in_flat, flat_in}
 use Rattle.terms.proofs.Searches.{some_passes, passes_some, passes_all, all_pass}
-use Rattle.terms.proofs.TextOrder.{same_or_not, same_itself, other_text}
+use Rattle.terms.proofs.TextOrder.{same_itself, other_text}
 use Rattle.machine.specs.Outcome.{Status, Applied, Accepted, Superseded, Failed, Line, StatusLine, Place}
 use Rattle.why_verdict.specs.declared.conflict.Apart.{Apart}
 use Rattle.why_verdict.specs.declared.conflict.Conflict.{Conflict}

@@ -1,12 +1,10 @@
 -- Each open need of a candidate has an answer among its facts, which witnesses it.
 use Rattle.std.proofs.Common.{◌≡◌, ◌≢◌, ◌∙◌, ◌⊎◌, inl, inr, Bool, true, false, not, List, [], ◌∷◌, ◌++◌, Option}
-use Rattle.std.proofs.Common.{None, Some, map, filter, Contains, IsTrue, All, refl, sym, ap, subst, subst₂, true≢false}
+use Rattle.std.proofs.Common.{None, Some, map, filter, Contains, refl, sym, ap, subst, subst₂, true≢false}
 use Rattle.std.specs.Prelude.{◌↔◌, ◌&&◌, ◌||◌, ◌==◌, if◌then◌else◌}
 use Rattle.std.specs.List.{flat_map}
-use Rattle.std.specs.Option.{option_map_or}
 use Rattle.std.specs.Str.{bytes_eq}
-use Rattle.std.proofs.lemmas.Bool.{and_parts, and_from, or_left, or_right, or_cases, not-true, not_from_false}
-use Rattle.std.proofs.lemmas.Bool.{false_from_ne_true}
+use Rattle.std.proofs.lemmas.Bool.{and_parts, and_from, or_left, or_right, not-true, not_from_false}
 use Rattle.std.proofs.lemmas.List.{append-nil}
 use Rattle.std.proofs.lemmas.List.Elements.{Contains-append_left, Contains-append_right, Contains-append_cases}
 use Rattle.std.proofs.lemmas.Option.{same_Some}
@@ -15,27 +13,26 @@ use Rattle.terms.specs.declared.kinds.HoldKind.TheVariants.{Error, System, User}
 use Rattle.terms.specs.declared.codes.NeedKind.{NeedKind}
 use Rattle.terms.specs.declared.codes.NeedKind.TheVariants.{Fmid, Pre, Req, Ifreq, HoldError, Orphan, Elem, Dep}
 use Rattle.terms.specs.Types.{Id, IfReq, Hold, Global, Zone, hold_number}
-use Rattle.terms.specs.Lookups.{IsZone, is_nil, is_in, meets, is_function, holds_of, is_applied, is_supplied, supplies}
-use Rattle.terms.specs.Lookups.{supby_of, applied_ids, waived_of}
+use Rattle.terms.specs.Lookups.{IsZone, is_nil, is_in, is_function, holds_of, is_applied, is_supplied, supplies}
+use Rattle.terms.specs.Lookups.{supby_of, applied_ids}
 use Rattle.terms.specs.Choice.{Choice, ifs_of, del_of}
 use Rattle.terms.specs.Conditions.{if_reqs}
 use Rattle.terms.specs.Over.{chain}
-use Rattle.terms.specs.Deleted.{deletions, is_deleted, is_taken_out, zone_less}
+use Rattle.terms.specs.Deleted.{deletions, is_deleted, is_taken_out}
 use Rattle.terms.specs.Spelling.{need_text}
 use Rattle.terms.specs.Tests.{Setting, view_of, is_bypassed_hold, standing_holds}
-use Rattle.terms.specs.Needs.{asked, orphans, is_met, zone_left, Needs}
+use Rattle.terms.specs.Needs.{asked, orphans, is_met, zone_left}
 use Rattle.terms.proofs.Each.{All_from_each}
 use Rattle.terms.proofs.Ids.{is_in_from_Contains, Contains_from_is_in}
 use Rattle.terms.proofs.ListMembers.{here, there, here_or, none_in, in_map, map_in, in_filter, filter_in, in_flat}
 use Rattle.terms.proofs.ListMembers.{flat_in}
-use Rattle.terms.proofs.Nil.{nil_from}
 use Rattle.terms.proofs.Searches.{some_passes, passes_some}
 use Rattle.terms.proofs.TextOrder.{same_from, same_itself}
 use Rattle.zones.proofs.Lookups.{is_applied_less, supby_of_less}
 use Rattle.report.specs.Facts.{AreFacts, Requisite, a_requisite, requisites_of, requisites, stated_by, conditions_of}
-use Rattle.report.specs.Facts.{conditions, holds_on, is_waived, is_waivable, suppliers, left_by, MayServe}
+use Rattle.report.specs.Facts.{conditions, is_waivable, suppliers, left_by, MayServe}
 use Rattle.report.specs.Facts.{Resolution, Supplied, Waived, ByItself, Open, IsResolution, HasResolution}
-use Rattle.report.specs.Facts.{Fact, RequisiteFact, HoldFact, IsRequisiteFact}
+use Rattle.report.specs.Facts.{Fact, RequisiteFact, HoldFact}
 use Rattle.why_verdict.specs.Verdict.{answered, or_other, first_answer}
 use Rattle.why_laws.specs.Witnesses.{IsTakenFrom, WitnessesNeed}
 use Rattle.why_laws.proofs.FactsSay.{Says, says, has_requisite, has_hold}

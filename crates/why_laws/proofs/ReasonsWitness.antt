@@ -1,9 +1,8 @@
 -- What `smpe why` tells of a failure witnesses it: the lines of an install name the tests that each candidate fails.
-use Rattle.std.proofs.Common.{◌≡◌, ◌∙◌, inl, inr, ℕ, Bool, true, false, not, List, Option, None, Some, map, filter}
+use Rattle.std.proofs.Common.{◌≡◌, ◌∙◌, inl, inr, ℕ, Bool, true, false, not, List, Option, None, map}
 use Rattle.std.proofs.Common.{Contains, IsTrue, refl, sym, ap, subst, true≢false}
 use Rattle.std.specs.Prelude.{◌||◌}
-use Rattle.std.specs.List.{flat_map}
-use Rattle.std.proofs.lemmas.Bool.{and_parts, not-true}
+use Rattle.std.proofs.lemmas.Bool.{and_parts}
 use Rattle.terms.specs.declared.kinds.ZoneKind.{ZoneKind}
 use Rattle.terms.specs.declared.kinds.ZoneKind.TheVariants.{Target, Distribution}
 use Rattle.terms.specs.declared.codes.NeedKind.{NeedKind}
@@ -11,27 +10,25 @@ use Rattle.terms.specs.declared.codes.Test.{Test}
 use Rattle.terms.specs.declared.codes.Test.TheVariants.{ChainDeleted, InClash}
 use Rattle.terms.specs.declared.not_chosen.NotChosen.{NotChosen}
 use Rattle.terms.specs.declared.not_chosen.NotChosen.TheVariants as out
-use Rattle.terms.specs.Types.{Text, Id, Global, Zone, Bypass, Selection}
+use Rattle.terms.specs.Types.{Text, Id, Global, Zone, Selection}
 use Rattle.terms.specs.Lookups.{IsZone, is_nil, is_applied, supby_of}
 use Rattle.terms.specs.Choice.{counting}
-use Rattle.terms.specs.Candidates.{AreCandidates}
 use Rattle.terms.specs.Failures.{all_tests, all_needs}
 use Rattle.terms.specs.Global.{IsGlobal}
 use Rattle.terms.specs.Install.{TakesEffect}
 use Rattle.terms.specs.Judged.{setting, install_judging}
 use Rattle.terms.specs.Needs.{Needs, asked}
-use Rattle.terms.specs.Tests.{Setting, FailsAlone, Fails, IsEligible, AreSurvivors}
+use Rattle.terms.specs.Tests.{Setting, Fails, IsEligible, AreSurvivors}
 use Rattle.terms.proofs.Ids.{in_or_not}
 use Rattle.terms.proofs.ListMembers.{flat_in, in_filter, filter_in, in_map, map_in}
 use Rattle.machine.specs.Outcome.{Status, Superseded, Failed, Failure, OpenNeed, Line, StatusLine, Place}
 use Rattle.machine.specs.Receiving.{place_of}
-use Rattle.machine.specs.Installing.{IsFailure, Decision, IsDecision, HasStatus, IsInstalled, IsSuperseded, IsFailed}
+use Rattle.machine.specs.Installing.{IsFailure, Decision, HasStatus, IsInstalled, IsSuperseded, IsFailed}
 use Rattle.machine.specs.Installing.{IsNotChosen, installed_status, not_chosen_status, AreInstallLines}
-use Rattle.machine.specs.Installing.{InstallsSelected}
 use Rattle.change.proofs.ChosenVers.{counting_for, names_no_loop}
 use Rattle.report.specs.Facts.{AreFacts, among, with_id}
 use Rattle.why_verdict.specs.Conflicts.{AreConflicts}
-use Rattle.why_verdict.specs.Verdict.{is_candidate, Basis}
+use Rattle.why_verdict.specs.Verdict.{is_candidate}
 use Rattle.why_laws.specs.Witnesses.{NamesTests, AreLinesOf, IsWitnessed}
 use Rattle.why_laws.proofs.Witnessed.{witnessed}
 use Rattle.machine_laws.proofs.Causes.{each_test, failure_stably}

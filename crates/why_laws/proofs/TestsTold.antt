@@ -1,5 +1,5 @@
 -- The facts that are told of a failed test witness it, and each failed test has one, or a conflict.
-use Rattle.std.proofs.Common.{◌≡◌, ◌≢◌, ◌∙◌, ◌⊎◌, inl, inr, ◌-◌, ◌<◌, ◌+◌, Bool, true, false, not, List, [], ◌∷◌, ◌++◌}
+use Rattle.std.proofs.Common.{◌≡◌, ◌≢◌, ◌∙◌, ◌⊎◌, inl, inr, ◌-◌, ◌+◌, Bool, true, false, not, List, [], ◌∷◌, ◌++◌}
 use Rattle.std.proofs.Common.{Option, None, Some, map, filter, find, length, Contains, IsTrue, All, refl, sym, ap}
 use Rattle.std.proofs.Common.{subst}
 use Rattle.std.proofs.Common.{subst₂, true≢false, eq-eqb, arith, slice_get, is_some, ◌≤◌}
@@ -9,7 +9,7 @@ use Rattle.std.specs.Option.{option_map_or}
 use Rattle.std.specs.Str.{bytes_eq}
 use Rattle.std.specs.Ordering.{nat_cmp}
 use Rattle.std.specs.Cmp.Lexicographic.{slice_cmp}
-use Rattle.std.proofs.lemmas.Bool.{and_parts, and_from, not-true, not_from_false, false_from_ne_true}
+use Rattle.std.proofs.lemmas.Bool.{and_parts, and_from}
 use Rattle.std.proofs.lemmas.Cmp.{tied_itself}
 use Rattle.std.proofs.lemmas.List.Elements.{Contains-append_left, Contains-append_right, Contains-append_cases}
 use Rattle.std.proofs.lemmas.List.Kept.{AllPairs-filter}
@@ -20,7 +20,7 @@ use Rattle.terms.specs.declared.codes.Test.{Test}
 use Rattle.terms.specs.declared.codes.Test.TheVariants.{HeldBySystem, HeldByUser, ForbiddenByNpre, OwnedByAnother}
 use Rattle.terms.specs.declared.codes.Test.TheVariants.{Regression, NothingToUpdate, NotInTarget, ChainDeleted}
 use Rattle.terms.specs.declared.codes.Test.TheVariants.{InClash, AlreadyAccepted, HasDelete, OtherLevel, SeveralFit}
-use Rattle.terms.specs.Types.{Text, Id, Ver, Hold, Change, Global, Entry, Element, Zone, hold_number}
+use Rattle.terms.specs.Types.{Text, Id, Hold, Change, Global, Entry, Element, Zone, hold_number}
 use Rattle.terms.specs.Lookups.{IsZone, has_content, is_before, is_in, has_change, changes_of, change_of, change_key}
 use Rattle.terms.specs.Lookups.{holds_of, element_of, element_cmp, element_eq, is_applied, is_function, applied_ids}
 use Rattle.terms.specs.Rising.{Rises}
@@ -37,17 +37,17 @@ use Rattle.terms.proofs.ChangedElements.{change_there, change_found, change_has,
 use Rattle.terms.proofs.Each.{All_from_each}
 use Rattle.terms.proofs.ElementOrder.{element_cmp_total, element_ties}
 use Rattle.terms.proofs.Ids.{is_in_from_Contains, Contains_from_is_in}
-use Rattle.terms.proofs.ListMembers.{here, there, here_or, none_in, in_map, map_in, in_filter, filter_in, parts}
+use Rattle.terms.proofs.ListMembers.{here, there, here_or, in_map, map_in, in_filter, filter_in, parts}
 use Rattle.terms.proofs.Pairs.{pairs_map}
 use Rattle.terms.proofs.RisingLists.{find_there, Splits_around}
 use Rattle.terms.proofs.TextOrder.{same_itself, other_text}
-use Rattle.report.specs.Facts.{AreFacts, IsResolution, Resolution, Relation, Itself, Over, NotOver, is_over, IsRelation}
-use Rattle.report.specs.Facts.{Maker, ElementLevel, IsElementLevel, HasElementLevel, forbids, holds_on, numbered_facts}
+use Rattle.report.specs.Facts.{AreFacts, Relation, Itself, Over, NotOver, is_over, IsRelation}
+use Rattle.report.specs.Facts.{Maker, ElementLevel, IsElementLevel, HasElementLevel, forbids, holds_on}
 use Rattle.report.specs.Facts.{Fact, VerFact, HoldFact, ElementFact, DeleteFact, NpreFact, ForbiddenFact}
 use Rattle.why_verdict.specs.Verdict.{by_hold, by_target, maker_reason, reason}
 use Rattle.why_laws.specs.Witnesses.{IsStandingHold, IsForbidding, ChangesElement, IsOfAnother, IsLower, lower_makers}
 use Rattle.why_laws.specs.Witnesses.{IsRegressed, IsLacking, IsOwnDeletion, IsFittingVer, Witnesses}
-use Rattle.why_laws.proofs.FactsSay.{Says, says, beside_in, in_beside, in_numbered, level_some, level_none}
+use Rattle.why_laws.proofs.FactsSay.{Says, beside_in, in_beside, in_numbered, level_some, level_none}
 use Rattle.why_laws.proofs.FactsSay.{has_ver, has_hold, has_element, has_delete, has_npre}
 use Rattle.why_laws.proofs.Printed.{true_if, false_if, cons_some, some_if, some_unless, front_or_back, some_front}
 use Rattle.why_laws.proofs.Printed.{some_back, some_flat, flat_some, some_member, member_some}

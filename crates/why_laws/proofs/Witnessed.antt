@@ -1,5 +1,5 @@
 -- All that is told of the failure of a candidate witnesses it, and nothing of the failure lacks a witness.
-use Rattle.std.proofs.Common.{◌≡◌, ◌≢◌, ◌∙◌, inl, inr, Bool, true, false, List, [], ◌∷◌, ◌++◌, Option, None, Some}
+use Rattle.std.proofs.Common.{◌≡◌, ◌≢◌, inl, inr, Bool, true, false, List, [], ◌++◌, Option, None}
 use Rattle.std.proofs.Common.{Contains, refl, sym, subst, true≢false}
 use Rattle.std.specs.Prelude.{if◌then◌else◌}
 use Rattle.std.specs.List.{flat_map}

@@ -1,5 +1,5 @@
 -- What the reasons below a verdict witness: a failed test or an open need.
-use Rattle.std.specs.Prelude.{◌≡◌, ◌≢◌, ◌↔◌, ◌-◌, not, List, [], ◌∷◌, filter, All, Option, None, Some, slice_get}
+use Rattle.std.specs.Prelude.{◌≡◌, ◌≢◌, ◌↔◌, ◌-◌, not, List, [], ◌∷◌, filter, All, None, Some, slice_get}
 use Rattle.std.specs.Prelude.{Contains, IsTrue, IsFalse}
 use Rattle.terms.specs.declared.kinds.HoldKind.{HoldKind}
 use Rattle.terms.specs.declared.kinds.HoldKind.TheVariants.{System, User}
