@@ -1,10 +1,5 @@
 use Rattle.std.proofs.Common.{◌≡◌, refl}
-use Rattle.sqlite.specs.Held.{state}
-use Rattle.store_rows.specs.Rows.{HasContents}
-use Rattle.store_schema.specs.declared.schema.Schema.TheVariants.{Third}
-use Rattle.store_schema.specs.Tables.{store_schema}
 use Rattle.store_zones.specs.Found.{zone_in}
-use Rattle.store_zones.specs.Held.{HoldsUnder}
 use Rattle.store.specs.Whole.{ShowsZone}
 use Rattle.store_zones.specs.Held.{HoldsUnder}
 use Rattle.store_schema.specs.declared.schema.Schema.TheVariants.{Third}

@@ -1,9 +1,5 @@
 use Rattle.std.proofs.Common.{◌≡◌, map, refl}
-use Rattle.sqlite.specs.Held.{state}
-use Rattle.store_rows.specs.Rows.{HasContents}
-use Rattle.store_schema.specs.Tables.{store_schema}
 use Rattle.store_zones.specs.Found.{head_of}
-use Rattle.store_zones.specs.Held.{HoldsHeads}
 use Rattle.store_schema.specs.declared.schema.Schema.TheVariants.{Third}
 use Rattle.store.specs.Whole.{ShowsHeads}
 use Rattle.store_zones.specs.Held.{HoldsHeads}
