@@ -1,7 +1,9 @@
 use Rattle.std.proofs.Common.{◌≡◌, refl}
 use Rattle.store_zones.specs.Found.{zone_in}
 use Rattle.store.specs.Whole.{ShowsZone}
-use Rattle.store.proofs.Loading.{loads_by, rows_told}
+use Rattle.store_zones.specs.Held.{HoldsUnder}
+use Rattle.store_schema.specs.declared.schema.Schema.TheVariants.{Third}
+use Rattle.store.proofs.Loading.{loads_by, for_all_rows, rows_told}
 use Rattle.store.proofs.open.Store.load_zone.Goals as goal
 
 pub returns-clause-loads : goal.returns-clause-loads
@@ -14,4 +16,5 @@ returns-clause-loads g c =
 pub returns-clause-rows : goal.returns-clause-rows
 returns-clause-rows g c clean = rows_told (λ at zone. ShowsZone g.S.Store at c.args.name zone) c.self.inside.conn
     c.args.self.now c.self.view_is c.load_zone.result c.map_read_error.result c.map_read_error.ensures
-    (c.load_zone.ensures.rows clean)
+    (for_all_rows g.S.Store c.self.inside.conn c.load_zone.result
+    (λ contents zone. HoldsUnder Third contents c.args.name zone) (c.load_zone.ensures.rows clean))

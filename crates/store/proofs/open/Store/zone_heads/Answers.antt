@@ -2,7 +2,8 @@ use Rattle.std.proofs.Common.{◌≡◌, map, refl}
 use Rattle.store_zones.specs.Found.{head_of}
 use Rattle.store_schema.specs.declared.schema.Schema.TheVariants.{Third}
 use Rattle.store.specs.Whole.{ShowsHeads}
-use Rattle.store.proofs.Loading.{loads_by, rows_told}
+use Rattle.store_zones.specs.Held.{HoldsHeads}
+use Rattle.store.proofs.Loading.{loads_by, for_all_rows, rows_told}
 use Rattle.store.proofs.open.Store.zone_heads.Goals as goal
 
 pub returns-clause-loads : goal.returns-clause-loads
@@ -18,7 +19,8 @@ returns-clause-loads g c =
 pub returns-clause-rows : goal.returns-clause-rows
 returns-clause-rows g c clean = rows_told (λ at heads. ShowsHeads g.S.Store at heads.items) c.self.inside.conn
     c.args.self.now c.self.view_is c.zone_heads.result c.map_read_error.result c.map_read_error.ensures
-    (c.zone_heads.ensures.rows clean Third)
+    (for_all_rows g.S.Store c.self.inside.conn c.zone_heads.result
+    (λ contents heads. HoldsHeads contents heads.items) (c.zone_heads.ensures.rows clean Third))
 
 pub invariant_of-self : goal.invariant_of-self
 invariant_of-self g c = (c.zone_heads.ensures.reads Third).mode c.self.invariant
