@@ -123,7 +123,12 @@ fn first_used<'a>(
     ensures { IfNone result (All (λ c. is_some (get nat_cmp users.now (key_in c.elem_type c.name)) ≡ false)
         changes.now) }
 {
-    changes.iter().find(|change| is_used(users, *change))
+    for change in changes {
+        if is_used(users, change) {
+            return Some(change);
+        }
+    }
+    None
 }
 
 /// What is asked of each carried SYSMOD.
