@@ -2,7 +2,7 @@ use Rattle.std.proofs.Common.{ap, length, refl, arith}
 use Rattle.std.specs.String.{string_bytes}
 use Rattle.intake_command.proofs.Doing.{idle, on_err, quiet, quiet_did, weaker}
 use Rattle.intake_command.proofs.OneByOne.{read_next, read_whole}
-use Rattle.intake_command.proofs.Within.{read_quiet}
+use Rattle.intake_command.proofs.Harmless.{read_quiet}
 use Rattle.intake_command.proofs.service.read_files.Goals as goal
 
 pub loop-name-init : goal.loop-name-init
