@@ -14,4 +14,5 @@ returns-in-Some c =
 
 pub returns-in-None : goal.returns-in-None
 returns-in-None c =
-    if_none_stated c.given_syslib.result (text_in c.args.element.now.syslib) (ap text_in c.in-None.is)
+    if_none_stated (λ syslib library. syslib ≡ library) c.given_syslib.result (text_in c.args.element.now.syslib)
+    (ap text_in c.in-None.is)
