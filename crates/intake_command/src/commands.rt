@@ -218,8 +218,13 @@ fn outcome_of_file(
 ) -> Result<CommandsOutcome, AllocError>
     ensures { IfOk result (HasBytesIfCarried file.bytes) }
 {
-    let remark_list = file.remarks;
-    let Some(bytes) = file.bytes else {
+    let CommandFile {
+        bytes,
+        remarks: remark_list,
+        carried,
+        not_carried,
+    } = file;
+    let Some(bytes) = bytes else {
         return Ok(CommandsOutcome::Refused(Refusal {
             lines: refused_command_lines(alloc, inputs, &remark_list)?,
             summary: refused_command_summary(alloc, &remark_list)?,
@@ -227,7 +232,7 @@ fn outcome_of_file(
     };
     let mut remarks = inputs.take_reading_lines(alloc);
     append_remark_lines(alloc, inputs, &remark_list, &mut remarks)?;
-    let summary = command_summary(alloc, file.carried, file.not_carried, &remark_list)?;
+    let summary = command_summary(alloc, carried, not_carried, &remark_list)?;
     Ok(CommandsOutcome::Carried(CommandsOutput {
         bytes,
         remarks,
