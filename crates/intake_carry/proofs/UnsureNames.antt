@@ -134,18 +134,18 @@ shares_nothing users left changes known none any =
 
 pub meets_nothing : (left : WideSysmod) (s : terms.Sysmod) → (¬ SharesElement left s)
     → (forbids left s || excludes s left) ≡ false → ¬ Meets left s
-meets_nothing left s none no (inl shares) = none shares
-meets_nothing left s none no (inr yes) = true≢false (sym yes ∙ no)
+meets_nothing left s none apart (inl shares) = none shares
+meets_nothing left s none apart (inr conflict) = true≢false (sym conflict ∙ apart)
 
 pub meet_nothing : {X : Type 0} (now : X → WideSysmod) (users : UserMap) (left : List X) (s : terms.Sysmod)
     → All (λ l. IsKnown users (now l)) left
     → All (λ c. is_some (get nat_cmp users (key_of c.elem_type c.name)) ≡ false) s.changes
     → All (λ l. (forbids (now l) s || excludes s (now l)) ≡ false) left → All (λ l. ¬ Meets (now l) s) left
-meet_nothing now users left s known none no =
+meet_nothing now users left s known none apart =
     All_from_each (λ l. ¬ Meets (now l) s) left (λ l h.
     meets_nothing (now l) s
     (shares_nothing users (now l) s.changes (All-contains (λ x. IsKnown users (now x)) left l known h) none)
-    (All-contains (λ x. (forbids (now x) s || excludes s (now x)) ≡ false) left l no h))
+    (All-contains (λ x. (forbids (now x) s || excludes s (now x)) ≡ false) left l apart h))
 
 pub among_still : (old new : List Unsure) (u : Unsure) → new ≡ old ++ u ∷ [] → KeepsNamed old new
 among_still old new u e id any =

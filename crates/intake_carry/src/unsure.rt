@@ -99,7 +99,10 @@ fn are_in_conflict(left: &WideSysmod, sysmod: &Sysmod) -> bool
 }
 
 // The first of the SYSMODs that are left out which forbids this one, or is forbidden by it, or `None` if none does.
-fn first_in_conflict<'a>(left: &'a [&'a WideSysmod], sysmod: &Sysmod) -> Option<&'a &'a WideSysmod>
+fn first_in_conflict<'a, 'f>(
+    left: &'a [&'f WideSysmod],
+    sysmod: &Sysmod,
+) -> Option<&'a &'f WideSysmod>
     ensures { IfNone result (All (λ l. (forbids l.now sysmod.now || excludes sysmod.now l.now) ≡ false) left.now) }
 {
     left.iter().find(|other| are_in_conflict(*other, sysmod))
@@ -120,27 +123,32 @@ fn first_used<'a>(
     ensures { IfNone result (All (λ c. is_some (get nat_cmp users.now (key_in c.elem_type c.name)) ≡ false)
         changes.now) }
 {
-    changes.iter().find(|change| is_used(users, *change))
+    for change in changes {
+        if is_used(users, change) {
+            return Some(change);
+        }
+    }
+    None
 }
 
 /// What is asked of each carried SYSMOD.
 #[derive(Clone, Copy)]
-struct Doubts<'a> {
+struct Doubts<'a, 'f> {
     /// The SYSMODs that are left out.
-    left: &'a [&'a WideSysmod],
+    left: &'a [&'f WideSysmod],
     /// Which of them change an element.
     users: &'a BTreeMap<u64, ElementUser>,
     /// The same, for what is told of it.
-    shared: &'a SharedElements<'a>,
+    shared: &'a SharedElements<'f>,
     /// The elements that a function takes over by VERSION.
-    taken_over: &'a SharedElements<'a>,
+    taken_over: &'a SharedElements<'f>,
 }
 
 // Why it is not sure that the SYSMOD can be installed, besides elements that it shares with SYSMODs that are left out,
 // or `None` if there is no such reason.
 fn reason_without_shared(
     alloc: Global,
-    doubts: &Doubts<'_>,
+    doubts: &Doubts<'_, '_>,
     sysmod: &Sysmod,
 ) -> Result<Option<Vec<u8>>, AllocError>
     ensures { IfOk result (λ found. IfNone found (All (λ l. (forbids l.now sysmod.now || excludes sysmod.now l.now)
@@ -155,7 +163,7 @@ fn reason_without_shared(
 // Why it is not sure that the SYSMOD can be installed, or `None` if no SYSMOD that is left out has to do with it.
 fn reason_for(
     alloc: Global,
-    doubts: &Doubts<'_>,
+    doubts: &Doubts<'_, '_>,
     sysmod: &Sysmod,
 ) -> Result<Option<Vec<u8>>, AllocError>
     requires { All (λ l. IsKnown doubts.now.users.now l.now) doubts.now.left.now }
@@ -170,7 +178,7 @@ fn reason_for(
 // Adds the SYSMOD, if it is one of which it is not sure that it can be installed.
 fn push_sysmod_if_unsure(
     alloc: Global,
-    doubts: &Doubts<'_>,
+    doubts: &Doubts<'_, '_>,
     sysmod: &Sysmod,
     unsure: &mut Vec<Unsure>,
 ) -> Result<(), AllocError>
@@ -192,7 +200,7 @@ fn push_sysmod_if_unsure(
 // Adds the SYSMOD of the item, if it is one of which it is not sure that it can be installed.
 fn push_if_unsure(
     alloc: Global,
-    doubts: &Doubts<'_>,
+    doubts: &Doubts<'_, '_>,
     item: &Item,
     unsure: &mut Vec<Unsure>,
 ) -> Result<(), AllocError>
@@ -209,7 +217,7 @@ fn push_if_unsure(
 // Those of the items of which it is not sure that they can be installed.
 fn unsure_among(
     alloc: Global,
-    doubts: &Doubts<'_>,
+    doubts: &Doubts<'_, '_>,
     items: &[Item],
 ) -> Result<Vec<Unsure>, AllocError>
     requires { All (λ l. IsKnown doubts.now.users.now l.now) doubts.now.left.now }

@@ -11,7 +11,7 @@ pub returns-in_default : goal.returns-in_default
 returns-in_default c =
     let users = c.args.doubts.now.users.now in
     IfOk-weaker c.reason_without_shared.result _ _ (λ found none.
-    none_weaker found none (λ no.
+    none_weaker found none (λ apart.
     meet_nothing (λ l. l.now) users c.args.doubts.now.left.now c.args.sysmod.now c.requires
     (subst (All (λ h. is_some (get nat_cmp users (key_of h.elem_type h.name)) ≡ false)) c.changes_of.ensures
-    (rw c.in_default.is at c.first_used.ensures)) no)) c.reason_without_shared.ensures
+    (rw c.in_default.is at c.first_used.ensures)) apart)) c.reason_without_shared.ensures
