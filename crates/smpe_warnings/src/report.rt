@@ -1,7 +1,12 @@
 //! What in a report needs an explanation.
-use crate::card::{RecordForm, card_fault, card_text, find_set, has_whole_records, record_bytes};
-use crate::operand::CommandLine;
+use crate::asking::Database;
+use crate::ran::RanCommands;
 use crate::related::{RelatedZone, related_hint};
+use crate::warnings::run_warnings;
+use smpe_hints::{
+    CommandLine, RecordForm, card_text, command_fault, find_set, has_whole_records, is_command,
+    record_bytes, statement_fault,
+};
 use std::alloc::{AllocError, Global};
 
 /// How many bytes of a line the watch looks at.
@@ -54,6 +59,7 @@ pub struct ReportWatch {
     /// The zone of a SET that was refused, until the next command.
     refused_zone: Option<String>,
     notices: Vec<Notice>,
+    ran: RanCommands,
 }
 
 impl ReportWatch {
@@ -68,6 +74,7 @@ impl ReportWatch {
             ended_commands: 0,
             refused_zone: None,
             notices: Vec::new(alloc),
+            ran: RanCommands::new(alloc),
         }
     }
 
@@ -114,6 +121,9 @@ impl ReportWatch {
     // that does not fit. A SYSMOD may have the word of a command as its id, as RESTORE. In its line a type and a status
     // follow the id, but in a header a zone and at most CHECK follow the command.
     fn follow_line(&mut self, line: &str) -> Result<(), AllocError> {
+        if self.is_in_command {
+            self.ran.follow(line)?;
+        }
         let mut words = line.split(' ');
         let first = words.next().unwrap_or("");
         let second = words.next().unwrap_or("");
@@ -137,6 +147,7 @@ impl ReportWatch {
                 Ok(())
             }
             (command, zone, None | Some("CHECK")) if is_command(command) => {
+                self.ran.begin(command, zone, third.is_some())?;
                 self.begin_command(line, command, zone)
             }
             _ => Ok(()),
@@ -215,14 +226,26 @@ impl ReportWatch {
         }
         Ok(lines)
     }
-}
 
-// Whether the word begins the header of a command.
-fn is_command(word: &str) -> bool {
-    matches!(
-        word,
-        "SET" | "RECEIVE" | "REJECT" | "APPLY" | "ACCEPT" | "RESTORE" | "LIST" | "REPORT"
-    )
+    /// What a run should be warned of, in the order of its commands. `tomorrow` is the day after this one, if a clock
+    /// says which, and the database is that which the job has left.
+    pub fn warnings<D: Database>(
+        &self,
+        words: &[Vec<u8>],
+        files: &[ReadFile],
+        tomorrow: Option<&str>,
+        database: &mut D,
+    ) -> Result<Vec<String>, AllocError> {
+        let line = CommandLine { words };
+        match file_of_option(line, "--cntl", files) {
+            Some(cntl) if line.subcommand() == Some("run") => {
+                let cntl = cntl.bytes.as_slice();
+                let ran = self.ran.commands.as_slice();
+                run_warnings(self.alloc, line, cntl, ran, tomorrow, database)
+            }
+            _ => Ok(Vec::new(self.alloc)),
+        }
+    }
 }
 
 impl Notice {
@@ -240,7 +263,7 @@ impl Notice {
                 record,
                 code,
             } => match file_of_option(line, option, files) {
-                Some(file) => record_hint(alloc, file, *record, code.as_str()),
+                Some(file) => record_hint(alloc, option, file, *record, code.as_str()),
                 None => Ok(None),
             },
             Notice::CommandElsewhere {
@@ -271,6 +294,7 @@ fn file_of_option<'a>(
 // was said when the file was read.
 fn record_hint(
     alloc: Global,
+    option: &str,
     file: &ReadFile,
     record: usize,
     code: &str,
@@ -294,7 +318,12 @@ fn record_hint(
         )?)),
         RecordForm::Card => {
             let card = card_text(alloc, bytes)?;
-            let fault = card_fault(alloc, file.bytes.as_slice(), record, code)?;
+            let bytes = file.bytes.as_slice();
+            let fault = if option == "--cntl" {
+                command_fault(alloc, bytes, record, code)?
+            } else {
+                statement_fault(alloc, option, bytes, record, code)?
+            };
             Ok(Some(format!(in alloc; "{name} record {record} is \"{card}\": {fault}")?))
         }
     }

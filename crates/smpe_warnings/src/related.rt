@@ -1,5 +1,5 @@
 //! Why a related zone is refused.
-use crate::operand::CommandLine;
+use smpe_hints::CommandLine;
 use std::alloc::{AllocError, Global};
 
 /// What a database knows of the zone that `--related` names.
