@@ -94,9 +94,7 @@ fn tell_refusal<H: IntakeHost>(
 {
     print_summary(host, &refusal.summary)?;
     host.tell(&refusal.lines);
-    if has_earlier {
-        tell_earlier_files(alloc, host, folder);
-    }
+    tell_earlier_files(alloc, host, folder, has_earlier);
     Ok(())
 }
 
@@ -220,15 +218,21 @@ fn outcome_of_file(
 ) -> Result<CommandsOutcome, AllocError>
     ensures { IfOk result (HasBytesIfCarried file.bytes) }
 {
-    let Some(bytes) = file.bytes else {
+    let CommandFile {
+        bytes,
+        remarks: remark_list,
+        carried,
+        not_carried,
+    } = file;
+    let Some(bytes) = bytes else {
         return Ok(CommandsOutcome::Refused(Refusal {
-            lines: refused_command_lines(alloc, inputs, &file.remarks)?,
-            summary: refused_command_summary(alloc, &file.remarks)?,
+            lines: refused_command_lines(alloc, inputs, &remark_list)?,
+            summary: refused_command_summary(alloc, &remark_list)?,
         }));
     };
     let mut remarks = inputs.take_reading_lines(alloc);
-    append_remark_lines(alloc, inputs, &file.remarks, &mut remarks)?;
-    let summary = command_summary(alloc, file.carried, file.not_carried, &file.remarks)?;
+    append_remark_lines(alloc, inputs, &remark_list, &mut remarks)?;
+    let summary = command_summary(alloc, carried, not_carried, &remark_list)?;
     Ok(CommandsOutcome::Carried(CommandsOutput {
         bytes,
         remarks,

@@ -135,16 +135,22 @@ fn tell_fault_beside<H: IntakeHost>(
     ensures says { HasDone H.IntakeHost (All IsQuiet) host.old host.new }
 {
     let status = tell_fault(alloc, host, folder, fault);
-    if has_earlier {
-        tell_earlier_files(alloc, host, folder);
-    }
+    tell_earlier_files(alloc, host, folder, has_earlier);
     status
 }
 
-/// Says that the files in the folder are those of an earlier run.
-pub(crate) fn tell_earlier_files<H: IntakeHost>(alloc: Global, host: &mut H, folder: &str)
+/// Says that the files in the folder are those of an earlier run, if there are any.
+pub(crate) fn tell_earlier_files<H: IntakeHost>(
+    alloc: Global,
+    host: &mut H,
+    folder: &str,
+    has_earlier: bool,
+)
     ensures { HasDone H.IntakeHost (All IsQuiet) host.old host.new }
 {
+    if !has_earlier {
+        return;
+    }
     if let Ok(line) = earlier_files_line(alloc, folder) {
         host.tell(&line);
     }

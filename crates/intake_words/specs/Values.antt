@@ -42,7 +42,7 @@ abbrev pub SuitsCommands : Option Text → List Text → Type 0
 SuitsCommands None files = files ≢ []
 SuitsCommands (Some cntl) files = files ≡ []
 
--- the options have the values that are asked for; each text of --syslib is one of the SYSLIBs
+-- the options have the values that are asked for; nothing is said of --syslib
 pub record HasOptions (rows : List Row) (asked : IntakeOptions) : Type 0 where
   pub out : HasText (codes "out") rows (string_bytes asked.out)
   pub files : AreTexts (all_of (codes "file") rows) (map string_bytes asked.files.items)

@@ -1,4 +1,4 @@
-use Rattle.std.proofs.Common.{◌∙◌, IsTrue, ap, map, subst, sym, arith}
+use Rattle.std.proofs.Common.{◌∙◌, ◌+◌, IsTrue, ap, drop, map, subst, sym, arith}
 use Rattle.std.proofs.lemmas.List.{drop_all, nil_from_length}
 use Rattle.cntl.specs.Views.{command_of}
 use Rattle.intake_asked.specs.Said.{AreSaidAfter, is_no_decision}
@@ -22,8 +22,8 @@ loop-command-preserved c = λ rest.
     l.invariant (one_said c.args.known.now l.received c.args.wide.now l.command-index c.command-item.result
     (map command_of l.left.now) (map command_of c.in-Some.rest.now) (command_of c.in-Some.first.now) (omega arith)
     c.command-item.is (ap (map command_of) c.in-Some.ensures.cases.0) (c.in_ok-says_after.ensures c.if-not-branch.false)
-    (subst (λ r. AreSaidAfter c.args.known.now r _ (map command_of c.in-Some.rest.now))
-    c.has_received-received.ensures rest))
+    (subst (λ r. AreSaidAfter c.args.known.now r (drop (l.command-index + 1) c.args.wide.now)
+    (map command_of c.in-Some.rest.now)) c.has_received-received.ensures rest))
 
 pub returns : goal.returns
 returns c = λ t.

@@ -26,7 +26,7 @@ loop-line-preserved c =
       c.in_ok-push.ensures.items ∙ ap (λ xs. xs ++ k ∷ []) l.invariant.1
           ∙ append_assoc c.args.sysmods.items l.invariant.0 (k ∷ []),
       lines_at (λ line. line.now) c.args.lines.now l.line-index _ l.invariant.0 (k ∷ []) c.loop-line-test.true
-          l.invariant.2 (inr (k, refl, c.in-Some.ensures.some)),
+          l.invariant.2 (inr (k, refl, rw c.in-Some.is at c.in_ok-sysmod.ensures.some)),
     )
 
 pub returns : goal.returns

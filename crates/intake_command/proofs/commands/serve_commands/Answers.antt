@@ -15,37 +15,37 @@ returns-in_err-known-clause-err g c =
     on_err _ (quiet_harmless g.H.IntakeHost (folder_of c.args.asked.now)
     (quiet g.H.IntakeHost (quiet_did g.H.IntakeHost _ _ _ c.in_ok-bytes.ensures.ok tt) c.in_err-known.ensures.err))
 
-pub returns-in_err-commands_outcome-clause-err : goal.returns-in_err-commands_outcome-clause-err
-returns-in_err-commands_outcome-clause-err g c =
+pub returns-in_err-made-clause-err : goal.returns-in_err-made-clause-err
+returns-in_err-made-clause-err g c =
     on_err _ (quiet_harmless g.H.IntakeHost (folder_of c.args.asked.now)
     (quiet g.H.IntakeHost (quiet_did g.H.IntakeHost _ _ _ c.in_ok-bytes.ensures.ok tt)
     (weaker g.H.IntakeHost c.in_ok-known.ensures.ok (all_known_quiet _ _))))
 
-pub returns-in_err-keep_commands_output-clause-err : goal.returns-in_err-keep_commands_output-clause-err
-returns-in_err-keep_commands_output-clause-err g c =
+pub returns-in_err-keep_commands_output-in-Carried-clause-err : goal.returns-in_err-keep_commands_output-in-Carried-clause-err
+returns-in_err-keep_commands_output-in-Carried-clause-err g c =
     let f = folder_of c.args.asked.now in
     on_err _ (harmless g.H.IntakeHost f (quiet_harmless g.H.IntakeHost f
     (quiet g.H.IntakeHost (quiet_did g.H.IntakeHost _ _ _ c.in_ok-bytes.ensures.ok tt)
     (weaker g.H.IntakeHost c.in_ok-known.ensures.ok (all_known_quiet _ _))))
-    (rw c.as_str.ensures.value at c.in_err-keep_commands_output.ensures.err))
+    (rw c.as_str.ensures.value at c.in_err-keep_commands_output-in-Carried.ensures.err))
 
-pub returns-in_err-tell_refusal-clause-err : goal.returns-in_err-tell_refusal-clause-err
-returns-in_err-tell_refusal-clause-err g c =
+pub returns-in_err-tell_refusal-in-Refused-clause-err : goal.returns-in_err-tell_refusal-in-Refused-clause-err
+returns-in_err-tell_refusal-in-Refused-clause-err g c =
     on_err _ (quiet_harmless g.H.IntakeHost (folder_of c.args.asked.now)
     (quiet g.H.IntakeHost (quiet g.H.IntakeHost (quiet_did g.H.IntakeHost _ _ _ c.in_ok-bytes.ensures.ok tt)
-    (weaker g.H.IntakeHost c.in_ok-known.ensures.ok (all_known_quiet _ _))) c.in_err-tell_refusal.ensures))
+    (weaker g.H.IntakeHost c.in_ok-known.ensures.ok (all_known_quiet _ _))) c.in_err-tell_refusal-in-Refused.ensures))
 
-pub returns-in_ok-keep_commands_output-clause-ok : goal.returns-in_ok-keep_commands_output-clause-ok
-returns-in_ok-keep_commands_output-clause-ok g c =
-    let said = rw c.in-Carried.is at c.in_ok-commands_outcome.ensures in
+pub returns-in-Carried-clause-ok : goal.returns-in-Carried-clause-ok
+returns-in-Carried-clause-ok g c =
+    let said = rw c.in-Carried.is at c.in_ok-made.ensures in
     served_commands g.H.IntakeHost c.args.asked.now c.args.name.now c.in_ok-bytes.bytes.items said.0
     c.in_ok-known.known said.1 c.in_ok-bytes.ensures.ok
     (rw c.deref.ensures.value at c.in_ok-known.ensures.ok) said.3
-    (rw c.as_str.ensures.value at c.in_ok-keep_commands_output.ensures.ok said.1 said.2)
+    (rw c.as_str.ensures.value at c.in_ok-keep_commands_output-in-Carried.ensures.ok said.1 said.2)
 
-pub returns-in_ok-tell_refusal-clause-ok : goal.returns-in_ok-tell_refusal-clause-ok
-returns-in_ok-tell_refusal-clause-ok g c =
+pub returns-clause-ok : goal.returns-clause-ok
+returns-clause-ok g c =
     weaker g.H.IntakeHost (quiet g.H.IntakeHost (quiet g.H.IntakeHost
     (quiet_did g.H.IntakeHost _ _ _ c.in_ok-bytes.ensures.ok tt)
-    (weaker g.H.IntakeHost c.in_ok-known.ensures.ok (all_known_quiet _ _))) c.in_ok-tell_refusal.ensures)
+    (weaker g.H.IntakeHost c.in_ok-known.ensures.ok (all_known_quiet _ _))) c.in_ok-tell_refusal-in-Refused.ensures)
     (λ acts all. inr (refl, all))

@@ -19,8 +19,8 @@ returns-clause-ok g c =
     let h = g.H.IntakeHost in
     let start : Option Text = option_map (λ bytes. bytes.items) c.in_ok-start.start in
     let folder = folder_of c.args.asked.now in
-    let path : c.as_str-2.result.now ≡ path_of folder (remarks_of c.args.asked.now) =
-    c.as_str-2.ensures.value ∙ c.in_ok-remarks.ensures
+    let path : c.as_str.result.now ≡ path_of folder (remarks_of c.args.asked.now) =
+    c.as_str.ensures.value ∙ c.in_ok-remarks.ensures
     ∙ ap₂ path_of c.as_str-folder.ensures.value c.remarks_of.ensures in
     let begun = subst (λ p. h.does c.args.host.now (Begins p start) c.read_start.new.host) path
     c.in_ok-start.ensures.ok in

@@ -23,10 +23,11 @@ pub returns-in-Ok : goal.returns-in-Ok
 returns-in-Ok g c =
     weaker g.H.IntakeHost c.serve_if_own.ensures (λ acts ended. EndsCalled c.in-Ok.asked c.in-Ok.ensures.ok ended)
 
-pub returns-in-Err-in-Clap : goal.returns-in-Err-in-Clap
-returns-in-Err-in-Clap g c =
+pub returns-in-Err-Clap : goal.returns-in-Err-Clap
+returns-in-Err-Clap g c =
+    let refused = rw c.in-Err-Clap.field-0-is at c.in-Err-Clap.ensures.err in
     did g.H.IntakeHost _ Speaks _ c.show_clap_text.ensures.says
-    (ends _ c.in-Err-in-Clap.error c.show_clap_text.result c.in-Err-in-Clap.ensures.err c.show_clap_text.ensures.status)
+    (ends _ c.in-Err-Clap.error c.show_clap_text.result refused c.show_clap_text.ensures.status)
 
 pub returns-in-Err : goal.returns-in-Err
 returns-in-Err g c =

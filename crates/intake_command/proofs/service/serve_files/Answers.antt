@@ -1,4 +1,4 @@
-use Rattle.std.proofs.Common.{subst, sym, ap, ◌∙◌}
+use Rattle.std.proofs.Common.{[], subst}
 use Rattle.intake_carry.specs.Carried.{FilesBecome}
 use Rattle.intake_carry.specs.Unsure.{AreUnsure}
 use Rattle.intake_sysmod.specs.Users.{run_of}
@@ -39,7 +39,7 @@ returns-clause-ok g c =
     served_files g.H.IntakeHost c.args.asked.now files held.0 made.items.items made.hold_items.items
     made.unsure.items c.exit_status-status.result c.in_ok-files.ensures.ok c.in_ok-members.ensures held.1
     (subst (λ l. FilesBecome c.args.asked.now.decide l held.0 made.items.items made.hold_items.items)
-    c.deref-2.ensures.value (c.in_ok-made.ensures.carries held.0 (held.2 _ c.new-held.ensures)))
+    c.deref-2.ensures.value (c.in_ok-made.ensures.carries held.0 (held.2 [] c.new-held.ensures)))
     (subst (λ l. AreUnsure (run_of l) made.items.items made.unsure.items) c.deref-2.ensures.value
     c.in_ok-made.ensures.unsure)
     c.exit_status-status.ensures.status

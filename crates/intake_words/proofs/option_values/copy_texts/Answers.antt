@@ -7,13 +7,12 @@ pub loop-text-preserved : goal.loop-text-preserved
 loop-text-preserved c =
     let l = c.loop-text in
     let done = take l.text-index c.args.texts.now in
-    let next = take_more c.args.texts.now l.text-index c.text-item.result (omega arith)
-    ∙ ap (λ t. done ++ t ∷ []) (sym c.text-item.is) in
+    let next = take_more c.args.texts.now l.text-index _ c.loop-text-test.true in
     ap (map string_bytes) c.in_ok-push.ensures.items
     ∙ map-append string_bytes l.copies.items (c.in_ok-copy.copy ∷ [])
     ∙ ap (λ copies. copies ++ string_bytes c.in_ok-copy.copy ∷ []) l.invariant
     ∙ ap (λ t. map (λ x. x.now) done ++ t ∷ []) c.in_ok-copy.ensures.bytes
-    ∙ sym (ap (map (λ x. x.now)) next ∙ map-append (λ x. x.now) done (c.text-item.result ∷ []))
+    ∙ sym (ap (map (λ x. x.now)) next ∙ map-append (λ x. x.now) done _)
 
 pub returns : goal.returns
 returns c =
