@@ -1,7 +1,7 @@
 -- Files that are read one by one, as a loop goes over their names.
 use Rattle.std.proofs.Common.{◌≡◌, ◌<◌, ◌≤◌, ◌+◌, ℕ, List, ◌∷◌, [], ◌++◌, map, take, length, get_or, sym, refl}
 use Rattle.std.proofs.Common.{◌∙◌, subst, ap, ap₂, append_assoc, append-nil, filter, not}
-use Rattle.std.specs.List.{All, flat_map}
+use Rattle.std.specs.List.{All}
 use Rattle.std.proofs.lemmas.List.{map-append, take_all}
 use Rattle.std.proofs.lemmas.List.Concat.{flat_map-append}
 use Rattle.std.proofs.lemmas.List.Elements.{All-append, All-nil, filter-append}

@@ -1,7 +1,7 @@
 -- What a run has done in all.
-use Rattle.std.proofs.Common.{◌≡◌, ◌⊎◌, ℕ, List, [], ◌∷◌, ◌++◌, map, refl, ap, subst, inl, inr}
+use Rattle.std.proofs.Common.{◌≡◌, ◌⊎◌, ℕ, List, [], ◌∷◌, ◌++◌, map, refl, ap, inl, inr}
 use Rattle.std.specs.List.{All}
-use Rattle.std.specs.Prelude.{Option, Some, None, option_map}
+use Rattle.std.specs.Prelude.{Some}
 use Rattle.std.specs.String.{string_bytes}
 use Rattle.terms.specs.Types as terms
 use Rattle.terms.specs.Types.{Text}
@@ -19,12 +19,11 @@ use Rattle.intake_carry.specs.declared.unsure.Unsure.{Unsure}
 use Rattle.intake_asked.specs.Said.{AreSaid}
 use Rattle.intake_asked.specs.declared.known.KnownSysmods.{KnownSysmods}
 use Rattle.intake_asked.specs.declared.scan.WideCommand.{WideCommand}
-use Rattle.intake_words.specs.Asking.{IsAsked}
 use Rattle.intake_words.specs.declared.options.IntakeOptions.{IntakeOptions}
-use Rattle.intake_command.specs.Acts.{HostAct, Gives, Discards, IsQuiet}
-use Rattle.intake_command.specs.Done.{LeadTo, HasDone}
+use Rattle.intake_command.specs.Acts.{Gives, Discards, IsQuiet}
+use Rattle.intake_command.specs.Done.{HasDone}
 use Rattle.intake_command.specs.Files.{outputs_of}
-use Rattle.intake_command.specs.Serving.{AreRead, KeepsService, ServesFiles, ServesCommands, KeepsCommands, IsKnown}
+use Rattle.intake_command.specs.Serving.{AreRead, KeepsService, ServesFiles, KeepsCommands, IsKnown}
 use Rattle.intake_command.specs.Serving.{folder_of, inputs, held_in, HasEachSysmod, Serves, AreOwn, comparisons}
 use Rattle.intake_command.specs.Serving.{IsHarmless, EndsApart, EndsChecked, EndsServed, EndsAsked, EndsOwn}
 use Rattle.intake_command.specs.declared.surroundings.IntakeHost.{Ghosts}

@@ -1,12 +1,11 @@
 -- What a run does.
 use Rattle.std.specs.Prelude.{◌≡◌, ◌⊎◌, ℕ, Bool, true, false, List, [], ◌∷◌, ◌++◌, Option, Some, None, Vec, map}
 use Rattle.std.specs.Prelude.{length, option_map}
-use Rattle.std.specs.Prelude.{All, IsTrue, codes, Result, Ok, Err, if◌then◌else◌, option_to_list}
+use Rattle.std.specs.Prelude.{All, codes, Result, Ok, Err, if◌then◌else◌, option_to_list}
 use Rattle.std.specs.List.{filter, flat_map}
 use Rattle.std.specs.String.{string_bytes}
 use Rattle.std.specs.declared.alloc.AllocError.{AllocError}
 use Rattle.std.specs.declared.alloc.Global.{Global}
-use Rattle.std.specs.declared.io.Error.{Error}
 use Rattle.terms.specs.Lookups.{is_in}
 use Rattle.terms.specs.Types as terms
 use Rattle.terms.specs.Types.{Text}

@@ -1,5 +1,5 @@
 -- What the words of the command line ask for.
-use Rattle.std.specs.Prelude.{◌≡◌, ◌≢◌, ◌⊎◌, List, [], ◌∷◌}
+use Rattle.std.specs.Prelude.{◌≡◌, ◌≢◌, ◌⊎◌, List, []}
 use Rattle.terms.specs.Types.{Text}
 use Rattle.clap.specs.Words.{App, IsAmong, fault_of, kind_of, matches_of}
 use Rattle.clap.specs.declared.error.Error.{Error}

@@ -1,5 +1,5 @@
 -- The values of the options, as clap's matches have them.
-use Rattle.std.specs.Prelude.{◌≡◌, ◌≢◌, ◌↔◌, ◌⊎◌, Bool, true, false, IsTrue, List, [], ◌∷◌, ◌++◌, Option, Some, None}
+use Rattle.std.specs.Prelude.{◌≡◌, ◌≢◌, ◌↔◌, Bool, true, false, IsTrue, List, [], Option, Some, None}
 use Rattle.std.specs.Prelude.{codes, map, option_map}
 use Rattle.std.specs.String.{string_bytes}
 use Rattle.terms.specs.Types.{Text}

@@ -1,5 +1,4 @@
 use Rattle.std.proofs.Common.{inl}
-use Rattle.std.proofs.lemmas.Result.{IfOk-weaker}
 use Rattle.intake_command.proofs.commands.known_ptfin.Goals as goal
 
 pub returns : goal.returns

@@ -1,9 +1,7 @@
-use Rattle.std.proofs.Common.{◌≡◌, ◌∙◌, [], ◌∷◌, sym, subst, refl, ap, map, false, Bool, List, if◌then◌else◌}
+use Rattle.std.proofs.Common.{◌∙◌, [], ◌∷◌, sym, subst, ap, false, Bool, if◌then◌else◌}
 use Rattle.std.proofs.lemmas.Result.{on_ok_weaker}
 use Rattle.intake_command.specs.Acts.{HostAct, Finds}
-use Rattle.intake_command.specs.Done.{HasDone}
 use Rattle.intake_command.specs.Files.{path_of}
-use Rattle.intake_command.specs.Serving.{looks_for}
 use Rattle.intake_command.proofs.Doing.{did, idle, on_err, quiet_idle}
 use Rattle.intake_command.proofs.own.check_file.Goals as goal
 

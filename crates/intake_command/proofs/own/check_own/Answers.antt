@@ -1,7 +1,7 @@
-use Rattle.std.proofs.Common.{◌≡◌, ◌∙◌, ◌∷◌, [], ◌++◌, List, Option, ap, ap₂, subst, option_map, map, refl}
+use Rattle.std.proofs.Common.{◌≡◌, ◌∙◌, ◌∷◌, [], ◌++◌, Option, ap, ap₂, subst, option_map, map, refl}
 use Rattle.terms.specs.Types.{Text}
 use Rattle.intake_command.specs.Acts.{Begins}
-use Rattle.intake_command.specs.Files.{outputs_of, path_of, remarks_of, written_in}
+use Rattle.intake_command.specs.Files.{outputs_of, path_of, remarks_of}
 use Rattle.intake_command.specs.Serving.{folder_of, looks}
 use Rattle.intake_command.proofs.Doing.{both, did, on_err, quiet, quiet_did, quiet_idle}
 use Rattle.intake_command.proofs.own.check_own.Goals as goal

@@ -11,7 +11,7 @@ loop-text-preserved c =
     ap (map string_bytes) c.in_ok-push.ensures.items
     ∙ map-append string_bytes l.copies.items (c.in_ok-copy.copy ∷ [])
     ∙ ap (λ copies. copies ++ string_bytes c.in_ok-copy.copy ∷ []) l.invariant
-    ∙ ap (λ t. map (λ x. x.now) done ++ t ∷ []) c.in_ok-copy.ensures.bytes
+    ∙ ap (λ t. map (λ x. x.now) done ++ t ∷ []) c.in_ok-copy.ensures.ok
     ∙ sym (ap (map (λ x. x.now)) next ∙ map-append (λ x. x.now) done _)
 
 pub returns : goal.returns

@@ -1,4 +1,3 @@
-use Rattle.intake_words.specs.Values.{SuitsCommands}
 use Rattle.intake_words.proofs.Shapes.{own_handed_on}
 use Rattle.intake_words.proofs.options.options_of_matches.Goals as goal
 
