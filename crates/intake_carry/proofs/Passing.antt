@@ -12,7 +12,7 @@ use Rattle.intake_read.specs.declared.items.WideHoldKind.TheVariants.{Error, Sys
 use Rattle.intake_read.specs.declared.items.WideHold.{WideHold}
 use Rattle.intake_holds.specs.Holds.{IsHold}
 use Rattle.intake_holds.proofs.Becoming.{system_carried}
-use Rattle.intake_carry.specs.PassedOn.{is_system_kind, is_passed_on, IsHoldOn, HoldIsPassedOn, PassesOneOn, PassesOn}
+use Rattle.intake_carry.specs.PassedOn.{is_system_kind, is_passed_on, HoldIsPassedOn, PassesOneOn, PassesOn}
 use Rattle.intake_carry.specs.PassedOn.{IsPassed, IsNotPassed}
 
 system_kind : (k : Option WideHoldKind) → is_system_kind k ≡ true → k ≡ Some System

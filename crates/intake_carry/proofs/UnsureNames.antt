@@ -3,9 +3,9 @@ use Rattle.std.proofs.Common.{◌≡◌, ◌<◌, ◌+◌, Bool, true, false, �
 use Rattle.std.proofs.Common.{Ok, Err, length, take, get_or, map, subst, sym, ap, ◌∙◌, refl, inl, inr, cond, append-nil}
 use Rattle.std.proofs.Common.{append_assoc, Contains}
 use Rattle.std.specs.Prelude.{◌||◌, IsTrue, All, IfOk, IfNone, is_some}
-use Rattle.std.specs.List.{Any, flat_map, list_any}
+use Rattle.std.specs.List.{Any, list_any}
 use Rattle.std.specs.Str.{bytes_eq}
-use Rattle.std.specs.Ordering.{nat_cmp, is_eq}
+use Rattle.std.specs.Ordering.{nat_cmp}
 use Rattle.std.specs.Cmp.Lexicographic.{slice_cmp}
 use Rattle.std.specs.BTreeSet.{BTreeSet, contains, Updates}
 use Rattle.std.specs.BTreeMap.{get, is_at}

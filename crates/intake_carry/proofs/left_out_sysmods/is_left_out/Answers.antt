@@ -1,4 +1,4 @@
-use Rattle.std.proofs.Common.{not, subst, sym, ap, ◌∙◌}
+use Rattle.std.proofs.Common.{not, ap, ◌∙◌}
 use Rattle.std.specs.List.{list_any}
 use Rattle.intake_carry.specs.Unsure.{has_id}
 use Rattle.intake_carry.proofs.left_out_sysmods.is_left_out.Goals as goal

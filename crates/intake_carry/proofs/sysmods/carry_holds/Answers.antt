@@ -1,4 +1,4 @@
-use Rattle.std.proofs.Common.{◌∙◌, ◌++◌, subst, sym, ap, Some}
+use Rattle.std.proofs.Common.{◌∙◌, subst, sym, ap, Some}
 use Rattle.intake_holds.specs.Become.{Become}
 use Rattle.intake_holds.specs.Holds.{HoldBecomes}
 use Rattle.terms.specs.Types.{Sysmod}

@@ -1,9 +1,8 @@
-use Rattle.std.proofs.Common.{◌≡◌, map, sym, subst, ◌∙◌}
+use Rattle.std.proofs.Common.{map, sym, subst, ◌∙◌}
 use Rattle.std.specs.Prelude.{All}
 use Rattle.std.proofs.lemmas.Result.{on_ok_weaker}
 use Rattle.std.proofs.lemmas.List.Elements.{All-map}
 use Rattle.terms.specs.Types as terms
-use Rattle.mcs.specs.declared.file.Item.TheVariants.{Sysmod, Assign}
 use Rattle.intake_carry.specs.Unsure.{Meets, IsAmong}
 use Rattle.intake_carry.proofs.UnsureNames.{same_sysmod, no_sysmod}
 use Rattle.intake_carry.proofs.unsure.push_if_unsure.Goals as goal
