@@ -8,7 +8,7 @@ returns c =
     (λ ids are. record {
       rising = are.0;
       members = λ y. (
-        λ h. (sym c.is_missing.ensures ∙ c.if-is_missing.false, (are.1 y).0 h),
+        λ h. (sym c.is_missing.ensures ∙ c.if-not-is_missing.false, (are.1 y).0 h),
         λ both. (are.1 y).1 both.1,
       );
     }) c.installable_suppliers.ensures
