@@ -152,7 +152,7 @@ returns-clause-goes g c =
       };
       done = record {
         before = before;
-        loads = loads_read g.S.Store old before _ c.in_ok-heads.ensures.reads;
+        loads = loads_read g.S.Store old before _ c.in_ok-heads.ensures.loads.reads;
         commits = record { made = at.only.made; kept = λ clean. tt; crash = at.only.crash };
       };
       refused = λ refused. absurd (true≢false (sym refused));
