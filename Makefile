@@ -30,8 +30,8 @@ completions := $(call quoted,$(root)/share/bash-completion/completions)
 man := $(call quoted,$(root)/share/man)
 doc := $(call quoted,$(root)/share/doc/smpe)
 # Those of tools/NAME are installed as smpe-NAME.
-tools = cards query job failures shadow
-completed = smpe smpe-intake smpe-query smpe-job smpe-failures smpe-shadow
+tools = cards query job failures shadow conform
+completed = smpe smpe-intake smpe-query smpe-job smpe-failures smpe-shadow smpe-conform
 commands = smpe smpe-intake $(tools:%=smpe-%)
 
 .PHONY: all check install uninstall
@@ -49,7 +49,7 @@ install:
 	install -m 755 -- $(call quoted,$(PROGRAM)) $(bin)/smpe
 	install -m 755 -- $(call quoted,$(INTAKE)) $(bin)/smpe-intake
 	for tool in $(tools); do install -m 755 -- tools/$$tool $(bin)/smpe-$$tool || exit; done
-	install -m 644 -- tools/queries.sql $(share)
+	install -m 644 -- tools/queries.sql tools/conform.rules $(share)
 	install -m 644 -- docs/*.1 $(man)/man1
 	install -m 644 -- docs/*.5 $(man)/man5
 	install -m 644 -- README.md CHANGELOG.md SECURITY.md $(doc)

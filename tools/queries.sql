@@ -150,3 +150,83 @@ LEFT JOIN entry AS accepted ON accepted.zone = related AND accepted.id = entry.i
 LEFT JOIN sysmod ON sysmod.id = entry.id
 LEFT JOIN not_installed AS n ON n.zone = related AND n.id = entry.id
 WHERE related IS NOT NULL AND accepted.id IS NULL;
+
+-- What was put on over a requisite or a hold: each requisite that BYPASS waived, and each hold that stands on what is
+-- applied. `sure` is YES where BYPASS alone can have done that: a waived requisite, or an internal hold. An external
+-- hold may have been received later, so it is PERHAPS, and is left out if its DATE is after the day of the APPLY or the
+-- zone supplies its reason. `open` is 0 where the zone supplies the requisite by now.
+CREATE TEMP VIEW bypassed AS
+SELECT zone.name AS zone, entry.id, entry.date, coalesce(states.operand, '') AS kind, waived.value AS reason,
+  NULL AS class, NULL AS origin, 'YES' AS sure,
+  NOT EXISTS (SELECT 1 FROM entry AS what WHERE what.zone = zone.name AND what.id = waived.value
+    AND (what.date IS NOT NULL OR what.supby <> '')) AS open, NULL AS comment
+FROM zone JOIN entry ON entry.zone = zone.name AND entry.date IS NOT NULL AND entry.waived <> ''
+JOIN json_each('["' || replace(entry.waived, ',', '","') || '"]') AS waived
+LEFT JOIN chosen ON chosen.zone = zone.name AND chosen.id = entry.id
+LEFT JOIN states ON states.id = entry.id AND states.srel = zone.srel AND states.number = coalesce(chosen.n, 1)
+  AND states.operand IN ('PRE', 'REQ', 'IFREQ') AND states.names = waived.value
+GROUP BY zone.name, entry.id, states.operand, waived.value
+UNION ALL
+SELECT zone, held.id, entry.date, held.kind, reason, class, origin,
+  CASE origin WHEN 'INTERNAL' THEN 'YES' ELSE 'PERHAPS' END, 1, comment
+FROM held JOIN entry USING (zone, id)
+WHERE entry.date IS NOT NULL AND open
+  AND (origin = 'INTERNAL' OR held.date IS NULL OR held.date <= replace(entry.date, '.', ''));
+
+-- What is applied and not superseded in a zone in spite of an ERROR hold whose reason the zone does not supply, as
+-- REPORT ERRSYSMODS finds it: the hold's class and date, since when the SYSMOD is applied, and for how many days.
+CREATE TEMP VIEW exposed AS
+SELECT zone, held.id, reason, class, held.date, entry.date AS since,
+  CAST(julianday('now', 'localtime', 'start of day')
+    - julianday('20' || substr(entry.date, 1, 2) || '-01-01') - substr(entry.date, 4) + 1 AS INTEGER) AS days, comment
+FROM held JOIN entry USING (zone, id)
+WHERE held.kind = 'ERROR' AND open AND entry.date IS NOT NULL AND entry.supby = '';
+
+-- The steps from a SYSMOD to each id that its ++VER which counts in a zone names in PRE, SUP or FMID.
+CREATE TEMP VIEW steps AS
+SELECT counting.zone, counting.id, operand, names
+FROM counting JOIN zone ON zone.name = counting.zone
+JOIN states ON states.id = counting.id AND states.srel = zone.srel AND states.number = counting.number
+WHERE operand IN ('PRE', 'SUP', 'FMID');
+
+-- The elements of a zone whose level lost what a SYSMOD that is applied there has changed: REPLACED where `by`, the
+-- RMID, is not over the SYSMOD and neither the RMID nor a UMID supersedes it; UPDATED where `by`, a UMID, is not over it
+-- and was put on it, so that the lines which both change are those of `by`. `fixes` is what the SYSMOD supersedes. (Who
+-- is over whom leads through received SYSMODs alone; an update that one over it makes on the same day is not seen.)
+CREATE TEMP VIEW regressed AS
+WITH RECURSIVE
+changed AS (
+  SELECT zelem.zone, type, name, rmid, umid, elem.id, supby
+  FROM elem JOIN zelem USING (type, name) JOIN entry ON entry.zone = zelem.zone AND entry.id = elem.id
+  WHERE date IS NOT NULL AND elem.id <> zelem.fmid AND elem.id <> rmid),
+replaced AS (
+  SELECT zone, type, name, id, rmid AS by FROM changed
+  WHERE instr(',' || umid || ',', ',' || id || ',') = 0 AND instr(',' || supby || ',', ',' || rmid || ',') = 0
+    AND NOT (umid <> '' AND supby <> '' AND EXISTS (
+      SELECT 1 FROM json_each('["' || replace(umid, ',', '","') || '"]') AS u
+      WHERE instr(',' || supby || ',', ',' || u.value || ',') > 0))),
+updates AS (
+  SELECT zone, zelem.type, name, rmid, umid, u.value AS by
+  FROM zelem, json_each('["' || replace(umid, ',', '","') || '"]') AS u WHERE umid <> ''),
+updated AS (
+  SELECT zone, type, name, rmid AS id, by, 1 AS is_below FROM updates
+  UNION ALL
+  SELECT updates.zone, updates.type, name, u.value, by, below.date < above.date
+  FROM updates, json_each('["' || replace(umid, ',', '","') || '"]') AS u
+  JOIN entry AS above ON above.zone = updates.zone AND above.id = by
+  JOIN entry AS below ON below.zone = updates.zone AND below.id = u.value
+  WHERE u.value <> by AND below.date <= above.date),
+over (zone, by, id) AS (
+  SELECT zone, by, by FROM replaced UNION SELECT zone, by, by FROM updates
+  UNION
+  SELECT steps.zone, over.by, names FROM over JOIN steps ON steps.zone = over.zone AND steps.id = over.id)
+SELECT lost.zone, lost.type, lost.name, lost.id, how, lost.by, sup AS fixes
+FROM (
+  SELECT zone, type, name, id, 'REPLACED' AS how, by, 1 AS is_below FROM replaced
+  UNION ALL SELECT zone, type, name, id, 'UPDATED', by, is_below FROM updated) AS lost
+LEFT JOIN over AS way ON way.zone = lost.zone AND way.by = lost.by AND way.id = lost.id
+LEFT JOIN over AS back ON back.zone = lost.zone AND back.by = lost.id AND back.id = lost.by
+JOIN zone ON zone.name = lost.zone
+JOIN counting ON counting.zone = lost.zone AND counting.id = lost.id
+JOIN vers ON vers.id = lost.id AND vers.srel = zone.srel AND vers.number = counting.number
+WHERE way.id IS NULL AND (is_below OR back.id IS NULL);

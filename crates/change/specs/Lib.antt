@@ -7,3 +7,4 @@ pub mod Superseded
 pub mod Folding
 pub mod Elements
 pub mod Deleting
+pub mod Together

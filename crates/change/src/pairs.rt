@@ -9,7 +9,7 @@ use std::alloc::{AllocError, Global};
 use std::collections::BTreeMap;
 
 /// The pairs whose first id is one of these.
-pub fn pairs_with_first_in(
+pub(crate) fn pairs_with_first_in(
     alloc: Global,
     ids: &IdList,
     pairs: &[(Id, Id)],

@@ -1,4 +1,5 @@
 //! Why a command, or a command file, is not read.
+use fields::spelling::{as_str, command_code_text};
 use std::alloc::{AllocError, AllocFailed};
 use terms::CommandCode;
 use thiserror::Error;
@@ -8,7 +9,7 @@ use thiserror::Error;
 pub enum CommandReadError {
     #[error("out of memory")]
     Memory,
-    #[error("the command is at fault")]
+    #[error("{}", as_str(command_code_text(*.0)))]
     Fault(CommandCode),
 }
 
@@ -17,7 +18,7 @@ pub enum CommandReadError {
 pub enum CntlError {
     #[error("out of memory")]
     Memory,
-    #[error("the command in record {number} is at fault")]
+    #[error("{} in record {number}", as_str(command_code_text(*code)))]
     Fault { number: usize, code: CommandCode },
 }
 

@@ -1,4 +1,5 @@
 -- What commands choose, as the definitions see it.
+use Rattle.std.specs.Prelude.{false, []}
 use Rattle.terms.specs.Types as terms
 use Rattle.fields.specs.declared.bypass.Reasons.{Reasons}
 use Rattle.fields.specs.declared.bypass.Reasons.TheVariants.{None, Any, These}
@@ -13,3 +14,18 @@ reasons_in (These reasons) = terms.TheseReasons reasons
 abbrev pub restore_list_of : RestoreList → terms.RestoreList
 restore_list_of (Select ids) = terms.RestoreSelect ids
 restore_list_of (Group ids) = terms.RestoreGroup ids
+
+-- no operand
+abbrev pub no_selection : terms.Selection
+no_selection = record {
+  functions = false;
+  ptfs = false;
+  apars = false;
+  usermods = false;
+  select = [];
+  exclude = [];
+  sourceid = [];
+  forfmid = [];
+  group = [];
+  groupextend = false;
+}

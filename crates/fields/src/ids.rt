@@ -5,6 +5,8 @@ ghost use Rattle.terms.specs.Forms.{IsId, IsSource, IsClass};
 use crate::forms::is_run_of_id_bytes;
 use crate::padded::Short;
 use crate::rising_lists::Field;
+use crate::spelling::as_str;
+use std::fmt;
 use std::marker::Model;
 
 /// A SYSMOD's id. A contract sees it as its seven bytes.
@@ -52,6 +54,12 @@ impl Id {
         ensures form { IsId result.now }
     {
         self.text.as_bytes()
+    }
+}
+
+impl fmt::Display for Id {
+    fn fmt<W: fmt::Write>(&self, f: &mut fmt::Formatter<W>) -> fmt::Result {
+        f.write_str(as_str(self.as_bytes()))
     }
 }
 

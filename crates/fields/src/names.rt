@@ -6,6 +6,8 @@ use crate::attest::Attest;
 use crate::forms::{are_digits, is_digit, is_letter, is_run_of_id_bytes};
 use crate::padded::Short;
 use crate::rising_lists::Field;
+use crate::spelling::as_str;
+use std::fmt;
 use std::marker::Model;
 
 /// The name of an element or a library. A contract sees it as its bytes.
@@ -53,6 +55,12 @@ impl Name {
         ensures form { IsName result.now }
     {
         self.text.as_bytes()
+    }
+}
+
+impl fmt::Display for Name {
+    fn fmt<W: fmt::Write>(&self, f: &mut fmt::Formatter<W>) -> fmt::Result {
+        f.write_str(as_str(self.as_bytes()))
     }
 }
 

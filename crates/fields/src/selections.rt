@@ -1,6 +1,10 @@
 //! What commands choose: what RECEIVE reads, what APPLY and ACCEPT take, and what RESTORE takes off.
+ghost use Rattle.std.specs.Prelude.{◌≡◌};
+ghost use Rattle.fields.specs.Choices.{no_selection};
+
 use crate::ids::Source;
 use crate::{IdList, SourceList};
+use std::alloc::Global;
 use std::marker::Model;
 
 /// What RECEIVE reads: PTFIN for `sysmods`, the hold file for `holddata`, at least one of them. It adds the source to
@@ -52,6 +56,26 @@ impl Model for Selection {
       group = a.group;
       groupextend = a.groupextend;
     } };
+}
+
+impl Selection {
+    /// A selection without operands, which chooses all PTFs.
+    pub fn none(alloc: Global) -> Selection
+        ensures { result ≡ no_selection }
+    {
+        Selection {
+            functions: false,
+            ptfs: false,
+            apars: false,
+            usermods: false,
+            select: IdList::new(alloc),
+            exclude: IdList::new(alloc),
+            sourceid: SourceList::new(alloc),
+            forfmid: IdList::new(alloc),
+            group: IdList::new(alloc),
+            groupextend: false,
+        }
+    }
 }
 
 /// The SYSMODs that RESTORE takes off: those of SELECT, or those of GROUP with all that these bring along.

@@ -252,3 +252,8 @@ pub fn refusal_text(refusal: IdRefusal) -> &'static [u8]
         IdRefusal::UnknownSysmod => b"Rj2",
     }
 }
+
+/// A text of this crate, to be printed: all of them are ASCII.
+pub fn as_str(text: &[u8]) -> &str {
+    str::from_utf8(text).unwrap_or("")
+}

@@ -1,3 +1,4 @@
 pub mod Alike
 pub mod InOrder
+mod Listed
 pub mod Passing

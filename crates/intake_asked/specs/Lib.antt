@@ -1,3 +1,4 @@
+pub mod Known
 pub mod KnownWords
 pub mod Said
 pub mod Words

@@ -12,9 +12,11 @@ use Rattle.terms.specs.Spelling.{word_text}
 use Rattle.terms.specs.CommandForms.{command_word}
 use Rattle.intake_read.specs.declared.items.WideOperand.{WideOperand}
 use Rattle.intake_asked.specs.declared.known.KnownSysmod.{KnownSysmod}
+use Rattle.intake_asked.specs.declared.known.KnownSysmods.{KnownSysmods}
 use Rattle.intake_asked.specs.declared.scan.WideCommand.{WideCommand}
 use Rattle.intake_asked.specs.Words.{has, stands_alone, listed, selected, grouped, excluded, sources, sources_of}
 use Rattle.intake_asked.specs.Words.{select_names, groupextend_names, check_names}
+use Rattle.intake_asked.specs.Known.{known_after}
 use Rattle.intake_asked.specs.KnownWords.{known_operands, known_members}
 
 -- the same texts, in whatever order
@@ -109,9 +111,19 @@ pub record Says (known : Option (Vec KnownSysmod Global)) (w : WideCommand) (c :
 abbrev pub is_no_decision : Text → Bool
 is_no_decision word = is_in (codes "RESETRC" ∷ codes "LOG" ∷ codes "DEBUG" ∷ []) word
 
--- The commands are, in order, what the shop's commands ask for, but for those that change no decision.
-abbrev pub AreSaid : Option (Vec KnownSysmod Global) → List WideCommand → List Command → Type 0
-AreSaid known [] commands = commands ≡ []
-AreSaid known (w ∷ ws) commands =
-    (IsTrue (is_no_decision w.head.name.items) × AreSaid known ws commands)
-    ⊎ ((c : Command) × (more : List Command) × (commands ≡ c ∷ more) × Says known w c × AreSaid known ws more)
+-- It receives SYSMODs.
+abbrev pub receives : Command → Bool
+receives (Receive what) = what.sysmods
+receives _ = false
+
+-- The commands are, in order, what the shop's commands ask for, but for those that change no decision. `received` says
+-- whether a command before them receives SYSMODs.
+abbrev pub AreSaidAfter : KnownSysmods → Bool → List WideCommand → List Command → Type 0
+AreSaidAfter known received [] commands = commands ≡ []
+AreSaidAfter known received (w ∷ ws) commands =
+    (IsTrue (is_no_decision w.head.name.items) × AreSaidAfter known received ws commands)
+    ⊎ ((c : Command) × (more : List Command) × (commands ≡ c ∷ more) × Says (known_after known received) w c
+    × AreSaidAfter known (received || receives c) ws more)
+
+abbrev pub AreSaid : KnownSysmods → List WideCommand → List Command → Type 0
+AreSaid known commands said = AreSaidAfter known false commands said

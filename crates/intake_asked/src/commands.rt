@@ -8,10 +8,11 @@ ghost use Rattle.intake_asked.specs.KnownWords.{known_operands, known_members};
 ghost use Rattle.cntl.specs.Views.{command_of};
 ghost use Rattle.intake_asked.specs.Words.{has, stands_alone, listed, select_names, check_names};
 ghost use Rattle.intake_asked.specs.Said.{AreThese, one_of, is_no_decision, SaysInstall, SaysRestored, SaysReceive};
-ghost use Rattle.intake_asked.specs.Said.{SaysOperands, Says, AreSaid};
+ghost use Rattle.intake_asked.specs.Known.{known_after};
+ghost use Rattle.intake_asked.specs.Said.{SaysOperands, Says, AreSaid, receives};
 
 use crate::bypasses::says_bypass;
-use crate::known::KnownSysmod;
+use crate::known::{KnownSysmod, KnownSysmods};
 use crate::lists::{grouped_ids, select_names, selected_ids};
 use crate::names::{known_members, known_operands};
 use crate::operands::{
@@ -237,8 +238,8 @@ fn has_only_known_members(wide: &WideCommand, word: CommandWord) -> bool
     have_only_names(known_members(word), wide.bypassed.as_slice())
 }
 
-/// Whether the command says exactly what the shop's command `wide` asks for.
-pub fn says(
+// Whether the command says exactly what the shop's command `wide` asks for.
+fn says(
     alloc: Global,
     known: &Option<Vec<KnownSysmod>>,
     wide: &WideCommand,
@@ -259,17 +260,54 @@ pub fn says(
     says_operands(alloc, known, wide, command)
 }
 
+/// Whether the command says exactly what the shop's command `wide` asks for. `received` says whether a command before
+/// it receives SYSMODs.
+pub fn says_after(
+    alloc: Global,
+    known: &KnownSysmods,
+    received: bool,
+    wide: &WideCommand,
+    command: &Command,
+) -> Result<bool, AllocError>
+    ensures { IfOk result (λ says. IsTrue says
+        → Says (known_after known.now received) wide.now (command_of command.now)) }
+{
+    if received && !known.has_ptfin {
+        says(alloc, &None, wide, command)
+    } else {
+        says(alloc, &known.list, wide, command)
+    }
+}
+
+// Whether the command receives SYSMODs.
+fn receives(command: &Command) -> bool
+    ensures { result ≡ receives (command_of command.now) }
+{
+    match command {
+        Command::Receive(what) => what.sysmods,
+        _ => false,
+    }
+}
+
+// Whether SYSMODs are received up to the command. `received` says whether they are before it.
+fn has_received(received: bool, command: &Command) -> bool
+    ensures { result ≡ (received || receives (command_of command.now)) }
+{
+    received || receives(command)
+}
+
 /// Whether the commands say, one after the other, exactly what the shop's commands `wide` ask for. Those of the shop's
 /// commands that change no decision are passed over.
 pub fn are_said(
     alloc: Global,
-    known: &Option<Vec<KnownSysmod>>,
+    known: &KnownSysmods,
     wide: &[WideCommand],
     commands: &[Command],
 ) -> Result<bool, AllocError>
     ensures { IfOk result (λ are. IsTrue are → AreSaid known.now wide.now (map command_of commands.now)) }
 {
     let mut left = commands;
+    let mut received = false;
     for command in wide {
         if changes_no_decision(command.head.name.as_slice()) {
             continue;
@@ -277,9 +315,10 @@ pub fn are_said(
         let Some((first, rest)) = left.split_first() else {
             return Ok(false);
         };
-        if !says(alloc, known, command, first)? {
+        if !says_after(alloc, known, received, command, first)? {
             return Ok(false);
         }
+        received = has_received(received, first);
         left = rest;
     }
     Ok(left.is_empty())

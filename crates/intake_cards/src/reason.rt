@@ -46,6 +46,8 @@ pub enum RemarkReason {
     GroupOfSelect,
     /// A hold in a SYSMOD that is on another one, or of another kind, goes to the hold file.
     HeldOutside,
+    /// A SYSTEM hold on a SYSMOD that the one with its statement supersedes holds that one too.
+    PassedOn,
     /// APARs and USERMODs of `--known` are in EXCLUDE.
     KnownExcluded,
     /// The list has the source ids of `--known` that begin so.
@@ -86,6 +88,8 @@ pub enum RemarkReason {
     OutsideProfile,
     /// An operand that must be there is not.
     Missing,
+    /// An operand has no value, although it must have one.
+    NoValue,
     /// An operand or a statement that is given twice.
     Twice,
     /// A list of more than 1,000 ids.
@@ -120,6 +124,8 @@ pub enum RemarkReason {
     UpdateInFunction,
     /// A period is missing.
     NoPeriod,
+    /// The period stands in columns 73 to 80, which are not read.
+    LatePeriod,
     /// A parenthesis is open.
     OpenParenthesis,
     /// A parenthesis without its partner.
@@ -167,6 +173,8 @@ impl RemarkReason {
             RemarkReason::FallTogether => "stands for two elements",
             RemarkReason::Split => "stands in several statements",
             RemarkReason::HeldOutside => "stands in the file of holds",
+            RemarkReason::PassedOn =>
+                "also holds the SYSMOD that supersedes it: BYPASS it there if this one is installed already",
             RemarkReason::Double => "an id that stands there twice is named once",
             RemarkReason::Blanks => "its blanks are as cards have them",
             RemarkReason::Unprintable => "question marks for what no record may have",
@@ -196,6 +204,7 @@ impl RemarkReason {
             RemarkReason::UnknownStatement => "an unknown statement",
             RemarkReason::OutsideProfile => "no statement of the profile",
             RemarkReason::Missing => "it is missing",
+            RemarkReason::NoValue => "its value is missing",
             RemarkReason::Twice => "stands there twice",
             RemarkReason::LongList => "more than 1,000 ids",
             RemarkReason::TooMany => "more statements than a SYSMOD may have",
@@ -211,6 +220,8 @@ impl RemarkReason {
             RemarkReason::NotInService => "only a function may have it",
             RemarkReason::UpdateInFunction => "a function brings no update",
             RemarkReason::NoPeriod => "its period is missing",
+            RemarkReason::LatePeriod =>
+                "its period stands behind column 72: put it on a card of its own",
             RemarkReason::OpenParenthesis => "a parenthesis is not closed in columns 1 to 72",
             RemarkReason::StrayParenthesis => "a parenthesis without its partner",
             RemarkReason::StrayCharacter => "a character that stands in no word",

@@ -46,6 +46,8 @@ pub struct Remarks {
     pub with_stand_ins: Vec<Id>,
     /// How many SYSMODs are left out that have elements, NPRE or DELETE.
     pub forbidding: usize,
+    /// How many assignments of PTFIN lack ids that their statement names.
+    pub cut_assigns: usize,
 }
 
 /// A reason why a SYSMOD is left out: the first remark that gives it, by its place in the list, and how many more are
@@ -92,6 +94,7 @@ impl Remarks {
             named: Vec::new(alloc),
             with_stand_ins: Vec::new(alloc),
             forbidding: 0,
+            cut_assigns: 0,
         }
     }
 

@@ -1,2 +1,4 @@
 pub mod HeldKeys
+pub mod Passing
+pub mod UnsureNames
 pub mod WithHolds

@@ -15,6 +15,7 @@ use Rattle.intake_sysmod.specs.Users.{run_of}
 use Rattle.intake_holds.specs.declared.placed.PlacedItem.{PlacedItem}
 use Rattle.intake_holds.specs.Become.{Become}
 use Rattle.intake_holds.specs.Holds.{HoldBecomes, LeftHoldBecomes, ReleaseBecomes, AreInOrder}
+use Rattle.intake_carry.specs.PassedOn.{PassesOn}
 
 -- the item that a SYSMOD is, if it is carried
 abbrev pub item_in : Option terms.Sysmod → List Item
@@ -27,10 +28,13 @@ holds_of (Sysmod s) = s.holds
 holds_of (Assign a) = []
 
 -- What the holds of a SYSMOD become: those of one that is left out are outside, and those of one that is carried are
--- outside unless they are internal.
+-- outside unless they are internal. A SYSMOD has its internal holds, and before them, as holds of its own, the SYSTEM
+-- holds on SYSMODs that it supersedes.
 abbrev pub HoldsBecome : WideSysmod → Option terms.Sysmod → List PlacedItem → Type 0
 HoldsBecome stated None outside = Become (LeftHoldBecomes stated.id.items) stated.holds.items [] outside
-HoldsBecome stated (Some s) outside = Become (HoldBecomes (Some s.id)) stated.holds.items s.holds outside
+HoldsBecome stated (Some s) outside = (passed inside : List terms.Hold) × (s.holds ≡ passed ++ inside)
+    × PassesOn s.id s.vers stated.holds.items passed
+    × Become (HoldBecomes (Some s.id)) stated.holds.items inside outside
 
 -- A SYSMOD is left out, or it becomes one that is no looser, with its internal holds. Its other holds are outside. The
 -- run is all SYSMODs of the files.

@@ -1,2 +1,4 @@
 pub mod Carried
 pub mod Keys
+pub mod PassedOn
+pub mod Unsure

@@ -4,9 +4,9 @@ ghost use Rattle.mcs.specs.declared.file.Item.TheVariants as item;
 
 use crate::sysmods::stated_text;
 use fields::{Id, Source};
-use intake_cards::{RemarkReason, Remarks, Subject};
-use intake_holds::{has_faulty_operand, tell_left_out_for_faulty_operands};
-use intake_read::{WideAssign, WideFile};
+use intake_cards::{Deed, RemarkReason, Remarks, Subject};
+use intake_holds::has_faulty_operand;
+use intake_read::{WideAssign, WideFile, tell_faulty_operands};
 use mcs::{Assign, Item};
 use std::alloc::{AllocError, Global};
 use std::collections::BTreeSet;
@@ -56,6 +56,13 @@ fn distinct_ids(
     Ok(ids)
 }
 
+// Whether one of the texts is no id.
+fn has_bad_id(stated: &[Vec<u8>]) -> bool {
+    stated
+        .iter()
+        .any(|text| Id::read(text.as_slice()).is_none())
+}
+
 // Whether the `++ASSIGN` has all its operands, and none of them is faulty. A remark leaves it out for each operand that
 // is missing or faulty.
 fn has_all_operands(
@@ -65,10 +72,15 @@ fn has_all_operands(
     stated: &WideAssign,
 ) -> Result<bool, AllocError> {
     let faulty = stated.faulty.as_slice();
-    tell_left_out_for_faulty_operands(alloc, remarks, subject, faulty)?;
+    tell_faulty_operands(alloc, remarks, subject, faulty, Deed::LeftOut)?;
     let lacks_source = subject.id.is_empty() && !has_faulty_operand(faulty, b"SOURCEID");
     if lacks_source {
-        remarks.tell_left_out(alloc, subject, b"SOURCEID", RemarkReason::Missing, b"")?;
+        let reason = if stated.source.is_some() {
+            RemarkReason::NoValue
+        } else {
+            RemarkReason::Missing
+        };
+        remarks.tell_left_out(alloc, subject, b"SOURCEID", reason, b"")?;
     }
     let lacks_ids = stated.to.is_empty() && !has_faulty_operand(faulty, b"TO");
     if lacks_ids {
@@ -124,7 +136,13 @@ fn carry_assign(
     if ids.len() > MOST_IDS {
         remarks.tell_carried(alloc, &subject, b"TO", RemarkReason::Split, b"")?;
     }
-    push_assigns(alloc, assigns, source, ids.as_slice())
+    let before = assigns.len();
+    push_assigns(alloc, assigns, source, ids.as_slice())?;
+    if has_bad_id(stated.to.as_slice()) {
+        let made = assigns.len().saturating_sub(before);
+        remarks.cut_assigns = remarks.cut_assigns.saturating_add(made);
+    }
+    Ok(())
 }
 
 /// Carries the assignments of the files, and adds those of the source id STANDIN to the SYSMODs with stand-ins. Remarks

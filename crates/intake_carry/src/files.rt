@@ -7,6 +7,8 @@ ghost use Rattle.intake_holds.specs.Become.{Become};
 ghost use Rattle.intake_holds.specs.Holds.{AreInOrder};
 ghost use Rattle.intake_carry.specs.Carried.{item_in, SysmodBecomes, FileBecomes, FilesBecome};
 ghost use Rattle.intake_holds.specs.Outside.{AreCarried};
+ghost use Rattle.intake_sysmod.specs.Users.{run_of};
+ghost use Rattle.intake_carry.specs.Unsure.{AreUnsure};
 
 use crate::assigns::{append_assigns, carry_assigns};
 use crate::copies::OtherCopies;
@@ -16,6 +18,7 @@ use crate::notes::{tell_notes, tell_swallowed_statements};
 use crate::scope::CarryScope;
 use crate::stand_ins::sort_and_check_stand_ins;
 use crate::sysmods::{CarriedSysmod, carry_with_holds};
+use crate::unsure::unsure_sysmods;
 use intake_cards::Remarks;
 use intake_holds::{
     FileRemarks, HoldError, OutsideHolds, PlacedItem, carry_releases, items_in_order,
@@ -131,10 +134,12 @@ fn carry_files(
     Ok(gathered)
 }
 
-// The items of PTFIN, with the assignments after them, and those of the hold file in their order, with all remarks. The
-// names of stand-ins are checked here, because any of the files may have an element of such a name.
+// The items of PTFIN, with the assignments after them, and those of the hold file in their order, with all remarks and
+// the SYSMODs of which it is not sure that they can be installed. The names of stand-ins are checked here, because any
+// of the files may have an element of such a name.
 fn finish_narrowed(
     alloc: Global,
+    options: &Options,
     mut remarks: Remarks,
     files: &[WideFile],
     mut items: Vec<Item>,
@@ -143,26 +148,32 @@ fn finish_narrowed(
     ensures items { IfOk result (λ narrowed. (assigns : List terms.Assign)
         × (narrowed.items.items ≡ items.items ++ map item.Assign assigns)) }
     ensures in_order { IfOk result (λ narrowed. AreInOrder outside.items narrowed.hold_items.items) }
+    ensures unsure { IfOk result (λ narrowed. AreUnsure (run_of files.now) narrowed.items.items
+        narrowed.unsure.items) }
 {
     sort_and_check_stand_ins(alloc, &mut remarks, files)?;
     let assigns = carry_assigns(alloc, &mut remarks, files)?;
     append_assigns(&mut items, assigns)?;
     let hold_items = items_in_order(alloc, outside)?;
-    Ok(Narrowed::new(items, hold_items, remarks))
+    let unsure = unsure_sysmods(alloc, options, files, items.as_slice())?;
+    Ok(Narrowed::new(items, hold_items, unsure, remarks))
 }
 
 /// Makes items that RECEIVE takes of what the files state, in the order of the files. Each SYSMOD that is carried is no
 /// looser than it is stated, and no ERROR, SYSTEM or USER hold or release is lost. `held` has the files' holds outside
-/// SYSMODs, which were carried as they were read. Remarks say what is left out or changed. Returns `Refused`,
-/// with all remarks, if a hold or a release of such a kind cannot be carried, and `Memory` if memory runs out.
+/// SYSMODs, which were carried as they were read. Remarks say what is left out or changed, and each carried SYSMOD that
+/// has to do with one that is left out is named. Returns `Refused`, with all remarks, if a hold or a release of such a
+/// kind cannot be carried, and `Memory` if memory runs out.
 pub fn narrow(
     alloc: Global,
     files: &[WideFile],
     mut held: OutsideHolds,
     mut options: Options,
 ) -> Result<Narrowed, CarryError>
-    ensures { (holds : List WideHold) → AreCarried holds held → IfOk result (λ narrowed. FilesBecome options.decide
-        files.now holds narrowed.items.items narrowed.hold_items.items) }
+    ensures items { (holds : List WideHold) → AreCarried holds held → IfOk result (λ narrowed.
+        FilesBecome options.decide files.now holds narrowed.items.items narrowed.hold_items.items) }
+    ensures unsure { IfOk result (λ narrowed. AreUnsure (run_of files.now) narrowed.items.items
+        narrowed.unsure.items) }
 {
     options.sort_members();
     let users = Users::of_files(alloc, &options, files)?;
@@ -191,5 +202,5 @@ pub fn narrow(
         outside,
     )?;
     outside.append(&mut held.placed)?;
-    Ok(finish_narrowed(alloc, remarks, files, items, outside)?)
+    Ok(finish_narrowed(alloc, &options, remarks, files, items, outside)?)
 }

@@ -8,12 +8,18 @@ mod copies;
 mod files;
 mod held_copies;
 mod left_out;
+mod left_out_sysmods;
 mod narrowed;
 mod notes;
+mod parts;
+mod passed_on;
 mod scope;
 mod stand_ins;
 mod sysmods;
+mod unsure;
+mod unsure_reasons;
 
 pub use files::narrow;
 pub use intake_holds::{OutsideHolds, read_statements};
 pub use narrowed::{CarryError, Narrowed, Tally};
+pub use unsure::Unsure;

@@ -1,6 +1,7 @@
 //! What `narrow` returns: the items that RECEIVE takes, with the remarks and their counts.
 ghost use Rattle.std.specs.Prelude.{◌≡◌};
 
+use crate::unsure::Unsure;
 use intake_cards::{Deed, Remark, RemarkList, RemarkReason, Remarks, StandIn};
 use intake_read::CardPlace;
 use mcs::{HoldItem, Item};
@@ -28,6 +29,8 @@ pub struct Narrowed {
     pub assigns: Tally,
     /// How many of the SYSMODs that are left out have elements, NPRE or DELETE, which forbid something.
     pub forbidding: usize,
+    /// The carried SYSMODs of which it is not sure that they can be installed, in the order of PTFIN.
+    pub unsure: Vec<Unsure>,
     /// How many SYSMODs have stand-ins.
     pub stand_ins: usize,
     /// Which element each stand-in is for, by the names of the stand-ins, each of them once.
@@ -60,6 +63,8 @@ impl<T: Drop> From<AllocFailed<T>> for CarryError {
 struct LeftOutCounts {
     sysmods: usize,
     holds: usize,
+    /// Holds that are not those of a statement, but of one that is carried already.
+    passed_on: usize,
     releases: usize,
     assigns: usize,
     /// Where the `++ASSIGN` begins that was counted last.
@@ -72,6 +77,7 @@ impl LeftOutCounts {
         let mut counts = LeftOutCounts {
             sysmods: 0,
             holds: 0,
+            passed_on: 0,
             releases: 0,
             assigns: 0,
             last_assign: None,
@@ -92,6 +98,9 @@ impl LeftOutCounts {
         if remark.reason == RemarkReason::HeldAlready {
             self.holds = self.holds.saturating_add(1);
         }
+        if remark.reason == RemarkReason::PassedOn {
+            self.passed_on = self.passed_on.saturating_add(1);
+        }
         if remark.deed != Deed::LeftOut {
             return;
         }
@@ -104,10 +113,10 @@ impl LeftOutCounts {
         }
     }
 
-    // Counts the `++ASSIGN` of the remark once, however many remarks there are on it. It does not count if only some of
-    // its ids are left out.
+    // Counts the `++ASSIGN` of the remark once, however many remarks there are on it. One that lost only some of its
+    // ids counts too.
     fn count_assign(&mut self, remark: &Remark<'_>) {
-        if remark.reason != RemarkReason::BadId && self.last_assign != Some(remark.place) {
+        if self.last_assign != Some(remark.place) {
             self.assigns = self.assigns.saturating_add(1);
             self.last_assign = Some(remark.place);
         }
@@ -116,9 +125,15 @@ impl LeftOutCounts {
 
 impl Narrowed {
     /// The items and the remarks, with their counts.
-    pub(crate) fn new(items: Vec<Item>, hold_items: Vec<HoldItem>, remarks: Remarks) -> Narrowed
+    pub(crate) fn new(
+        items: Vec<Item>,
+        hold_items: Vec<HoldItem>,
+        unsure: Vec<Unsure>,
+        remarks: Remarks,
+    ) -> Narrowed
         ensures items { result.items.items ≡ items.items }
         ensures holds { result.hold_items.items ≡ hold_items.items }
+        ensures unsure { result.unsure.items ≡ unsure.items }
     {
         let left_out = LeftOutCounts::of_remarks(&remarks.list);
         let sysmods = Tally {
@@ -126,7 +141,9 @@ impl Narrowed {
             left_out: left_out.sysmods,
         };
         let holds = Tally {
-            carried: count_holds(items.as_slice(), hold_items.as_slice()),
+            carried: count_holds(items.as_slice(), hold_items.as_slice()).saturating_sub(
+                left_out.passed_on,
+            ),
             left_out: left_out.holds,
         };
         let releases = Tally {
@@ -134,7 +151,10 @@ impl Narrowed {
             left_out: left_out.releases,
         };
         let assigns = Tally {
-            carried: items.len().saturating_sub(sysmods.carried),
+            carried: items
+                .len()
+                .saturating_sub(sysmods.carried)
+                .saturating_sub(remarks.cut_assigns),
             left_out: left_out.assigns,
         };
         Narrowed {
@@ -145,6 +165,7 @@ impl Narrowed {
             releases,
             assigns,
             forbidding: remarks.forbidding,
+            unsure,
             stand_ins: remarks.with_stand_ins.len(),
             named: remarks.named,
             remarks: remarks.list,

@@ -1,6 +1,7 @@
 //! SYSMODs with their holds.
-ghost use Rattle.std.specs.Prelude.{◌≡◌, ◌++◌, ◌∷◌, [], IfOk, IfSome, OnOk, IsTrue, IsFalse, Some};
+ghost use Rattle.std.specs.Prelude.{◌≡◌, ◌++◌, ◌∷◌, [], List, IfOk, IfSome, OnOk, IsTrue, IsFalse, Some};
 ghost use Rattle.terms.specs.declared.kinds.HoldKind.TheVariants.{System};
+ghost use Rattle.terms.specs.Types.{Hold as AnyHold};
 ghost use Rattle.intake_sysmod.specs.NoLooser.{IsNoLooser};
 ghost use Rattle.intake_holds.specs.Become.{Become};
 ghost use Rattle.mcs.specs.declared.hold_item.HoldItem.TheVariants.{Hold as AHold};
@@ -8,6 +9,7 @@ ghost use Rattle.intake_holds.specs.Holds.{placed_at, HoldBecomes};
 ghost use Rattle.intake_carry.specs.Carried.{item_in, HoldsBecome, SysmodBecomes};
 
 use crate::left_out::{carry_left_out_holds, tell_hold_outside, tell_left_out_holds};
+use crate::passed_on::pass_holds_on;
 use crate::scope::CarryScope;
 use fields::spelling::kind_text;
 use intake_cards::{CardPlace, RemarkReason, Remarks, Subject};
@@ -49,18 +51,17 @@ fn place_hold(
     }
 }
 
-// Puts the internal holds into the SYSMOD, and returns the others, which go to the hold file. Remarks say what is
-// changed. Returns `BadHold` if a hold has no key, `Memory` if memory runs out.
+// Puts the internal holds into the SYSMOD, after those that it has, and returns the others, which go to the hold file.
+// Remarks say what is changed. Returns `BadHold` if a hold has no key, `Memory` if memory runs out.
 fn place_holds(
     alloc: Global,
     remarks: &mut Remarks,
     stated: &WideSysmod,
     sysmod: &mut Sysmod,
 ) -> Result<Vec<PlacedItem>, HoldError>
-    requires { sysmod.old.holds ≡ [] }
     ensures same { OnOk result (sysmod.new ≡ record sysmod.old { holds = sysmod.new.holds }) }
-    ensures held { IfOk result (λ outside. Become (HoldBecomes (Some sysmod.old.id)) stated.now.holds.items
-        sysmod.new.holds outside.items) }
+    ensures held { IfOk result (λ outside. (inside : List AnyHold) × (sysmod.new.holds ≡ sysmod.old.holds ++ inside)
+        × Become (HoldBecomes (Some sysmod.old.id)) stated.now.holds.items inside outside.items) }
 {
     let own = sysmod.id;
     let mut outside = Vec::new(alloc);
@@ -113,7 +114,8 @@ fn tell_replaced_holds(
     Ok(())
 }
 
-// Carries the holds of a SYSMOD that is carried: the internal ones in it, the others in the hold file. Returns
+// Carries the holds of a SYSMOD that is carried: the internal ones in it, after those of SYSMODs that it supersedes,
+// and the others in the hold file. RECEIVE keeps the last hold of each reason, which is the SYSMOD's own. Returns
 // `BadHold` if a hold has no key, `Memory` if memory runs out.
 fn carry_holds(
     alloc: Global,
@@ -126,6 +128,7 @@ fn carry_holds(
     ensures held { IfOk result (λ part. HoldsBecome stated.now part.sysmod part.outside.items) }
 {
     tell_replaced_holds(alloc, remarks, stated)?;
+    pass_holds_on(alloc, remarks, stated, &mut sysmod)?;
     let outside = place_holds(alloc, remarks, stated, &mut sysmod)?;
     Ok(CarriedSysmod {
         sysmod: Some(sysmod),

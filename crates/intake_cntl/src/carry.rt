@@ -6,8 +6,9 @@ use crate::command_remarks::{CommandRemarks, RemarkWords};
 use crate::group_extend::exclude_kinds;
 use crate::lists::carry_list;
 use crate::operand_context::{OperandContext, operand_contexts};
+use crate::received::Received;
 use crate::spelling::{OperandForm, vocabulary_of};
-use intake_asked::{CommandEnd, KnownSysmod, WideCommand, changes_no_decision};
+use intake_asked::{CommandEnd, KnownSysmods, WideCommand, changes_no_decision};
 use intake_cards::{Deed, RemarkReason};
 use std::alloc::{AllocError, Global};
 
@@ -22,11 +23,13 @@ const MASS_OPERANDS: &[&[u8]] = &[
 ];
 
 /// The command as it is written. Returns `None`, with a remark, if it is dropped, or if it is not a whole command of
-/// the profile. A remark that refuses says which of its words cannot be carried.
+/// the profile. A remark that refuses says which of its words cannot be carried. `received` is what the commands before
+/// it receive.
 pub(crate) fn carry_command(
     alloc: Global,
     remarks: &mut CommandRemarks,
-    known: &Option<Vec<KnownSysmod>>,
+    known: &KnownSysmods,
+    received: Received,
     wide: &WideCommand,
 ) -> Result<Option<CarriedCommand>, AllocError> {
     let word = wide.head.name.as_slice();
@@ -50,7 +53,7 @@ pub(crate) fn carry_command(
     if wide.shares_card {
         remark_on_command(remarks, wide, Deed::Carried, RemarkReason::OwnCard)?;
     }
-    let contexts = operand_contexts(alloc, &vocabulary, known, wide)?;
+    let contexts = operand_contexts(alloc, &vocabulary, known, received, wide)?;
     let operands = carry_operands(alloc, remarks, &contexts)?;
     Ok(Some(CarriedCommand {
         place: wide.place,

@@ -8,8 +8,9 @@ use crate::carried::CarriedCommand;
 use crate::carry::carry_command;
 use crate::command_remarks::{CommandRemarks, RemarkWords};
 use crate::print::print_command;
+use crate::received::Received;
 use cntl::{CntlError, Command, read_cntl};
-use intake_asked::{CommandComment, KnownSysmod, WideCommand, WideCommands, are_said, says};
+use intake_asked::{CommandComment, KnownSysmods, WideCommand, WideCommands, are_said, says_after};
 use intake_cards::{Deed, PrintedCards, RemarkList, RemarkReason, Tail};
 use intake_read::{Card, CardPlace};
 use std::alloc::{AllocError, Global};
@@ -29,12 +30,13 @@ pub struct CommandFile {
 }
 
 /// Records that say exactly what the shop's commands `wide`, which are on these cards, ask for. If a word cannot be
-/// carried, there are no records, and remarks name each such word. `known` are the SYSMODs of a list, if one is given.
+/// carried, there are no records, and remarks name each such word. `known` are the SYSMODs that are known besides those
+/// that the commands name.
 pub fn command_file(
     alloc: Global,
     cards: &[Card],
     wide: &WideCommands,
-    known: &Option<Vec<KnownSysmod>>,
+    known: &KnownSysmods,
 ) -> Result<CommandFile, AllocError>
     ensures { IfOk result (λ file. IfSome file.bytes (λ bytes. (commands : List terms.Command)
         × IsCommandFile bytes.items commands × AreSaid known.now wide.now.commands.items commands)) }
@@ -73,21 +75,23 @@ fn carry_commands(
     alloc: Global,
     remarks: &mut CommandRemarks,
     commands: &[WideCommand],
-    known: &Option<Vec<KnownSysmod>>,
+    known: &KnownSysmods,
 ) -> Result<CommandRecords, AllocError> {
     let mut records = CommandRecords {
         bytes: Vec::new(alloc),
         carried: 0,
         not_carried: 0,
     };
+    let mut received = Received::NOTHING;
     for wide in commands {
-        match command_records(alloc, remarks, known, wide)? {
+        match command_records(alloc, remarks, known, received, wide)? {
             Some(bytes) => {
                 records.bytes.extend_from_slice(&bytes)?;
                 records.carried = records.carried.saturating_add(1);
             }
             None => records.not_carried = records.not_carried.saturating_add(1),
         }
+        received = received.after(wide);
     }
     Ok(records)
 }
@@ -158,11 +162,12 @@ fn remark_on_card(
 fn command_records(
     alloc: Global,
     remarks: &mut CommandRemarks,
-    known: &Option<Vec<KnownSysmod>>,
+    known: &KnownSysmods,
+    received: Received,
     wide: &WideCommand,
 ) -> Result<Option<Vec<u8>>, AllocError> {
     let refusals = remarks.refusals;
-    let Some(command) = carry_command(alloc, remarks, known, wide)? else {
+    let Some(command) = carry_command(alloc, remarks, known, received, wide)? else {
         return Ok(None);
     };
     if remarks.refusals != refusals {
@@ -171,7 +176,7 @@ fn command_records(
     let mut cards = PrintedCards::new(alloc);
     print_command(alloc, &mut cards, &command)?;
     let records = cards.into_bytes()?;
-    match unread_reason(alloc, known, wide, &command, &records)? {
+    match unread_reason(alloc, known, received, wide, &command, &records)? {
         Some(reason) => {
             remark_on_unread(remarks, &command, reason)?;
             Ok(None)
@@ -184,7 +189,8 @@ fn command_records(
 // for, or `None` if they are.
 fn unread_reason(
     alloc: Global,
-    known: &Option<Vec<KnownSysmod>>,
+    known: &KnownSysmods,
+    received: Received,
     wide: &WideCommand,
     command: &CarriedCommand,
     records: &[u8],
@@ -194,7 +200,7 @@ fn unread_reason(
         Err(CntlError::Memory) => return Err(AllocError),
         Err(CntlError::Fault { code, .. }) => return Ok(Some(fault_reason(command, code))),
     };
-    if is_said_alone(alloc, known, wide, read.as_slice())? {
+    if is_said_alone(alloc, known, received, wide, read.as_slice())? {
         Ok(None)
     } else {
         Ok(Some(RemarkReason::NotRead))
@@ -233,12 +239,13 @@ fn required_operand(command: &[u8]) -> &'static [u8] {
 // Whether only one command was read, and it says exactly what the shop's command asks for.
 fn is_said_alone(
     alloc: Global,
-    known: &Option<Vec<KnownSysmod>>,
+    known: &KnownSysmods,
+    received: Received,
     wide: &WideCommand,
     read: &[Command],
 ) -> Result<bool, AllocError> {
     match read {
-        [command] => says(alloc, known, wide, command),
+        [command] => says_after(alloc, known, received.sysmods, wide, command),
         _ => Ok(false),
     }
 }
@@ -261,7 +268,7 @@ fn checked_records(
     remarks: &CommandRemarks,
     bytes: Vec<u8>,
     wide: &[WideCommand],
-    known: &Option<Vec<KnownSysmod>>,
+    known: &KnownSysmods,
 ) -> Result<Option<Vec<u8>>, AllocError>
     ensures { IfOk result (λ read. IfSome read (λ bytes. (commands : List terms.Command)
         × IsCommandFile bytes.items commands × AreSaid known.now wide.now commands)) }

@@ -54,8 +54,8 @@ pub(crate) fn exclude_kinds(
         if has_word(carried.as_slice(), exclusion.choosing) {
             context.refuse(remarks, member, RemarkReason::Contradiction)?;
         }
-        let Some(known) = context.known else {
-            context.refuse(remarks, member, RemarkReason::NeedsKnown)?;
+        let Some(known) = context.known_sysmods() else {
+            context.refuse_unknown(alloc, remarks, member)?;
             continue;
         };
         context.remark(remarks, member, Deed::Carried, RemarkReason::KnownExcluded)?;

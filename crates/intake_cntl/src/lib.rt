@@ -14,6 +14,7 @@ mod group_extend;
 mod lists;
 mod operand_context;
 mod print;
+mod received;
 mod spelling;
 
 pub use file::{CommandFile, command_file};

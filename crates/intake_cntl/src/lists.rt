@@ -55,8 +55,8 @@ fn append_known_sources(
     member: &[u8],
     members: &mut Vec<Vec<u8>>,
 ) -> Result<(), AllocError> {
-    let Some(known) = context.known else {
-        return context.refuse(remarks, member, RemarkReason::NeedsKnown);
+    let Some(known) = context.known_sources() else {
+        return context.refuse_unknown(alloc, remarks, member);
     };
     let prefix = member.strip_suffix(b"*").unwrap_or(member);
     if append_sources_with_prefix(alloc, known, prefix, members)? {

@@ -1,8 +1,9 @@
 //! Operands of a shop's commands, and remarks on them.
 
 use crate::command_remarks::{CommandRemarks, RemarkWords};
+use crate::received::Received;
 use crate::spelling::{CommandVocabulary, OperandForm, Spelling, spelling_of};
-use intake_asked::{KnownSysmod, WideCommand};
+use intake_asked::{KnownSysmod, KnownSysmods, WideCommand};
 use intake_cards::{Deed, RemarkReason};
 use intake_read::WideOperand;
 use std::alloc::{AllocError, Global};
@@ -15,15 +16,18 @@ pub(crate) struct OperandContext<'a> {
     /// The command that has the operand.
     pub(crate) wide: &'a WideCommand,
     pub(crate) operand: &'a WideOperand,
-    /// The SYSMODs of a list, if one is given.
-    pub(crate) known: &'a Option<Vec<KnownSysmod>>,
+    /// The SYSMODs that are known besides those that the commands name.
+    pub(crate) known: &'a KnownSysmods,
+    /// What the commands before this one receive.
+    pub(crate) received: Received,
 }
 
 /// The operands of the command, each with its context.
 pub(crate) fn operand_contexts<'a>(
     alloc: Global,
     vocabulary: &'a CommandVocabulary,
-    known: &'a Option<Vec<KnownSysmod>>,
+    known: &'a KnownSysmods,
+    received: Received,
     wide: &'a WideCommand,
 ) -> Result<Vec<OperandContext<'a>>, AllocError> {
     let mut contexts = Vec::new(alloc);
@@ -33,12 +37,55 @@ pub(crate) fn operand_contexts<'a>(
             wide,
             operand,
             known,
+            received,
         })?;
     }
     Ok(contexts)
 }
 
 impl OperandContext<'_> {
+    /// The SYSMODs of which the operand chooses some: the known ones. Returns `None` if no list of them is given, or if
+    /// SYSMODs are received and no PTFIN is given, which could be any.
+    pub(crate) fn known_sysmods(&self) -> Option<&[KnownSysmod]> {
+        if self.lacks_ptfin() {
+            return None;
+        }
+        self.known.list.as_ref().map(|list| list.as_slice())
+    }
+
+    /// The known SYSMODs, as `known_sysmods` returns them, if all their source ids are known: no RECEIVE before the
+    /// command gives SYSMODs one.
+    pub(crate) fn known_sources(&self) -> Option<&[KnownSysmod]> {
+        if self.received.source {
+            return None;
+        }
+        self.known_sysmods()
+    }
+
+    // Whether SYSMODs are received before the command, and no PTFIN is given.
+    fn lacks_ptfin(&self) -> bool {
+        self.received.sysmods && !self.known.has_ptfin
+    }
+
+    /// Remarks that a member of the operand chooses among SYSMODs that are not known, or not with all their source ids.
+    /// If they are those that the job receives, the remark says so.
+    pub(crate) fn refuse_unknown(
+        &self,
+        alloc: Global,
+        remarks: &mut CommandRemarks,
+        member: &[u8],
+    ) -> Result<(), AllocError> {
+        let mut text = Vec::from_slice(alloc, member)?;
+        if self.lacks_ptfin() {
+            text.extend_from_slice(
+                b", also among those that RECEIVE brings: --known takes its PTFIN",
+            )?;
+        } else if self.received.source {
+            text.extend_from_slice(b", also among those to which RECEIVE gives a source id")?;
+        }
+        self.refuse(remarks, text.as_slice(), RemarkReason::NeedsKnown)
+    }
+
     /// How the operand's word is spelled, or `None` if the command may not have the operand. C with a list is
     /// COMPRESS.
     pub(crate) fn spelling(&self) -> Option<Spelling> {

@@ -1,16 +1,17 @@
 -- Comparisons, as a loop goes over names.
 use Rattle.std.proofs.Common.{◌≡◌, ◌<◌, ◌≤◌, ◌+◌, ◌∙◌, ℕ, List, ◌∷◌, [], ◌++◌, map, take, length, get_or, ap, ap₂, sym}
-use Rattle.std.proofs.Common.{subst, false}
+use Rattle.std.proofs.Common.{subst, Bool, true, false, if◌then◌else◌}
 use Rattle.std.proofs.Common.{append-nil}
 use Rattle.std.specs.List.{All, flat_map}
 use Rattle.std.proofs.lemmas.List.{map-append, take_all, take_more}
 use Rattle.std.proofs.lemmas.List.Concat.{flat_map-append}
-use Rattle.std.proofs.lemmas.List.Elements.{All-append, All-cons, All-nil}
+use Rattle.std.proofs.lemmas.List.Elements.{All-append, All-nil}
 use Rattle.terms.specs.Types.{Text}
-use Rattle.intake_command.specs.Acts.{HostAct, Compares, IsQuiet}
+use Rattle.terms.specs.Lookups.{is_in}
+use Rattle.intake_command.specs.Acts.{HostAct, Compares, Finds, IsQuiet}
 use Rattle.intake_command.specs.Done.{HasDone}
-use Rattle.intake_command.specs.Files.{path_of, new_path_of}
-use Rattle.intake_command.specs.Serving.{is_apart, are_apart}
+use Rattle.intake_command.specs.Files.{path_of}
+use Rattle.intake_command.specs.Serving.{is_apart, are_apart, looks, looks_for}
 use Rattle.intake_command.specs.declared.surroundings.IntakeHost.{Ghosts}
 use Rattle.intake_command.proofs.Doing.{both, one, weaker}
 
@@ -39,20 +40,29 @@ all_quiet acts each [] = All-nil IsQuiet
 all_quiet acts each (name ∷ names) =
     All-append IsQuiet (acts name) (flat_map acts names) (each name) (all_quiet acts each names)
 
-two_quiet : (folder input output : Text) → All IsQuiet (is_apart folder input output)
-two_quiet folder input output =
-    All-cons IsQuiet (Compares (path_of folder output) input false)
-    (Compares (new_path_of folder output) input false ∷ []) tt
-    (one IsQuiet (Compares (new_path_of folder output) input false) tt)
+one_quiet : (folder input output : Text) → All IsQuiet (is_apart folder input output)
+one_quiet folder input output = one IsQuiet (Compares (path_of folder output) input false) tt
 
 pub apart_quiet : {H : Type 0} (host : Ghosts H) (folder : Text) (input : Text) (names : List Text) {a b : H}
     → HasDone host (λ done. done ≡ flat_map (is_apart folder input) names) a b → HasDone host (All IsQuiet) a b
 apart_quiet host folder input names was =
     weaker host was (λ done e. subst (All IsQuiet) (sym e) (all_quiet (is_apart folder input)
-    (two_quiet folder input) names))
+    (one_quiet folder input) names))
 
 pub are_apart_quiet : {H : Type 0} (host : Ghosts H) (folder : Text) (outputs names : List Text) {a b : H}
     → HasDone host (λ done. done ≡ flat_map (are_apart folder outputs) names) a b → HasDone host (All IsQuiet) a b
 are_apart_quiet host folder outputs names was =
     weaker host was (λ done e. subst (All IsQuiet) (sym e) (all_quiet (are_apart folder outputs)
-    (λ input. all_quiet (is_apart folder input) (two_quiet folder input) outputs) names))
+    (λ input. all_quiet (is_apart folder input) (one_quiet folder input) outputs) names))
+
+-- whether it was looked for or not
+at_most_one : (was_written : Bool) (act : HostAct) → IsQuiet act
+    → All IsQuiet (if was_written then [] else act ∷ [])
+at_most_one true act is = All-nil IsQuiet
+at_most_one false act is = one IsQuiet act is
+
+pub looks_quiet : {H : Type 0} (host : Ghosts H) (folder : Text) (written names : List Text) {a b : H}
+    → HasDone host (λ done. done ≡ looks folder written names) a b → HasDone host (All IsQuiet) a b
+looks_quiet host folder written names was =
+    weaker host was (λ done e. subst (All IsQuiet) (sym e) (all_quiet (looks_for folder written)
+    (λ name. at_most_one (is_in written name) (Finds (path_of folder name) false) tt) names))

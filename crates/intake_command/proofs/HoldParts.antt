@@ -1,5 +1,5 @@
 -- A hold file after another one is the hold file of all items.
-use Rattle.std.proofs.Common.{◌≡◌, ◌+◌, ℕ, true, false, List, [], ◌∷◌, ◌++◌, length, map, subst, sym, ap, ◌∙◌, refl}
+use Rattle.std.proofs.Common.{◌≡◌, ◌+◌, ℕ, false, List, [], ◌∷◌, ◌++◌, length, subst, sym, ap, ◌∙◌, refl}
 use Rattle.std.proofs.Common.{append_assoc}
 use Rattle.std.specs.Prelude.{flat_map, not}
 use Rattle.std.proofs.lemmas.List.{map-append}
@@ -7,9 +7,9 @@ use Rattle.std.proofs.lemmas.List.Concat.{flat_map-append}
 use Rattle.std.proofs.lemmas.List.Elements.{All-append, All-nil}
 use Rattle.terms.specs.Types as terms
 use Rattle.terms.specs.Types.{Lines}
-use Rattle.terms.specs.Records.{IsRecord, HasRecords}
-use Rattle.terms.specs.Groups.{Group, TakesGroup, IsGroup, starts_outside, begins_statement}
-use Rattle.terms.specs.HoldFile.{IsHoldFile, BeginsWithItems, IsGoodItem}
+use Rattle.terms.specs.Records.{IsRecord}
+use Rattle.terms.specs.Groups.{Group, IsGroup, starts_outside}
+use Rattle.terms.specs.HoldFile.{IsHoldFile, BeginsWithItems}
 use Rattle.mcs.specs.HoldItems.{items, item_of}
 use Rattle.mcs.specs.declared.hold_item.HoldItem.{HoldItem}
 

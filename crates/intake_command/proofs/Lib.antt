@@ -1,7 +1,6 @@
-mod Cleared
 mod Comparing
 mod Doing
+mod Harmless
 mod HoldParts
 mod OneByOne
 mod Served
-mod Within

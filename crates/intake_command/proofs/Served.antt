@@ -1,40 +1,46 @@
 -- What a run has done in all.
-use Rattle.std.proofs.Common.{◌≡◌, ℕ, List, [], ◌∷◌, ◌++◌, Option, Vec, map, option_map, refl, ap, subst, inr}
+use Rattle.std.proofs.Common.{◌≡◌, ◌⊎◌, ℕ, List, [], ◌∷◌, ◌++◌, map, refl, ap, inl, inr}
 use Rattle.std.specs.List.{All}
+use Rattle.std.specs.Prelude.{Some}
 use Rattle.std.specs.String.{string_bytes}
-use Rattle.std.specs.declared.alloc.Global.{Global}
+use Rattle.terms.specs.Types as terms
 use Rattle.terms.specs.Types.{Text}
 use Rattle.mcs.specs.Files as ptfin
 use Rattle.mcs.specs.HoldItems as hold
 use Rattle.mcs.specs.declared.file.Item.{Item}
 use Rattle.mcs.specs.declared.hold_item.HoldItem.{HoldItem}
+use Rattle.intake_read.specs.Held.{held_places}
 use Rattle.intake_read.specs.declared.items.WideFile.{WideFile}
 use Rattle.intake_read.specs.declared.items.WideHold.{WideHold}
+use Rattle.intake_sysmod.specs.Users.{run_of}
 use Rattle.intake_carry.specs.Carried.{FilesBecome}
-use Rattle.intake_asked.specs.declared.known.KnownSysmod.{KnownSysmod}
+use Rattle.intake_carry.specs.Unsure.{AreUnsure}
+use Rattle.intake_carry.specs.declared.unsure.Unsure.{Unsure}
+use Rattle.intake_asked.specs.Said.{AreSaid}
+use Rattle.intake_asked.specs.declared.known.KnownSysmods.{KnownSysmods}
 use Rattle.intake_asked.specs.declared.scan.WideCommand.{WideCommand}
 use Rattle.intake_words.specs.declared.options.IntakeOptions.{IntakeOptions}
-use Rattle.intake_command.specs.Acts.{HostAct, Gives, Puts, Prints, Speaks, IsQuiet}
-use Rattle.intake_command.specs.Done.{LeadTo, HasDone}
-use Rattle.intake_command.specs.Keeping.{KeepsFiles}
-use Rattle.intake_command.specs.Serving.{AreRead, KeepsService, ServesFiles, ServesCommands, IsKnownList, IsCommandEnd}
-use Rattle.intake_command.specs.Serving.{folder_of, inputs}
-use Rattle.intake_command.specs.Serving.{IsWithin, IsCleared, EndsApart, Ends, EndsServed, comparisons}
+use Rattle.intake_command.specs.Acts.{Gives, Discards, IsQuiet}
+use Rattle.intake_command.specs.Done.{HasDone}
+use Rattle.intake_command.specs.Files.{outputs_of}
+use Rattle.intake_command.specs.Serving.{AreRead, KeepsService, ServesFiles, KeepsCommands, IsKnown}
+use Rattle.intake_command.specs.Serving.{folder_of, inputs, held_in, HasEachSysmod, Serves, AreOwn, comparisons}
+use Rattle.intake_command.specs.Serving.{IsHarmless, EndsApart, EndsChecked, EndsServed, EndsAsked, EndsOwn}
 use Rattle.intake_command.specs.declared.surroundings.IntakeHost.{Ghosts}
-use Rattle.intake_command.proofs.Doing.{joined, one}
+use Rattle.intake_command.proofs.Doing.{joined}
 
 module _ {H : Type 0} (host : Ghosts H) (asked : IntakeOptions) where
-  pub served_files : {a b c d e : H} (files : List WideFile) (holds : List WideHold) (items : List Item)
-      (outside : List HoldItem) (summary : List ℕ)
+  pub served_files : {a b c d : H} (files : List WideFile) (holds : List WideHold) (items : List Item)
+      (outside : List HoldItem) (unsure : List Unsure) (status : ℕ)
       → HasDone host (AreRead (map string_bytes asked.files.items) files) a b
-      → HasDone host (All IsQuiet) b c → FilesBecome asked.decide files holds items outside
-      → HasDone host (KeepsService (folder_of asked) (ptfin.items items) (hold.items outside)) c d
-      → host.does d (Prints summary) e → HasDone host (ServesFiles asked) a e
-  served_files {a} {b} {c} {d} {e} files holds items outside summary r m become k p = record {
-    acts = r.acts ++ m.acts ++ k.acts ++ Prints summary ∷ [];
-    lead = joined host a (r.acts ++ m.acts ++ k.acts) (Prints summary ∷ []) d e
-        (joined host a (r.acts ++ m.acts) k.acts c d (joined host a r.acts m.acts b c r.lead m.lead) k.lead)
-        (e, p, refl);
+      → HasDone host (All IsQuiet) b c → held_places holds ≡ held_in files
+      → FilesBecome asked.decide files holds items outside → AreUnsure (run_of files) items unsure
+      → (status ≡ 0) ⊎ (status ≡ 4) → (status ≡ 0 → HasEachSysmod files items) → (status ≡ 0 → unsure ≡ [])
+      → HasDone host (KeepsService (folder_of asked) asked.decide (ptfin.items items) (hold.items outside)) c d
+      → HasDone host (ServesFiles asked status) a d
+  served_files {a} {b} {c} {d} files holds items outside unsure status r m held become un is each sure k = record {
+    acts = r.acts ++ m.acts ++ k.acts;
+    lead = joined host a (r.acts ++ m.acts) k.acts c d (joined host a r.acts m.acts b c r.lead m.lead) k.lead;
     are = record {
       files = files;
       reading = r.acts;
@@ -42,72 +48,77 @@ module _ {H : Type 0} (host : Ghosts H) (asked : IntakeOptions) where
       more = m.acts;
       quiet = m.are;
       holds = holds;
+      held_are = held;
       items = items;
       outside = outside;
       become = become;
+      unsure = unsure;
+      are_unsure = un;
+      status_is = is;
+      each = each;
+      sure = sure;
       keeping = k.acts;
       keeps = k.are;
-      summary = summary;
       acts_are = refl;
     };
   }
 
-  pub served_commands : {a b c d e : H} (name : Text) (bytes : List ℕ) (commands : List WideCommand)
-      (known : Option (Vec KnownSysmod Global)) (status : ℕ) (summary : List ℕ) → host.does a (Gives name bytes) b
-      → HasDone host (IsKnownList (option_map string_bytes asked.known) known) b c
-      → KeepsFiles host c (folder_of asked) (IsCommandEnd known commands status) d → host.does d (Prints summary) e
-      → HasDone host (ServesCommands asked name status) a e
-  served_commands {a} {b} {c} {d} {e} name bytes commands known status summary r m k p = record {
-    acts = Gives name bytes ∷ m.acts ++ Puts (folder_of asked) k.0 ∷ Prints summary ∷ [];
-    lead = (
-      b,
-      r,
-      joined host b m.acts (Puts (folder_of asked) k.0 ∷ Prints summary ∷ []) c e m.lead
-          (d, k.2, (e, p, refl)),
-    );
-    are = record {
-      bytes = bytes;
-      commands = commands;
-      known = known;
-      more = m.acts;
-      list = m.are;
-      kept = k.0;
-      ends = k.1;
-      summary = summary;
-      acts_are = refl;
-    };
-  }
-
-  -- a fault, after which the folder is cleared
-  pub failed : {a b c d : H} (status : ℕ) → status ≡ 16 → HasDone host (All (IsWithin (folder_of asked))) a b
-      → HasDone host (λ acts. (act : HostAct) × (acts ≡ act ∷ []) × IsCleared (folder_of asked) act) b c
-      → host.does c Speaks d → HasDone host (EndsApart asked status) a d
-  failed {a} {b} {c} {d} status is t l s =
-      let act = l.are.0 in
-      let step : LeadTo host b (act ∷ []) c = subst (λ acts. LeadTo host b acts c) l.are.1 l.lead in
+  pub served_commands : {a b c d : H} (name : Text) (bytes : List ℕ) (commands : List WideCommand)
+      (known : KnownSysmods) (said : List terms.Command) → host.does a (Gives name bytes) b
+      → HasDone host (IsKnown (map string_bytes asked.known.items) known) b c → AreSaid known commands said
+      → HasDone host (KeepsCommands (folder_of asked) said) c d → HasDone host (Serves asked (Some name) 0) a d
+  served_commands {a} {b} {c} {d} name bytes commands known said r m are k = record {
+    acts = Gives name bytes ∷ m.acts ++ k.acts;
+    lead = (b, r, joined host b m.acts k.acts c d m.lead k.lead);
+    are = inl (
+      refl,
       record {
-        acts = t.acts ++ act ∷ Speaks ∷ [];
-        lead = joined host a t.acts (act ∷ Speaks ∷ []) b d t.lead
-            (step.0, step.1, (d, subst (λ h. host.does h Speaks d) step.2 s, refl));
-        are = inr (
-          is,
-          record {
-            tried = t.acts;
-            cleared = act;
-            told = Speaks ∷ [];
-            within = t.are;
-            is_cleared = l.are.2;
-            quiet = one IsQuiet Speaks tt;
-            acts_are = refl;
-          },
-        );
-      }
+        bytes = bytes;
+        commands = commands;
+        known = known;
+        more = m.acts;
+        are_known = m.are;
+        said = said;
+        are_said = are;
+        keeping = k.acts;
+        keeps = k.are;
+        acts_are = refl;
+      },
+    );
+  }
+
+  -- a fault, after which the drafts are removed
+  pub failed : {a b c d : H} (status : ℕ) → status ≡ 16 → HasDone host (All (IsHarmless (folder_of asked))) a b
+      → host.does b (Discards (folder_of asked)) c → HasDone host (All IsQuiet) c d
+      → HasDone host (EndsApart asked status) a d
+  failed {a} {b} {c} {d} status is t l s = record {
+    acts = t.acts ++ Discards (folder_of asked) ∷ s.acts;
+    lead = joined host a t.acts (Discards (folder_of asked) ∷ s.acts) b d t.lead (c, l, s.lead);
+    are = inr (
+      is,
+      record {
+        tried = t.acts;
+        told = s.acts;
+        harmless = t.are;
+        quiet = s.are;
+        acts_are = refl;
+      },
+    );
+  }
 
   pub ended_apart : {a b c : H} (status : ℕ)
-      → HasDone host (λ acts. acts ≡ comparisons (folder_of asked) (inputs asked)) a b
-      → HasDone host (EndsApart asked status) b c → HasDone host (Ends status) a c
+      → HasDone host (λ acts. acts ≡ comparisons (folder_of asked) (outputs_of asked) (inputs asked)) a b
+      → HasDone host (EndsApart asked status) b c → HasDone host (EndsChecked asked status) a c
   ended_apart {a} {b} {c} status compared rest = record {
     acts = compared.acts ++ rest.acts;
     lead = joined host a compared.acts rest.acts b c compared.lead rest.lead;
-    are = EndsServed asked rest.acts (ap (λ acts. acts ++ rest.acts) compared.are) rest.are;
+    are = EndsServed rest.acts (ap (λ acts. acts ++ rest.acts) compared.are) rest.are;
+  }
+
+  pub ended_own : {a b c : H} (status : ℕ) → HasDone host (AreOwn asked) a b
+      → HasDone host (EndsChecked asked status) b c → HasDone host (EndsAsked asked status) a c
+  ended_own {a} {b} {c} status own rest = record {
+    acts = own.acts ++ rest.acts;
+    lead = joined host a own.acts rest.acts b c own.lead rest.lead;
+    are = EndsOwn own.acts rest.acts own.are refl rest.are;
   }

@@ -2,4 +2,5 @@ pub mod Acts
 pub mod Done
 pub mod Files
 pub mod Keeping
+pub mod Outcome
 pub mod Serving

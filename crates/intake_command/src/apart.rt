@@ -1,31 +1,31 @@
 //! The input files of the user, which the program never overwrites.
-ghost use Rattle.std.specs.Prelude.{◌≡◌, ◌++◌, ◌∷◌, [], false, IfOk, OnOk, OnErr, All, codes, map};
+ghost use Rattle.std.specs.Prelude.{◌≡◌, false, IfOk, OnOk, OnErr, All, map};
 ghost use Rattle.std.specs.Prelude.{option_map, option_to_list};
 ghost use Rattle.std.specs.List.{flat_map};
 ghost use Rattle.std.specs.String.{string_bytes};
 ghost use Rattle.intake_command.specs.Acts.{Compares, IsQuiet};
 ghost use Rattle.intake_command.specs.Done.{HasDone};
-ghost use Rattle.intake_command.specs.Files.{path_of};
+ghost use Rattle.intake_command.specs.Files.{outputs_of};
 ghost use Rattle.intake_command.specs.Serving.{are_apart, comparisons, folder_of, inputs, is_apart};
 
-use crate::files::outputs;
+use crate::files::{output_path, outputs_of};
 use crate::surroundings::IntakeHost;
 use intake_words::{IntakeFault, IntakeOptions, text_views};
 use std::alloc::{AllocError, Global};
 
-/// Asks the host whether an input is a file that the program may write or remove. Returns `OutputIsInput` if one is,
+/// Asks the host whether an input is a file that this run may write or remove. Returns `OutputIsInput` if one is,
 /// `CannotRead` if the host cannot find out, `Memory` if memory runs out. The checks below return the same.
 pub(crate) fn check_apart<H: IntakeHost>(
     alloc: Global,
     host: &mut H,
     asked: &IntakeOptions,
 ) -> Result<(), IntakeFault>
-    ensures ok { OnOk result (HasDone H.IntakeHost (λ acts. acts ≡ comparisons (folder_of asked.now) (inputs asked.now))
-        host.old host.new) }
+    ensures ok { OnOk result (HasDone H.IntakeHost (λ acts. acts
+        ≡ comparisons (folder_of asked.now) (outputs_of asked.now) (inputs asked.now)) host.old host.new) }
     ensures err { OnErr result (HasDone H.IntakeHost (All IsQuiet) host.old host.new) }
 {
     let inputs = input_names(alloc, asked)?;
-    check_inputs(alloc, host, asked.out.as_str(), outputs(), &inputs)?;
+    check_inputs(alloc, host, asked.out.as_str(), outputs_of(asked), &inputs)?;
     Ok(())
 }
 
@@ -35,7 +35,7 @@ fn input_names(alloc: Global, asked: &IntakeOptions) -> Result<Vec<&str>, AllocE
 {
     let mut names = text_views(alloc, &asked.files)?;
     let mut cntl = optional_name(alloc, &asked.cntl)?;
-    let mut known = optional_name(alloc, &asked.known)?;
+    let mut known = text_views(alloc, &asked.known)?;
     names.append(&mut cntl)?;
     names.append(&mut known)?;
     Ok(names)
@@ -90,7 +90,7 @@ fn check_input<H: IntakeHost>(
     Ok(())
 }
 
-// Checks that the input is neither the output nor its draft.
+// Checks that the input is not the output.
 fn check_output<H: IntakeHost>(
     alloc: Global,
     host: &mut H,
@@ -103,29 +103,7 @@ fn check_output<H: IntakeHost>(
     ensures err { OnErr result (HasDone H.IntakeHost (All IsQuiet) host.old host.new) }
 {
     let path = output_path(alloc, folder, output)?;
-    let draft = draft_path(alloc, &path)?;
-    check_path(alloc, host, path.as_str(), input)?;
-    check_path(alloc, host, draft.as_str(), input)?;
-    Ok(())
-}
-
-// The path of an output in the folder.
-fn output_path(alloc: Global, folder: &str, output: &str) -> Result<String, AllocError>
-    ensures { IfOk result (λ path. string_bytes path ≡ path_of folder.now output.now) }
-{
-    let mut path = String::from_str(alloc, folder)?;
-    path.push_str("/")?;
-    path.push_str(output)?;
-    Ok(path)
-}
-
-// The path of the output's draft.
-fn draft_path(alloc: Global, path: &String) -> Result<String, AllocError>
-    ensures { IfOk result (λ draft. string_bytes draft ≡ string_bytes path.now ++ codes ".new") }
-{
-    let mut draft = String::from_str(alloc, path.as_str())?;
-    draft.push_str(".new")?;
-    Ok(draft)
+    check_path(alloc, host, path.as_str(), input)
 }
 
 // Checks that the input is not the file of this path.

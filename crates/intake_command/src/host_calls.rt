@@ -1,7 +1,7 @@
 //! Calls of the host, whose errors become faults of the run.
 ghost use Rattle.std.specs.Prelude.{IfOk, OnOk, OnErr, All, map};
 ghost use Rattle.std.specs.declared.io.Error.{Error};
-ghost use Rattle.intake_command.specs.Acts.{Gives, IsQuiet, Puts, Loses, Prints, Speaks};
+ghost use Rattle.intake_command.specs.Acts.{Gives, IsQuiet, Drafts, Puts, Leaves, Prints, Speaks};
 ghost use Rattle.intake_command.specs.Done.{HasDone};
 ghost use Rattle.intake_command.specs.Files.{named};
 
@@ -54,17 +54,34 @@ fn none_if_absent(
     }
 }
 
-/// Puts the files into the folder, and removes those that have no bytes. Returns `CannotWrite` if that cannot be done.
+/// Appends the bytes to the draft of the file. Returns `CannotWrite` if that cannot be done.
+pub(crate) fn append_to_draft<H: IntakeHost>(
+    host: &mut H,
+    folder: &str,
+    name: &'static str,
+    bytes: &[u8],
+) -> Result<(), IntakeFault>
+    ensures ok { OnOk result (H.does host.old (Drafts folder.now name.now bytes.now) host.new) }
+    ensures err { OnErr result ((error : Error) × H.does host.old (Leaves folder.now error) host.new) }
+{
+    match host.append_to_draft(folder, name, bytes) {
+        Ok(()) => Ok(()),
+        Err(_) => Err(IntakeFault::CannotWrite),
+    }
+}
+
+/// Puts the files into the folder, and removes the other ones. Returns `CannotWrite` if that cannot be done.
 pub(crate) fn put_files<H: IntakeHost>(
     host: &mut H,
     folder: &str,
     files: &[NamedFile],
+    removed: &[&'static str],
 ) -> Result<(), IntakeFault>
-    ensures ok { OnOk result (H.does host.old (Puts folder.now (map named files.now)) host.new) }
-    ensures err { OnErr result ((error : Error) × H.does host.old (Loses folder.now (map named files.now) error)
-        host.new) }
+    ensures ok { OnOk result (H.does host.old (Puts folder.now (map named files.now) (map (λ name. name.now)
+        removed.now)) host.new) }
+    ensures err { OnErr result ((error : Error) × H.does host.old (Leaves folder.now error) host.new) }
 {
-    match host.keep(folder, files) {
+    match host.keep(folder, files, removed) {
         Ok(()) => Ok(()),
         Err(_) => Err(IntakeFault::CannotWrite),
     }

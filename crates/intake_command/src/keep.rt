@@ -1,15 +1,15 @@
 //! The files that are put into the folder, and are read back before.
-ghost use Rattle.std.specs.Prelude.{◌≡◌, ◌++◌, IfOk, OnOk, OnErr, List};
+ghost use Rattle.std.specs.Prelude.{◌≡◌, ◌++◌, IfOk, OnOk, OnErr, List, is_some};
 ghost use Rattle.terms.specs.Types as terms;
 ghost use Rattle.terms.specs.Ptfin.{IsPtfin};
 ghost use Rattle.terms.specs.HoldFile.{IsHoldFile};
 ghost use Rattle.terms.specs.Commands.{IsCommandFile};
 ghost use Rattle.mcs.specs.Files.{items};
 ghost use Rattle.mcs.specs.HoldItems as hold_files;
-ghost use Rattle.intake_command.specs.Keeping.{IsServiceFiles, IsCommandFiles, IsRemarksFile};
+ghost use Rattle.intake_command.specs.Keeping.{IsServiceFiles, IsCommandFiles};
 ghost use Rattle.intake_command.specs.Keeping.{KeepsFiles, KeepsNothing};
 
-use crate::files::{command_files, remark_files, service_files};
+use crate::files::{command_files, service_files, service_removals};
 use crate::host_calls::put_files;
 use crate::same::{are_same_hold_items, are_same_items};
 use crate::statements::{hold_file, ptfin};
@@ -22,9 +22,9 @@ use std::alloc::Global;
 const ITEMS_AT_A_TIME: usize = 512;
 
 /// Puts the items into `ptfin`, the holds and releases into `hold`, and the remarks into `remarks`, after those of its
-/// draft. `stand_ins` are the bytes of `stand-ins`. Without them that file of an earlier run is removed. Returns
-/// `NotReadBack` if the records of a file are not read back as its items, and `CannotWrite` if the folder does not take
-/// the files.
+/// draft. `stand_ins` are the bytes of `stand-ins`; without them that file of an earlier run is removed. Returns
+/// `NotReadBack` if the records of a file are not read back as its items, `CannotWrite` if the folder does not take the
+/// files, and `Memory` if memory runs out. Then the folder has the files that it had.
 pub fn keep_service<H: IntakeHost>(
     alloc: Global,
     host: &mut H,
@@ -35,13 +35,14 @@ pub fn keep_service<H: IntakeHost>(
     remarks: Vec<u8>,
 ) -> Result<(), IntakeFault>
     ensures ok { OnOk result (KeepsFiles H.IntakeHost host.old folder.now
-        (IsServiceFiles (items meant.now) (hold_files.items held.now)) host.new) }
+        (IsServiceFiles (items meant.now) (hold_files.items held.now) (is_some stand_ins)) host.new) }
     ensures err { OnErr result (KeepsNothing H.IntakeHost host.old folder.now host.new) }
 {
     let ptfin = ptfin_records(alloc, meant)?;
     let hold = hold_records(alloc, held)?;
-    let files = service_files(ptfin, hold, stand_ins, remarks);
-    put_files(host, folder, &files)
+    let removed = service_removals(&stand_ins);
+    let files = service_files(alloc, ptfin, hold, stand_ins, remarks)?;
+    put_files(host, folder, &files, removed)
 }
 
 // The records of these items, which are read back as these items. Returns `NotReadBack` if they are not.
@@ -114,8 +115,8 @@ fn part_records(alloc: Global, meant: &[HoldItem]) -> Result<Vec<u8>, IntakeFaul
     Ok(bytes)
 }
 
-/// Puts the command file into `cntl`, and its remarks into `cntl.remarks`. Returns `CannotWrite` if the folder does not
-/// take them.
+/// Puts the command file into `cntl`, and the remarks into `cntl.remarks`, after those of its draft. Returns
+/// `CannotWrite` if the folder does not take the files; then it has the files that it had.
 pub fn keep_commands<H: IntakeHost>(
     host: &mut H,
     folder: &str,
@@ -127,19 +128,5 @@ pub fn keep_commands<H: IntakeHost>(
     ensures err { OnErr result (KeepsNothing H.IntakeHost host.old folder.now host.new) }
 {
     let files = command_files(cntl, remarks);
-    put_files(host, folder, &files)
-}
-
-/// Puts the remarks on a command file into `cntl.remarks`, and removes all other files of earlier runs. Returns
-/// `CannotWrite` if that cannot be done.
-pub fn keep_remarks<H: IntakeHost>(
-    host: &mut H,
-    folder: &str,
-    remarks: Vec<u8>,
-) -> Result<(), IntakeFault>
-    ensures ok { OnOk result (KeepsFiles H.IntakeHost host.old folder.now IsRemarksFile host.new) }
-    ensures err { OnErr result (KeepsNothing H.IntakeHost host.old folder.now host.new) }
-{
-    let files = remark_files(remarks);
-    put_files(host, folder, &files)
+    put_files(host, folder, &files, &[])
 }

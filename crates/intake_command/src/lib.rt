@@ -2,7 +2,8 @@
 //! `command` reads the words, then the files, and puts into the folder what RECEIVE takes of them, or a command file,
 //! with the remarks beside it. Its contract says, act by act, what it does to its surroundings. It has read back what
 //! it puts there: `keep_service` says that PTFIN and the hold file are read as exactly the items that were meant, or
-//! that nothing was written. Every call that allocates fails if memory runs out.
+//! that the folder has the files that it had. Below this crate nothing knows files: bytes with a name go in, items and
+//! remarks come out. Every call that allocates fails if memory runs out.
 #![tactic(auto)]
 
 mod apart;
@@ -11,6 +12,7 @@ mod files;
 mod host_calls;
 mod keep;
 mod members;
+mod own;
 mod program;
 mod same;
 mod service;
@@ -18,7 +20,7 @@ mod statements;
 mod surroundings;
 
 pub use files::NamedFile;
-pub use keep::{keep_commands, keep_remarks, keep_service};
+pub use keep::{keep_commands, keep_service};
 pub use program::command;
 pub use same::{are_same_hold_items, are_same_items};
 pub use statements::{hold_file, ptfin};

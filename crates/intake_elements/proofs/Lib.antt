@@ -1,2 +1,5 @@
 pub mod Keys
+pub mod Lacking
+pub mod Making
 pub mod Targets
+pub mod TextLemmas

@@ -2,7 +2,7 @@
 -- Reference, "SMP/E modification control statements".
 use Rattle.std.specs.Prelude.{◌≡◌, ◌⊎◌, Bool, true, false, List, [], ◌∷◌, ◌++◌, IsTrue, if◌then◌else◌, codes, ◌||◌}
 use Rattle.std.specs.Prelude.{◌&&◌, not}
-use Rattle.std.specs.Prelude.{ℕ, is_some, All, Contains}
+use Rattle.std.specs.Prelude.{ℕ, All, Contains}
 use Rattle.std.specs.List.{Any}
 use Rattle.std.specs.Str.{bytes_eq}
 use Rattle.terms.specs.declared.kinds.Kind.{Kind}
@@ -14,7 +14,9 @@ use Rattle.terms.specs.Spelling.{type_text}
 use Rattle.intake_read.specs.Stated.{texts}
 use Rattle.intake_read.specs.declared.items.WideElement.{WideElement}
 use Rattle.intake_read.specs.declared.items.WideOperand.{WideOperand}
+use Rattle.intake_read.specs.declared.items.FaultyOperand.{FaultyOperand}
 use Rattle.intake_elements.specs.StandInNames.{stand_in_name, key_of}
+use Rattle.intake_elements.specs.ElementTexts.{IsStatedText}
 
 -- the type of what stands for an element that the profile lacks, by its statement's word
 abbrev pub stand_in_type : Text → ElemType
@@ -56,29 +58,61 @@ abbrev pub IsChangeOf : ElemType → Text → Bool → Change → Type 0
 IsChangeOf type name updated change =
     (change.elem_type ≡ type) × (change.name ≡ name) × (is_replacement change.action ≡ not updated)
 
--- an operand that decides whether the SYSMOD goes on
-abbrev pub is_level_operand : Text → Bool
-is_level_operand name = bytes_eq name (codes "RMID") || bytes_eq name (codes "UMID") || bytes_eq name (codes "DELETE")
+-- An operand that decides nothing. RMID, UMID and DELETE are not among these, nor is any operand that IBM may add.
+abbrev pub is_harmless_of_text : Text → Bool
+is_harmless_of_text name =
+    bytes_eq name (codes "SSI") || bytes_eq name (codes "ALIAS") || bytes_eq name (codes "MALIAS")
+    || bytes_eq name (codes "DISTSRC") || bytes_eq name (codes "PREFIX") || bytes_eq name (codes "VERSION")
 
-abbrev pub HasNoLevel : WideOperand → Type 0
-HasNoLevel operand = is_level_operand operand.name.items ≡ false
+-- of modules and programs
+abbrev pub is_harmless_of_module : Text → Bool
+is_harmless_of_module name =
+    bytes_eq name (codes "LEPARM") || bytes_eq name (codes "LMOD") || bytes_eq name (codes "CSECT")
+    || bytes_eq name (codes "DALIAS") || bytes_eq name (codes "TALIAS")
 
--- what the statement itself changes; no operand of it decides more
+-- of JARs and of files of file systems
+abbrev pub is_harmless_of_file : Text → Bool
+is_harmless_of_file name =
+    bytes_eq name (codes "PARM") || bytes_eq name (codes "LINK") || bytes_eq name (codes "SYMLINK")
+    || bytes_eq name (codes "SYMPATH") || bytes_eq name (codes "SHSCRIPT") || bytes_eq name (codes "JARPARM")
+    || bytes_eq name (codes "BINARY") || bytes_eq name (codes "TEXT")
+
+abbrev pub is_harmless : Bool → Text → Bool
+is_harmless decide name =
+    is_harmless_of_text name || (decide && (is_harmless_of_module name || is_harmless_of_file name))
+
+abbrev pub IsHarmless : Bool → WideOperand → Type 0
+IsHarmless decide operand = is_harmless decide operand.name.items ≡ true
+
+-- an operand that says which modules are assembled, or where they are
+abbrev pub is_module_operand : Text → Bool
+is_module_operand name = bytes_eq name (codes "DISTMOD") || bytes_eq name (codes "ASSEM")
+
+abbrev pub IsNoModuleFault : FaultyOperand → Type 0
+IsNoModuleFault fault = is_module_operand fault.operand.name.items ≡ false
+
+-- The statement can be carried without the operands that it has besides, and without those that cannot be read: these
+-- are none if no stand-ins are asked for, and none that says which modules are assembled.
+pub record LacksNothing (decide : Bool) (stated : WideElement) : Type 0 where
+  pub harmless : All (IsHarmless decide) stated.operands.items
+  pub read : decide ≡ false → stated.faulty.items ≡ []
+  pub modules_read : All IsNoModuleFault stated.faulty.items
+
+-- what the statement itself changes; no operand of it decides more, and the text is the stated one, unless a stand-in
+-- may take its place
 pub record IsMadeOf (decide : Bool) (kind : Kind) (stated : WideElement) (change : Change) : Type 0 where
   pub target_is : IsTarget decide stated.word.items stated.name.items change.elem_type change.name
   pub action_is : is_replacement change.action ≡ not (is_update kind stated.word.items)
-  pub level_free : All HasNoLevel stated.operands.items
+  pub lacks_nothing : LacksNothing decide stated
+  pub text_is : decide ≡ false → IsStatedText stated change.action
 
--- The modules that are assembled of an element: of a source with DISTMOD the one of its name, and those that ASSEM
--- names.
+-- The modules that are assembled of an element: of a source the one of its name, whether or not DISTMOD says where that
+-- one is, and those that ASSEM names.
 abbrev pub is_source : Text → Bool
 is_source word = bytes_eq word (codes "SRC") || bytes_eq word (codes "SRCUPD")
 
-abbrev pub has_own_module : WideElement → Bool
-has_own_module stated = is_some stated.distmod && is_source stated.word.items
-
 abbrev pub own_modules : WideElement → List Text
-own_modules stated = if has_own_module stated then stated.name.items ∷ [] else []
+own_modules stated = if is_source stated.word.items then stated.name.items ∷ [] else []
 
 abbrev pub modules_of : WideElement → List Text
 modules_of stated = own_modules stated ++ texts stated.assem.items

@@ -1,2 +1,3 @@
+pub mod ElementTexts
 pub mod Elements
 pub mod StandInNames

@@ -1,11 +1,11 @@
 //! What an element statement changes.
-ghost use Rattle.std.specs.Prelude.{IfOk, IfSome, IsTrue, All};
-ghost use Rattle.intake_elements.specs.Elements.{IsProfileType, IsLacked, IsMadeOf, HasNoLevel};
+ghost use Rattle.std.specs.Prelude.{◌≡◌, IfOk, IfSome, IsTrue};
+ghost use Rattle.intake_elements.specs.Elements.{IsProfileType, IsLacked, IsMadeOf, LacksNothing};
 
 use crate::element_words::{Target, profile_type};
 use crate::elements::{tell_dropped_operand, whole_change};
-use crate::levels::first_level_operand;
-use crate::modules::{has_faulty_module_operand, is_module_operand, tell_dropped_module_operands};
+use crate::harmless::can_have_stand_in;
+use crate::modules::tell_dropped_module_operands;
 use crate::options::Options;
 use crate::stand_ins::{one_record_change, stand_in_change, tell_stand_in};
 use crate::subjects::element_subject;
@@ -16,26 +16,8 @@ use std::alloc::{AllocError, Global};
 use sysmods_values::ElemChange;
 use terms::{ElemType, Kind};
 
-// Remarks, for each faulty DISTMOD and ASSEM, that the SYSMOD is left out, because it is not known which modules are
-// assembled.
-fn tell_faulty_modules(
-    alloc: Global,
-    remarks: &mut Remarks,
-    subject: &Subject<'_>,
-    element: &WideElement,
-) -> Result<(), AllocError> {
-    for entry in element.faulty.iter() {
-        let name = entry.operand.name.as_slice();
-        if is_module_operand(name) {
-            let reason = RemarkReason::from(entry.reason);
-            remarks.tell_left_out(alloc, subject, name, reason, entry.operand.text())?;
-        }
-    }
-    Ok(())
-}
-
-// If stand-ins are asked for, an element may not have RMID, UMID or DELETE, which a stand-in cannot have, nor a faulty
-// DISTMOD or ASSEM. If it has one of them, returns `false`, with remarks that the SYSMOD is left out.
+// If stand-ins are asked for, an element may have no operand that decides more than a stand-in says. If it has one,
+// returns `false`, with remarks that the SYSMOD is left out.
 fn meets_stand_in_rules(
     alloc: Global,
     options: &Options,
@@ -44,18 +26,12 @@ fn meets_stand_in_rules(
     element: &WideElement,
 ) -> Result<bool, AllocError>
     ensures { IfOk result (λ good. IsTrue good → IsTrue options.now.decide
-        → All HasNoLevel element.now.operands.items) }
+        → LacksNothing options.now.decide element.now) }
 {
     if !options.decide {
         return Ok(true);
     }
-    if let Some(operand) = first_level_operand(element.operands.as_slice()) {
-        let name = operand.name.as_slice();
-        remarks.tell_left_out(alloc, subject, name, RemarkReason::Level, operand.text())?;
-        return Ok(false);
-    }
-    tell_faulty_modules(alloc, remarks, subject, element)?;
-    Ok(!has_faulty_module_operand(element))
+    can_have_stand_in(alloc, options, remarks, subject, element)
 }
 
 // Remarks, for each operand of the element, that it is dropped, because a stand-in is carried.
@@ -90,7 +66,7 @@ fn change_by_stand_in(
     element: &WideElement,
 ) -> Result<Option<ElemChange>, AllocError>
     requires lacked { IsLacked element.now.word.items }
-    requires level_free { IsTrue options.now.decide → All HasNoLevel element.now.operands.items }
+    requires lacks_nothing { IsTrue options.now.decide → LacksNothing options.now.decide element.now }
     ensures { IfOk result (λ found. IfSome found (IsMadeOf options.now.decide kind element.now)) }
 {
     let subject = element_subject(element);
@@ -114,7 +90,7 @@ fn whole_or_short_change(
     elem_type: ElemType,
 ) -> Result<Option<ElemChange>, AllocError>
     requires known { IsProfileType element.now.word.items elem_type }
-    requires level_free { IsTrue options.now.decide → All HasNoLevel element.now.operands.items }
+    requires lacks_nothing { IsTrue options.now.decide → LacksNothing options.now.decide element.now }
     ensures { IfOk result (λ found. IfSome found (IsMadeOf options.now.decide kind element.now)) }
 {
     let subject = element_subject(element);
@@ -131,6 +107,26 @@ fn whole_or_short_change(
     }
     element_remarks.list.mark_left_out_as_dropped();
     remarks.append(element_remarks)?;
+    short_change(alloc, options, remarks, kind, element, elem_type, name)
+}
+
+// The change of the same element with a text of one record. Returns `None`, with a remark, if it cannot be carried.
+fn short_change(
+    alloc: Global,
+    options: &Options,
+    remarks: &mut Remarks,
+    kind: Kind,
+    element: &WideElement,
+    elem_type: ElemType,
+    name: Name,
+) -> Result<Option<ElemChange>, AllocError>
+    requires known { IsProfileType element.now.word.items elem_type }
+    requires named { name ≡ element.now.name.items }
+    requires asked { IsTrue options.now.decide }
+    requires lacks_nothing { LacksNothing options.now.decide element.now }
+    ensures { IfOk result (λ found. IfSome found (IsMadeOf options.now.decide kind element.now)) }
+{
+    let subject = element_subject(element);
     let Some(change) = one_record_change(alloc, kind, element, elem_type, name)? else {
         remarks.tell_left_out(alloc, &subject, b"", RemarkReason::BadText, b"")?;
         return Ok(None);

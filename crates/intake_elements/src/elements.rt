@@ -1,10 +1,14 @@
 //! Statements of the profile that bring or update elements.
-ghost use Rattle.std.specs.Prelude.{◌≡◌, IfOk, IfSome, IsTrue, All, true, false};
+ghost use Rattle.std.specs.Prelude.{◌≡◌, IfOk, IfSome, IsTrue, All, true, false, Some, None};
 ghost use Rattle.terms.specs.Texts.{IsReplacement, IsUpdate};
-ghost use Rattle.intake_elements.specs.Elements.{is_level_operand, HasNoLevel, is_update, IsChangeOf};
+ghost use Rattle.terms.specs.Types.{Text};
+ghost use Rattle.intake_read.specs.Stated.{text_in};
+ghost use Rattle.intake_elements.specs.ElementTexts.{AreLibraries, AreRecordsOf, IsStatedText};
+ghost use Rattle.intake_elements.specs.Elements.{IsHarmless, LacksNothing, IsProfileType, is_update, IsChangeOf};
+ghost use Rattle.intake_elements.specs.Elements.{IsMadeOf};
 
 use crate::element_words::{Target, is_update, is_update_word};
-use crate::levels::is_level_operand;
+use crate::harmless::{are_all_read, are_both, can_lack_operand};
 use crate::modules::tell_dropped_module_operands;
 use crate::options::{Libraries, Options};
 use crate::subjects::element_subject;
@@ -20,19 +24,6 @@ use std::alloc::{AllocError, Global};
 use sysmods_values::{Action, ElemChange};
 use terms::{ElemType, Kind};
 use text80::{Line, TextError, Update};
-
-/// Operands of elements without which the SYSMOD can be carried.
-const DROPPED: &[&[u8]] = &[
-    b"SSI", b"ALIAS", b"MALIAS", b"DISTSRC", b"PREFIX", b"VERSION",
-];
-
-// Whether the operand of this name may be dropped. `DROPPED` has no operand that decides whether the SYSMOD goes on:
-// the first test shows that to the proof.
-fn may_drop_operand(name: &[u8]) -> bool
-    ensures { IsTrue result → is_level_operand name.now ≡ false }
-{
-    !is_level_operand(name) && DROPPED.iter().any(|dropped| *dropped == name)
-}
 
 /// Remarks that an operand of an element is dropped. VERSION lets a SYSMOD take over an element of another function, so
 /// without it more SYSMODs fail, as without VERSION of `++VER`. Any other operand changes no decision.
@@ -51,50 +42,41 @@ pub(crate) fn tell_dropped_operand(
     remarks.tell_dropped(alloc, subject, name, reason, operand.text())
 }
 
-// Drops the operand, with a remark, if it may be dropped. Otherwise the SYSMOD is left out, also with a remark. Returns
-// whether the operand is dropped.
+// Drops the operand, with a remark, if it decides nothing. Otherwise the SYSMOD is left out, also with a remark.
+// Returns whether the operand is dropped.
 fn drop_operand(
     alloc: Global,
+    options: &Options,
     remarks: &mut Remarks,
     subject: &Subject<'_>,
     operand: &WideOperand,
 ) -> Result<bool, AllocError>
-    ensures { IfOk result (λ dropped. IsTrue dropped → HasNoLevel operand.now) }
+    ensures { IfOk result (λ dropped. IsTrue dropped → IsHarmless options.now.decide operand.now) }
 {
-    let name = operand.name.as_slice();
-    let may_drop = may_drop_operand(name);
+    let may_drop = can_lack_operand(alloc, options, remarks, subject, operand)?;
     if may_drop {
         tell_dropped_operand(alloc, remarks, subject, operand)?;
-    } else {
-        let text = operand.text();
-        remarks.tell_left_out(alloc, subject, name, RemarkReason::UnknownOperand, text)?;
     }
     Ok(may_drop)
 }
 
-// Drops the operands that may be dropped, with remarks. For each of the others the SYSMOD is left out. Returns whether
+// Drops the operands that decide nothing, with remarks. For each of the others the SYSMOD is left out. Returns whether
 // all are dropped.
 fn drop_operands(
     alloc: Global,
+    options: &Options,
     remarks: &mut Remarks,
     subject: &Subject<'_>,
     operands: &[WideOperand],
 ) -> Result<bool, AllocError>
-    ensures { IfOk result (λ dropped. IsTrue dropped → All HasNoLevel operands.now) }
+    ensures { IfOk result (λ dropped. IsTrue dropped → All (IsHarmless options.now.decide) operands.now) }
 {
     let mut all = true;
     for operand in operands {
-        let dropped = drop_operand(alloc, remarks, subject, operand)?;
+        let dropped = drop_operand(alloc, options, remarks, subject, operand)?;
         all = are_both(all, dropped);
     }
     Ok(all)
-}
-
-/// Whether both are true. It is a function because the proofs of its callers need its contract.
-pub fn are_both(first: bool, second: bool) -> bool
-    ensures { IsTrue result → IsTrue first × IsTrue second }
-{
-    first && second
 }
 
 // Remarks, for each of the libraries, that the SYSMOD is left out because the text of the element is in it.
@@ -121,15 +103,21 @@ fn can_drop_all_operands(
     subject: &Subject<'_>,
     element: &WideElement,
 ) -> Result<bool, AllocError>
-    ensures { IfOk result (λ good. IsTrue good → All HasNoLevel element.now.operands.items) }
+    ensures { IfOk result (λ good. IsTrue good → LacksNothing options.now.decide element.now) }
 {
     tell_dropped_module_operands(alloc, options, remarks, subject, element)?;
     let faulty = element.faulty.as_slice();
     tell_faulty_operands(alloc, remarks, subject, faulty, Deed::LeftOut)?;
-    let dropped = drop_operands(alloc, remarks, subject, element.operands.as_slice())?;
+    let dropped = drop_operands(
+        alloc,
+        options,
+        remarks,
+        subject,
+        element.operands.as_slice(),
+    )?;
     tell_text_libraries(alloc, remarks, subject, element.libraries.as_slice())?;
-    let others_are_good = element.faulty.is_empty() && element.libraries.is_empty();
-    Ok(are_both(dropped, others_are_good))
+    let operands = are_both(dropped, are_all_read(faulty));
+    Ok(are_both(operands, element.libraries.is_empty()))
 }
 
 // The library that the operand states. Returns `None`, with a remark, if it does not have the form of a name.
@@ -139,7 +127,9 @@ fn read_library(
     subject: &Subject<'_>,
     operand: &[u8],
     stated: &[u8],
-) -> Result<Option<Name>, AllocError> {
+) -> Result<Option<Name>, AllocError>
+    ensures { IfOk result (λ found. IfSome found (λ name. name ≡ stated.now)) }
+{
     let name = Name::read(stated);
     if name.is_none() {
         remarks.tell_left_out(alloc, subject, operand, RemarkReason::BadValue, stated)?;
@@ -155,7 +145,10 @@ fn read_libraries(
     remarks: &mut Remarks,
     subject: &Subject<'_>,
     element: &WideElement,
-) -> Result<Option<Libraries>, AllocError> {
+) -> Result<Option<Libraries>, AllocError>
+    ensures { IfOk result (λ found. IfSome found (λ libraries. AreLibraries element.now libraries.distlib
+        libraries.syslib)) }
+{
     let Some(distlib) = &element.distlib else {
         remarks.tell_left_out(alloc, subject, b"DISTLIB", RemarkReason::Missing, b"")?;
         return Ok(None);
@@ -164,10 +157,40 @@ fn read_libraries(
     else {
         return Ok(None);
     };
-    if let Some(syslib) = &element.syslib {
-        let syslib = read_library(alloc, remarks, subject, b"SYSLIB", syslib.as_slice())?;
-        return Ok(syslib.map(|syslib| Libraries { distlib, syslib }));
+    let Some(syslib) = read_syslib(alloc, options, remarks, subject, element, distlib)? else {
+        return Ok(None);
+    };
+    Ok(Some(Libraries { distlib, syslib }))
+}
+
+// The SYSLIB of a replacement with this DISTLIB: the one that is stated, or else that of the options. Returns `None`,
+// with a remark, if it is missing or does not have the form of a name.
+fn read_syslib(
+    alloc: Global,
+    options: &Options,
+    remarks: &mut Remarks,
+    subject: &Subject<'_>,
+    element: &WideElement,
+    distlib: Name,
+) -> Result<Option<Name>, AllocError>
+    ensures { IfOk result (λ found. IfSome found (λ syslib. (library : Text)
+        → text_in element.now.syslib ≡ Some library → syslib ≡ library)) }
+{
+    match &element.syslib {
+        Some(syslib) => read_library(alloc, remarks, subject, b"SYSLIB", syslib.as_slice()),
+        None => given_syslib(alloc, options, remarks, subject, distlib),
     }
+}
+
+// The SYSLIB that the options give for this DISTLIB, with a remark. Returns `None`, with another remark, if there is
+// none.
+fn given_syslib(
+    alloc: Global,
+    options: &Options,
+    remarks: &mut Remarks,
+    subject: &Subject<'_>,
+    distlib: Name,
+) -> Result<Option<Name>, AllocError> {
     let Some(syslib) = options.syslib_for(distlib) else {
         remarks.tell_left_out(
             alloc,
@@ -185,7 +208,7 @@ fn read_libraries(
         RemarkReason::GivenSyslib,
         syslib.as_bytes(),
     )?;
-    Ok(Some(Libraries { distlib, syslib }))
+    Ok(Some(syslib))
 }
 
 // The cards of an element's text: those after its statement, or those of its RELFILE. Returns `None`, with a remark, if
@@ -196,7 +219,10 @@ fn text_cards<'a>(
     remarks: &mut Remarks,
     subject: &Subject<'_>,
     element: &'a WideElement,
-) -> Result<Option<&'a [Card]>, AllocError> {
+) -> Result<Option<&'a [Card]>, AllocError>
+    ensures { IfOk result (λ found. IfSome found (λ cards. text_in element.now.relfile ≡ None
+        → cards.now ≡ element.now.inline.items)) }
+{
     let Some(relfile) = &element.relfile else {
         return Ok(Some(element.inline.as_slice()));
     };
@@ -271,13 +297,29 @@ fn replacement_lines(
     elem_type: ElemType,
     cards: &[Card],
 ) -> Result<Option<Vec<Line>>, AllocError>
-    ensures { IfOk result (λ found. IfSome found (λ lines. IsReplacement elem_type lines.items)) }
+    ensures replacement { IfOk result (λ found. IfSome found (λ lines. IsReplacement elem_type lines.items)) }
+    ensures records { IfOk result (λ found. IfSome found (λ lines. AreRecordsOf cards.now lines.items)) }
 {
     if let Some(reason) = text_fault(cards) {
         let text = card_place_text(alloc, cards.iter().find(|card| !card.is_printable()))?;
         remarks.tell_left_out(alloc, subject, b"", reason, text.as_bytes())?;
         return Ok(None);
     }
+    good_lines(alloc, remarks, subject, elem_type, cards)
+}
+
+// The cards, which may be a text, as the records of a replacement of the type. Returns `None`, with a remark, if their
+// numbers do not rise.
+fn good_lines(
+    alloc: Global,
+    remarks: &mut Remarks,
+    subject: &Subject<'_>,
+    elem_type: ElemType,
+    cards: &[Card],
+) -> Result<Option<Vec<Line>>, AllocError>
+    ensures replacement { IfOk result (λ found. IfSome found (λ lines. IsReplacement elem_type lines.items)) }
+    ensures records { IfOk result (λ found. IfSome found (λ lines. AreRecordsOf cards.now lines.items)) }
+{
     let text_cards = without_blank_end_if_numbered(elem_type, cards);
     tell_blank_end(alloc, remarks, subject, cards, text_cards)?;
     let Some(lines) = replacement_text(alloc, elem_type, text_cards)? else {
@@ -306,7 +348,8 @@ fn stated_replacement(
     element: &WideElement,
     target: Target,
 ) -> Result<Option<ElemChange>, AllocError>
-    ensures { IfOk result (λ found. IfSome found (IsChangeOf target.elem_type target.name false)) }
+    ensures { IfOk result (λ found. IfSome found (λ c. IsChangeOf target.elem_type target.name false c
+        × IsStatedText element.now c.action)) }
 {
     let Some(libraries) = read_libraries(alloc, options, remarks, subject, element)? else {
         return Ok(None);
@@ -403,8 +446,8 @@ fn stated_change(
     element: &WideElement,
     target: Target,
 ) -> Result<Option<ElemChange>, AllocError>
-    ensures { IfOk result (λ found. IfSome found (IsChangeOf target.elem_type target.name
-        (is_update kind element.now.word.items))) }
+    ensures { IfOk result (λ found. IfSome found (λ c. IsChangeOf target.elem_type target.name
+        (is_update kind element.now.word.items) c × IsStatedText element.now c.action)) }
 {
     let subject = element_subject(element);
     let word = element.word.as_slice();
@@ -428,8 +471,9 @@ pub(crate) fn whole_change(
     element: &WideElement,
     target: Target,
 ) -> Result<Option<ElemChange>, AllocError>
-    ensures { IfOk result (λ found. IfSome found (λ c. IsChangeOf target.elem_type target.name
-        (is_update kind element.now.word.items) c × All HasNoLevel element.now.operands.items)) }
+    requires known { IsProfileType element.now.word.items target.elem_type }
+    requires named { target.name ≡ element.now.name.items }
+    ensures { IfOk result (λ found. IfSome found (IsMadeOf options.now.decide kind element.now)) }
 {
     let subject = element_subject(element);
     if !can_drop_all_operands(alloc, options, remarks, &subject, element)? {

@@ -5,7 +5,7 @@
 mod changes;
 mod element_words;
 mod elements;
-mod levels;
+mod harmless;
 mod modules;
 mod options;
 mod stand_in_names;
@@ -15,9 +15,9 @@ mod texts;
 mod updates;
 
 pub use changes::change_of;
-pub use elements::are_both;
-pub use levels::has_level_operand;
-pub use modules::{has_faulty_module_operand, keys_of, modules_of};
+pub use harmless::{are_all_read, are_both, lacks_nothing};
+pub use modules::{keys_of, modules_of};
 pub use options::{Options, RelfileMember, Syslib};
+pub use stand_in_names::change_key;
 pub use stand_ins::module_change;
 pub use subjects::element_subject;

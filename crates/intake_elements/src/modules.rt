@@ -2,7 +2,7 @@
 ghost use Rattle.std.specs.Prelude.{◌≡◌, ◌++◌, map, IfOk, OnOk};
 ghost use Rattle.terms.specs.declared.kinds.ElemType.TheVariants.{Mac};
 ghost use Rattle.intake_elements.specs.StandInNames.{key_of};
-ghost use Rattle.intake_elements.specs.Elements.{has_own_module, own_modules, modules_of, module_name, AreKeysOf};
+ghost use Rattle.intake_elements.specs.Elements.{own_modules, modules_of, module_name, AreKeysOf};
 
 use crate::element_words::is_source;
 use crate::options::Options;
@@ -11,27 +11,19 @@ use intake_cards::{RemarkReason, Remarks, Subject};
 use intake_read::WideElement;
 use std::alloc::{AllocError, Global};
 
-// Whether the element is a source with DISTMOD, of which a module of its own name is assembled.
-fn has_own_module(element: &WideElement) -> bool
-    ensures { result ≡ has_own_module element.now }
-{
-    element.distmod.is_some() && is_source(element.word.as_slice())
-}
-
-// The module that has the name of the source, as a list, which is empty if the element has no such module.
+// The module that has the name of the source, as a list, which is empty if the element is no source.
 fn own_modules<'a>(alloc: Global, element: &'a WideElement) -> Result<Vec<&'a [u8]>, AllocError>
     ensures { IfOk result (λ modules. map (λ m. m.now) modules.items ≡ own_modules element.now) }
 {
     let mut modules = Vec::new(alloc);
-    if !has_own_module(element) {
+    if !is_source(element.word.as_slice()) {
         return Ok(modules);
     }
     modules.push(element.name.as_slice())?;
     Ok(modules)
 }
 
-/// The modules that are assembled of the element: of a source with DISTMOD the one of its name, and those that ASSEM
-/// names.
+/// The modules that are assembled of the element: of a source the one of its name, and those that ASSEM names.
 pub fn modules_of<'a>(alloc: Global, element: &'a WideElement) -> Result<Vec<&'a [u8]>, AllocError>
     ensures { IfOk result (λ modules. map (λ m. m.now) modules.items ≡ modules_of element.now) }
 {
@@ -67,24 +59,11 @@ pub fn keys_of(alloc: Global, element: &WideElement) -> Result<Vec<u64>, AllocEr
 
 // Whether modules are assembled of the element.
 fn has_modules(element: &WideElement) -> bool {
-    has_own_module(element) || !element.assem.is_empty()
+    is_source(element.word.as_slice()) || !element.assem.is_empty()
 }
 
-/// Whether an operand of this name states the modules that are assembled, or their library.
-pub(crate) fn is_module_operand(name: &[u8]) -> bool {
-    name == b"DISTMOD".as_slice() || name == b"ASSEM".as_slice()
-}
-
-/// Whether an operand that states the modules that are assembled, or their library, is faulty.
-pub fn has_faulty_module_operand(element: &WideElement) -> bool {
-    element
-        .faulty
-        .iter()
-        .any(|entry| is_module_operand(entry.operand.name.as_slice()))
-}
-
-/// Remarks that DISTMOD and ASSEM are dropped. If stand-ins are asked for, modules have stand-ins, so only a DISTMOD of an
-/// element without modules is dropped.
+/// Remarks that DISTMOD and ASSEM are dropped. If stand-ins are asked for, modules have stand-ins, so only a DISTMOD of
+/// an element without modules is dropped.
 pub(crate) fn tell_dropped_module_operands(
     alloc: Global,
     options: &Options,

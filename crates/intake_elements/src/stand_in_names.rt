@@ -97,8 +97,8 @@ pub(crate) fn stand_in_name(word: &[u8], name: &[u8]) -> Option<Name>
     Name::read(stand_in_name_bytes(word, name).as_slice())
 }
 
-// The key of the element of this type and name: a hash, so others may have it too.
-fn key_of(elem_type: ElemType, name: &[u8]) -> u64
+/// The key of the element of this type and name: a hash, so others may have it too.
+pub fn change_key(elem_type: ElemType, name: &[u8]) -> u64
     ensures { result ≡ key_of elem_type name.now }
 {
     hash_of(type_text(elem_type), name)
@@ -113,8 +113,8 @@ pub(crate) fn element_key(element: &WideElement) -> u64
     let word = element.word.as_slice();
     let name = element.name.as_slice();
     match profile_type(word) {
-        Some(elem_type) => key_of(elem_type, name),
-        None => key_of(
+        Some(elem_type) => change_key(elem_type, name),
+        None => change_key(
             stand_in_type(word),
             stand_in_name_bytes(word, name).as_slice(),
         ),
@@ -125,7 +125,7 @@ pub(crate) fn element_key(element: &WideElement) -> u64
 pub(crate) fn module_key(module: &[u8]) -> u64
     ensures { result ≡ key_of Mac (module_name module.now) }
 {
-    key_of(
+    change_key(
         ElemType::Mac,
         stand_in_name_bytes(b"MOD", module).as_slice(),
     )

@@ -12,7 +12,7 @@ mod placed;
 mod refusals;
 
 pub use errors::HoldError;
-pub use faulty_operands::{has_faulty_operand, tell_left_out_for_faulty_operands};
+pub use faulty_operands::has_faulty_operand;
 pub use holds::{carry_hold, hold_subject, is_internal_in};
 pub use outside::{FileRemarks, OutsideHolds, read_statements};
 pub use placed::{PlacedItem, carry_releases, items_in_order, push_item};

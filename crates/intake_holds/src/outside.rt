@@ -1,8 +1,7 @@
 //! The holds outside SYSMODs. Each is carried as soon as it is read, so that its statement need not be kept.
-ghost use Rattle.std.specs.Prelude.{◌≡◌, ◌++◌, ◌∷◌, [], List, OnOk, IfOk, IsFalse, None, option_to_list};
-ghost use Rattle.intake_read.specs.declared.items.WideHold.{WideHold};
+ghost use Rattle.std.specs.Prelude.{◌≡◌, ◌∷◌, [], OnOk, IfOk, IsFalse, None, option_to_list};
 ghost use Rattle.intake_holds.specs.Holds.{HoldBecomes};
-ghost use Rattle.intake_holds.specs.Outside.{AreCarried, CarriesHolds};
+ghost use Rattle.intake_holds.specs.Outside.{AreCarried, KeepsHolds, AddsHolds, AddsHoldsAt};
 
 use crate::errors::HoldError;
 use crate::holds::carry_hold;
@@ -111,8 +110,7 @@ impl OutsideHolds {
     // Adds the next hold of the file that is being read, as it is carried. If it cannot be carried, it is refused, with
     // a remark, and then nothing is carried at all.
     fn carry(&mut self, alloc: Global, hold: &WideHold) -> Result<(), AllocError>
-        ensures { OnOk result ((stated : List WideHold) → AreCarried stated self.old
-            → AreCarried (stated ++ hold.now ∷ []) self.new) }
+        ensures { OnOk result (AddsHolds (hold.now ∷ []) self.old self.new) }
     {
         self.has_read_any = true;
         if refuse_if_bad_hold(alloc, &mut self.refusals.current, hold)? {
@@ -135,8 +133,7 @@ impl OutsideHolds {
 
     // Adds the hold, if there is one, as it is carried.
     fn carry_if_any(&mut self, alloc: Global, hold: Option<WideHold>) -> Result<(), AllocError>
-        ensures { OnOk result ((stated : List WideHold) → AreCarried stated self.old
-            → AreCarried (stated ++ option_to_list hold) self.new) }
+        ensures { OnOk result (AddsHolds (option_to_list hold) self.old self.new) }
     {
         match hold {
             Some(hold) => self.carry(alloc, &hold),
@@ -146,7 +143,7 @@ impl OutsideHolds {
 
     // Ends the file that is being read. The next holds are those of the file after it.
     fn end_file(&mut self, alloc: Global) -> Result<(), AllocError>
-        ensures { OnOk result (CarriesHolds self.old → CarriesHolds self.new) }
+        ensures { OnOk result (KeepsHolds self.old self.new) }
     {
         self.remarks.end_file(alloc)?;
         self.refusals.end_file(alloc)
@@ -187,16 +184,16 @@ fn remark_bad_statements_of_files(
     Ok(any)
 }
 
-/// The statements of a file of these cards. Its holds outside SYSMODs are added to `held` while they are read. Returns
-/// `NoStatement`, `OpenComment` or `Statement` if the file has a fault that leaving out a SYSMOD does not mend, and
-/// `Memory` if memory runs out.
+/// The statements of a file of these cards. Its holds outside SYSMODs are added to `held` while they are read: each
+/// that the reader hands out, and no other. Returns `NoStatement`, `OpenComment` or `Statement` if the file has a fault
+/// that leaving out a SYSMOD does not mend, and `Memory` if memory runs out.
 pub fn read_statements(
     alloc: Global,
     cards: &mut CardReader<'_>,
     notes: &mut Vec<CardNote>,
     held: &mut OutsideHolds,
 ) -> Result<WideFile, WideError>
-    ensures { OnOk result (CarriesHolds held.old → CarriesHolds held.new) }
+    ensures { IfOk result (λ file. AddsHoldsAt file.held.items held.old held.new) }
 {
     let mut reader = WideReader::new(alloc);
     for _ in 0..usize::MAX {

@@ -1,10 +1,10 @@
 //! Holds and releases that cannot be carried. If there is one, nothing is carried at all, so that no hold is lost.
 
-use crate::faulty_operands::fault_of_needed_operand;
 use crate::holds::{HoldFault, hold_key, hold_subject, release_key, release_subject};
 use intake_cards::{Deed, RemarkReason, Remarks, Subject};
 use intake_read::{
-    FaultyOperand, WideFile, WideHold, WideHoldKind, WideOther, WideRelease, missing_word,
+    FaultyOperand, WideFile, WideHold, WideHoldKind, WideOther, WideRelease, fault_reason,
+    missing_word,
 };
 use std::alloc::{AllocError, Global};
 
@@ -37,7 +37,7 @@ fn refuse_if_faulty(
             subject,
             name,
             Deed::Refused,
-            fault_of_needed_operand(entry),
+            fault_reason(entry),
             operand.text(),
         )?;
         return Ok(true);

@@ -26,6 +26,7 @@ impl FileSoFar {
             alloc,
             file: WideFile {
                 sysmods: Vec::new(alloc),
+                held: Vec::new(alloc),
                 releases: Vec::new(alloc),
                 assigns: Vec::new(alloc),
                 others: Vec::new(alloc),

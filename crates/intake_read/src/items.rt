@@ -194,6 +194,9 @@ pub enum OtherReason {
     /// The next statement, or the end of the file, comes before its period.
     #[error("its period is missing")]
     NoPeriod,
+    /// Its period stands in columns 73 to 80, which are not read.
+    #[error("its period stands behind column 72")]
+    LatePeriod,
     /// A parenthesis is open at the next statement, or at the end of the file.
     #[error("a parenthesis is open")]
     OpenParenthesis,
@@ -267,6 +270,8 @@ pub struct SwallowedStatement {
 #[derive(Drop)]
 pub struct WideFile {
     pub sysmods: Vec<WideSysmod>,
+    /// Where the holds outside SYSMODs begin, in order, except those of FIXCAT.
+    pub held: Vec<CardPlace>,
     pub releases: Vec<WideRelease>,
     pub assigns: Vec<WideAssign>,
     /// `++FEATURE`, `++PRODUCT` and `++NULL`, wherever they stand, and each `++HOLD`, `++RELEASE` and `++ASSIGN` that

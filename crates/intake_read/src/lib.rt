@@ -1,7 +1,7 @@
 //! The statements of a shop's files, in the wide grammar of SMP/E, as plain structs, and the remarks on those that
-//! cannot be read as what they say. `WideOperand::text` and `list_members` have contracts. Of the other functions it is
-//! proved that they never panic, and only tested that they read each statement as SMP/E does. Every call that allocates
-//! fails with `AllocError` if memory runs out.
+//! cannot be read as what they say. `WideOperand::text` and `list_members` have contracts, and `WideReader` says where
+//! the holds begin that it hands out. Of the other functions it is proved that they never panic, and only tested that
+//! they read each statement as SMP/E does. Every call that allocates fails with `AllocError` if memory runs out.
 #![tactic(auto)]
 
 mod errors;
@@ -11,6 +11,7 @@ mod items;
 mod meaning;
 mod operands;
 mod read;
+mod reader;
 mod remarks;
 mod statement;
 
@@ -22,5 +23,5 @@ pub use items::{
     WideSysmod, WideVer,
 };
 pub use operands::list_members;
-pub use read::WideReader;
-pub use remarks::{missing_word, tell_dropped_operands, tell_faulty_operands};
+pub use reader::WideReader;
+pub use remarks::{fault_reason, missing_word, tell_dropped_operands, tell_faulty_operands};

@@ -20,9 +20,9 @@ enum CardPart {
     Inline,
 }
 
-/// Reads the statements of a file's cards, which it is given one after the other.
+/// Reads the statements of a file's cards, which it is given one after the other, and keeps the last hold.
 #[derive(Drop)]
-pub struct WideReader {
+pub(crate) struct StatementReader {
     alloc: Global,
     scanner: CardScanner,
     part: CardPart,
@@ -30,6 +30,8 @@ pub struct WideReader {
     place: CardPlace,
     /// Whether a card of the statement's own text is cut at column 80, outside comments.
     is_cut: bool,
+    /// Whether columns 73 to 80 of such a card have a period, which is not read.
+    has_late_period: bool,
     /// The statement, once its period has been read.
     whole: Option<WideStatement>,
     gathered: FileSoFar,
@@ -56,7 +58,7 @@ fn swallowed_statement(
     comment: CardPlace,
     card: &Card,
 ) -> Result<SwallowedStatement, AllocError> {
-    let text = card.columns_after_plus_signs();
+    let text = card.columns_after_plus_signs().trim_ascii_start();
     Ok(SwallowedStatement {
         place: card.place,
         comment,
@@ -90,15 +92,16 @@ fn may_be_followed_by_text(pieces: &[CardPiece]) -> bool {
     words.next().is_some_and(may_have_inline_text) && !words.any(excludes_inline_text)
 }
 
-impl WideReader {
+impl StatementReader {
     /// A reader that has read no card.
-    pub fn new(alloc: Global) -> WideReader {
-        WideReader {
+    pub(crate) fn new(alloc: Global) -> StatementReader {
+        StatementReader {
             alloc,
             scanner: CardScanner::new(alloc),
             part: CardPart::Before,
             place: CardPlace { file: 0, card: 0 },
             is_cut: false,
+            has_late_period: false,
             whole: None,
             gathered: FileSoFar::new(alloc),
         }
@@ -142,8 +145,9 @@ impl WideReader {
         self.end_statement()?;
         self.part = CardPart::Own;
         self.place = card.place;
-        self.note_tail(card)?;
         self.is_cut = false;
+        self.has_late_period = false;
+        self.note_tail(card)?;
         self.scanner
             .scan_columns(card.place, card.columns_after_plus_signs())?;
         self.end_card(card);
@@ -161,9 +165,10 @@ impl WideReader {
         }
     }
 
-    // Notes columns 73 to 80 if they hold more than digits and blanks.
+    // Notes columns 73 to 80 if they hold more than digits and blanks, and whether they hold a period.
     fn note_tail(&mut self, card: &Card) -> Result<(), WideError> {
         if card.tail() == Tail::Other {
+            self.has_late_period = self.has_late_period || card.number_columns().contains(&b'.');
             self.gathered.note_tail(card)?;
         }
         Ok(())
@@ -172,6 +177,9 @@ impl WideReader {
     // Makes a statement of the pieces that were scanned, and takes them out of the scanner.
     fn take_statement(&mut self) -> Result<WideStatement, AllocError> {
         let mut statement = WideStatement::take_scanned(self.alloc, self.place, &mut self.scanner)?;
+        if self.has_late_period && statement.fault == Some(OtherReason::NoPeriod) {
+            statement.fault = Some(OtherReason::LatePeriod);
+        }
         if self.is_cut {
             statement.fault = Some(OtherReason::LongLine);
         }
@@ -227,14 +235,14 @@ impl WideReader {
     /// Reads the next card. If this ends a hold outside SYSMODs, hands out that hold. Returns `NoStatement` if more
     /// than blanks and comments precedes the first statement, and `Statement` if a statement that belongs to a SYSMOD,
     /// or that is not known, precedes the first SYSMOD.
-    pub fn read_card(&mut self, card: &Card) -> Result<Option<WideHold>, WideError> {
+    pub(crate) fn read_card(&mut self, card: &Card) -> Result<Option<WideHold>, WideError> {
         self.add_card(card)?;
         Ok(self.gathered.take_hold())
     }
 
     /// Ends the last statement, and hands it out if it is a hold outside SYSMODs. Returns `OpenComment` if a comment is
     /// open after the last card.
-    pub fn read_end(&mut self) -> Result<Option<WideHold>, WideError> {
+    pub(crate) fn read_end(&mut self) -> Result<Option<WideHold>, WideError> {
         if let Open::Comment(place) = self.scanner.open() {
             return Err(WideError::OpenComment { place });
         }
@@ -242,8 +250,8 @@ impl WideReader {
         Ok(self.gathered.take_hold())
     }
 
-    /// All statements but the holds that `read_card` and `read_end` handed out. Call it after `read_end`.
-    pub fn into_file(self) -> Result<WideFile, WideError> {
+    /// All statements but the holds that `read_card` and `read_end` handed out.
+    pub(crate) fn into_file(self) -> Result<WideFile, WideError> {
         self.gathered.into_file()
     }
 }

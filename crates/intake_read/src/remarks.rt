@@ -23,6 +23,15 @@ pub fn tell_dropped_operands(
     Ok(())
 }
 
+/// Why the operand cannot be read. An operand that has no value, although it must have one, lacks it.
+pub fn fault_reason(faulty: &FaultyOperand) -> RemarkReason {
+    if faulty.reason == OperandFault::BadValue && faulty.operand.text().is_empty() {
+        RemarkReason::NoValue
+    } else {
+        RemarkReason::from(faulty.reason)
+    }
+}
+
 /// Remarks what is done with each of the faulty operands, and why.
 pub fn tell_faulty_operands(
     alloc: Global,
@@ -33,7 +42,7 @@ pub fn tell_faulty_operands(
 ) -> Result<(), AllocError> {
     for entry in faulty {
         let operand = &entry.operand;
-        let reason = RemarkReason::from(entry.reason);
+        let reason = fault_reason(entry);
         remarks.tell(
             alloc,
             subject,
@@ -75,6 +84,7 @@ impl From<OtherReason> for RemarkReason {
             OtherReason::LoadModules => RemarkReason::OutsideProfile,
             OtherReason::UnknownWord => RemarkReason::UnknownStatement,
             OtherReason::NoPeriod => RemarkReason::NoPeriod,
+            OtherReason::LatePeriod => RemarkReason::LatePeriod,
             OtherReason::OpenParenthesis => RemarkReason::OpenParenthesis,
             OtherReason::StrayParenthesis => RemarkReason::StrayParenthesis,
             OtherReason::StrayCharacter => RemarkReason::StrayCharacter,

@@ -227,7 +227,7 @@ element_changed decide kind e c old mid new joined made j t kept modules = recor
   target_is = made.target_is;
   changed = kept c.elem_type c.name (is_update kind e.word.items)
       (j.there t (is_update kind e.word.items) made.action_is);
-  level_free = made.level_free;
+  lacks_nothing = made.lacks_nothing;
   modules_changed = modules;
 }
 
@@ -238,7 +238,7 @@ changed_still decide kind old new e kept h = record {
   name = h.name;
   target_is = h.target_is;
   changed = kept h.type h.name (is_update kind e.word.items) h.changed;
-  level_free = h.level_free;
+  lacks_nothing = h.lacks_nothing;
   modules_changed = λ asked. All-weaker (λ m. IsChanged decide old Mac (module_name m) false)
       (λ m. IsChanged decide new Mac (module_name m) false) (λ m c. kept Mac (module_name m) false c) (modules_of e)
       (h.modules_changed asked);

@@ -7,7 +7,7 @@ use Rattle.terms.specs.declared.kinds.ElemType.TheVariants.{Mac}
 use Rattle.terms.specs.Types.{Text, Change, Sysmod}
 use Rattle.terms.specs.Changes.{is_replacement}
 use Rattle.intake_read.specs.declared.items.WideElement.{WideElement}
-use Rattle.intake_elements.specs.Elements.{IsTarget, IsChangeOf, IsMadeOf, IsAssembledOf, HasNoLevel, is_update}
+use Rattle.intake_elements.specs.Elements.{IsTarget, IsChangeOf, IsMadeOf, IsAssembledOf, LacksNothing, is_update}
 use Rattle.intake_elements.specs.Elements.{modules_of, module_name}
 
 -- The element is replaced, or updated. Where stand-ins are asked for, a replacement of the same SYSMOD stands for an
@@ -26,7 +26,7 @@ pub record IsElementChanged (decide : Bool) (kind : Kind) (changes : List Change
   pub name : Text
   pub target_is : IsTarget decide stated.word.items stated.name.items type name
   pub changed : IsChanged decide changes type name (is_update kind stated.word.items)
-  pub level_free : All HasNoLevel stated.operands.items
+  pub lacks_nothing : LacksNothing decide stated
   pub modules_changed : IsTrue decide
       → All (λ m. IsChanged decide changes Mac (module_name m) false) (modules_of stated)
 

@@ -1,6 +1,6 @@
 -- Which SYSMODs of the files change an element. Of a SYSMOD with more elements than one may have, those are passed over
 -- that no other one changes: nothing among these files asks for them.
-use Rattle.std.specs.Prelude.{◌≡◌, ◌⊎◌, ◌<◌, ℕ, Bool, List, Option, Some, IsTrue, All, length}
+use Rattle.std.specs.Prelude.{◌≡◌, ◌⊎◌, ◌<◌, ℕ, Bool, List, Option, Some, IsTrue, true, All, length}
 use Rattle.std.specs.List.{Any, flat_map}
 use Rattle.std.specs.Ordering.{nat_cmp}
 use Rattle.std.specs.BTreeMap.{BTreeMap, get}
@@ -9,7 +9,7 @@ use Rattle.terms.specs.Types.{Text, Id, Change}
 use Rattle.intake_read.specs.declared.items.WideElement.{WideElement}
 use Rattle.intake_read.specs.declared.items.WideSysmod.{WideSysmod}
 use Rattle.intake_read.specs.declared.items.WideFile.{WideFile}
-use Rattle.intake_elements.specs.Elements.{IsTouched, HasNoLevel}
+use Rattle.intake_elements.specs.Elements.{IsTouched, LacksNothing}
 use Rattle.intake_elements.specs.StandInNames.{key_of}
 use Rattle.intake_sysmod.specs.declared.element_users.ElementUser.{ElementUser}
 use Rattle.intake_sysmod.specs.declared.element_users.ElementUser.TheVariants.{Only, Several}
@@ -59,5 +59,5 @@ pub record IsPassedOver (decide : Bool) (run : List WideSysmod) (stated : WideSy
     Type 0 where
   pub asked : IsTrue decide
   pub many : 999 < length stated.elements.items
-  pub level_free : All HasNoLevel element.operands.items
+  pub lacks_nothing : LacksNothing true element
   pub alone : IsAlone run stated.id.items element

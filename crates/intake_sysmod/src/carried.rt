@@ -1,6 +1,6 @@
 //! SYSMODs as they are carried, except for their holds.
-ghost use Rattle.std.specs.Prelude.{◌≡◌, [], IfOk, IfSome};
-ghost use Rattle.intake_sysmod.specs.NoLooser.{IsNoLooser};
+ghost use Rattle.std.specs.Prelude.{◌≡◌, [], IfOk, IfSome, IsTrue, All};
+ghost use Rattle.intake_sysmod.specs.NoLooser.{IsHarmlessOther, IsNoLooser};
 
 use crate::changes::add_elements;
 use crate::ids::read_id_or_remark;
@@ -10,7 +10,7 @@ use crate::users::Users;
 use crate::vers::read_vers;
 use fields::spelling::kind_text;
 use intake_cards::{Deed, RemarkReason, Remarks, Subject};
-use intake_elements::Options;
+use intake_elements::{Options, are_all_read, are_both};
 use intake_read::{WideSysmod, tell_dropped_operands, tell_faulty_operands};
 use std::alloc::{AllocError, Global};
 use sysmods_values::{Sysmod, Ver};
@@ -31,22 +31,20 @@ fn can_carry_header_and_others(
     options: &Options,
     remarks: &mut Remarks,
     stated: &WideSysmod,
-) -> Result<bool, AllocError> {
+) -> Result<bool, AllocError>
+    ensures { IfOk result (λ can. IsTrue can → (stated.now.faulty.items ≡ [])
+        × All (IsHarmlessOther options.now.decide) stated.now.others.items) }
+{
     let subject = header_subject(stated);
     tell_dropped_operands(alloc, remarks, &subject, stated.dropped.as_slice())?;
-    tell_faulty_operands(
-        alloc,
-        remarks,
-        &subject,
-        stated.faulty.as_slice(),
-        Deed::LeftOut,
-    )?;
+    let faulty = stated.faulty.as_slice();
+    tell_faulty_operands(alloc, remarks, &subject, faulty, Deed::LeftOut)?;
     let may_lack_others = tell_other_statements(alloc, options, remarks, stated.others.as_slice())?;
     if stated.elements.len() > MOST_ELEMENTS && !options.decide {
         remarks.tell_left_out(alloc, &subject, b"", RemarkReason::TooMany, b"")?;
         return Ok(false);
     }
-    Ok(may_lack_others && stated.faulty.is_empty())
+    Ok(are_both(are_all_read(faulty), may_lack_others))
 }
 
 // The SYSMOD with these `++VER`s.
@@ -85,7 +83,7 @@ fn try_to_carry(
     let Some(vers) = vers else {
         return Ok(None);
     };
-    if !added_all || !is_carriable {
+    if !are_both(added_all, is_carriable) {
         return Ok(None);
     }
     tell_passed_over(alloc, options, users, remarks, &subject, stated)?;

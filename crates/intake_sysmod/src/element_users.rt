@@ -14,7 +14,7 @@ use std::collections::BTreeMap;
 
 /// The SYSMODs that change an element: only the one of this id, or several.
 #[derive(Clone, Copy, PartialEq, Eq)]
-pub(crate) enum ElementUser {
+pub enum ElementUser {
     Only(Id),
     Several,
 }
@@ -71,8 +71,8 @@ fn add_user_of_keys(
     Ok(())
 }
 
-// Adds the SYSMOD to the users of each element that it changes.
-fn add_users_of_sysmod(
+/// Adds the SYSMOD to the users of each element that it changes.
+pub fn add_users_of_sysmod(
     alloc: Global,
     users: &mut BTreeMap<u64, ElementUser>,
     stated: &WideSysmod,

@@ -5,6 +5,7 @@ ghost use Rattle.intake_sysmod.specs.NoLooser.{IsIf};
 
 use crate::ids::{read_id_or_remark, read_ids_or_remark};
 use intake_cards::{Deed, RemarkReason, Remarks, Subject};
+use intake_elements::are_all_read;
 use intake_read::{WideIf, tell_faulty_operands};
 use std::alloc::{AllocError, Global};
 use sysmods_values::IfReq;
@@ -26,14 +27,9 @@ fn read_if(
         word: b"IF",
         id: own_id,
     };
-    if !stated.faulty.is_empty() {
-        tell_faulty_operands(
-            alloc,
-            remarks,
-            &subject,
-            stated.faulty.as_slice(),
-            Deed::LeftOut,
-        )?;
+    let faulty = stated.faulty.as_slice();
+    if !are_all_read(faulty) {
+        tell_faulty_operands(alloc, remarks, &subject, faulty, Deed::LeftOut)?;
         return Ok(None);
     }
     let Some(fmid) = &stated.fmid else {

@@ -16,6 +16,7 @@ mod ver_operands;
 mod vers;
 
 pub use carried::carry_sysmod;
+pub use element_users::{ElementUser, add_users_of_sysmod};
 pub use intake_elements::{Options, RelfileMember, Syslib};
 pub use others::tell_other_statements;
 pub use users::Users;

@@ -1,10 +1,10 @@
 //! The users of elements, as a value: the SYSMODs of the files that change an element.
-ghost use Rattle.std.specs.Prelude.{◌≡◌, IfOk, IsTrue, All};
-ghost use Rattle.intake_elements.specs.Elements.{HasNoLevel};
+ghost use Rattle.std.specs.Prelude.{◌≡◌, IfOk, IsTrue, true};
+ghost use Rattle.intake_elements.specs.Elements.{LacksNothing};
 ghost use Rattle.intake_sysmod.specs.Users.{run_of, IsAlone};
 
 use crate::element_users::{ElementUser, is_only_user_of_all, known_users};
-use intake_elements::{Options, has_faulty_module_operand, has_level_operand, keys_of};
+use intake_elements::{Options, keys_of, lacks_nothing};
 use intake_read::{WideElement, WideFile, WideSysmod};
 use std::alloc::{AllocError, Global};
 use std::collections::BTreeMap;
@@ -44,17 +44,17 @@ impl<'a> Users<'a> {
     }
 
     /// Whether it is known that only this SYSMOD changes what the element statement changes, and no operand of the
-    /// statement decides whether the SYSMOD can be installed.
+    /// statement decides more.
     pub(crate) fn has_no_other_user(
         &self,
         alloc: Global,
         stated: &WideSysmod,
         element: &WideElement,
     ) -> Result<bool, AllocError>
-        ensures { IfOk result (λ alone. IsTrue alone → All HasNoLevel element.now.operands.items
+        ensures { IfOk result (λ alone. IsTrue alone → LacksNothing true element.now
             × IsAlone self.now stated.now.id.items element.now) }
     {
-        if has_level_operand(element) || has_faulty_module_operand(element) {
+        if !lacks_nothing(element) {
             return Ok(false);
         }
         let keys = keys_of(alloc, element)?;

@@ -7,6 +7,7 @@ use crate::ids::{read_id_or_remark, read_ids_or_remark};
 use crate::ifs::read_ifs;
 use fields::{Id, IdList};
 use intake_cards::{Deed, RemarkReason, Remarks, Subject};
+use intake_elements::are_all_read;
 use intake_read::{WideSysmod, WideVer, tell_faulty_operands};
 use std::alloc::{AllocError, Global};
 use sysmods_values::IfReq;
@@ -108,8 +109,8 @@ pub(crate) fn read_operands(
         word: b"VER",
         id: own_id,
     };
-    if !stated.faulty.is_empty() {
-        let faulty = stated.faulty.as_slice();
+    let faulty = stated.faulty.as_slice();
+    if !are_all_read(faulty) {
         tell_faulty_operands(alloc, remarks, &subject, faulty, Deed::LeftOut)?;
         return Ok(None);
     }

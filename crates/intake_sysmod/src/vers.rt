@@ -1,7 +1,6 @@
 //! `++VER`.
 ghost use Rattle.std.specs.Prelude.{◌≡◌, IfOk, IfSome, IsPermutation};
-ghost use Rattle.terms.specs.Beside.{Beside};
-ghost use Rattle.intake_sysmod.specs.NoLooser.{IsVer, AreVers, AreOperands};
+ghost use Rattle.intake_sysmod.specs.NoLooser.{AreForSrels, AreVers, AreOperands};
 
 use crate::ver_operands::{VerOperands, read_operands};
 use fields::Srel;
@@ -58,8 +57,7 @@ fn vers_for_srels(
     operands: &VerOperands,
 ) -> Result<Option<Vec<Ver>>, AllocError>
     requires { AreOperands stated.now operands.now }
-    ensures { IfOk result (λ found. IfSome found (λ vers.
-        Beside (λ _ s. IsVer stated.now s.items) stated.now.srels.items vers.items)) }
+    ensures { IfOk result (λ found. IfSome found (λ vers. AreForSrels stated.now vers.items)) }
 {
     let mut vers = Vec::with_capacity(alloc, stated.srels.len())?;
     for srel in stated.srels.iter() {
@@ -85,8 +83,7 @@ fn vers_of_statement(
     sysmod: &WideSysmod,
     stated: &WideVer,
 ) -> Result<Option<Vec<Ver>>, AllocError>
-    ensures { IfOk result (λ found. IfSome found (λ vers.
-        Beside (λ _ s. IsVer stated.now s.items) stated.now.srels.items vers.items)) }
+    ensures { IfOk result (λ found. IfSome found (λ vers. AreForSrels stated.now vers.items)) }
 {
     let subject = Subject {
         place: stated.place,

@@ -2,7 +2,7 @@
 
 use crate::narrow_lines::compare;
 use crate::wide::file_of;
-use intake_asked::{KnownList, KnownSysmod, read_known, wide_commands};
+use intake_asked::{KnownList, KnownSysmods, read_known, wide_commands};
 use intake_cards::{Layout, read_cards};
 use intake_cntl::command_file;
 use std::alloc::Global;
@@ -115,13 +115,44 @@ APPLY APARS GROUPEXTEND(NOAPARS). => line 1: APPLY GROUPEXTEND: refused: these o
 line 1: APPLY GROUPEXTEND: carried otherwise: EXCLUDE names the APARs or USERMODs of --known: NOAPARS
 ";
 
+/// What is about SYSMODs that the job receives, without its PTFIN.
+const RECEIVED_ONES: &str = "\
+RECEIVE SYSMODS.|APPLY PTFS GROUPEXTEND(NOAPARS). => \
+line 2: APPLY GROUPEXTEND: refused: only --known FILE tells which these are: give it, or write their ids: NOAPARS, \
+also among those that RECEIVE brings: --known takes its PTFIN
+RECEIVE.|APPLY PTFS SOURCEID(RSU*). => \
+line 2: APPLY SOURCEID: refused: only --known FILE tells which these are: give it, or write their ids: RSU*, \
+also among those that RECEIVE brings: --known takes its PTFIN
+RECEIVE HOLDDATA.|APPLY APARS GROUPEXTEND(NOUSERMODS). => RECEIVE HOLDDATA.|\
+APPLY APARS GROUPEXTEND EXCLUDE(UM00001).|\
+line 2: APPLY GROUPEXTEND: carried otherwise: EXCLUDE names the APARs or USERMODs of --known: NOUSERMODS
+RECEIVE SYSMODS.|APPLY PTFS GROUPEXTEND SOURCEID(HIPER). => RECEIVE SYSMODS.|APPLY PTFS GROUPEXTEND SOURCEID(HIPER).
+";
+
+/// The same with its PTFIN.
+const KNOWN_RECEIVED_ONES: &str = "\
+RECEIVE SYSMODS.|APPLY PTFS GROUPEXTEND(NOUSERMODS). => RECEIVE SYSMODS.|APPLY PTFS GROUPEXTEND EXCLUDE(UM00001).|\
+line 2: APPLY GROUPEXTEND: carried otherwise: EXCLUDE names the APARs or USERMODs of --known: NOUSERMODS
+RECEIVE SOURCEID(RSU2405).|APPLY PTFS SOURCEID(RSU*). => \
+line 2: APPLY SOURCEID: refused: only --known FILE tells which these are: give it, or write their ids: RSU*, \
+also among those to which RECEIVE gives a source id
+";
+
 /// SYSMODs that are known.
 const LIST: &[u8] =
     b"id,kind,sources\nUA00001,PTF,\"RSU2401 HIPER\"\nAA00001,APAR,\nAA00002,APAR,RSU2402\n\nUM00001,USERMOD,\n";
 
+// No SYSMODs are known.
+fn nothing_known() -> KnownSysmods {
+    KnownSysmods {
+        list: None,
+        has_ptfin: false,
+    }
+}
+
 // What comes of a command file: the records without the blanks at their ends, or none if there is no file, and then
 // the remarks.
-fn outcome(alloc: Global, text: &[u8], known: &Option<Vec<KnownSysmod>>) -> Result<String, Fail> {
+fn outcome(alloc: Global, text: &[u8], known: &KnownSysmods) -> Result<String, Fail> {
     let found = read_cards(alloc, 0, text, Some(Layout::Text), None)?;
     let commands = wide_commands(alloc, &found.cards)?;
     let file = command_file(alloc, &found.cards, &commands, known)?;
@@ -143,12 +174,7 @@ fn outcome(alloc: Global, text: &[u8], known: &Option<Vec<KnownSysmod>>) -> Resu
 }
 
 // Fails unless these lines come of these cards. There is a bar between two lines, and between two cards.
-fn check_case(
-    alloc: Global,
-    known: &Option<Vec<KnownSysmod>>,
-    cards: &str,
-    lines: &str,
-) -> Result<(), Fail> {
+fn check_case(alloc: Global, known: &KnownSysmods, cards: &str, lines: &str) -> Result<(), Fail> {
     let file = file_of(alloc, cards)?;
     let got = outcome(alloc, file.as_slice(), known)?;
     let lines = file_of(alloc, lines)?;
@@ -157,7 +183,7 @@ fn check_case(
 }
 
 // Each case is a command file, by its cards, and after an arrow the lines that come of it.
-fn check(alloc: Global, known: &Option<Vec<KnownSysmod>>, cases: &str) -> Result<(), Fail> {
+fn check(alloc: Global, known: &KnownSysmods, cases: &str) -> Result<(), Fail> {
     for line in cases.lines() {
         let (cards, lines) = line.split_once(" => ").ok_or("no arrow in a case")?;
         check_case(alloc, known, cards, lines)?;
@@ -167,9 +193,9 @@ fn check(alloc: Global, known: &Option<Vec<KnownSysmod>>, cases: &str) -> Result
 
 #[test]
 fn commands_are_carried_dropped_or_named(rt: HostRuntime) -> Result<(), Fail> {
-    check_case(rt.alloc(), &None, "/* nothing */", "")?;
+    check_case(rt.alloc(), &nothing_known(), "/* nothing */", "")?;
     for cases in [AS_THEY_STAND, COMMENTED, SPELLED_OUT, DROPPED, NAMED] {
-        check(rt.alloc(), &None, cases)?;
+        check(rt.alloc(), &nothing_known(), cases)?;
     }
     Ok(())
 }
@@ -179,7 +205,14 @@ fn known_sysmods_tell_what_is_meant(rt: HostRuntime) -> Result<(), Fail> {
     let KnownList::Sysmods(known) = read_known(rt.alloc(), LIST)? else {
         return Err("the list is in form".into());
     };
-    check(rt.alloc(), &Some(known), KNOWN_ONES)
+    let mut known = KnownSysmods {
+        list: Some(known),
+        has_ptfin: false,
+    };
+    check(rt.alloc(), &known, KNOWN_ONES)?;
+    check(rt.alloc(), &known, RECEIVED_ONES)?;
+    known.has_ptfin = true;
+    check(rt.alloc(), &known, KNOWN_RECEIVED_ONES)
 }
 
 #[test]
@@ -208,7 +241,7 @@ fn a_long_line_is_refused_unless_it_is_a_comment(rt: HostRuntime) -> Result<(), 
     ] {
         let alloc = rt.alloc();
         let text = format!(in alloc; "{before}{long}{after}\nLIST.\n")?;
-        let got = outcome(alloc, text.as_bytes(), &None)?;
+        let got = outcome(alloc, text.as_bytes(), &nothing_known())?;
         let lines = file_of(alloc, wanted)?;
         compare(
             before,

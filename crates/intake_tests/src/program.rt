@@ -30,6 +30,7 @@ const FILES: &[(&str, &[u8])] = &[
         "group",
         b" APPLY PTFS GROUPEXTEND(NOAPARS) SOURCEID(RSU*).\n",
     ),
+    ("listed", b"id kind\nUA1 PTF\n"),
     (
         "known",
         b"id kind sources\nUA00001 PTF RSU2401\nAA00001 APAR\n",
@@ -54,22 +55,29 @@ const FILES: &[(&str, &[u8])] = &[
 
 /// The words after the program's name, with blanks between; the status, what is left in the folder, and what is told.
 const CASES: &str = "\
---out d ptf => 0 ptfin hold remarks
---out d ptf hold => 0 ptfin hold remarks
---out d mod => 4 ptfin hold remarks
+--out d ptf => 0 ptfin hold remarks -stand-ins
+--out d ptf hold => 0 ptfin hold remarks -stand-ins
+--out d mod => 4 ptfin hold remarks -stand-ins
 --out d --decide mod => 0 ptfin hold stand-ins remarks
---out d --relfile r relfile => 0 ptfin hold remarks
---out d --relfile r other => 0 ptfin hold remarks
---out d --relfile r relfile other => 4 ptfin hold remarks
---out d --relfile s relfile => 4 ptfin hold remarks
+--out d --relfile r relfile => 0 ptfin hold remarks -stand-ins
+--out d --relfile r other => 0 ptfin hold remarks -stand-ins
+--out d --relfile r relfile other => 4 ptfin hold remarks -stand-ins
+--out d --relfile s relfile => 4 ptfin hold remarks -stand-ins
 --out d --cntl cntl => 0 cntl cntl.remarks
---out d --cntl rc => 12 cntl.remarks
---out d --cntl group => 12 cntl.remarks
+--out d --cntl rc => 12 smpe-intake: rc line 1: APPLY RC: refused: the profile has no such operand: APPLY=8
 --out d --cntl group --known known => 0 cntl cntl.remarks
---out d --cntl group --known ptf => 16 smpe-intake: ptf line 2: a line has an id, a type and source ids
+--out d --cntl group --known known --known ptf => 0 cntl cntl.remarks
+--out d --cntl group --known listed => 16 smpe-intake: listed line 2: a line has an id, a type and source ids
 --out . hold => 16 smpe-intake: ./hold would replace the input hold: give another folder with --out
 --out . --cntl cntl => 16 smpe-intake: ./cntl would replace the input cntl: give another folder with --out
---out lost ptf => 16 smpe-intake: cannot read lost/ptfin
+--out lost ptf => 16 smpe-intake: cannot read lost/remarks
+--out unknown ptf => 16 smpe-intake: cannot read unknown/ptfin
+--out theirs ptf => 16 smpe-intake: theirs/hold is not of an earlier run, whose remarks would name it: \
+give another folder with --out
+--out theirs --cntl cntl => 0 cntl cntl.remarks
+--out earlier ptf => 0 ptfin hold remarks -stand-ins
+--out earlier --decide ptf => 0 ptfin hold stand-ins remarks
+--out earlier none => 16 smpe-intake: cannot read none|smpe-intake: the files in earlier are those of an earlier run
 --out d gzip => 16 smpe-intake: gzip: it is compressed by gzip: unpack it first
 --out d jcl => 16 smpe-intake: jcl line 1: JCL stands there: give the cards after its DD * without it
 --out d holds => 16 smpe-intake: holds line 1: ++HOLD(UA00001): refused: its period is missing
@@ -81,11 +89,17 @@ const CASES: &str = "\
 --help => 0
 --version => 0
 ptf => 16 shown
---out d --text --records ptf => 16 shown
---out d --cntl cntl ptf => 16 shown
+--out d --code utf8 ptf => 16 shown
+--out d --text --records ptf => 16 smpe-intake: bad operand: --text and --records exclude each other
+--out d --cntl cntl ptf => 16 smpe-intake: bad operand: --cntl takes no other FILE
+--out d => 16 smpe-intake: bad operand: no FILE is given
 ";
 
-/// A host in memory: what is left in the folder, what is printed, and what is told on standard error.
+/// How the remarks of an earlier run begin.
+const REMARKS: &[u8] = b"Written by smpe-intake: ptfin hold stand-ins remarks\n";
+
+/// A host in memory: what is left in the folder, what is printed, and what is told on standard error. The folder
+/// `earlier` has files of an earlier run, and `theirs` a file `hold` of another's.
 #[derive(Drop)]
 struct Memory {
     alloc: Global,
@@ -118,6 +132,21 @@ impl IntakeHost for Memory {
         Err(Error::from(ErrorKind::NotFound))
     }
 
+    fn read_start(&mut self, path: &str) -> io::Result<Option<Vec<u8>>> {
+        match path {
+            "earlier/remarks" => Ok(Some(Vec::from_slice(self.alloc, REMARKS)?)),
+            "lost/remarks" => Err(Error::from(ErrorKind::PermissionDenied)),
+            _ => Ok(None),
+        }
+    }
+
+    fn is_present(&mut self, path: &str) -> io::Result<bool> {
+        if path == "unknown/ptfin" {
+            return Err(Error::from(ErrorKind::InvalidData));
+        }
+        Ok(path == "theirs/hold" || path.starts_with("earlier/"))
+    }
+
     fn append_to_draft(
         &mut self,
         folder: &str,
@@ -130,23 +159,30 @@ impl IntakeHost for Memory {
         Ok(())
     }
 
-    fn keep(&mut self, folder: &str, files: &[NamedFile]) -> io::Result<()> {
+    fn discard_drafts(&mut self, _folder: &str) {}
+
+    fn keep(
+        &mut self,
+        folder: &str,
+        files: &[NamedFile],
+        removed: &[&'static str],
+    ) -> io::Result<()> {
         if folder == "full" {
             return Err(Error::from(ErrorKind::StorageFull));
         }
         for file in files {
-            if file.bytes.is_some() {
-                self.left.extend_from_slice(file.name.as_bytes())?;
-                self.left.push(b' ')?;
-            }
+            self.left.extend_from_slice(file.name.as_bytes())?;
+            self.left.push(b' ')?;
+        }
+        for name in removed {
+            self.left.push(b'-')?;
+            self.left.extend_from_slice(name.as_bytes())?;
+            self.left.push(b' ')?;
         }
         Ok(())
     }
 
     fn is_same(&mut self, first: &str, second: &str) -> io::Result<bool> {
-        if first.starts_with("lost/") {
-            return Err(Error::from(ErrorKind::InvalidData));
-        }
         Ok(first.strip_prefix("./").unwrap_or(first) == second)
     }
 
@@ -190,7 +226,8 @@ fn answers_its_status(rt: HostRuntime) -> Result<(), Fail> {
     for line in CASES.lines() {
         let (words, wanted) = line.split_once(" => ").ok_or("no arrow in a case")?;
         let got = outcome(rt.alloc(), words)?;
-        assert_eq!(rt; got.as_str().trim_end(), wanted, "at {words}");
+        let wanted = wanted.replace(rt.alloc(), '|', "\n")?;
+        assert_eq!(rt; got.as_str().trim_end(), wanted.as_str(), "at {words}");
     }
     Ok(())
 }
@@ -209,7 +246,7 @@ REMARK        1 left out: a statement of it can't be carried
 /// The same for a program.
 const JSON: &str =
     "{\"left_out\":[{\"statement\":\"++PTF\",\"id\":\"UA00002\",\"cause\":\"++MOD(M2): no statement \
-of the profile\"}],\"holds_outside\":0,\"in_comments\":0,\"forbids\":1,\"stand_ins\":0,\"passed_over\":0,\
+of the profile\"}],\"unsure\":[],\"holds_outside\":0,\"in_comments\":0,\"forbids\":1,\"stand_ins\":0,\"passed_over\":0,\
 \"sysmods\":{\"carried\":1,\"left_out\":1},\"holds\":{\"carried\":0,\"left_out\":0},\
 \"releases\":{\"carried\":0,\"left_out\":0},\"assigns\":{\"carried\":0,\"left_out\":0},\
 \"remarks\":[{\"count\":1,\"deed\":\"left out\",\"reason\":\"no statement of the profile\"},\

@@ -284,6 +284,7 @@ pub(crate) fn reason_text(reason: OtherReason) -> &'static [u8] {
         OtherReason::LoadModules => b"load modules",
         OtherReason::UnknownWord => b"unknown",
         OtherReason::NoPeriod => b"no period",
+        OtherReason::LatePeriod => b"late period",
         OtherReason::OpenParenthesis => b"open",
         OtherReason::StrayParenthesis => b"parenthesis",
         OtherReason::StrayCharacter => b"character",

@@ -2,20 +2,36 @@
 
 use crate::inputs::InputFiles;
 use crate::options::WordsFault;
+use crate::shown::{append_shown, shown_name};
 use intake_cards::CardError;
 use intake_read::WideError;
 use std::alloc::{AllocError, AllocFailed, Global};
 use std::io::ErrorKind;
+
+/// Why a file cannot be read.
+#[derive(Clone, Copy, Debug, PartialEq, Eq)]
+pub enum Unread {
+    /// It is a folder.
+    Folder,
+    /// It is a device, or a pipe that has a name.
+    NoFile,
+    /// It is larger than an input may be.
+    TooLarge,
+    /// It does not exist, or the system does not let it be read.
+    Other,
+}
 
 /// Why a run ends without output.
 #[derive(Debug, Drop)]
 pub enum IntakeFault {
     Memory,
     Words(WordsFault),
-    /// The name of a file that cannot be read.
-    CannotRead(String),
+    /// A file that cannot be read.
+    CannotRead { name: String, why: Unread },
     /// The input is a file that would be written.
     OutputIsInput { input: String, output: String },
+    /// The path of a file that would be replaced or removed, which no earlier run wrote.
+    NotOwn(String),
     /// A line of the list of known SYSMODs is not in form. Lines are counted from 1.
     KnownLine { name: String, line: usize },
     /// The files cannot be written into the folder.
@@ -52,18 +68,26 @@ impl IntakeFault {
         if kind == ErrorKind::OutOfMemory {
             return IntakeFault::Memory;
         }
-        match String::from_str(alloc, name) {
-            Ok(name) => IntakeFault::CannotRead(name),
+        match shown_name(alloc, name) {
+            Ok(name) => IntakeFault::CannotRead {
+                name,
+                why: unread_of_kind(kind),
+            },
+            Err(_) => IntakeFault::Memory,
+        }
+    }
+
+    /// The fault of a file that would be replaced or removed, and that no earlier run wrote.
+    pub fn of_file_not_own(alloc: Global, path: &str) -> IntakeFault {
+        match shown_name(alloc, path) {
+            Ok(path) => IntakeFault::NotOwn(path),
             Err(_) => IntakeFault::Memory,
         }
     }
 
     /// The fault of an input that is one of the files that would be written.
     pub fn of_overwritten_input(alloc: Global, input: &str, output: &str) -> IntakeFault {
-        match (
-            String::from_str(alloc, input),
-            String::from_str(alloc, output),
-        ) {
+        match (shown_name(alloc, input), shown_name(alloc, output)) {
             (Ok(input), Ok(output)) => IntakeFault::OutputIsInput { input, output },
             _ => IntakeFault::Memory,
         }
@@ -71,7 +95,7 @@ impl IntakeFault {
 
     /// The fault of a line of a list of known SYSMODs.
     pub fn of_known_line(alloc: Global, name: &str, line: usize) -> IntakeFault {
-        match String::from_str(alloc, name) {
+        match shown_name(alloc, name) {
             Ok(name) => IntakeFault::KnownLine { name, line },
             Err(_) => IntakeFault::Memory,
         }
@@ -79,7 +103,7 @@ impl IntakeFault {
 
     /// The fault of a file that cannot be read as cards.
     pub fn of_cards(alloc: Global, name: &str, error: CardError) -> IntakeFault {
-        match String::from_str(alloc, name) {
+        match shown_name(alloc, name) {
             Ok(name) if error != CardError::Memory => IntakeFault::NoCards { name, error },
             _ => IntakeFault::Memory,
         }
@@ -91,6 +115,16 @@ impl IntakeFault {
             Ok(fault) => fault,
             Err(_) => IntakeFault::Memory,
         }
+    }
+}
+
+// Why a file was not read, for an error of this kind. The host says so with these kinds.
+fn unread_of_kind(kind: ErrorKind) -> Unread {
+    match kind {
+        ErrorKind::IsADirectory => Unread::Folder,
+        ErrorKind::InvalidInput => Unread::NoFile,
+        ErrorKind::FileTooLarge => Unread::TooLarge,
+        _ => Unread::Other,
     }
 }
 
@@ -120,10 +154,10 @@ fn statement_fault(
 // Appends the statement's word, and its name if it has one.
 fn append_statement(line: &mut Vec<u8>, word: &[u8], name: &[u8]) -> Result<(), AllocError> {
     line.extend_from_slice(b"++")?;
-    line.extend_from_slice(word)?;
+    append_shown(line, word)?;
     if !name.is_empty() {
         line.extend_from_slice(b"(")?;
-        line.extend_from_slice(name)?;
+        append_shown(line, name)?;
         line.extend_from_slice(b")")?;
     }
     line.extend_from_slice(b": ")

@@ -1,7 +1,8 @@
 //! The lines that report a fault.
 
-use crate::fault::IntakeFault;
+use crate::fault::{IntakeFault, Unread};
 use crate::options::WordsFault;
+use crate::shown::shown_name;
 use std::alloc::{AllocError, Global};
 
 /// What each line begins with.
@@ -23,18 +24,26 @@ impl IntakeFault {
             IntakeFault::Memory | IntakeFault::Words(WordsFault::Memory) => format!(in alloc;
                 "out of memory"
             )?,
-            IntakeFault::Words(WordsFault::NotUtf8) => format!(in alloc; "bad operand: no UTF-8")?,
-            IntakeFault::Words(WordsFault::BadSyslib) => format!(in alloc;
-                "bad operand: --syslib takes DISTLIB=SYSLIB"
+            IntakeFault::Words(WordsFault::BadOperand(why)) => format!(in alloc;
+                "bad operand: {why}"
             )?,
-            IntakeFault::CannotRead(name) => format!(in alloc; "cannot read {name}")?,
+            IntakeFault::CannotRead { name, why } => {
+                let why = unread_words(*why);
+                format!(in alloc; "cannot read {name}{why}")?
+            }
+            IntakeFault::NotOwn(path) => format!(in alloc;
+                "{path} is not of an earlier run, whose remarks would name it: give another folder with --out"
+            )?,
             IntakeFault::OutputIsInput { input, output } => format!(in alloc;
                 "{output} would replace the input {input}: give another folder with --out"
             )?,
             IntakeFault::KnownLine { name, line } => format!(in alloc;
                 "{name} line {line}: a line has an id, a type and source ids"
             )?,
-            IntakeFault::CannotWrite => format!(in alloc; "cannot write into {folder}")?,
+            IntakeFault::CannotWrite => {
+                let folder = shown_name(alloc, folder)?;
+                format!(in alloc; "cannot write into {folder}")?
+            }
             IntakeFault::CannotPrint => format!(in alloc; "write")?,
             IntakeFault::NoCards { name, error } => format!(in alloc; "{name}: {error}")?,
             IntakeFault::NoStatement => format!(in alloc; "no statement found")?,
@@ -47,8 +56,27 @@ impl IntakeFault {
     }
 }
 
-// Appends a line of this text.
-fn append_line(lines: &mut Vec<u8>, text: &[u8]) -> Result<(), AllocError> {
+/// The line that says that the files in the folder are those of an earlier run.
+pub fn earlier_files_line(alloc: Global, folder: &str) -> Result<Vec<u8>, AllocError> {
+    let folder = shown_name(alloc, folder)?;
+    let text = format!(in alloc; "the files in {folder} are those of an earlier run")?;
+    let mut lines = Vec::new(alloc);
+    append_line(&mut lines, text.as_bytes())?;
+    Ok(lines)
+}
+
+// Why a file cannot be read, after its name.
+fn unread_words(why: Unread) -> &'static str {
+    match why {
+        Unread::Folder => ": it is a folder",
+        Unread::NoFile => ": it is a device or a named pipe, and no file",
+        Unread::TooLarge => ": it has more than 536,870,912 bytes",
+        Unread::Other => "",
+    }
+}
+
+/// Appends a line of this text.
+pub(crate) fn append_line(lines: &mut Vec<u8>, text: &[u8]) -> Result<(), AllocError> {
     lines.extend_from_slice(PROGRAM)?;
     lines.extend_from_slice(text)?;
     lines.push(b'\n')?;

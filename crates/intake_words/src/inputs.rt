@@ -2,12 +2,13 @@
 
 use crate::fault::IntakeFault;
 use crate::options::CardOptions;
+use crate::shown::shown_name;
 use intake_cards::{
     Card, CardNote, CardNoteReason, CardPlace, CardReader, Code, Layout, read_cards,
 };
 use std::alloc::{AllocError, Global};
 
-/// A file that was read: its name, and how it is laid out.
+/// A file that was read: its name as it is shown, and how it is laid out.
 #[derive(Debug, Drop)]
 struct InputFile {
     name: String,
@@ -39,13 +40,11 @@ impl InputFiles {
         layout: Layout,
         code: Code,
     ) -> Result<(), AllocError> {
-        self.all.push(InputFile {
-            name: String::from_str(alloc, name)?,
-            layout,
-        })?;
-        let layout = layout_words(layout);
+        let name = shown_name(alloc, name)?;
+        let layout_text = layout_words(layout);
         let code = code_words(code);
-        let line = format!(in alloc; "{name}: read as {layout} in {code}\n")?;
+        let line = format!(in alloc; "{name}: read as {layout_text} in {code}\n")?;
+        self.all.push(InputFile { name, layout })?;
         self.reading_lines.extend_from_slice(line.as_bytes())
     }
 

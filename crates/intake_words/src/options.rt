@@ -1,23 +1,23 @@
-//! The options of the command line.
-//! `clap` reads them. Only tests show that they are those of the manual page.
-ghost use Rattle.std.specs.Prelude.{◌≡◌, IfOk, map};
+//! What the words of the command line ask for. `clap` reads them.
+ghost use Rattle.std.specs.Prelude.{◌≡◌, ◌≢◌, [], IfOk, IfErr, OnOk, map, option_map};
 ghost use Rattle.std.specs.String.{string_bytes};
+ghost use Rattle.clap.specs.Words.{found_of, rows_of};
+ghost use Rattle.intake_words.specs.Asking.{IsAsked, IsOwn, IsRefused};
+ghost use Rattle.intake_words.specs.Values.{HasOptions, SuitsCommands};
 
+use crate::command_line::command_line;
+use crate::option_values::{
+    code_option, has_flag, has_text, layout_option, option_text, option_texts, required_text,
+};
+use clap::ArgMatches;
 use clap::error::ErrorKind;
-use clap::{Arg, ArgAction, ArgMatches, Command};
 use fields::Name;
 use intake_cards::{Code, Layout};
 use intake_sysmod::Syslib;
 use std::alloc::{AllocError, AllocFailed, Global};
 
-/// What `--version` prints after the name.
-const VERSION: &str = "1.0.0";
-
-/// The words that `--summary` takes.
-static SUMMARIES: [&str; 2] = ["text", "json"];
-
-/// The words that `--code` takes.
-static CODES: [&str; 3] = ["ascii", "ibm1047", "ibm037"];
+/// What is told of a value of `--syslib` that is not one.
+const BAD_SYSLIB: &str = "--syslib takes DISTLIB=SYSLIB";
 
 /// What the program is asked to do. The texts are the names of files and folders.
 #[derive(Drop)]
@@ -27,8 +27,8 @@ pub struct IntakeOptions {
     pub files: Vec<String>,
     /// The command file, in place of the files.
     pub cntl: Option<String>,
-    /// The list of the SYSMODs that are known, for the command file.
-    pub known: Option<String>,
+    /// Files of SYSMODs that are known, for the command file: lists, and the PTFIN that it receives.
+    pub known: Vec<String>,
     /// The folder of the files that RELFILE names.
     pub relfile: Option<String>,
     /// For each DISTLIB, the SYSLIB that is given.
@@ -52,25 +52,37 @@ pub enum WordsFault {
     Memory,
     /// What `clap` says, help and version too.
     Clap(clap::Error),
-    /// A word that is not UTF-8.
-    NotUtf8,
-    /// The value of `--syslib` is not DISTLIB=SYSLIB.
-    BadSyslib,
+    /// A word that `clap` takes and that cannot be what it is for, as the text says.
+    BadOperand(&'static str),
 }
 
 impl From<AllocError> for WordsFault {
+    ghost use Rattle.std.specs.Prelude.{◌≡◌};
+    ghost use Rattle.intake_words.specs.declared.options.WordsFault.TheVariants.{Memory};
+
+    ghost from_gives = { λ _ e. e ≡ Memory };
+
     fn from(_error: AllocError) -> WordsFault {
         WordsFault::Memory
     }
 }
 
 impl<T: Drop> From<AllocFailed<T>> for WordsFault {
+    ghost use Rattle.std.specs.Prelude.{◌≡◌};
+    ghost use Rattle.intake_words.specs.declared.options.WordsFault.TheVariants.{Memory};
+
+    ghost from_gives = { λ _ e. e ≡ Memory };
+
     fn from(_error: AllocFailed<T>) -> WordsFault {
         WordsFault::Memory
     }
 }
 
 impl From<clap::Error> for WordsFault {
+    ghost use Rattle.intake_words.specs.Asking.{IsOfClap};
+
+    ghost from_gives = { IsOfClap };
+
     fn from(error: clap::Error) -> WordsFault {
         match error.kind() {
             ErrorKind::OutOfMemory => WordsFault::Memory,
@@ -79,20 +91,41 @@ impl From<clap::Error> for WordsFault {
     }
 }
 
-/// The options of the words, the first of which is the program's name. Returns `NotUtf8` if a word is not UTF-8, `Clap`
-/// for help, version and words that are no such options, `BadSyslib` for a wrong value of `--syslib`, and `Memory` if
-/// memory runs out.
-pub fn read_options(alloc: Global, words: &[Vec<u8>]) -> Result<IntakeOptions, WordsFault> {
-    let mut texts: Vec<String> = Vec::new(alloc);
-    for word in words {
-        match str::from_utf8(word.as_slice()) {
-            Ok(text) => texts.push(String::from_str(alloc, text)?)?,
-            Err(_) => return Err(WordsFault::NotUtf8),
-        }
-    }
+/// The options of the words, the first of which is the program's name. Returns `Clap` for help, version and words that
+/// `clap` refuses, `BadOperand` if a word is not UTF-8 or a value is not one of its option, and `Memory` if memory runs
+/// out.
+pub fn read_options(alloc: Global, words: &[Vec<u8>]) -> Result<IntakeOptions, WordsFault>
+    ensures ok { IfOk result (IsAsked (map (λ word. word.items) words.now)) }
+    ensures err { IfErr result (IsRefused (map (λ word. word.items) words.now)) }
+{
+    let texts = word_texts(alloc, words)?;
     let views = text_views(alloc, texts.as_slice())?;
     let matches = command_line(alloc)?.try_get_matches_from(views.as_slice())?;
     options_of_matches(alloc, &matches)
+}
+
+// The words as texts. Returns `BadOperand` if one is not UTF-8.
+fn word_texts(alloc: Global, words: &[Vec<u8>]) -> Result<Vec<String>, WordsFault>
+    ensures ok { IfOk result (λ texts. map string_bytes texts.items ≡ map (λ word. word.items) words.now) }
+    ensures err { IfErr result IsOwn }
+{
+    let mut texts: Vec<String> = Vec::new(alloc);
+    for word in words {
+        let text = word_text(alloc, word.as_slice())?;
+        texts.push(text)?;
+    }
+    Ok(texts)
+}
+
+// The word as a text. Returns `BadOperand` if it is not UTF-8.
+fn word_text(alloc: Global, word: &[u8]) -> Result<String, WordsFault>
+    ensures ok { IfOk result (λ text. string_bytes text ≡ word.now) }
+    ensures err { IfErr result IsOwn }
+{
+    match str::from_utf8(word) {
+        Ok(text) => Ok(String::from_str(alloc, text)?),
+        Err(_) => Err(WordsFault::BadOperand("no UTF-8")),
+    }
 }
 
 /// The texts as string slices.
@@ -106,187 +139,78 @@ pub fn text_views(alloc: Global, texts: &[String]) -> Result<Vec<&str>, AllocErr
     Ok(views)
 }
 
-// The command line with all its options.
-fn command_line<'a>(alloc: Global) -> Result<Command<'a>, AllocError> {
-    let command = Command::new(alloc, "smpe-intake")
-        .version(VERSION)
-        .about("Makes a shop's SMP/E files into files that smpe takes")
-        .after_help("Example: smpe-intake --out taken ptfs.txt holddata.txt");
-    let command = add_file_options(alloc, command)?;
-    let command = add_layout_options(alloc, command)?;
-    let command = add_element_options(alloc, command)?;
-    command
-        .arg(option_with_value(alloc, "summary", "FORM", "The form of the summary").value_parser(
-            SUMMARIES.as_slice(),
-        ))?
-        .arg(file_arguments(alloc)?)
-}
-
-// Adds the options that name the folder and files.
-fn add_file_options<'a>(alloc: Global, command: Command<'a>) -> Result<Command<'a>, AllocError> {
-    let out = option_with_value(
-        alloc,
-        "out",
-        "DIR",
-        "The folder for ptfin, hold or cntl, and remarks",
-    );
-    let cntl = option_with_value(
-        alloc,
-        "cntl",
-        "FILE",
-        "A command file, in place of the others",
-    );
-    let known = option_with_value(
-        alloc,
-        "known",
-        "FILE",
-        "With --cntl: the SYSMODs that GROUPEXTEND(NOAPARS) and SOURCEID(RSU*) are about",
-    );
-    command.arg(out.required(true))?.arg(cntl)?.arg(known)
-}
-
-// Adds the options that say how files are laid out.
-fn add_layout_options<'a>(alloc: Global, command: Command<'a>) -> Result<Command<'a>, AllocError> {
-    let text = option_without_value(alloc, "text", "The files have lines").conflicts_with(
-        "records",
-    )?;
-    let records = option_without_value(alloc, "records", "The files have records of 80 bytes");
-    let code = option_with_value(alloc, "code", "CODE", "The code of the files").value_parser(
-        CODES.as_slice(),
-    );
-    command.arg(text)?.arg(records)?.arg(code)
-}
-
-// Adds the options that say what becomes of elements.
-fn add_element_options<'a>(alloc: Global, command: Command<'a>) -> Result<Command<'a>, AllocError> {
-    let syslib = option_with_value(
-        alloc,
-        "syslib",
-        "DISTLIB=SYSLIB",
-        "The SYSLIB of elements that state none",
-    );
-    let relfile = option_with_value(
-        alloc,
-        "relfile",
-        "DIR",
-        "The folder with F1, F2 .. for RELFILE",
-    );
-    let decide = option_without_value(
-        alloc,
-        "decide",
-        "Carries stand-ins for elements that smpe lacks",
-    );
-    command
-        .arg(syslib.action(ArgAction::Append))?
-        .arg(relfile)?
-        .arg(decide)
-}
-
-// An option that takes a value.
-fn option_with_value<'a>(alloc: Global, id: &'a str, value: &'a str, help: &'a str) -> Arg<'a> {
-    Arg::new(alloc, id).long(id).value_name(value).help(help)
-}
-
-// An option that takes no value.
-fn option_without_value<'a>(alloc: Global, id: &'a str, help: &'a str) -> Arg<'a> {
-    Arg::new(alloc, id)
-        .long(id)
-        .action(ArgAction::SetTrue)
-        .help(help)
-}
-
-// The names of the files.
-fn file_arguments<'a>(alloc: Global) -> Result<Arg<'a>, AllocError> {
-    Arg::new(alloc, "file")
-        .value_name("FILE")
-        .num_args(1usize..)
-        .action(ArgAction::Append)
-        .help("Files of SYSMODs, of holds, or of both")
-        .conflicts_with("cntl")?
-        .required_unless_present("cntl")
-}
-
-// The options that `clap` has matched. Returns `BadSyslib` for a wrong value of `--syslib`, and `Memory` if memory runs
-// out.
-fn options_of_matches(
-    alloc: Global,
-    matches: &ArgMatches<'_>,
-) -> Result<IntakeOptions, WordsFault> {
+// The options that `clap` has matched. Returns `BadOperand` if a value is not one of its option, and `Memory` if memory
+// runs out.
+fn options_of_matches(alloc: Global, found: &ArgMatches<'_>) -> Result<IntakeOptions, WordsFault>
+    ensures ok { IfOk result (HasOptions (rows_of (found_of found.now))) }
+    ensures err { IfErr result IsOwn }
+{
+    let out = required_text(alloc, found, "out")?;
+    let files = option_texts(alloc, found, "file")?;
+    let cntl = option_text(alloc, found, "cntl")?;
+    check_files(&cntl, &files)?;
+    let known = option_texts(alloc, found, "known")?;
+    let relfile = option_text(alloc, found, "relfile")?;
+    let syslibs = syslib_options(alloc, found)?;
+    let layout = layout_option(found)?;
+    let code = code_option(found)?;
     Ok(IntakeOptions {
-        // `clap` refuses a command line without --out.
-        out: option_text(alloc, matches, "out")?.unwrap_or(String::new(alloc)),
-        files: option_texts(alloc, matches, "file")?,
-        cntl: option_text(alloc, matches, "cntl")?,
-        known: option_text(alloc, matches, "known")?,
-        relfile: option_text(alloc, matches, "relfile")?,
-        syslibs: syslib_options(alloc, matches)?,
-        decide: matches.get_flag("decide"),
-        json: matches.get_str("summary") == Some("json"),
-        cards: CardOptions {
-            layout: layout_option(matches),
-            code: code_option(matches),
-        },
+        out,
+        files,
+        cntl,
+        known,
+        relfile,
+        syslibs,
+        decide: has_flag(found, "decide"),
+        json: has_text(found, "summary", "json"),
+        cards: CardOptions { layout, code },
     })
 }
 
-// The value of the option, or `None` if the command line lacks it.
-fn option_text(
-    alloc: Global,
-    matches: &ArgMatches<'_>,
-    id: &str,
-) -> Result<Option<String>, AllocError> {
-    match matches.get_str(id) {
-        Some(text) => Ok(Some(String::from_str(alloc, text)?)),
-        None => Ok(None),
+// Checks that there are files, or a command file, and not both. Returns `BadOperand` otherwise.
+fn check_files(cntl: &Option<String>, files: &[String]) -> Result<(), WordsFault>
+    ensures ok { OnOk result (SuitsCommands (option_map string_bytes cntl.now) (map string_bytes files.now)) }
+    ensures err { IfErr result IsOwn }
+{
+    match cntl {
+        Some(_) => check_no_file(files),
+        None => check_some_file(files),
     }
 }
 
-// The values of the option, one for each time that the command line has it.
-fn option_texts(
-    alloc: Global,
-    matches: &ArgMatches<'_>,
-    id: &str,
-) -> Result<Vec<String>, AllocError> {
-    let mut texts = Vec::new(alloc);
-    if let Some(values) = matches.get_strs(id) {
-        for value in values {
-            texts.push(String::from_str(alloc, value)?)?;
-        }
-    }
-    Ok(texts)
-}
-
-// The layout that --text or --records asks for, or `None` without them.
-fn layout_option(matches: &ArgMatches<'_>) -> Option<Layout> {
-    if matches.get_flag("text") {
-        Some(Layout::Text)
-    } else if matches.get_flag("records") {
-        Some(Layout::Records)
+// Checks that there is no file beside a command file. Returns `BadOperand` otherwise.
+fn check_no_file(files: &[String]) -> Result<(), WordsFault>
+    ensures ok { OnOk result (map string_bytes files.now ≡ []) }
+    ensures err { IfErr result IsOwn }
+{
+    if files.is_empty() {
+        Ok(())
     } else {
-        None
+        Err(WordsFault::BadOperand("--cntl takes no other FILE"))
     }
 }
 
-// The code that --code asks for, or `None` without it.
-fn code_option(matches: &ArgMatches<'_>) -> Option<Code> {
-    let code = matches.get_str("code")?;
-    if code == "ascii" {
-        Some(Code::Ascii)
-    } else if code == "ibm1047" {
-        Some(Code::Ibm1047)
+// Checks that there is a file. Returns `BadOperand` otherwise.
+fn check_some_file(files: &[String]) -> Result<(), WordsFault>
+    ensures ok { OnOk result (map string_bytes files.now ≢ []) }
+    ensures err { IfErr result IsOwn }
+{
+    if files.is_empty() {
+        Err(WordsFault::BadOperand("no FILE is given"))
     } else {
-        // `clap` takes no other word of `CODES`.
-        Some(Code::Ibm037)
+        Ok(())
     }
 }
 
-// The SYSLIBs of all --syslib, each with its DISTLIB. Returns `BadSyslib` if a value is not DISTLIB=SYSLIB, `Memory` if
+// The SYSLIBs of all --syslib, each with its DISTLIB. Returns `BadOperand` if a value is not DISTLIB=SYSLIB, `Memory` if
 // memory runs out.
-fn syslib_options(alloc: Global, matches: &ArgMatches<'_>) -> Result<Vec<Syslib>, WordsFault> {
+fn syslib_options(alloc: Global, found: &ArgMatches<'_>) -> Result<Vec<Syslib>, WordsFault>
+    ensures { IfErr result IsOwn }
+{
     let mut syslibs = Vec::new(alloc);
-    for value in &option_texts(alloc, matches, "syslib")? {
+    for value in &option_texts(alloc, found, "syslib")? {
         let Some((distlib, syslib)) = value.as_str().split_once('=') else {
-            return Err(WordsFault::BadSyslib);
+            return Err(WordsFault::BadOperand(BAD_SYSLIB));
         };
         syslibs.push(Syslib {
             distlib: read_library_name(alloc, distlib)?,
@@ -296,9 +220,11 @@ fn syslib_options(alloc: Global, matches: &ArgMatches<'_>) -> Result<Vec<Syslib>
     Ok(syslibs)
 }
 
-// The name of a library, in upper case. Returns `BadSyslib` if it has not the form of a name, `Memory` if memory runs
+// The name of a library, in upper case. Returns `BadOperand` if it has not the form of a name, `Memory` if memory runs
 // out.
-fn read_library_name(alloc: Global, name: &str) -> Result<Name, WordsFault> {
+fn read_library_name(alloc: Global, name: &str) -> Result<Name, WordsFault>
+    ensures { IfErr result IsOwn }
+{
     let upper = name.as_bytes().to_ascii_uppercase(alloc)?;
-    Name::read(upper.as_slice()).ok_or(WordsFault::BadSyslib)
+    Name::read(upper.as_slice()).ok_or(WordsFault::BadOperand(BAD_SYSLIB))
 }

@@ -1,5 +1,6 @@
 //! The file of stand-ins.
 
+use crate::shown::append_shown;
 use intake_cards::StandIn;
 use std::alloc::{AllocError, Global};
 
@@ -10,7 +11,7 @@ pub fn stand_ins_file(alloc: Global, named: &[StandIn]) -> Result<Vec<u8>, Alloc
         lines.extend_from_slice(stand_in.stand_in.as_bytes())?;
         for word in [&stand_in.word, &stand_in.name, &stand_in.library] {
             lines.push(b' ')?;
-            lines.extend_from_slice(word.as_slice())?;
+            append_shown(&mut lines, word.as_slice())?;
         }
         lines.push(b'\n')?;
     }

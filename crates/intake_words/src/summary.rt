@@ -1,13 +1,17 @@
 //! The summary of a run, which is printed.
 
 use crate::options::IntakeOptions;
+use crate::shown::append_shown;
 use crate::summary_json::json_summary;
 use intake_cards::{Deed, Remark, RemarkList, RemarkReason};
-use intake_carry::{Narrowed, Tally};
+use intake_carry::{Narrowed, Tally, Unsure};
 use std::alloc::{AllocError, Global};
 
 /// At most so many SYSMODs that are left out have lines of their own.
 const MOST_LEFT_OUT_LINES: usize = 20;
+
+/// At most so many SYSMODs of which it is not sure that they can be installed have lines of their own.
+const MOST_UNSURE_LINES: usize = 20;
 
 /// How many remarks have a deed and a reason.
 #[derive(Drop)]
@@ -151,10 +155,10 @@ fn append_left_out_line(
 ) -> Result<(), AllocError> {
     lines.extend_from_slice(b"LEFTOUT ")?;
     if cause.statement != remark.statement || cause.id != remark.id {
-        lines.extend_from_slice(&remark.subject_text(alloc)?)?;
+        append_shown(lines, &remark.subject_text(alloc)?)?;
         lines.extend_from_slice(b": ")?;
     }
-    lines.extend_from_slice(cause_text(alloc, cause)?.trim_ascii_end())?;
+    append_shown(lines, cause_text(alloc, cause)?.trim_ascii_end())?;
     lines.push(b'\n')?;
     Ok(())
 }
@@ -212,7 +216,7 @@ pub fn command_summary(
 pub fn refused_command_summary(alloc: Global, remarks: &RemarkList) -> Result<Vec<u8>, AllocError> {
     let mut lines = Vec::from_slice(
         alloc,
-        b"COMMAND none is written: see what is refused in cntl.remarks\n",
+        b"COMMAND none is written: standard error says what is refused\n",
     )?;
     append_remark_counts(alloc, remarks, &mut lines)?;
     Ok(lines)
@@ -227,6 +231,7 @@ fn text_summary(
     let remarks = &narrowed.remarks;
     let mut lines = Vec::new(alloc);
     append_left_out_lines(alloc, remarks, &mut lines)?;
+    append_unsure_lines(alloc, &narrowed.unsure, &mut lines)?;
     append_warnings(alloc, narrowed, &mut lines)?;
     if asked.decide {
         append_check_line(alloc, narrowed, &mut lines)?;
@@ -237,6 +242,28 @@ fn text_summary(
     append_tally(alloc, "ASSIGN", narrowed.assigns, &mut lines)?;
     append_remark_counts(alloc, remarks, &mut lines)?;
     Ok(lines)
+}
+
+// Appends a line for each SYSMOD of which it is not sure that it can be installed, and after `MOST_UNSURE_LINES` one for
+// all others.
+fn append_unsure_lines(
+    alloc: Global,
+    unsure: &[Unsure],
+    lines: &mut Vec<u8>,
+) -> Result<(), AllocError> {
+    for sysmod in unsure.iter().take(MOST_UNSURE_LINES) {
+        lines.extend_from_slice(b"UNSURE ")?;
+        lines.extend_from_slice(sysmod.id.as_bytes())?;
+        lines.extend_from_slice(b": ")?;
+        append_shown(lines, sysmod.reason.as_slice())?;
+        lines.push(b'\n')?;
+    }
+    if unsure.len() > MOST_UNSURE_LINES {
+        let more = unsure.len().saturating_sub(MOST_UNSURE_LINES);
+        let line = format!(in alloc; "UNSURE  {more:>7} more\n")?;
+        lines.extend_from_slice(line.as_bytes())?;
+    }
+    Ok(())
 }
 
 // Appends warnings about holds that moved, about statements in comments, and about SYSMODs that are left out and would

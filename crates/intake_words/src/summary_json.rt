@@ -4,7 +4,7 @@ use crate::summary::{
     cause_of, cause_text, count_with_reason, is_of_left_out_sysmod, remark_counts,
 };
 use intake_cards::{RemarkList, RemarkReason, is_printable_byte};
-use intake_carry::{Narrowed, Tally};
+use intake_carry::{Narrowed, Tally, Unsure};
 use std::alloc::{AllocError, Global};
 
 // Appends a text in quotation marks. A byte that is no printable ASCII becomes a question mark.
@@ -97,6 +97,22 @@ fn append_left_out(
     Ok(())
 }
 
+// Appends the SYSMODs of which it is not sure that they can be installed, each with the reason.
+fn append_unsure(json: &mut Vec<u8>, unsure: &[Unsure]) -> Result<(), AllocError> {
+    append_name(json, "unsure")?;
+    json.push(b'[')?;
+    for sysmod in unsure {
+        begin_object(json)?;
+        append_name(json, "id")?;
+        append_text(json, sysmod.id.as_bytes())?;
+        append_name(json, "reason")?;
+        append_text(json, sysmod.reason.as_slice())?;
+        json.push(b'}')?;
+    }
+    json.push(b']')?;
+    Ok(())
+}
+
 // Appends how many remarks there are of each deed and reason.
 fn append_remark_counts(
     alloc: Global,
@@ -124,6 +140,7 @@ pub(crate) fn json_summary(alloc: Global, narrowed: &Narrowed) -> Result<Vec<u8>
     let mut json = Vec::new(alloc);
     json.push(b'{')?;
     append_left_out(alloc, &mut json, remarks)?;
+    append_unsure(&mut json, &narrowed.unsure)?;
     let held = count_with_reason(remarks, RemarkReason::HeldOutside);
     append_number(alloc, &mut json, "holds_outside", held)?;
     let swallowed = count_with_reason(remarks, RemarkReason::StatementInComment);

@@ -1,13 +1,15 @@
 //! The numbered system of an APPLY or ACCEPT.
-ghost use Rattle.std.specs.Prelude.{◌≡◌, ◌+◌, IfOk, option_copied};
+ghost use Rattle.std.specs.Prelude.{◌≡◌, ◌+◌, All, IfOk, IsTrue, option_copied};
+ghost use Rattle.terms.specs.Candidates.{is_installable};
 ghost use Rattle.terms.specs.Choice.{place, counting};
 ghost use Rattle.terms.specs.Judged.{setting};
 ghost use Rattle.sysmods.specs.Choices.{choice, number_in};
 ghost use Rattle.sysmods.specs.Overs.{AreOver};
-ghost use Rattle.judge.specs.Installs.{IsInstallJudged};
+ghost use Rattle.judge_system.specs.Judged.{HasParts};
+ghost use Rattle.judge.specs.Installs.{IsInstallJudged, KeepsTogether};
 
 use crate::assessing::{Assessed, assess};
-use fields::Bypass;
+use fields::{Attest, Bypass};
 use judge_system::Judged;
 use std::alloc::{AllocError, Global};
 use sysmods::GlobalZone;
@@ -30,7 +32,15 @@ pub fn install_system<'a>(
     ensures numbers { IfOk result (λ j. number_in j.vers
         ≡ (λ x. place global.now zone.now candidates.now.ids x + 1)) }
     ensures overs { IfOk result (λ j. AreOver (choice j.vers) j.overs) }
+
+    // This is what `Judged::decided` asks for, and then `change::install_judged`.
+    ensures parts { IfOk result (λ j. HasParts j) }
+    ensures together { IfOk result (λ j. All (λ x. IsTrue (is_installable global.now zone.now x)) candidates.now.ids
+        → KeepsTogether j zone.now) }
 {
+    // (for the clause `together`: the global zone and the zone have their forms)
+    global.attest();
+    zone.attest();
     let ids = &candidates.ids;
     let vers = counting_vers(alloc, global, zone, ids)?;
     let dels = deletions(alloc, &vers, ids.as_slice())?;
@@ -42,5 +52,6 @@ pub fn install_system<'a>(
         bypass,
     };
     let Assessed { assessment, overs } = assess(alloc, &scope, related)?;
-    Judged::new(alloc, ids, assessment, vers, overs)
+    let judged = Judged::new(alloc, ids, assessment, vers, overs)?;
+    Ok(judged)
 }

@@ -1,6 +1,6 @@
 //! The candidates of a command, judged and numbered.
 ghost use Rattle.std.specs.Prelude.{◌≡◌, All, Contains, IfOk, length};
-ghost use Rattle.judge_system.specs.Judged.{IsNumberedAs};
+ghost use Rattle.judge_system.specs.Judged.{HasParts, IsNumberedAs};
 
 use crate::numbered::{eligible_flags, number_ids, numbered_system};
 use crate::stated::{Assessment, RequisiteOf};
@@ -44,6 +44,7 @@ impl<'a> Judged<'a> {
         requires of { All (λ w. Contains ids.now w.of) assessment.needs.items }
         requires by { All (λ p. Contains ids.now p.0) assessment.superseded.items }
         ensures numbered { IfOk result (λ j. IsNumberedAs ids.now assessment j) }
+        ensures parts { IfOk result (λ j. HasParts j) }
         ensures vers { IfOk result (λ j. j.vers ≡ vers.entry) }
         ensures overs { IfOk result (λ j. j.overs ≡ overs) }
     {

@@ -24,7 +24,7 @@ use Rattle.machine_laws.proofs.FailureAnswers.{needs_of}
 use Rattle.machine_laws.proofs.Finitely.{all_stably, either_stably, is_so, so_exactly}
 use Rattle.machine_laws.proofs.SomeCauser.{each_kind, some_causer}
 
-each_test : (t : Test) → Contains all_tests t
+pub each_test : (t : Test) → Contains all_tests t
 each_test test.HeldBySystem = (0, omega arith, refl)
 each_test test.HeldByUser = (1, omega arith, refl)
 each_test test.ForbiddenByNpre = (2, omega arith, refl)

@@ -37,7 +37,7 @@ use Rattle.report.specs.Facts.{requisites_of, a_requisite, stated_by, conditions
 use Rattle.report.specs.Facts.{left_by, IsResolution, Resolution}
 use Rattle.report.specs.Facts.{Supplied, Waived, ByItself, Open, Relation, Itself, Over, NotOver, IsRelation, Maker}
 use Rattle.report.specs.Facts.{ElementLevel, IsElementLevel, HasElementLevel}
-use Rattle.report.specs.Facts.{Fact, EntryFact, VerFact, DeleteFact}
+use Rattle.report.specs.Facts.{Fact, SupersederFact, EntryFact, VerFact, DeleteFact}
 use Rattle.report.specs.Facts.{TakesFact, NpreFact, ForbiddenFact, NeededFact, HasResolution}
 use Rattle.report.specs.Facts.{StandsApplied, StandsSuperseded, StandsDeleted, StandsReceived, StandsMissing, holds_on}
 use Rattle.report.specs.Facts.{delete_facts, npre_facts, forbids}
@@ -113,8 +113,11 @@ module _ (g : Global) (zone : Zone) (x : Id) (facts : List Fact) (are : AreFacts
 
   -- ---- the parts, each with those before it
 
+  abbrev to_superseders : List Fact
+  to_superseders = standing_facts g zone x ++ map SupersederFact are.superseders
+
   abbrev to_vers : List Fact
-  to_vers = standing_facts g zone x ++ ver_facts s x
+  to_vers = to_superseders ++ ver_facts s x
 
   abbrev to_asked : List Fact
   to_asked = to_vers ++ are.asked
@@ -157,8 +160,8 @@ module _ (g : Global) (zone : Zone) (x : Id) (facts : List Fact) (are : AreFacts
   requisites_clear = All_front Clear are.asked_are.of_requisites are.asked_are.of_holds holds_within
 
   standing_clear : All Clear (standing_facts g zone x)
-  standing_clear = All_front Clear (standing_facts g zone x) (ver_facts s x)
-      (All_front Clear to_vers are.asked asked_within)
+  standing_clear = All_front Clear (standing_facts g zone x) (map SupersederFact are.superseders)
+      (All_front Clear to_superseders (ver_facts s x) (All_front Clear to_vers are.asked asked_within))
 
   -- ---- where it stands
 
@@ -177,6 +180,10 @@ module _ (g : Global) (zone : Zone) (x : Id) (facts : List Fact) (are : AreFacts
       entry : (o : Option Entry) → AllByRecursion Other (map (EntryFact zone.kind) (at_most_one o))
       entry None = tt
       entry (Some e) = (refl, tt)
+
+  superseders_other : All Other to_superseders
+  superseders_other = All-append Other (standing_facts g zone x) (map SupersederFact are.superseders) standing_other
+      (all_mapped Other SupersederFact (λ y. refl) are.superseders)
 
   -- what does not fit behind others
   none_fits : (front back : List Fact) → All Other back → filter is_fitting (front ++ back) ≡ filter is_fitting front
@@ -211,9 +218,8 @@ module _ (g : Global) (zone : Zone) (x : Id) (facts : List Fact) (are : AreFacts
       ∙ none_fits to_changes (map NeededFact are.needed_by) (all_mapped Other NeededFact (λ z. refl) are.needed_by)
       ∙ none_fits to_asked are.changes changes_other
       ∙ none_fits to_vers are.asked asked_other
-      ∙ filter-append is_fitting (standing_facts g zone x) (ver_facts s x)
-      ∙ ap (λ l. l ++ filter is_fitting (ver_facts s x))
-      (filter_none is_fitting (standing_facts g zone x) standing_other)
+      ∙ filter-append is_fitting to_superseders (ver_facts s x)
+      ∙ ap (λ l. l ++ filter is_fitting (ver_facts s x)) (filter_none is_fitting to_superseders superseders_other)
 
   pub one_fits : length (filter (fits zone (is_in (x ∷ []))) (vers_of g zone.srel x)) ≡ 1
   one_fits = sym (fitting_vers (fits zone (is_in (x ∷ []))) _ 1 (vers_of g zone.srel x)) ∙ sym (ap length all_fitting)

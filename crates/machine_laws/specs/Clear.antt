@@ -8,8 +8,8 @@ use Rattle.terms.specs.CommandForms.{no_bypass}
 use Rattle.report.specs.Facts.{Standing, StandsReceived}
 use Rattle.report.specs.Facts.{Resolution, Supplied, ElementLevel, Fact}
 use Rattle.report.specs.Facts.{is_over}
-use Rattle.report.specs.Facts.{StandingFact, EntryFact, VerFact, RequisiteFact, HoldFact, ElementFact, DeleteFact}
-use Rattle.report.specs.Facts.{TakesFact, NpreFact, ForbiddenFact, NeededFact, AreFacts, alone}
+use Rattle.report.specs.Facts.{StandingFact, SupersederFact, EntryFact, VerFact, RequisiteFact, HoldFact, ElementFact}
+use Rattle.report.specs.Facts.{DeleteFact, TakesFact, NpreFact, ForbiddenFact, NeededFact, AreFacts, alone}
 use Rattle.machine.specs.Outcome.{Line, StatusLine, Applied}
 use Rattle.machine.specs.Receiving.{place_of}
 use Rattle.machine.specs.Installing.{InstallsSelected}
@@ -36,11 +36,12 @@ is_free replaces (Some f) = f.owned && list_all (λ m. is_over m.relation) (f.rm
 -- the fact does not block it
 abbrev pub is_clear : Fact → Bool
 is_clear (StandingFact x kind standing) = is_received_alone standing
+is_clear (SupersederFact y) = true
 is_clear (EntryFact kind e) = true
 is_clear (VerFact n fmid fit counts) = true
 is_clear (RequisiteFact r answer) = is_supplied answer
 is_clear (HoldFact h answer) = is_resolved answer
-is_clear (ElementFact type name replaces f) = is_free replaces f
+is_clear (ElementFact type name replaces brought f) = is_free replaces f
 is_clear (DeleteFact z own) = not own
 is_clear (TakesFact y) = true
 is_clear (NpreFact y applied) = not applied

@@ -1,4 +1,5 @@
 //! Why a file of statements is not read.
+use fields::spelling::{as_str, statement_code_text};
 use std::alloc::{AllocError, AllocFailed};
 use terms::StatementCode;
 use thiserror::Error;
@@ -8,7 +9,7 @@ use thiserror::Error;
 pub enum McsError {
     #[error("out of memory")]
     Memory,
-    #[error("record {number} is at fault")]
+    #[error("{} in record {number}", as_str(statement_code_text(*code)))]
     Fault { number: usize, code: StatementCode },
 }
 

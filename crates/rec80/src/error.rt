@@ -32,14 +32,14 @@ impl RecError {
 #[derive(Clone, Copy, Debug, PartialEq, Eq, Error)]
 pub enum StmtError {
     /// It ends without its period.
-    #[error("no period")]
+    #[error("St1: no period")]
     NoPeriod,
-    #[error("a comment is not closed")]
+    #[error("St2: a comment is not closed")]
     OpenComment,
     /// A parenthesis lacks its partner, or there is a third level of them.
-    #[error("parentheses do not pair or nest too deep")]
+    #[error("St3: parentheses do not pair or nest too deep")]
     BadParens,
     /// More than blanks and comments follow the period in its record.
-    #[error("text after the period")]
+    #[error("St4: text after the period")]
     TextAfterPeriod,
 }

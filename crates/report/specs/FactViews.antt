@@ -47,10 +47,11 @@ abbrev pub ver_view : NumberedVer → facts.Fact
 ver_view v = facts.VerFact v.number v.fmid v.fits v.counts
 
 abbrev pub element_view : ChangedElement → facts.Fact
-element_view e = facts.ElementFact e.elem_type e.name e.replaces (option_map level_view e.found)
+element_view e = facts.ElementFact e.elem_type e.name e.replaces e.brought (option_map level_view e.found)
 
 abbrev pub fact_view : Fact → facts.Fact
 fact_view (fact.Standing id kind s) = facts.StandingFact id kind (standing_view s)
+fact_view (fact.Superseder id) = facts.SupersederFact id
 fact_view (fact.Entry kind entry) = facts.EntryFact kind entry.now
 fact_view (fact.Ver v) = ver_view v
 fact_view (fact.Requisite r a) = facts.RequisiteFact r (resolution_view a)

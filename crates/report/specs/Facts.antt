@@ -25,7 +25,7 @@ use Rattle.terms.specs.Over.{IsOver, chain}
 use Rattle.terms.specs.Changes.{is_replacement}
 use Rattle.terms.specs.Deleted.{is_taken_out}
 use Rattle.terms.specs.Candidates.{is_installable}
-use Rattle.terms.specs.Tests.{Setting, view_of, owner_of}
+use Rattle.terms.specs.Tests.{Setting, view_of, owner_of, has_candidate_base}
 use Rattle.terms.specs.Needs.{asked, is_met, zone_left, Serves}
 use Rattle.terms.specs.CommandForms.{no_bypass}
 use Rattle.terms.specs.Judged.{setting}
@@ -191,6 +191,8 @@ HasElementLevel s x (Some e) f = (found : ElementLevel) × (f ≡ Some found) ×
 pub data Fact : Type 0 where
   -- the id, its type if it is received, and its state
   StandingFact : Id → Option Kind → Standing → Fact
+  -- a received SYSMOD that supersedes it, if it is missing
+  SupersederFact : Id → Fact
   -- its entry in a zone of this kind
   EntryFact : ZoneKind → Entry → Fact
   -- a ++VER for the zone's SREL: its number, its FMID, whether it fits, and whether it is the one that counts
@@ -199,8 +201,9 @@ pub data Fact : Type 0 where
   RequisiteFact : Requisite → Resolution → Fact
   -- a hold, and for an ERROR hold the answer to its reason
   HoldFact : Hold → Option Resolution → Fact
-  -- an element that it replaces, or otherwise updates, as the zone has it
-  ElementFact : ElemType → Text → Bool → Option ElementLevel → Fact
+  -- an element that it replaces, or otherwise updates; whether its FMID, as a candidate, brings the element; and the
+  -- element as the zone has it
+  ElementFact : ElemType → Text → Bool → Bool → Option ElementLevel → Fact
   -- an id that its DELETE names, and whether the id is in its own chain
   DeleteFact : Id → Bool → Fact
   -- an applied SYSMOD that its DELETE takes out
@@ -216,6 +219,15 @@ abbrev pub standing_facts : Global → Zone → Id → List Fact
 standing_facts g zone x =
     StandingFact x (option_map (λ s. s.kind) (sysmod_of g x)) (standing g zone x)
     ∷ map (EntryFact zone.kind) (at_most_one (entry_of zone x))
+
+abbrev pub is_missing : Standing → Bool
+is_missing StandsMissing = true
+is_missing _ = false
+
+-- the received SYSMODs that may be installed and supersede it, if it is missing, rising
+pub record AreSuperseders (s : Setting) (x : Id) (ids : List Id) : Type 0 where
+  pub rising : IsRising ids
+  pub members : (y : Id) → Contains ids y ↔ (IsTrue (is_missing (standing s.global s.zone x)) × MayServe s Pre x y)
 
 -- these ++VERs, numbered from n on, of which the one of a number counts
 abbrev pub numbered_facts : (Ver → Bool) → ℕ → ℕ → List Ver → List Fact
@@ -246,7 +258,8 @@ IsHoldFact s x h fact = (o : Option Resolution) × (fact ≡ HoldFact h o) × Ha
 
 abbrev pub IsElementFact : Setting → Id → Change → Fact → Type 0
 IsElementFact s x h fact =
-    (f : Option ElementLevel) × (fact ≡ ElementFact h.elem_type h.name (is_replacement h.action) f)
+    (f : Option ElementLevel)
+    × (fact ≡ ElementFact h.elem_type h.name (is_replacement h.action) (has_candidate_base s x h.elem_type h.name) f)
     × HasElementLevel s x (element_of (view_of s x) h.elem_type h.name) f
 
 abbrev pub delete_facts : Setting → Id → List Fact
@@ -288,6 +301,8 @@ pub record AreOfChanges (s : Setting) (x : Id) (facts : List Fact) : Type 0 wher
 
 -- All facts of an id, in their order.
 pub record AreFacts (s : Setting) (x : Id) (facts : List Fact) : Type 0 where
+  pub superseders : List Id
+  pub superseders_are : AreSuperseders s x superseders
   pub asked : List Fact
   pub asked_are : AreAsked s x asked
   pub changes : List Fact
@@ -296,4 +311,5 @@ pub record AreFacts (s : Setting) (x : Id) (facts : List Fact) : Type 0 where
   pub needed_rising : IsRising needed_by
   pub needed : (y : Id) → Contains needed_by y ↔ NeedsIt s.global s.zone x y
   pub facts_are : facts
-      ≡ standing_facts s.global s.zone x ++ ver_facts s x ++ asked ++ changes ++ map NeededFact needed_by
+      ≡ standing_facts s.global s.zone x ++ map SupersederFact superseders ++ ver_facts s x ++ asked ++ changes
+      ++ map NeededFact needed_by

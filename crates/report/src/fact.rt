@@ -87,6 +87,8 @@ pub struct ChangedElement {
     pub elem_type: ElemType,
     pub name: Name,
     pub replaces: bool,
+    /// Whether its FMID is a candidate that replaces it.
+    pub brought: bool,
     /// What the zone has of it, if anything.
     pub found: Option<ElementLevel>,
 }
@@ -100,6 +102,8 @@ pub enum Fact<'a> {
         kind: Option<Kind>,
         standing: Standing,
     },
+    /// A received SYSMOD that supersedes it, if it is `Missing`.
+    Superseder(Id),
     Entry {
         kind: ZoneKind,
         entry: &'a Entry,

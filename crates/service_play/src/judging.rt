@@ -11,7 +11,7 @@ use fields::RestoreList;
 use judge::{Judged, install_system};
 use judge_system::Decided;
 use select::candidates;
-use solve::{Solver, Sweep, Worklist, causers};
+use solve::{Solver, Sweep, Worklist};
 use std::alloc::{AllocError, Global};
 use sysmods::GlobalZone;
 use undo::{restore_candidates, restore_system};
@@ -89,8 +89,7 @@ fn decided(alloc: Global, judged: &Judged<'_>) -> Result<Decided, AllocError>
     requires { HasParts judged.now }
 {
     let kept = Worklist.greatest(alloc, &judged.system)?;
-    let causers = causers(alloc, &judged.system, &kept)?;
-    judged.decided(alloc, &kept, causers.as_slice())
+    judged.decided(alloc, &kept)
 }
 
 // Appends a line if `Sweep` keeps other candidates than `Worklist`.

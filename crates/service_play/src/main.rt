@@ -3,6 +3,7 @@
 #![tactic(auto)]
 
 mod changing;
+mod choosing;
 mod judging;
 mod performing;
 mod printed;

@@ -1,6 +1,7 @@
 //! The steps of a script, and what each does in the shop.
 
 use crate::changing::{change, preview};
+use crate::choosing::append_counting_vers;
 use crate::judging::judge;
 use crate::printed::{append_errsysmods, append_zone};
 use crate::putting::{preview_install, preview_restore};
@@ -18,6 +19,8 @@ enum StepAction {
     Hold,
     List,
     Errsysmods,
+    /// Prints which `++VER`s count for ids.
+    Vers,
     /// Previews an install of ids, whatever a command would decide.
     Install,
     /// Previews a restore of ids, whatever a command would decide.
@@ -57,6 +60,7 @@ fn action_of(name: &str) -> Option<StepAction> {
         b"HOLD" => Some(StepAction::Hold),
         b"LIST" => Some(StepAction::List),
         b"ERRSYSMODS" => Some(StepAction::Errsysmods),
+        b"VERS" => Some(StepAction::Vers),
         b"PUT" => Some(StepAction::Install),
         b"TAKE" => Some(StepAction::Restore),
         b"JUDGE" => Some(StepAction::With(CommandAction::Judge)),
@@ -79,6 +83,7 @@ fn perform_action(
         StepAction::Hold => receive_holds(alloc, &mut shop.global, cards),
         StepAction::List => append_zones(shop, printed),
         StepAction::Errsysmods => append_errsysmods_of_zones(alloc, shop, printed),
+        StepAction::Vers => append_counting_vers(alloc, shop, cards, printed),
         StepAction::Install => preview_install(alloc, shop, cards, printed),
         StepAction::Restore => preview_restore(alloc, shop, cards, printed),
         StepAction::With(action) => {

@@ -76,8 +76,8 @@ pub(crate) fn preview_restore(
     append_delta(alloc, TARGET, &shop.target, &delta, printed)
 }
 
-// The ids of these cards.
-fn read_ids(alloc: Global, cards: &str) -> Result<IdList, Fail> {
+/// The ids of these cards.
+pub(crate) fn read_ids(alloc: Global, cards: &str) -> Result<IdList, Fail> {
     let mut ids = IdList::new(alloc);
     for word in cards.split_whitespace() {
         ids.insert(Id::read(word.as_bytes()).ok_or("no id")?)?;

@@ -1,6 +1,6 @@
 -- A job over the database of a name, and what is asked about it.
 use Rattle.std.specs.declared.alloc.Global.{Global as AnyGlobal}
-use Rattle.std.specs.Prelude.{◌≡◌, ◌⊎◌, List, [], ◌∷◌, false, map, IsTrue, Result, Ok, Err, Vec}
+use Rattle.std.specs.Prelude.{◌≡◌, ◌⊎◌, List, [], ◌∷◌, false, map, IsTrue, IfOk, Result, Ok, Err, Vec}
 use Rattle.sqlite.specs.declared.error.Error.{Error}
 use Rattle.sqlite.specs.Store.{Ghosts}
 use Rattle.sqlite.specs.Held.{Held, state}
@@ -21,9 +21,9 @@ use Rattle.store.specs.BadRows.{TellsNoState}
 use Rattle.store.specs.Going.{LoadsAlone}
 use Rattle.store.specs.CallEnds.{EndsLoad}
 use Rattle.store.specs.Kept.{kept}
-use Rattle.store_migration.specs.Migrated.{Migrated, Unmigrated}
+use Rattle.store_migration.specs.Migrated.{HasRowids, Migrated, Unmigrated}
 use Rattle.store.specs.View.{Tables, Leaves, LeavesFound, IsFound}
-use Rattle.smpe_verify.specs.Verified.{verification}
+use Rattle.smpe_verify.specs.Verified.{verification, StandsIfClosed}
 use Rattle.smpe_verify.specs.declared.verification.Verification.{Verification}
 use Rattle.smpe_why.specs.Telling.{IsFoundIn}
 use Rattle.smpe_why.specs.declared.found.LoadedZones.{LoadedZones}
@@ -115,9 +115,13 @@ module _ {H D : Type 0} (host : HostGhosts H D) (g : Ghosts D) where
   abbrev pub NamesOver : H → Text → Result (Vec Text AnyGlobal) StoreError → H → Type 0
   NamesOver h db r after = LoadsOver (λ i names. names.items ≡ map (λ z. z.name) i.zones) h db r after
 
-  -- whether all zones are closed, or which is the first that is not
+  -- Whether all zones are closed, or which is the first that is not. Whatever the tables hold, the answer that all are
+  -- closed says that the tables stand for a state.
   abbrev pub VerifiedOver : H → Text → Result Verification StoreError → H → Type 0
-  VerifiedOver h db r after = LoadsOver (λ i found. found ≡ verification i) h db r after
+  VerifiedOver h db r after = ((why : StoreError) × FailsToOpen h db why after × (r ≡ Err why))
+      ⊎ Works h db (λ conn store s. EndsLoad g conn store s (λ found. found ≡ verification (kept s)) r)
+      (λ begun store. LoadsAlone g begun store r × TellsNoState g begun store r
+      × (HasCleanDisk (state g store) → HasRowids (state g begun).now → IfOk r (StandsIfClosed g begun))) after
 
   -- The database of this name was opened, migrated to the store's schema or left as it was, and closed; or it was not
   -- opened.

@@ -31,12 +31,12 @@ module _ (stated : Global) where
   pub fits_none : (g : Global) → EachFits stated [] g
   fits_none g k edit below at = absurd (omega (arith, below))
 
-  fits_first : (g : Global) (e : GlobalEdit) (es : List GlobalEdit) → Fits g e
+  pub fits_first : (g : Global) (e : GlobalEdit) (es : List GlobalEdit) → Fits g e
       → EachFits stated es (after_edit stated g e) → EachFits stated (e ∷ es) g
   fits_first g e es one more zero edit below at = subst (Fits g) (sym at) one
   fits_first g e es one more (suc k) edit below at = more k edit (omega (arith, below)) at
 
-  fits_rest : (g : Global) (e : GlobalEdit) (es : List GlobalEdit) → EachFits stated (e ∷ es) g
+  pub fits_rest : (g : Global) (e : GlobalEdit) (es : List GlobalEdit) → EachFits stated (e ∷ es) g
       → EachFits stated es (after_edit stated g e)
   fits_rest g e es fits k edit below at = fits (suc k) edit (omega (arith, below)) at
 

@@ -2,6 +2,7 @@ pub mod Fitting
 pub mod Stating
 pub mod Items
 pub mod Sysmods
+pub mod LastEdits
 pub mod Sources
 pub mod Holds
 pub mod Dropping

@@ -1,4 +1,5 @@
 pub mod Edits
 pub mod Items
 pub mod Taken
+pub mod LastEdits
 pub mod Rejections

@@ -11,6 +11,7 @@ mod attested;
 mod edits;
 mod global_change;
 mod holddata;
+mod last_edits;
 mod ptfin;
 mod rejected;
 mod removals;

@@ -16,6 +16,7 @@ use crate::assign::receive_assign;
 use crate::attested::attest_sources;
 use crate::edits::sysmod_edits;
 use crate::global_change::GlobalChange;
+use crate::last_edits::last_edits;
 use fields::Source;
 use mcs::Item;
 use report::{Place, ReportLine, Status};
@@ -140,5 +141,7 @@ pub fn receive_ptfin(
     });
     let mut change = GlobalChange::new(alloc);
     receive_items(alloc, global, ptfin_items, &source, &mut change)?;
-    Ok(change)
+    let GlobalChange { edits, lines } = change;
+    let edits = last_edits(alloc, edits)?;
+    Ok(GlobalChange { edits, lines })
 }

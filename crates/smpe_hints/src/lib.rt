@@ -1,14 +1,20 @@
-//! What `smpe` says on standard error next to a report or after a fault: which option has which value and what it
-//! should look like, which card is wrong, and which command ran in another zone than it was meant for. The crate makes
+//! What is wrong with a word of the command line, or with a card of a file: which option has which value and what it
+//! should look like, and which card, with the word of it that is at fault and what to write in its place. The crate makes
 //! texts, and no contract says which. Every call that makes one returns an error if memory runs out.
 #![tactic(auto)]
 
 mod card;
+mod command_operands;
+mod fault;
+mod lists;
 mod operand;
-mod related;
-mod report;
+mod places;
+mod statement_operands;
+mod texts;
+mod vocabulary;
+mod words;
 
-pub use card::has_whole_records;
-pub use operand::{no_command_hint, operand_hint};
-pub use related::{RelatedZone, related_name};
-pub use report::{ReadFile, ReportWatch, careful_zone_hint};
+pub use card::{RecordForm, card_text, find_set, has_whole_records, record_bytes};
+pub use fault::{command_fault, statement_fault};
+pub use operand::{CommandLine, no_command_hint, operand_hint};
+pub use vocabulary::is_command;

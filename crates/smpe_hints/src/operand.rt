@@ -1,5 +1,5 @@
 //! Which option has a value of a bad form.
-use fields::{Id, Srel, ZoneName};
+use fields::{Class, HoldDate, Id, Name, Reason, Source, Srel, ZoneName};
 use smpe_invocation::{read_date, read_seconds};
 use std::alloc::{AllocError, Global};
 
@@ -9,6 +9,11 @@ pub(crate) enum Form {
     ZoneName,
     Srel,
     Id,
+    Name,
+    Source,
+    Reason,
+    Class,
+    HoldDate,
     Date,
     Seconds,
 }
@@ -32,6 +37,11 @@ impl Form {
             Form::ZoneName => ZoneName::read(value.as_bytes()).is_some(),
             Form::Srel => Srel::read(value.as_bytes()).is_some(),
             Form::Id => Id::read(value.as_bytes()).is_some(),
+            Form::Name => Name::read(value.as_bytes()).is_some(),
+            Form::Source => Source::read(value.as_bytes()).is_some(),
+            Form::Reason => Reason::read(value.as_bytes()).is_some(),
+            Form::Class => Class::read(value.as_bytes()).is_some(),
+            Form::HoldDate => HoldDate::read(value.as_bytes()).is_some(),
             Form::Date => read_date(value).is_some(),
             Form::Seconds => read_seconds(value).is_some(),
         }
@@ -45,6 +55,13 @@ impl Form {
             }
             Form::Srel => "an SREL is a capital letter and three digits, as Z038",
             Form::Id => "the id of a SYSMOD has seven of A to Z, 0 to 9, $, # and @, as UA00001",
+            Form::Name => {
+                "a name has 1 to 8 of A to Z, 0 to 9, $, # and @, and begins with no digit, as MACLIB"
+            }
+            Form::Source => "a source id has 1 to 64 of A to Z, 0 to 9, $, # and @, as RSU2405",
+            Form::Reason => "a reason has 1 to 7 of A to Z, 0 to 9, $, # and @, as ACTION",
+            Form::Class => "a class has 1 to 7 of A to Z, 0 to 9, $, # and @, as HIPER",
+            Form::HoldDate => "the date of a hold is yyddd, with a day from 001 to 366, as 24138",
             Form::Date => "a date is YYYY-MM-DD and a day of the calendar, as 2024-05-17",
             Form::Seconds => "a number of seconds is a whole one, at most 9999, as 30",
         }
@@ -53,8 +70,8 @@ impl Form {
 
 /// The words as `clap` took them: the value of an option is the next word, or follows its `=`.
 #[derive(Clone, Copy)]
-pub(crate) struct CommandLine<'a> {
-    pub(crate) words: &'a [Vec<u8>],
+pub struct CommandLine<'a> {
+    pub words: &'a [Vec<u8>],
 }
 
 impl<'a> CommandLine<'a> {
@@ -75,7 +92,7 @@ impl<'a> CommandLine<'a> {
 
     /// The value of the first option of this name; `None` if the words do not have the option, or have it without a
     /// value.
-    pub(crate) fn value(self, option: &str) -> Option<&'a str> {
+    pub fn value(self, option: &str) -> Option<&'a str> {
         for place in 0..self.words.len() {
             if let Some((name, value)) = self.option_at(place)
                 && name == option
@@ -84,6 +101,11 @@ impl<'a> CommandLine<'a> {
             }
         }
         None
+    }
+
+    /// The subcommand; `None` if there is none.
+    pub fn subcommand(self) -> Option<&'a str> {
+        self.word_at(1)
     }
 
     // Whether the words have the option with a value.
@@ -107,7 +129,7 @@ pub fn operand_hint(alloc: Global, words: &[Vec<u8>]) -> Result<Option<String>, 
             return Ok(Some(hint));
         }
     }
-    match line.word_at(1) {
+    match line.subcommand() {
         Some("check") => match check_fault(line) {
             Some(fault) => Ok(Some(String::from_str(alloc, fault)?)),
             None => Ok(None),
@@ -168,7 +190,7 @@ fn bypass_hint(alloc: Global, line: CommandLine<'_>) -> Result<Option<String>, A
 pub fn no_command_hint(alloc: Global, words: &[Vec<u8>]) -> Result<Option<String>, AllocError> {
     let line = CommandLine { words };
     match line.value("--cntl") {
-        Some(name) if line.word_at(1) == Some("run") => {
+        Some(name) if line.subcommand() == Some("run") => {
             Ok(Some(format!(in alloc; "{name} has no command")?))
         }
         _ => Ok(None),

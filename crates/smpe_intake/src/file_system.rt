@@ -1,38 +1,44 @@
 //! The files, input and output of the system that the program runs on.
 
 use intake_command::{IntakeHost, NamedFile};
-use std::fs::OpenOptions;
-use std::io::{ErrorKind, Write};
+use std::fs::{File, OpenOptions};
+use std::io::{ErrorKind, Read, Write};
+use std::os::unix::fs::FileTypeExt;
 use std::path::PathBuf;
 use std::{fs, io};
 
-/// The most files that have drafts at one time: as many as a run may write.
-const MOST_DRAFTS: usize = 6;
+/// The size of the largest input, in bytes.
+const LARGEST_INPUT: u64 = 536_870_912;
 
-/// How far a file of the folder is. Each file is written as a draft until all files of the run are, and then gets its
-/// own name.
-#[derive(Clone, Copy)]
-enum Stage {
-    Draft,
-    Finished,
+/// How many bytes of a file are enough for the first line of remarks.
+const START_SIZE: u64 = 256;
+
+/// How many new names are tried for a file.
+const MOST_NAMES: u32 = 10_000;
+
+/// A file that this run writes, under a name that no file had.
+#[derive(Drop)]
+struct Draft {
+    /// What the file is to be called.
+    name: &'static str,
+    path: String,
+    file: File,
 }
 
-impl Stage {
-    // What stands after the file's own name.
-    fn ending(self) -> &'static str {
-        match self {
-            Stage::Draft => ".new",
-            Stage::Finished => "",
-        }
-    }
+/// A file that was given another name.
+#[derive(Drop)]
+struct Renaming {
+    from: String,
+    to: String,
 }
 
 /// The system, as the runtime gives access to it.
 #[derive(Drop)]
 pub(crate) struct FileSystem<'a> {
     rt: &'a HostRuntime,
-    /// The names of the files that have drafts of this run.
-    drafts: [Option<&'static str>; MOST_DRAFTS],
+    drafts: Vec<Draft>,
+    /// Whether this run has made the folder.
+    has_made_folder: bool,
 }
 
 // Nothing is said of the system: each act may lead from anything to anything.
@@ -40,33 +46,27 @@ impl IntakeHost for FileSystem<'_> {
     ghost does = { λ _ _ _. Unit {0} };
 
     fn read(&mut self, name: &str) -> io::Result<Vec<u8>> {
-        fs::read(self.rt, name)
+        self.check_input(name)?;
+        let bytes = self.read_at_most(name, LARGEST_INPUT.saturating_add(1))?;
+        if bytes.len() as u64 > LARGEST_INPUT {
+            return Err(io::Error::from(ErrorKind::FileTooLarge));
+        }
+        Ok(bytes)
     }
 
-    fn append_to_draft(
-        &mut self,
-        folder: &str,
-        name: &'static str,
-        bytes: &[u8],
-    ) -> io::Result<()> {
-        let outcome = self.try_append_to_draft(folder, name, bytes);
-        if outcome.is_err() {
-            self.drafts = [None; MOST_DRAFTS];
-            self.remove_if_possible(folder, name, Stage::Draft);
+    fn read_start(&mut self, path: &str) -> io::Result<Option<Vec<u8>>> {
+        if !self.is_regular_file(path)? {
+            return Ok(None);
         }
-        outcome
+        Ok(Some(self.read_at_most(path, START_SIZE)?))
     }
 
-    fn keep(&mut self, folder: &str, files: &[NamedFile]) -> io::Result<()> {
-        if files.iter().any(|file| file.bytes.is_some()) {
-            fs::create_dir_all(self.rt, folder)?;
+    fn is_present(&mut self, path: &str) -> io::Result<bool> {
+        match fs::symlink_metadata(self.rt, path) {
+            Ok(_) => Ok(true),
+            Err(error) if is_absent(error.kind()) => Ok(false),
+            Err(error) => Err(error),
         }
-        let outcome = self.replace_all(folder, files);
-        if outcome.is_err() {
-            self.remove_all_if_possible(folder, files, Stage::Draft);
-        }
-        self.drafts = [None; MOST_DRAFTS];
-        outcome
     }
 
     fn is_same(&mut self, first: &str, second: &str) -> io::Result<bool> {
@@ -77,6 +77,50 @@ impl IntakeHost for FileSystem<'_> {
             return Ok(false);
         };
         Ok(first_path == second_path)
+    }
+
+    fn append_to_draft(
+        &mut self,
+        folder: &str,
+        name: &'static str,
+        bytes: &[u8],
+    ) -> io::Result<()> {
+        if !self.drafts.iter().any(|draft| draft.name == name) {
+            self.begin_draft(folder, name)?;
+        }
+        for draft in self.drafts.iter_mut() {
+            if draft.name == name {
+                draft.file.write_all(bytes)?;
+            }
+        }
+        Ok(())
+    }
+
+    fn discard_drafts(&mut self, folder: &str) {
+        for draft in self.drafts.iter() {
+            let _ = fs::remove_file(self.rt, draft.path.as_str());
+        }
+        self.drafts.clear();
+        if self.has_made_folder {
+            let _ = fs::remove_dir(self.rt, folder);
+        }
+    }
+
+    fn keep(
+        &mut self,
+        folder: &str,
+        files: &[NamedFile],
+        removed: &[&'static str],
+    ) -> io::Result<()> {
+        for file in files {
+            self.append_to_draft(folder, file.name, &file.bytes)?;
+        }
+        for draft in self.drafts.iter() {
+            draft.file.sync_all()?;
+        }
+        self.replace_or_undo(folder, files, removed)?;
+        self.drafts.clear();
+        Ok(())
     }
 
     fn print(&mut self, text: &[u8]) -> io::Result<()> {
@@ -92,12 +136,18 @@ impl IntakeHost for FileSystem<'_> {
     }
 }
 
+// Whether the error says that there is no such file.
+fn is_absent(kind: ErrorKind) -> bool {
+    matches!(kind, ErrorKind::NotFound | ErrorKind::NotADirectory)
+}
+
 impl<'a> FileSystem<'a> {
     /// The files and streams of the system. No file has a draft.
     pub(crate) fn new(rt: &'a HostRuntime) -> FileSystem<'a> {
         FileSystem {
             rt,
-            drafts: [None; MOST_DRAFTS],
+            drafts: Vec::new(rt.alloc()),
+            has_made_folder: false,
         }
     }
 
@@ -115,103 +165,184 @@ impl<'a> FileSystem<'a> {
         }
     }
 
-    // Whether the file of this name has a draft of this run.
-    fn has_draft(&self, name: &str) -> bool {
-        self.drafts.iter().any(|draft| *draft == Some(name))
+    // Checks that reading the input ends: it is a file that is not too large, or a pipe that another program has open,
+    // as `<(..)` gives one. Such a pipe has no path, and opening it does not wait. Returns `IsADirectory` for a folder,
+    // `InvalidInput` for a device or a named pipe, and `FileTooLarge`.
+    fn check_input(&self, name: &str) -> io::Result<()> {
+        let metadata = fs::metadata(self.rt, name)?;
+        if metadata.is_file() {
+            if metadata.len() > LARGEST_INPUT {
+                return Err(io::Error::from(ErrorKind::FileTooLarge));
+            }
+            return Ok(());
+        }
+        if metadata.is_dir() {
+            return Err(io::Error::from(ErrorKind::IsADirectory));
+        }
+        if metadata.file_type().is_fifo() && self.path_of_existing(name)?.is_none() {
+            return Ok(());
+        }
+        Err(io::Error::from(ErrorKind::InvalidInput))
     }
 
-    // Appends to the draft of the file, or writes a new one and remembers that it is of this run. Returns an error if
-    // there are too many drafts.
-    fn try_append_to_draft(
-        &mut self,
-        folder: &str,
-        name: &'static str,
-        bytes: &[u8],
-    ) -> io::Result<()> {
-        if self.has_draft(name) {
-            return self.write_draft(folder, name, bytes);
+    // The first bytes of the file, at most so many.
+    fn read_at_most(&self, name: &str, most: u64) -> io::Result<Vec<u8>> {
+        let mut bytes = Vec::new(self.rt.alloc());
+        let mut start = fs::open(self.rt, name)?.take(most);
+        start.read_to_end(&mut bytes)?;
+        Ok(bytes)
+    }
+
+    // Whether this path is that of a file, and of no link, folder, device or pipe.
+    fn is_regular_file(&self, path: &str) -> io::Result<bool> {
+        match fs::symlink_metadata(self.rt, path) {
+            Ok(metadata) => Ok(metadata.is_file()),
+            Err(error) if is_absent(error.kind()) => Ok(false),
+            Err(error) => Err(error),
         }
-        fs::create_dir_all(self.rt, folder)?;
-        self.write_draft(folder, name, bytes)?;
-        let Some(free) = self.drafts.iter_mut().find(|slot| slot.is_none()) else {
-            return Err(io::Error::from(ErrorKind::Other));
-        };
-        *free = Some(name);
+    }
+
+    // Begins the draft of the file. The folder is made if it does not exist.
+    fn begin_draft(&mut self, folder: &str, name: &'static str) -> io::Result<()> {
+        if !fs::exists(self.rt, folder)? {
+            fs::create_dir_all(self.rt, folder)?;
+            self.has_made_folder = true;
+        }
+        let draft = self.new_file(folder, name, "new")?;
+        self.drafts.push(draft)?;
         Ok(())
     }
 
-    // Writes the draft of the file, or appends to it if it is of this run.
-    fn write_draft(&self, folder: &str, name: &str, bytes: &[u8]) -> io::Result<()> {
-        let path = self.path_in(folder, name, Stage::Draft)?;
-        if !self.has_draft(name) {
-            return fs::write(self.rt, path.as_str(), bytes);
+    // A new file in the folder, with a name that no file has. It is created exclusively: no link is followed, and
+    // nothing that exists is opened.
+    fn new_file(&self, folder: &str, name: &'static str, ending: &str) -> io::Result<Draft> {
+        let alloc = self.rt.alloc();
+        for number in 1..MOST_NAMES {
+            let path = format!(in alloc; "{folder}/{name}.{ending}-{number}")?;
+            match OpenOptions::new()
+                .write(true)
+                .create_new(true)
+                .open(self.rt, path.as_str())
+            {
+                Ok(file) => return Ok(Draft { name, path, file }),
+                Err(error) if error.kind() == ErrorKind::AlreadyExists => {}
+                Err(error) => return Err(error),
+            }
         }
-        let mut draft = OpenOptions::new()
-            .append(true)
-            .open(self.rt, path.as_str())?;
-        draft.write_all(bytes)
+        Err(io::Error::from(ErrorKind::AlreadyExists))
     }
 
-    // Writes all files as drafts, removes those of earlier runs, and then gives the drafts their names. The remarks are
-    // last: if they exist, all files do.
-    fn replace_all(&self, folder: &str, files: &[NamedFile]) -> io::Result<()> {
+    // Replaces the files by their drafts and removes the other ones. After an error, each file has its old name again.
+    fn replace_or_undo(
+        &self,
+        folder: &str,
+        files: &[NamedFile],
+        removed: &[&'static str],
+    ) -> io::Result<()> {
+        let mut earlier = Vec::new(self.rt.alloc());
+        let mut renamed = Vec::new(self.rt.alloc());
+        let outcome = self.replace_all(folder, files, removed, &mut earlier, &mut renamed);
+        if outcome.is_err() {
+            self.undo(&renamed);
+            self.undo(&earlier);
+            return outcome;
+        }
+        self.sync_folder_if_possible(folder);
+        for renaming in earlier.iter() {
+            let _ = fs::remove_file(self.rt, renaming.to.as_str());
+        }
+        Ok(())
+    }
+
+    // Renames all files of an earlier run, the remarks last, and then gives the drafts their names, the remarks first.
+    // So whenever the run is broken off, the remarks in the folder name each of these files that is there, and the
+    // files there are of one run.
+    fn replace_all(
+        &self,
+        folder: &str,
+        files: &[NamedFile],
+        removed: &[&'static str],
+        earlier: &mut Vec<Renaming>,
+        renamed: &mut Vec<Renaming>,
+    ) -> io::Result<()> {
+        for name in removed {
+            self.set_aside(folder, *name, earlier)?;
+        }
         for file in files {
-            if let Some(bytes) = &file.bytes {
-                self.write_draft(folder, file.name, bytes.as_slice())?;
-            }
+            self.set_aside(folder, file.name, earlier)?;
         }
         for file in files.iter().rev() {
-            self.remove_if_present(folder, file.name, Stage::Finished)?;
-            if file.bytes.is_none() {
-                self.remove_if_present(folder, file.name, Stage::Draft)?;
-            }
+            self.name_draft(folder, file.name, renamed)?;
         }
-        let outcome = self.rename_drafts(folder, files);
+        Ok(())
+    }
+
+    // Gives the file of an earlier run a name that no file has, if it exists. Returns `AlreadyExists` if it is not a
+    // file, but a link or a folder.
+    fn set_aside(
+        &self,
+        folder: &str,
+        name: &'static str,
+        earlier: &mut Vec<Renaming>,
+    ) -> io::Result<()> {
+        let path = self.path_in(folder, name)?;
+        match fs::symlink_metadata(self.rt, path.as_str()) {
+            Ok(metadata) if metadata.is_file() => {}
+            Ok(_) => return Err(io::Error::from(ErrorKind::AlreadyExists)),
+            Err(error) if is_absent(error.kind()) => return Ok(()),
+            Err(error) => return Err(error),
+        }
+        let free = self.new_file(folder, name, "old")?;
+        let to = String::from_str(self.rt.alloc(), free.path.as_str())?;
+        let outcome = self.rename(path, to, earlier);
         if outcome.is_err() {
-            self.remove_all_if_possible(folder, files, Stage::Finished);
+            let _ = fs::remove_file(self.rt, free.path.as_str());
         }
         outcome
     }
 
-    // Gives the drafts the names of their files.
-    fn rename_drafts(&self, folder: &str, files: &[NamedFile]) -> io::Result<()> {
-        for file in files {
-            if file.bytes.is_some() {
-                let from = self.path_in(folder, file.name, Stage::Draft)?;
-                let to = self.path_in(folder, file.name, Stage::Finished)?;
-                fs::rename(self.rt, from.as_str(), to.as_str())?;
+    // Gives the draft the name of its file.
+    fn name_draft(
+        &self,
+        folder: &str,
+        name: &'static str,
+        renamed: &mut Vec<Renaming>,
+    ) -> io::Result<()> {
+        let alloc = self.rt.alloc();
+        for draft in self.drafts.iter() {
+            if draft.name == name {
+                let from = String::from_str(alloc, draft.path.as_str())?;
+                return self.rename(from, self.path_in(folder, name)?, renamed);
             }
         }
+        Err(io::Error::from(ErrorKind::NotFound))
+    }
+
+    // Renames a file, and notes it.
+    fn rename(&self, from: String, to: String, done: &mut Vec<Renaming>) -> io::Result<()> {
+        done.reserve(1)?;
+        fs::rename(self.rt, from.as_str(), to.as_str())?;
+        done.push(Renaming { from, to })?;
         Ok(())
     }
 
-    // Removes the file, if it exists.
-    fn remove_if_present(&self, folder: &str, name: &str, stage: Stage) -> io::Result<()> {
-        let path = self.path_in(folder, name, stage)?;
-        if fs::exists(self.rt, path.as_str())? {
-            fs::remove_file(self.rt, path.as_str())?;
-        }
-        Ok(())
-    }
-
-    // Removes the files, or their drafts, after an error. A file that cannot be removed is left.
-    fn remove_all_if_possible(&self, folder: &str, files: &[NamedFile], stage: Stage) {
-        for file in files {
-            self.remove_if_possible(folder, file.name, stage);
+    // Gives the files their old names again, the last one first. A file that cannot be renamed is left.
+    fn undo(&self, done: &[Renaming]) {
+        for renaming in done.iter().rev() {
+            let _ = fs::rename(self.rt, renaming.to.as_str(), renaming.from.as_str());
         }
     }
 
-    // Removes the file, or its draft, after an error. A second error is ignored, because the caller returns the first.
-    fn remove_if_possible(&self, folder: &str, name: &str, stage: Stage) {
-        if let Ok(path) = self.path_in(folder, name, stage) {
-            let _ = fs::remove_file(self.rt, path.as_str());
+    // Has the system write the folder to the disk. Some file systems cannot do that for a folder.
+    fn sync_folder_if_possible(&self, folder: &str) {
+        if let Ok(open) = fs::open(self.rt, folder) {
+            let _ = open.sync_all();
         }
     }
 
-    // The path of the file, or of its draft.
-    fn path_in(&self, folder: &str, name: &str, stage: Stage) -> io::Result<String> {
+    // The path of the file.
+    fn path_in(&self, folder: &str, name: &str) -> io::Result<String> {
         let alloc = self.rt.alloc();
-        let ending = stage.ending();
-        Ok(format!(in alloc; "{folder}/{name}{ending}")?)
+        Ok(format!(in alloc; "{folder}/{name}")?)
     }
 }

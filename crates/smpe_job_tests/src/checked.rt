@@ -159,8 +159,8 @@ fn run_in_store<S: Alter + Drop>(
     Ok((store.close(), how))
 }
 
-/// A failure, unless the zones that the job left are those after some first commands, and each reported command is
-/// among these.
+/// A failure, unless the zones that the job left are those after some first commands: the reported ones, and perhaps
+/// the next one, whose report was cut or is missing.
 pub(crate) fn check_zones_left<S: Alter + Drop>(
     alloc: Global,
     conn: Connection<S>,
@@ -170,7 +170,13 @@ pub(crate) fn check_zones_left<S: Alter + Drop>(
     check_beginning(report)?;
     let reported = count_whole_reports(report.len());
     let mut store = open_store(alloc, conn, "what the job left")?;
-    let _count = find_commits(alloc, &mut store, count_commits(reported))?;
+    let count = find_commits(alloc, &mut store, count_commits(reported))?;
+    let most = count_commits(reported.saturating_add(1));
+    if count > most {
+        return Err(Fail::new(format_args!(
+            "after {reported} reports: got {count} commits, wanted {most} at most"
+        )));
+    }
     if how == Ended::Well && reported < REPORTS.len() {
         return Err(Fail::new(format_args!("it ended well after {reported} reports")));
     }

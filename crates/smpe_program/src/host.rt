@@ -7,11 +7,13 @@ ghost use Rattle.sqlite.specs.State.{HasCleanDisk};
 ghost use Rattle.smpe_program.specs.Wary.{IsWary};
 
 use crate::copy::{CopyFault, read_for_copy};
+use crate::left::LeftDatabase;
 use crate::place::{is_missing, is_surely_no_database};
 use crate::related_zone::query_related_zone;
 use clap::Error as WordsError;
 use smpe_command::{DatabaseBytes, DatabaseFile, Host};
-use smpe_hints::{ReadFile, RelatedZone, has_whole_records};
+use smpe_hints::has_whole_records;
+use smpe_warnings::{ReadFile, RelatedZone};
 use sqlite::{Connection, Error, ErrorCode, FileFrom, FileStore, Wary};
 use sqlite_disk::Tally;
 use std::io::IsTerminal;
@@ -85,6 +87,8 @@ pub(crate) struct ProgramHost<'a> {
     related_name: Option<&'a str>,
     pub(crate) related: RelatedZone,
     pub(crate) database: Database,
+    /// The connection that the command has closed, until the hints have asked it.
+    pub(crate) left: LeftDatabase,
     /// The files that were read.
     pub(crate) files: Vec<ReadFile>,
     /// Why a file was not read.
@@ -104,8 +108,25 @@ impl ProgramHost<'_> {
             related_name,
             related: RelatedZone::Unknown,
             database: Database::None,
+            left: LeftDatabase {
+                alloc: rt.alloc(),
+                conn: None,
+            },
             files: Vec::new(rt.alloc()),
             unread: None,
+        }
+    }
+
+    /// Closes the connection that the command has left, if there is one, and notes what was met.
+    pub(crate) fn close_left(&mut self) {
+        if let Some(mut open) = self.left.conn.take() {
+            if let Some(name) = self.related_name {
+                self.related = query_related_zone(&mut open, name).unwrap_or(RelatedZone::Unknown);
+            }
+            let met = Closing::close(open);
+            if let Database::Opened { closing, .. } = &mut self.database {
+                *closing = Some(met);
+            }
         }
     }
 
@@ -227,6 +248,7 @@ impl Host for ProgramHost<'_> {
     }
 
     fn open(&mut self, db: &DatabaseFile) -> Result<Connection<Self::Disk>, sqlite::Error> {
+        self.close_left();
         let name = db.name.as_str();
         let is_missing = is_missing(self.rt, name);
         if is_missing && !self.may_create_database {
@@ -270,16 +292,10 @@ impl Host for ProgramHost<'_> {
         }
     }
 
+    // The program closes the connection when the hints have asked it, or before it opens another.
     fn close(&mut self, conn: &mut Option<Connection<Self::Disk>>) {
-        if let Some(mut open) = conn.take() {
-            if let Some(name) = self.related_name {
-                self.related = query_related_zone(&mut open, name).unwrap_or(RelatedZone::Unknown);
-            }
-            let met = Closing::close(open);
-            if let Database::Opened { closing, .. } = &mut self.database {
-                *closing = Some(met);
-            }
-        }
+        self.close_left();
+        self.left.conn = conn.take();
     }
 
     fn show_error(&mut self, error: &WordsError) {

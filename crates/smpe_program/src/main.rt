@@ -6,6 +6,7 @@
 mod command_line;
 mod copy;
 mod host;
+mod left;
 mod place;
 mod related_zone;
 mod telling;
@@ -15,9 +16,9 @@ use command_line::read_words;
 use host::ProgramHost;
 use report::Out;
 use smpe_command::command;
-use smpe_hints::related_name;
+use smpe_warnings::related_name;
 use std::process::ExitCode;
-use telling::write_hints;
+use telling::{job_warnings, write_hints};
 use watched::{Progress, Watched};
 
 fn main(rt: HostRuntime) -> ExitCode {
@@ -34,7 +35,9 @@ fn main(rt: HostRuntime) -> ExitCode {
     let mut out = Watched::new(rt.alloc(), Out::new(rt.stdout()), Progress::new(&rt));
     let mut err = Watched::new(rt.alloc(), Out::new(rt.stderr()), None);
     let status = command(rt.alloc(), &mut host, &words, &mut out, &mut err);
-    write_hints(&rt, known_words, &host, &out.watch, &err.watch);
+    let warnings = job_warnings(&rt, known_words, &mut host, &out.watch, &err.watch);
+    host.close_left();
+    write_hints(&rt, known_words, &host, &out.watch, &err.watch, warnings);
     ExitCode::from(status)
 }
 

@@ -1,6 +1,6 @@
 //! What the database knows of the zone that `--related` names.
 use crate::host::DatabaseFiles;
-use smpe_hints::RelatedZone;
+use smpe_warnings::RelatedZone;
 use sqlite::{Connection, Error, params};
 
 /// Asks the tables of the database whether the zone exists, for its kind, and for the target zone that has it already.

@@ -2,9 +2,16 @@
 use crate::copy::{may_have_meta_table, read_for_copy};
 use crate::host::{Closing, Database, ProgramHost};
 use crate::place::{is_surely_no_database, place_fault};
-use smpe_hints::{ReportWatch, careful_zone_hint, no_command_hint, operand_hint};
+use jiff::Timestamp;
+use jiff::tz::Offset;
+use smpe_hints::{no_command_hint, operand_hint};
+use smpe_warnings::{ReportWatch, careful_zone_hint};
 use sqlite::{Error, ErrorCode};
 use std::alloc::AllocError;
+use std::time::Duration;
+
+// The length of a day in seconds.
+const DAY: u64 = 86_400;
 
 const FULL: &str = "the disk is full";
 
@@ -19,16 +26,48 @@ const NO_META_TABLE: &str =
 const UNSOUND: &str =
     "the database is damaged, has rows that break its own keys, or has tables that smpe cannot read";
 
-/// Writes lines that explain the report and the fault to standard error. It writes none if memory runs out.
+/// What the job should be warned of, as the database that it has left shows; nothing if the job was broken off, or if
+/// memory runs out.
+pub(crate) fn job_warnings(
+    rt: &HostRuntime,
+    words: &[Vec<u8>],
+    host: &mut ProgramHost<'_>,
+    report: &ReportWatch,
+    faults: &ReportWatch,
+) -> Vec<String> {
+    if !faults.first_line().is_empty() {
+        return Vec::new(rt.alloc());
+    }
+    let tomorrow = tomorrow(rt);
+    let files = host.files.as_slice();
+    let warnings = report.warnings(words, files, tomorrow.as_deref(), &mut host.left);
+    warnings.unwrap_or(Vec::new(rt.alloc()))
+}
+
+// The day after this one, as YYYY-MM-DD, by a clock at UTC: everywhere it is this day, the one before or the one after.
+// `None` if there is no clock.
+fn tomorrow(rt: &HostRuntime) -> Option<String> {
+    let now = Timestamp::now(rt).ok()?;
+    let later = now.checked_add(Duration::from_secs(DAY)).ok()?;
+    let date = Offset::UTC.to_datetime(later).date();
+    format!(in rt.alloc(); "{date}").ok()
+}
+
+/// Writes lines that explain the report and the fault to standard error, and these warnings. It writes none if memory
+/// runs out.
 pub(crate) fn write_hints(
     rt: &HostRuntime,
     words: &[Vec<u8>],
     host: &ProgramHost<'_>,
     report: &ReportWatch,
     faults: &ReportWatch,
+    warnings: Vec<String>,
 ) {
     if let Ok(lines) = hint_lines(rt, words, host, report, faults) {
         for line in lines {
+            let _ = eprintln!(rt; "smpe: {line}");
+        }
+        for line in warnings {
             let _ = eprintln!(rt; "smpe: {line}");
         }
     }

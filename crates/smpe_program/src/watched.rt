@@ -3,7 +3,7 @@ ghost use Rattle.std.specs.Prelude.{◌≡◌, ◌<◌, ◌≤◌, false, length
 ghost use Rattle.std.specs.Io.KnownBytes.{Appends, Keeps};
 
 use report::{Sink, WriteFault};
-use smpe_hints::ReportWatch;
+use smpe_warnings::ReportWatch;
 use std::alloc::Global;
 use std::io::IsTerminal;
 use std::time::Instant;

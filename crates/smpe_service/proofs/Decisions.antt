@@ -1,9 +1,8 @@
--- What an APPLY or ACCEPT decides, from what its parts answer: the kept ones may be installed together, and the lines
--- are those of the decision.
-use Rattle.std.proofs.Common.{◌≡◌, ◌≢◌, ◌⊎◌, ◌+◌, inl, inr, Bool, true, false, not, List, [], ◌∷◌, ◌++◌, Option, Some}
+-- What an APPLY or ACCEPT decides, from what its parts answer, and that the lines are those of the decision.
+use Rattle.std.proofs.Common.{◌≡◌, ◌≢◌, ◌+◌, inl, inr, Bool, true, false, not, List, [], ◌∷◌, ◌++◌, Option, Some}
 use Rattle.std.proofs.Common.{IsTrue, filter, map, refl, sym, ap, ◌∙◌, subst, true≢false}
 use Rattle.std.specs.Prelude.{◌↔◌, All, Contains, IsPermutation, if◌then◌else◌}
-use Rattle.std.proofs.lemmas.Bool.{and_parts, not-true}
+use Rattle.std.proofs.lemmas.Bool.{not-true}
 use Rattle.std.proofs.lemmas.List.{map-append, map-id}
 use Rattle.std.proofs.lemmas.List.Elements.{All-contains, Contains-get_or, Contains-append_left, Contains-append_right}
 use Rattle.std.proofs.lemmas.List.Elements.{Contains-append_cases}
@@ -11,12 +10,10 @@ use Rattle.std.proofs.lemmas.List.Kept.{AllPairs-filter}
 use Rattle.std.proofs.lemmas.List.Sorted.{IsPermutation-map, IsPermutation-sym, Contains-permutation}
 use Rattle.terms.specs.declared.not_chosen.NotChosen.{NotChosen}
 use Rattle.terms.specs.Types.{Text, Id, Global, Zone, Bypass, Selection}
-use Rattle.terms.specs.Lookups.{IsRising, IsZone, is_in, is_applied, is_supplied}
+use Rattle.terms.specs.Lookups.{IsRising, is_in}
 use Rattle.terms.specs.Choice.{place, counting}
-use Rattle.terms.specs.Over.{IsOver}
-use Rattle.terms.specs.Global.{IsGlobal}
 use Rattle.terms.specs.Candidates.{AreCandidates, is_installable, not_chosen}
-use Rattle.terms.specs.Tests.{Setting, IsEligible, ShareElement}
+use Rattle.terms.specs.Tests.{Setting}
 use Rattle.terms.specs.Needs.{bypassed_ids}
 use Rattle.terms.specs.Judged.{setting, install_judging}
 use Rattle.terms.proofs.Apart.{AreApart}
@@ -28,8 +25,6 @@ use Rattle.machine.specs.Installing.{Decision, IsDecision, IsFailure, HasStatus,
 use Rattle.machine.specs.Installing.{IsFailed, IsNotChosen}
 use Rattle.machine.specs.Installing.{AreInstallLines, installed_status, not_chosen_status}
 use Rattle.terms.specs.Install.{TakesEffect}
-use Rattle.change.specs.Elements.{HasBases}
-use Rattle.change.proofs.KeptTogether.{install_over, changed_base, unsupplied}
 use Rattle.smpe_service.specs.Decided.{IsDecided}
 use Rattle.smpe_service.specs.Statuses.{kept_status, kept_statuses, failed_statuses, left_out_statuses}
 use Rattle.smpe_service.specs.Statuses.{all_statuses, AreById}
@@ -69,17 +64,11 @@ module _ (g : Global) (zone : Zone) (related : Option Zone) (sel : Selection) (b
   abbrev s : Setting
   s = setting g zone related cands bypass
 
-  eligible : (x : Id) → Contains kept x → IsEligible s x
-  eligible x h = let stays = (decided.are_decided.members x).0 h in stays.1.eligible x stays.2
-
   cand : (x : Id) → Contains kept x → Contains cands x
   cand = kept_cand s kept failed decided
 
   installable : (x : Id) → Contains cands x → IsTrue (is_installable g zone x)
   installable x h = All-contains (λ y. IsTrue (is_installable g zone y)) cands x ok h
-
-  pub kept_installable : All (λ x. IsTrue (is_installable g zone x)) kept
-  kept_installable = λ i d below. installable _ (cand _ (Contains-get_or kept i d below))
 
   -- with the pairs of a kept id and a bypassed requisite of it
   abbrev pub decision : List (Id × Id) → Decision
@@ -97,22 +86,6 @@ module _ (g : Global) (zone : Zone) (related : Option Zone) (sel : Selection) (b
       date = date;
     };
   }
-
-  unapplied : (x : Id) → Contains cands x → is_applied zone x ≡ false
-  unapplied x h = unsupplied zone x (not-true (is_supplied zone x)
-      (and_parts _ _ (and_parts _ _ (installable x h)).0).1)
-
-  -- The kept ones may be installed together: over orders those that share an element, and an element that one of them
-  -- updates is there, or one of them replaces it.
-  module _ (is_zone : IsZone zone) (is_global : IsGlobal g) (bypassed : List (Id × Id)) where
-    pub kept_order : (x y : Id) → Contains kept x → Contains kept y → x ≢ y → ShareElement g x y
-        → IsOver (counting g zone cands) x y ⊎ IsOver (counting g zone cands) y x
-    kept_order = install_over s decided.survivors kept decided.are_decided.members is_zone is_global refl unapplied
-        (decision bypassed).installing (record { global = refl; choice = refl; zone = refl; kept = refl })
-
-    pub kept_bases : HasBases (decision bypassed).installing
-    kept_bases = changed_base s decided.survivors kept decided.are_decided.members is_zone is_global refl unapplied
-        (decision bypassed).installing (record { global = refl; choice = refl; zone = refl; kept = refl })
 
   pub decides : (bypassed : List (Id × Id))
       → ((x z : Id) → Contains bypassed (x, z) ↔ (Contains kept x × Contains (bypassed_ids s x) z))

@@ -1,6 +1,5 @@
 pub mod Decided
 pub mod Statuses
 pub mod Lines
-pub mod Installs
 pub mod Solved
 pub mod RestoreDecided

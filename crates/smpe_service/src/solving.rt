@@ -4,7 +4,7 @@ ghost use Rattle.judge_system.specs.Judged.{HasParts};
 ghost use Rattle.smpe_service.specs.Solved.{IsSolved};
 
 use judge_system::{Decided, Judged};
-use solve::{Solver, Worklist, causers};
+use solve::{Solver, Worklist};
 use std::alloc::{AllocError, Global};
 
 /// Decides which candidates are kept, namely the union of all self-supporting sets, and why each of the others is not.
@@ -13,6 +13,5 @@ pub(crate) fn decide(alloc: Global, judged: &Judged<'_>) -> Result<Decided, Allo
     ensures { IfOk result (λ d. IsSolved judged.now d.kept d.failed.items) }
 {
     let set = Worklist.greatest(alloc, &judged.system)?;
-    let causers = causers(alloc, &judged.system, &set)?;
-    judged.decided(alloc, &set, causers.as_slice())
+    judged.decided(alloc, &set)
 }

@@ -109,8 +109,39 @@ const ROWS: [&str; 2] = [
     "SELECT zone || '/' || id || '/' || ifnull(date, '-') || '/' || supby || '/' || ifnull(delby, '-') || '/' || \
         waived FROM entry ORDER BY zone, id",
     "SELECT zone || '/' || type || '/' || name || '/' || fmid || '/' || rmid || '/' || umid || '/' || distlib || '/' \
-        || syslib || '/' || length(text) FROM zelem ORDER BY zone, type, name",
+        || syslib || '/' || hex(text) FROM zelem ORDER BY zone, type, name",
 ];
+
+// Appends the bytes of the card of this text in hexadecimal, as `hex` gives them.
+fn append_hex_card(alloc: Global, text: &mut String, card: &str) -> Result<(), Fail> {
+    for byte in card_file(alloc, card)? {
+        text.push_str(format!(in alloc; "{byte:02X}")?.as_str())?;
+    }
+    Ok(())
+}
+
+// Appends the row of a data element.
+fn append_element_row(alloc: Global, text: &mut String, number: u32) -> Result<(), Fail> {
+    text.push_str(format!(in alloc;
+        "TGT1/DATA/N{number:05}/HBB1100/HBB1100//ADATA/DATA/"
+    )?.as_str())?;
+    append_hex_card(
+        alloc,
+        text,
+        format!(in alloc; "RECORD OF N{number:05}")?.as_str(),
+    )?;
+    text.push_str("\n")?;
+    Ok(())
+}
+
+// Appends the row of the macro that the first function brought in.
+fn append_macro_row(alloc: Global, text: &mut String) -> Result<(), Fail> {
+    text.push_str("TGT1/MAC/M1/HAA1100/HAA1100//AMACLIB/MACLIB/")?;
+    append_hex_card(alloc, text, "         MACRO\t00000010")?;
+    append_hex_card(alloc, text, "         MEND\t00000020")?;
+    text.push_str("\n")?;
+    Ok(())
+}
 
 // The rows of a zone with so many of the PTFs.
 fn zone_rows(alloc: Global, ptfs: u32) -> Result<String, Fail> {
@@ -121,10 +152,10 @@ fn zone_rows(alloc: Global, ptfs: u32) -> Result<String, Fail> {
     }
     text.push_str("--\n")?;
     for number in 1..=999u32 {
-        let line = format!(in alloc; "TGT1/DATA/N{number:05}/HBB1100/HBB1100//ADATA/DATA/80\n")?;
-        text.push_str(line.as_str())?;
+        append_element_row(alloc, &mut text, number)?;
     }
-    text.push_str("TGT1/MAC/M1/HAA1100/HAA1100//AMACLIB/MACLIB/160\n--\n")?;
+    append_macro_row(alloc, &mut text)?;
+    text.push_str("--\n")?;
     Ok(text)
 }
 

@@ -3,4 +3,5 @@ mod Joining
 mod Judging
 mod LawLemmas
 mod Rules
+mod Standing
 mod ZoneByZone

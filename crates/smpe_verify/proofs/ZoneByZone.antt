@@ -1,4 +1,4 @@
--- What is found zone by zone, by their names, is what is found of the inventory's zones.
+-- What is found zone by zone, by their heads, is what is found of the inventory's zones.
 use Rattle.std.proofs.Common.{◌≡◌, ◌∙◌, ◌+◌, ℕ, false, List, [], ◌∷◌, Option, Some, None, find, map, length}
 use Rattle.std.proofs.Common.{refl, sym, ap, ap₂, subst, IsTrue, inl, inr, ◌⊎◌, ◌<◌, ◌≤◌, drop, get_or}
 use Rattle.std.specs.Prelude.{AllPairs, Contains, fold, option_map, option_and_then, unwrap_or}
@@ -8,14 +8,15 @@ use Rattle.std.specs.Cmp.Lexicographic.{slice_cmp}
 use Rattle.std.specs.Str.{bytes_eq}
 use Rattle.std.proofs.lemmas.List.{drop_more, drop_all, length-map}
 use Rattle.std.proofs.lemmas.List.Elements.{All-contains}
-use Rattle.terms.specs.Types.{Text, Global, NamedZone}
+use Rattle.terms.specs.Types.{Global, NamedZone}
 use Rattle.terms.specs.Lookups.{is_before}
 use Rattle.terms.proofs.ListMembers.{here, there, here_or, none_in}
 use Rattle.terms.proofs.Orderings.{Less_from_is_lt}
 use Rattle.terms.proofs.Pairs.{AllPairs_first, AllPairs_rest, pairs_unmap}
 use Rattle.terms.proofs.TextOrder.{same_itself, other_from_less}
 use Rattle.store_schema.specs.Inventory.{Inventory, IsInventory}
-use Rattle.store_zones.specs.Found.{zone_in}
+use Rattle.store_zones.specs.declared.head.ZoneHead.{ZoneHead}
+use Rattle.store_zones.specs.Found.{head_of, zone_in}
 use Rattle.smpe_verify.specs.declared.breach.Breach.{Breach}
 use Rattle.smpe_verify.specs.declared.verification.Counts.{Counts}
 use Rattle.smpe_verify.specs.declared.verification.Verification.{Verification}
@@ -58,7 +59,7 @@ after_zones counts zs = record counts {
 module _ (i : Inventory) where
   from_zones : (zs : List NamedZone) (counts : Counts)
       → ((z : NamedZone) → Contains zs z → zone_in i z.name ≡ Some z.zone)
-      → verified_from i counts (map (λ z. z.name) zs)
+      → verified_from i counts (map head_of zs)
       ≡ unwrap_or (first_of (broken i.global) zs) (Closed (after_zones counts zs))
   from_zones [] counts each = refl
   from_zones (z ∷ zs) counts each =
@@ -74,10 +75,10 @@ module _ (i : Inventory) where
       more =
           ap (λ o. option_map_or (λ zone. after_zones counts (record { name = z.name; zone = zone } ∷ [])) o counts) at
 
-      by : verified_from i (counted i counts z.name) (map (λ z. z.name) zs)
+      by : verified_from i (counted i counts z.name) (map head_of zs)
           ≡ unwrap_or (first_of (broken i.global) zs) (Closed (after_zones (counted i counts z.name) zs))
           → (o : Option Verification) → broken i.global z ≡ o
-          → verified_from i counts (map (λ z. z.name) (z ∷ zs))
+          → verified_from i counts (map head_of (z ∷ zs))
           ≡ unwrap_or (first_of (broken i.global) (z ∷ zs)) (Closed (after_zones counts (z ∷ zs)))
       by rest None is = rw (told, is) (rest
           ∙ ap (λ (n : Counts). unwrap_or (first_of (broken i.global) zs) (Closed (after_zones n zs))) more)
@@ -86,40 +87,41 @@ module _ (i : Inventory) where
   abbrev with_zones : ℕ → Counts
   with_zones n = record { sysmods = length i.global.sysmods; zones = n; entries = 0; elements = 0 }
 
-  -- all names, from no entries and elements on
-  pub whole : IsInventory i → (g : Global) → g ≡ i.global → (names : List Text) → names ≡ map (λ z. z.name) i.zones
-      → (counts : Counts) → counts ≡ begun g names → verified_from i counts names ≡ verification i
-  whole inventory g global names are counts is =
+  -- all heads, from no entries and elements on
+  pub whole : IsInventory i → (g : Global) → g ≡ i.global → (heads : List ZoneHead) → heads ≡ map head_of i.zones
+      → (counts : Counts) → counts ≡ begun g heads → verified_from i counts heads ≡ verification i
+  whole inventory g global heads are counts is =
       let start : counts ≡ with_zones (length i.zones) =
-      is ∙ ap₂ begun global are ∙ ap with_zones (length-map i.zones (λ z. z.name))
+      is ∙ ap₂ begun global are ∙ ap with_zones (length-map i.zones head_of)
       in
       ap₂ (verified_from i) start are
       ∙ from_zones i.zones (with_zones (length i.zones)) (in_inventory i inventory)
 
--- ---- one name after the other
+-- ---- one head after the other
 
-module _ (i : Inventory) (names : List Text) (k : ℕ) (counts : Counts)
-    (before : verified_from i counts (drop k names) ≡ verification i) where
-  module _ (name : Text) (below : k < length names) (is : name ≡ get_or names k name) (g : Global)
+module _ (i : Inventory) (heads : List ZoneHead) (k : ℕ) (counts : Counts)
+    (before : verified_from i counts (drop k heads) ≡ verification i) where
+  module _ (head : ZoneHead) (below : k < length heads) (is : head ≡ get_or heads k head) (g : Global)
       (global : g ≡ i.global) where
-    at : (found : Option Breach) → found ≡ breach_at i g name
-        → unwrap_or (option_map (Broken name) found) (verified_from i (counted i counts name) (drop (k + 1) names))
-        ≡ verification i
+    at : (found : Option Breach) → found ≡ breach_at i g head.name
+        → unwrap_or (option_map (Broken head.name) found)
+        (verified_from i (counted i counts head.name) (drop (k + 1) heads)) ≡ verification i
     at found found_is =
-        let rest = verified_from i (counted i counts name) (drop (k + 1) names) in
-        ap (λ b. unwrap_or (option_map (Broken name) b) rest) (found_is ∙ ap (λ h. breach_at i h name) global)
-        ∙ ap (λ n. verified_from i counts (n ∷ drop (k + 1) names)) is
-        ∙ sym (ap (verified_from i counts) (drop_more names k name below)) ∙ before
+        let rest = verified_from i (counted i counts head.name) (drop (k + 1) heads) in
+        ap (λ b. unwrap_or (option_map (Broken head.name) b) rest)
+        (found_is ∙ ap (λ h. breach_at i h head.name) global)
+        ∙ ap (λ n. verified_from i counts (n ∷ drop (k + 1) heads)) is
+        ∙ sym (ap (verified_from i counts) (drop_more heads k head below)) ∙ before
 
-    -- the zone of this name is closed, or there is none
-    pub goes_on : (new : Counts) → new ≡ counted i counts name → None ≡ breach_at i g name
-        → verified_from i new (drop (k + 1) names) ≡ verification i
-    goes_on new after none = ap (λ n. verified_from i n (drop (k + 1) names)) after ∙ at None none
+    -- the zone of this head is closed, or there is none
+    pub goes_on : (new : Counts) → new ≡ counted i counts head.name → None ≡ breach_at i g head.name
+        → verified_from i new (drop (k + 1) heads) ≡ verification i
+    goes_on new after none = ap (λ n. verified_from i n (drop (k + 1) heads)) after ∙ at None none
 
     -- it is not
-    pub stops : (b : Breach) → Some b ≡ breach_at i g name → Broken name b ≡ verification i
+    pub stops : (b : Breach) → Some b ≡ breach_at i g head.name → Broken head.name b ≡ verification i
     stops b some = at (Some b) some
 
   -- all are
-  pub ends : length names ≤ k → Closed counts ≡ verification i
-  ends all = sym (ap (verified_from i counts) (drop_all k names all)) ∙ before
+  pub ends : length heads ≤ k → Closed counts ≡ verification i
+  ends all = sym (ap (verified_from i counts) (drop_all k heads all)) ∙ before

@@ -156,6 +156,13 @@ answer_told : {X : Type 0} (r : Result X ReadError) (P : X → Type 0) → IfOk 
 answer_told (Ok x) P h = h
 answer_told (Err e) P h = tt
 
+-- what an answer says of any rows
+pub for_all_rows : {S X : Type 0} (g : Ghosts S) (at : Held S) (r : Result X ReadError) (Says : Contents → X → Type 0)
+    → ((contents : Contents) → HasContents store_schema contents (state g at).now → IfOk r (Says contents))
+    → IfOk r (λ x. (contents : Contents) → HasContents store_schema contents (state g at).now → Says contents x)
+for_all_rows g at (Ok x) Says each = λ contents has. each contents has
+for_all_rows g at (Err e) Says each = tt
+
 -- what the rows say of an answer that is told
 pub rows_told : {S X : Type 0} (Says : Held S → X → Type 0) (conn old : Held S) → conn ≡ old → (r : Result X ReadError)
     (result : Result X StoreError) → result ≡ told r → IfOk r (Says conn) → IfOk result (Says old)

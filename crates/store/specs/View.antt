@@ -26,6 +26,11 @@ module _ {S : Type 0} (g : Ghosts S) (at : Held S) where
   IsEarlierFound i =
       HasCleanDisk (state g at) → IsTrue (state g at).is_open → IsEarlierStateOf i (state g at).committed
 
+  -- An open connection shows a database, which is what it last committed.
+  abbrev pub ShowsCommitted : Type 0
+  ShowsCommitted =
+      IsTrue (state g at).is_open → IsDatabase (state g at).now × ((state g at).now ≡ (state g at).committed)
+
   -- a crash now may leave this
   abbrev pub MayLeave : Trees → Type 0
   MayLeave db = HasCleanDisk (state g at) × (state g at).may_leave db

@@ -1,12 +1,12 @@
 //! The store: a connection whose tables stand for an inventory, and changes of it, each in one transaction. After
 //! `commit` the tables stand for the changed inventory, and a crash leaves that one. After an error they stand for the
 //! old one, and a crash leaves one of the two. Even if the tables stand for no inventory, a commit makes its statements
-//! and nothing else, or nothing, and a global zone that is loaded is that of its rows. What is loaded is the
-//! inventory's. A `Fault` has a cause in its call: the disk failed, or for a commit the database refused one of its
-//! statements. Every call that allocates returns `Memory` if memory runs out; no contract says when. `target_name`
-//! finds the target zone that is related to a distribution zone. `found_again` is a law about what the next open finds.
-//! Here is also, for the crates above, what a store keeps of a machine's state and how a call over it ends (`Kept`,
-//! `CallEnds`).
+//! and nothing else, or nothing, and a global zone, a zone or the heads of all zones that are loaded are those of their
+//! rows. What is loaded is the inventory's. A `Fault` has a cause in its call: the disk failed, or for a commit the
+//! database refused one of its statements. Every call that allocates returns `Memory` if memory runs out; no contract
+//! says when. `target_name` finds the target zone that is related to a distribution zone. `found_again` is a law about
+//! what the next open finds. Here is also, for the crates above, what a store keeps of a machine's state and how a call
+//! over it ends (`Kept`, `CallEnds`).
 #![tactic(auto)]
 
 mod change;

@@ -5,7 +5,8 @@ ghost use Rattle.sqlite.specs.Held.{state};
 ghost use Rattle.sqlite.specs.State.{HasCleanDisk};
 ghost use Rattle.store_zones.specs.Found.{zone_in, head_of};
 ghost use Rattle.store.specs.Loads.{Loads, store_error, told};
-ghost use Rattle.store.specs.Whole.{ShowsGlobal};
+ghost use Rattle.store.specs.View.{ShowsCommitted};
+ghost use Rattle.store.specs.Whole.{ShowsGlobal, ShowsHeads, ShowsZone};
 
 use crate::global_load::load_global;
 use crate::open::Store;
@@ -44,16 +45,19 @@ impl<S: Alter> Store<S> {
     pub fn load_global(&mut self) -> Result<GlobalZone, StoreError>
         ensures loads { Loads S.Store self.old self.new (λ i global. global ≡ i.global) result }
         ensures rows { HasCleanDisk (state S.Store self.new) → IfOk result (ShowsGlobal S.Store self.old) }
+        ensures shown { ShowsCommitted S.Store self.old }
     {
-        // Outside a transaction, the connection shows what it last committed.
+        // Outside a transaction, the connection shows what it last committed, which is a database.
         prove!(self.conn.is_autocommit());
+        let _ = self.conn.schema();
         map_read_error(load_global(self.alloc, &mut self.conn))
     }
 
     /// The zone of this name, or `None` if there is none. Returns `Memory` if memory runs out, `Fault` if the database
     /// fails, and `NoState` if its rows stand for no zone.
     pub fn load_zone(&mut self, name: ZoneName) -> Result<Option<Zone>, StoreError>
-        ensures { Loads S.Store self.old self.new (λ i zone. zone ≡ zone_in i name) result }
+        ensures loads { Loads S.Store self.old self.new (λ i zone. zone ≡ zone_in i name) result }
+        ensures rows { HasCleanDisk (state S.Store self.new) → IfOk result (ShowsZone S.Store self.old name) }
     {
         // Outside a transaction, the connection shows what it last committed.
         prove!(self.conn.is_autocommit());
@@ -63,7 +67,9 @@ impl<S: Alter> Store<S> {
     /// All zones without their entries and elements, rising by name. Returns `Memory` if memory runs out, `Fault` if
     /// the database fails, and `NoState` if the rows stand for no zones that are related as they must be.
     pub fn zone_heads(&mut self) -> Result<Vec<ZoneHead>, StoreError>
-        ensures { Loads S.Store self.old self.new (λ i heads. heads.items ≡ map head_of i.zones) result }
+        ensures loads { Loads S.Store self.old self.new (λ i heads. heads.items ≡ map head_of i.zones) result }
+        ensures rows { HasCleanDisk (state S.Store self.new)
+            → IfOk result (λ heads. ShowsHeads S.Store self.old heads.items) }
     {
         // Outside a transaction, the connection shows what it last committed.
         prove!(self.conn.is_autocommit());

@@ -29,7 +29,7 @@ use Rattle.store_schema.specs.Tables.{zone}
 use Rattle.store_zones.proofs.Heads.{same_head}
 use Rattle.store_zones.specs.declared.head.ZoneHead.{ZoneHead}
 use Rattle.store_zones.specs.Found.{head_of, zone_in}
-use Rattle.store_zones.specs.Held.{name_key, HoldsZone, HoldsUnder, HoldsNumbers, HoldsHeads}
+use Rattle.store_zones.specs.Held.{name_key, rows_named, HoldsZone, HoldsUnder, HoldsNumbers, HoldsHeads}
 use Rattle.store_zones.specs.Heads.{head_row}
 use Rattle.store.specs.Whole.{HoldsZones}
 
@@ -58,15 +58,20 @@ pub record HoldsFirst (r : Schema) (c : Contents) (heads : List ZoneHead) (zones
 pub first_none : (r : Schema) (c : Contents) → HoldsFirst r c [] []
 first_none r c = record { are = refl; each = tt; numbers = tt }
 
+-- the row of a head is among those that have its name
+row_named : (c : Contents) (heads : List ZoneHead) (head : ZoneHead) → HoldsHeads c heads → Has heads head
+    → Has (rows_named head.name zone c) (head_row head)
+row_named c heads head h there =
+    let named : has_key (name_key head.name) (head_row head) ≡ true =
+    and_true _ ∙ (equals head.name head.name ∙ same_itself head.name) in
+    has_kept (has_key (name_key head.name)) (c zone.tree) (head_row head)
+    (has_permuted _ _ (head_row head) h.rows (mapped head_row heads head there)) named
+
 -- a zone that was read by the name of a head has it
 has_head : (c : Contents) (heads : List ZoneHead) (head : ZoneHead) (z : Zone) → HoldsHeads c heads → Has heads head
     → HoldsZone c (record { name = head.name; zone = z }) → head_of (record { name = head.name; zone = z }) ≡ head
 has_head c heads head z h there own =
-    let named : has_key (name_key head.name) (head_row head) ≡ true =
-    and_true _ ∙ (equals head.name head.name ∙ same_itself head.name) in
-    let row = has_kept (has_key (name_key head.name)) (c zone.tree) (head_row head)
-    (has_permuted _ _ (head_row head) h.rows (mapped head_row heads head there)) named in
-    elim (subst (λ rows. Has rows (head_row head)) own.head row) [
+    elim (subst (λ rows. Has rows (head_row head)) own.head (row_named c heads head h there)) [
       | inl same ↦ sym (same_head head (head_of (record { name = head.name; zone = z })) same)
       | inr none ↦ absurd none
     ]
@@ -85,6 +90,19 @@ first_more r c heads i head zones z within at all first own =
       each = recursion_append (HoldsZone c) zones (named ∷ []) first.each (own.1, tt);
       numbers = recursion_append (HoldsNumbers r c) zones (named ∷ []) first.numbers (own.0, tt);
     }
+
+-- one that was looked for by the name of a head is there
+pub first_found : (r : Schema) (c : Contents) (heads : List ZoneHead) (i : ℕ) (head : ZoneHead)
+    (zones : List NamedZone) (found : Option Zone) → i < length heads → head ≡ get_or heads i head → HoldsHeads c heads
+    → HoldsFirst r c (take i heads) zones → HoldsUnder r c head.name found
+    → (all : List NamedZone) × HoldsFirst r c (take (i + 1) heads) all
+first_found r c heads i head zones None within at all first own =
+    absurd (subst (λ rows. Has rows (head_row head)) own
+    (row_named c heads head all (has_contained heads head (i, within, sym at))))
+first_found r c heads i head zones (Some z) within at all first own = (
+  zones ++ record { name = head.name; zone = z } ∷ [],
+  first_more r c heads i head zones z within at all first own,
+)
 
 pub first_all : (r : Schema) (c : Contents) (heads : List ZoneHead) (i : ℕ) (zones : List NamedZone)
     → length heads ≤ i → HoldsHeads c heads → HoldsFirst r c (take i heads) zones → HoldsZones r c zones

@@ -8,7 +8,7 @@ mod texts;
 
 pub use rows::{
     CHOSEN, FURTHER, SOURCES, all_lines, fill_without_sources, query_lines, records, run, run_all,
-    run_doubling,
+    run_doubling, shared_lines,
 };
 pub use stores::{
     close, commit_edits, commit_zone, load_zone, open_in_memory, open_known_rows, open_new_files,

@@ -187,17 +187,13 @@ pub fn query_lines<S: Alter>(
     Ok(lines)
 }
 
-/// A query of all rows of each table.
-const TABLES: &[&str] = &[
+/// A query of all rows of each table that every schema has.
+const SHARED_TABLES: &[&str] = &[
     "SELECT k||'/'||v FROM meta ORDER BY k",
     "SELECT id||'/'||kind||'/'||sources FROM sysmod ORDER BY id",
-    "SELECT id||'/'||name FROM source ORDER BY id, name",
     "SELECT id||'/'||srel||'/'||ifnull(fmid, '-')||'/'||pre||'/'||req||'/'||sup||'/'||npre||'/'||del FROM ver \
         ORDER BY id, srel",
     "SELECT id||'/'||srel||'/'||n||'/'||fmid||'/'||req FROM ifreq ORDER BY id, srel, n",
-    "SELECT id||'/'||srel||'/'||n||'/'||ifnull(fmid, '-')||'/'||pre||'/'||req||'/'||sup FROM morever ORDER BY id, \
-        srel, n",
-    "SELECT id||'/'||srel||'/'||v||'/'||n||'/'||fmid||'/'||req FROM moreif ORDER BY id, srel, v, n",
     "SELECT id||'/'||type||'/'||name||'/'||upd||'/'||ifnull(distlib, '-')||'/'||ifnull(syslib, \
         '-')||'/'||hex(text) FROM elem ORDER BY id, type, name",
     "SELECT id||'/'||kind||'/'||reason||'/'||fmid||'/'||ifnull(class, '-')||'/'||ifnull(date, \
@@ -207,14 +203,31 @@ const TABLES: &[&str] = &[
         ORDER BY zone, id",
     "SELECT zone||'/'||type||'/'||name||'/'||fmid||'/'||rmid||'/'||umid||'/'||distlib||'/'||syslib||'/'||hex(text) \
         FROM zelem ORDER BY zone, type, name",
+];
+
+/// The same for the tables that later schemas have added.
+const ADDED_TABLES: &[&str] = &[
+    "SELECT id||'/'||name FROM source ORDER BY id, name",
+    "SELECT id||'/'||srel||'/'||n||'/'||ifnull(fmid, '-')||'/'||pre||'/'||req||'/'||sup FROM morever ORDER BY id, \
+        srel, n",
+    "SELECT id||'/'||srel||'/'||v||'/'||n||'/'||fmid||'/'||req FROM moreif ORDER BY id, srel, v, n",
     "SELECT zone||'/'||id||'/'||n FROM chosen ORDER BY zone, id",
 ];
 
+/// All rows of the tables that every schema has.
+pub fn shared_lines<S: Alter>(alloc: Global, conn: &mut Connection<S>) -> Result<String, Fail> {
+    let mut lines = String::new(alloc);
+    for sql in SHARED_TABLES {
+        append_lines(conn, sql, &mut lines)?;
+    }
+    Ok(lines)
+}
+
 /// All rows of all tables.
 pub fn all_lines<S: Alter>(alloc: Global, conn: &mut Connection<S>) -> Result<String, Fail> {
-    let mut all = String::new(alloc);
-    for sql in TABLES {
-        append_lines(conn, sql, &mut all)?;
+    let mut lines = shared_lines(alloc, conn)?;
+    for sql in ADDED_TABLES {
+        append_lines(conn, sql, &mut lines)?;
     }
-    Ok(all)
+    Ok(lines)
 }

@@ -9,7 +9,7 @@ use std::test::Fail;
 use store_migration::migrate;
 use store_play::{
     SOURCES, all_lines, close, compare, fill_without_sources, first_difference, open_in_memory,
-    open_known_rows, open_new_files, query_lines, reopen, run_all,
+    open_known_rows, open_new_files, reopen, run_all, shared_lines,
 };
 use store_schema::StoreError;
 
@@ -151,18 +151,13 @@ const BAD: &[&str] = &[
 /// Edits after which the number is no schema's.
 const UNKNOWN: &[&str] = &["UPDATE meta SET v = 0", "UPDATE meta SET v = 4"];
 
-/// The rows of schema 1, except those of sources.
-const LEFT: &str =
-    "SELECT k||' '||v FROM meta UNION ALL SELECT id||' '||kind||' '||sources FROM sysmod UNION ALL SELECT \
-        name||' '||kind FROM zone UNION ALL SELECT zone||' '||id FROM entry ORDER BY 1";
-
-// The answer for the database with this edit, and whether its rows stay.
+// The answer for the database of schema 1 with this edit, and whether its rows stay.
 fn told_of(alloc: Global, sql: &str) -> Result<(Option<StoreError>, bool), Fail> {
     let mut conn = first(alloc, open_in_memory(alloc)?)?;
     conn.execute_batch(sql)?;
-    let before = query_lines(alloc, &mut conn, LEFT)?;
+    let before = shared_lines(alloc, &mut conn)?;
     let (mut conn, fault) = migrated(alloc, conn)?;
-    let after = query_lines(alloc, &mut conn, LEFT)?;
+    let after = shared_lines(alloc, &mut conn)?;
     Ok((fault, before.as_str() == after.as_str()))
 }
 

@@ -33,7 +33,7 @@ use thiserror::Error;
 /// Why a SYSMOD is not rejected. This does not say whether a zone has it applied.
 #[derive(Clone, Copy, Debug, PartialEq, Eq, Error)]
 pub enum RejectError {
-    #[error("the SYSMOD is not received")]
+    #[error("Rj2: the SYSMOD is not received")]
     NotReceived,
 }
 

@@ -31,9 +31,9 @@ pub enum Placed {
 /// Why a hold is not released.
 #[derive(Clone, Copy, Debug, PartialEq, Eq, Error)]
 pub enum ReleaseError {
-    #[error("there is no such hold")]
+    #[error("Rl1: there is no such hold")]
     NoHold,
-    #[error("the hold is internal")]
+    #[error("Rl2: the hold is internal")]
     Internal,
 }
 

@@ -5,13 +5,13 @@ use thiserror::Error;
 /// Why the global zone does not receive a SYSMOD: a fault of the SYSMOD, or memory ran out.
 #[derive(Clone, Copy, Debug, PartialEq, Eq, Error)]
 pub enum Refused {
-    #[error("the SYSMOD is already received")]
+    #[error("Rc1: the SYSMOD is already received")]
     AlreadyReceived,
-    #[error("the SYSMOD closes a loop of PRE, SUP and FMID")]
+    #[error("Rc2: the SYSMOD closes a loop of PRE, SUP and FMID")]
     MakesLoop,
-    #[error("a function is named where only service may be, or service where only functions may")]
+    #[error("Rc3: a function is named where only service may be, or service where only functions may")]
     WrongRole,
-    #[error("65,535 SYSMODs are received")]
+    #[error("Rc4: 65,535 SYSMODs are received")]
     NoRoom,
     #[error("out of memory")]
     Memory,

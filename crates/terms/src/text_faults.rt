@@ -21,8 +21,20 @@ pub enum TextCode {
 
 /// The first bad record of a text, counted from 1.
 #[derive(Clone, Copy, Debug, PartialEq, Eq, Error)]
-#[error("record {number} of the text is at fault")]
+#[error("{} in record {number} of the text", code_word(*code))]
 pub struct TextFault {
     pub number: usize,
     pub code: TextCode,
+}
+
+// The code, as the profile names it.
+fn code_word(code: TextCode) -> &'static str {
+    match code {
+        TextCode::NoNumber => "Tx1",
+        TextCode::NumberOutOfOrder => "Tx2",
+        TextCode::NoChangeRecord => "Tx3",
+        TextCode::OtherElement => "Tx4",
+        TextCode::BadDelete => "Tx5",
+        TextCode::UpdateOutOfOrder => "Tx6",
+    }
 }

@@ -1,5 +1,5 @@
 //! The assessment of the candidates of a RESTORE, by their ids.
-ghost use Rattle.std.specs.Prelude.{◌≡◌, List, All, IsTrue, IfOk};
+ghost use Rattle.std.specs.Prelude.{◌≡◌, List, [], All, IsTrue, IfOk};
 ghost use Rattle.terms.specs.Types.{Id as AnId};
 ghost use Rattle.terms.specs.Lookups.{IsRising, is_applied};
 ghost use Rattle.terms.specs.Restore.{restore_candidates};
@@ -28,6 +28,7 @@ pub(crate) fn assess(
     ensures assessed { IfOk result (λ assessment. (list : List AnId)
         → ids.now ≡ restore_candidates (restoring vers.now zone.now accepted.now) list
         → IsRestoreAssessed (restoring vers.now zone.now accepted.now) list ids.now assessment) }
+    ensures bypassed { IfOk result (λ assessment. assessment.bypassed.items ≡ []) }
     ensures rising { IfOk result (λ assessment. IsRising ids.now) }
 {
     let applied = applied_ids(alloc, zone)?;

@@ -83,25 +83,27 @@ hold_unanswered h old kind reason class date put =
     ∙ rw (kind, reason, class, date, mark_is h.internal) (ap (λ t. old ++ t) (sym (append-nil _)))
 
 -- an element that the zone has, or has not
-pub element_there : (type : ElemType) (name : List ℕ) (replaces : Bool) (f : ElementLevel) (old : List ℕ)
+pub element_there : (type : ElemType) (name : List ℕ) (replaces brought : Bool) (f : ElementLevel) (old : List ℕ)
     {spelled text fmid t1 t2 : List ℕ} → spelled ≡ type_text type → text ≡ name → fmid ≡ f.fmid
     → t1 ≡ old ++ words_line (codes "  ELEM" ∷ left_in 5 spelled ∷ left_in 8 text
     ∷ (if replaces then codes "REPLACES" else codes "UPDATES") ∷ codes "FMID" ∷ fmid
     ∷ (if f.owned then codes "OWNED" else codes "NOTOWNED") ∷ [])
     → t2 ≡ t1 ++ maker_line (codes "RMID") f.rmid
-    → t2 ++ flat_map (maker_line (codes "UMID")) f.umids ≡ old ++ fact_text (ElementFact type name replaces (Some f))
-element_there type name replaces f old spelled text fmid put more =
+    → t2 ++ flat_map (maker_line (codes "UMID")) f.umids
+    ≡ old ++ fact_text (ElementFact type name replaces brought (Some f))
+element_there type name replaces brought f old spelled text fmid put more =
     let rmid : List ℕ = maker_line (codes "RMID") f.rmid in
     let umids : List ℕ = flat_map (maker_line (codes "UMID")) f.umids in
     ap (λ t. t ++ umids) more ∙ append_assoc _ rmid umids ∙ lines_behind old _ (rmid ++ umids) put
     ∙ rw (spelled, text, fmid, change_is replaces, owned_is f.owned) refl
 
-pub element_missing : (type : ElemType) (name : List ℕ) (replaces : Bool) (old : List ℕ) {spelled text t : List ℕ}
+pub element_missing : (type : ElemType) (name : List ℕ) (replaces brought : Bool) (old : List ℕ)
+    {spelled text t : List ℕ}
     → spelled ≡ type_text type → text ≡ name
     → t ≡ old ++ words_line (codes "  ELEM" ∷ left_in 5 spelled ∷ left_in 8 text
     ∷ (if replaces then codes "REPLACES" else codes "UPDATES") ∷ codes "FMID" ∷ codes "-" ∷ [])
-    → t ≡ old ++ fact_text (ElementFact type name replaces None)
-element_missing type name replaces old spelled text put =
+    → t ≡ old ++ fact_text (ElementFact type name replaces brought None)
+element_missing type name replaces brought old spelled text put =
     put ∙ rw (spelled, text, change_is replaces) (ap (λ t. old ++ t) (sym (append-nil _)))
 
 -- the code of one fact more

@@ -6,7 +6,7 @@ use Rattle.terms.specs.Types.{Id}
 use Rattle.terms.specs.Lookups.{changes_of}
 use Rattle.terms.specs.Tests.{Setting}
 use Rattle.report.specs.Facts.{requisites as requisites_in, holds_on, standing_facts, ver_facts, delete_facts}
-use Rattle.report.specs.Facts.{npre_facts, IsRequisiteFact, IsHoldFact, IsElementFact, AreOrphans, AreAsked}
+use Rattle.report.specs.Facts.{SupersederFact, AreSuperseders, npre_facts, IsRequisiteFact, IsHoldFact, IsElementFact, AreOrphans, AreAsked}
 use Rattle.report.specs.Facts.{AreOfChanges, AreFacts}
 use Rattle.report.specs.declared.fact as code
 use Rattle.report.specs.FactViews.{fact_view}
@@ -46,10 +46,15 @@ module _ (s : Setting) (x : Id) where
   }
 
   pub are_facts : (all o a c n : List code.Fact.Fact) → all ≡ ((o ++ a) ++ c) ++ n
-      → map fact_view o ≡ standing_facts s.global s.zone x ++ ver_facts s x → AreAsked s x (map fact_view a)
+      → ((superseders : List Id) × AreSuperseders s x superseders
+      × (map fact_view o
+      ≡ standing_facts s.global s.zone x ++ map SupersederFact superseders ++ ver_facts s x))
+      → AreAsked s x (map fact_view a)
       → AreOfChanges s x (map fact_view c) → AreNeeded s.global s.zone x (map fact_view n)
       → AreFacts s x (map fact_view all)
   are_facts all o a c n is own asked changes needed = record {
+    superseders = own.0;
+    superseders_are = own.1;
     asked = map fact_view a;
     asked_are = asked;
     changes = map fact_view c;
@@ -60,6 +65,6 @@ module _ (s : Setting) (x : Id) where
     facts_are = ap (map fact_view) is ∙ map-append fact_view ((o ++ a) ++ c) n
         ∙ ap₂ (λ l m. l ++ m)
         (map-append fact_view (o ++ a) c ∙ ap (λ l. l ++ map fact_view c)
-        (map-append fact_view o a ∙ ap (λ l. l ++ map fact_view a) own))
+        (map-append fact_view o a ∙ ap (λ l. l ++ map fact_view a) own.2))
         needed.facts_are;
   }

@@ -7,7 +7,7 @@ use Rattle.terms.specs.Spelling.{kind_text, hold_text, type_text, need_text}
 use Rattle.report.specs.Facts.{Standing, StandsApplied, StandsSuperseded, StandsDeleted, StandsReceived, StandsMissing}
 use Rattle.report.specs.Facts.{Requisite, Resolution, Supplied, Waived, ByItself, Open, Relation, Itself, Over, NotOver}
 use Rattle.report.specs.Facts.{Maker, ElementLevel, Fact}
-use Rattle.report.specs.Facts.{StandingFact, EntryFact, VerFact, RequisiteFact, HoldFact, ElementFact, DeleteFact}
+use Rattle.report.specs.Facts.{StandingFact, SupersederFact, EntryFact, VerFact, RequisiteFact, HoldFact, ElementFact, DeleteFact}
 use Rattle.report.specs.Facts.{TakesFact, NpreFact, ForbiddenFact, NeededFact}
 use Rattle.report.specs.Views.{applied_word}
 use Rattle.report.specs.WordTexts.{inner_line}
@@ -103,13 +103,14 @@ change_text false = codes "UPDATES"
 -- the lines of a fact
 abbrev pub fact_text : Fact → Text
 fact_text (StandingFact x kind s) = words_line (x ∷ left_in 8 (type_word kind) ∷ standing_word s ∷ [])
+fact_text (SupersederFact y) = detail_line (codes "SUPBY" ∷ y ∷ codes "RECEIVED" ∷ [])
 fact_text (EntryFact kind e) = 32 ∷ 32 ∷ entry_text kind e
 fact_text (VerFact n fmid fit counts) =
     detail_line (codes "VER" ∷ decimal n ∷ codes "FMID" ∷ optional_text fmid ∷ word_if fit (codes "FITS")
     ∷ word_if counts (codes "COUNTS") ∷ [])
 fact_text (RequisiteFact r a) = requisite_text r a
 fact_text (HoldFact h o) = hold_lines h o
-fact_text (ElementFact type name replaces f) =
+fact_text (ElementFact type name replaces brought f) =
     detail_line (codes "ELEM" ∷ left_in 5 (type_text type) ∷ left_in 8 name ∷ change_text replaces ∷ codes "FMID"
     ∷ level_words f) ++ level_lines f
 fact_text (DeleteFact z own) = detail_line (codes "DELETE" ∷ z ∷ word_if own (codes "CHAIN") ∷ [])

@@ -95,8 +95,8 @@ fn is_installable(asking: &Asking<'_, '_>, id: Id) -> bool
     scope.vers.has_ver(id) && !scope.zone.supplies(id) && !scope.zone.is_deleted(id)
 }
 
-// The received SYSMODs that may be installed and that would supply the id for this kind of need.
-fn installable_suppliers(
+/// The received SYSMODs that may be installed and that would supply the id for this kind of need.
+pub(crate) fn installable_suppliers(
     alloc: Global,
     asking: &Asking<'_, '_>,
     kind: NeedKind,

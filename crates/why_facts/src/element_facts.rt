@@ -98,6 +98,7 @@ pub(crate) fn element_facts(
             elem_type: change.elem_type,
             name: change.name,
             replaces: change.is_replacement(),
+            brought: asking.is_brought(change.elem_type, change.name),
             found,
         }))?;
     }

@@ -1,12 +1,14 @@
 //! All facts of an id in a zone.
-ghost use Rattle.std.specs.Prelude.{◌≡◌, ◌+◌, ◌++◌, filter, IfOk};
+ghost use Rattle.std.specs.Prelude.{◌≡◌, ◌+◌, ◌++◌, List, map, filter, IfOk};
+ghost use Rattle.terms.specs.Types.{Id as AnId};
 ghost use Rattle.terms.specs.Lookups.{IsZone, is_function, applied_ids};
 ghost use Rattle.terms.specs.Choice.{place};
 ghost use Rattle.sysmods.specs.Choices.{number_in};
 ghost use Rattle.undo.specs.Scopes.{restoring_from};
 ghost use Rattle.zones.specs.Scopes.{global_of, setting_of};
 ghost use Rattle.why_facts.specs.Asking.{setting_in};
-ghost use Rattle.report.specs.Facts.{standing_facts, ver_facts, AreAsked, AreOfChanges, AreFacts};
+ghost use Rattle.report.specs.Facts.{SupersederFact, AreSuperseders, standing_facts, ver_facts};
+ghost use Rattle.report.specs.Facts.{AreAsked, AreOfChanges, AreFacts};
 ghost use Rattle.why_facts.specs.Needed.{needed_pairs};
 ghost use Rattle.report.specs.FactViews.{facts_view};
 
@@ -19,6 +21,7 @@ use crate::joining::join_facts;
 use crate::needed::{needed_facts, needed_pairs};
 use crate::requisites::requisite_facts;
 use crate::standing::standing_facts;
+use crate::superseders::superseder_facts;
 use crate::vers::ver_facts;
 use fields::{Id, IdList};
 use report::Fact;
@@ -72,20 +75,36 @@ fn functions_among(alloc: Global, global: &GlobalZone, ids: &[Id]) -> Result<Vec
         .collect(alloc)
 }
 
-// The state of the id, its entry, and its `++VER`s.
-fn standing_and_ver_facts<'a>(
+// The state of the id, its entry, and the SYSMODs that supersede it if it is missing.
+fn standing_and_superseder_facts<'a>(
     alloc: Global,
     lookups: &Lookups<'a>,
-    scope: &Scope<'_, 'a>,
-    id: Id,
+    asking: &Asking<'_, 'a>,
 ) -> Result<Vec<Fact<'a>>, AllocError>
-    requires { number_in scope.now.vers.now id
-        ≡ place scope.now.vers.now.global.now scope.now.zone.now scope.now.ids.now id + 1 }
-    ensures { IfOk result (λ facts. facts_view facts.items
-        ≡ standing_facts lookups.now.global.now lookups.now.zone.now id ++ ver_facts (setting_of scope.now) id) }
+    ensures { IfOk result (λ facts. (ids : List AnId) × AreSuperseders (setting_in asking.now) asking.now.id ids
+        × (facts_view facts.items
+        ≡ standing_facts lookups.now.global.now lookups.now.zone.now asking.now.id ++ map SupersederFact ids)) }
 {
-    let facts = standing_facts(alloc, lookups.global, lookups.zone, id)?;
-    let vers = ver_facts(alloc, scope, id)?;
+    let facts = standing_facts(alloc, lookups.global, lookups.zone, asking.id)?;
+    let superseders = superseder_facts(alloc, asking)?;
+    join_facts(facts, superseders)
+}
+
+// The same, and its `++VER`s.
+fn own_facts<'a>(
+    alloc: Global,
+    lookups: &Lookups<'a>,
+    asking: &Asking<'_, 'a>,
+) -> Result<Vec<Fact<'a>>, AllocError>
+    requires { number_in asking.now.scope.vers.now asking.now.id
+        ≡ place (global_of asking.now.scope) asking.now.scope.zone.now asking.now.scope.ids.now asking.now.id + 1 }
+    ensures { IfOk result (λ facts. (ids : List AnId) × AreSuperseders (setting_in asking.now) asking.now.id ids
+        × (facts_view facts.items
+        ≡ standing_facts lookups.now.global.now lookups.now.zone.now asking.now.id ++ map SupersederFact ids
+        ++ ver_facts (setting_in asking.now) asking.now.id)) }
+{
+    let facts = standing_and_superseder_facts(alloc, lookups, asking)?;
+    let vers = ver_facts(alloc, &asking.scope, asking.id)?;
     join_facts(facts, vers)
 }
 
@@ -124,9 +143,9 @@ fn all_facts<'a>(
         ≡ place (global_of asking.now.scope) asking.now.scope.zone.now asking.now.scope.ids.now asking.now.id + 1 }
     ensures { IfOk result (λ facts. AreFacts (setting_in asking.now) asking.now.id (facts_view facts.items)) }
 {
-    let first = standing_and_ver_facts(alloc, lookups, &asking.scope, asking.id)?;
+    let own = own_facts(alloc, lookups, asking)?;
     let asked = requisite_and_hold_facts(alloc, asking)?;
-    let up_to_holds = join_facts(first, asked)?;
+    let up_to_holds = join_facts(own, asked)?;
     let changes = change_facts(alloc, asking)?;
     let up_to_changes = join_facts(up_to_holds, changes)?;
     let needed = needed_facts(alloc, lookups.needed.as_slice(), asking.id)?;

@@ -21,6 +21,7 @@ mod looks;
 mod needed;
 mod requisites;
 mod standing;
+mod superseders;
 mod text;
 mod vers;
 

@@ -2,8 +2,9 @@
 ghost use Rattle.std.specs.Prelude.{◌≡◌, not, filter, option_copied, IfOk};
 ghost use Rattle.terms.specs.Lookups.{is_applied, element_of, supby_of};
 ghost use Rattle.terms.specs.Needs.{is_met};
+ghost use Rattle.terms.specs.Tests.{has_candidate_base};
 ghost use Rattle.zones.specs.Gone.{is_gone};
-ghost use Rattle.why_facts.specs.Asking.{view_in, left_in, is_there};
+ghost use Rattle.why_facts.specs.Asking.{setting_in, view_in, left_in, is_there};
 
 use crate::asking::Asking;
 use fields::{Id, Name};
@@ -31,6 +32,19 @@ impl<'a, 'b> Asking<'a, 'b> {
         ensures { option_copied result ≡ element_of (view_in self.now) elem_type name }
     {
         self.seen.element(elem_type, name)
+    }
+
+    /// Whether the FMID of the id in question is a candidate that replaces the element.
+    pub(crate) fn is_brought(&self, elem_type: ElemType, name: Name) -> bool
+        ensures { result ≡ has_candidate_base (setting_in self.now) self.now.id elem_type name }
+    {
+        let scope = &self.scope;
+        match scope.fmid(self.id) {
+            Some(fmid) => {
+                scope.ids.contains(fmid) && scope.global().has_replacement(fmid, elem_type, name)
+            }
+            None => false,
+        }
     }
 
     /// Whether the SYSMOD is applied, and the DELETE of the id in question does not take it out.

@@ -18,8 +18,8 @@ fn is_superseded(zone: &Zone, id: Id) -> bool
     zone.entry(id).is_some_and(|entry| !entry.supby.is_empty())
 }
 
-// The state of the id in the zone. For an id with no state there, it says whether the id is received.
-fn standing(global: &GlobalZone, zone: &Zone, id: Id) -> Standing
+/// The state of the id in the zone. For an id with no state there, it says whether the id is received.
+pub(crate) fn standing(global: &GlobalZone, zone: &Zone, id: Id) -> Standing
     ensures { standing_view result ≡ standing global.now zone.now id }
 {
     if zone.is_applied(id) {

@@ -35,6 +35,10 @@ fn append_fact(fact: &Fact<'_>, text: &mut Vec<u8>) -> Result<(), AllocError>
             let standing = LineWord::Text(standing_word(*standing));
             append_words(id.as_bytes(), &[kind, standing], text)
         }
+        Fact::Superseder(id) => {
+            let received = LineWord::Text(b"RECEIVED");
+            append_words(b"  SUPBY", &[LineWord::Text(id.as_bytes()), received], text)
+        }
         Fact::Entry { kind, entry } => append_words(b"  ENTRY", &entry_words(*kind, entry), text),
         Fact::Ver(ver) => append_ver(ver, text),
         Fact::Requisite {

@@ -97,9 +97,10 @@ there_reason t type name f =
     else if by_makers t then makers_reason t type name f
     else []
 
-abbrev pub missing_reason : Test → ElemType → Text → Bool → Text
-missing_reason t type name replaces =
-    if by_update t && not replaces then element_reason t type name (codes "there is none to update" ∷ []) else []
+abbrev pub missing_reason : Test → ElemType → Text → Bool → Bool → Text
+missing_reason t type name replaces brought =
+    if by_update t && not replaces && not brought
+    then element_reason t type name (codes "there is none to update" ∷ []) else []
 
 -- the lines of a failed test that rests on this fact
 abbrev pub reason : Bypass → Test → Fact → Text
@@ -108,8 +109,8 @@ reason b t (VerFact n fmid fit counts) =
     then inner_line (test_text t ∷ codes "VER" ∷ decimal n ∷ codes "FMID" ∷ optional_text fmid ∷ codes "fits" ∷ [])
     else []
 reason b t (HoldFact h o) = hold_reason b t h
-reason b t (ElementFact type name replaces (Some f)) = there_reason t type name f
-reason b t (ElementFact type name replaces None) = missing_reason t type name replaces
+reason b t (ElementFact type name replaces brought (Some f)) = there_reason t type name f
+reason b t (ElementFact type name replaces brought None) = missing_reason t type name replaces brought
 reason b t (DeleteFact z own) =
     if by_delete t && own then inner_line (test_text t ∷ codes "DELETE" ∷ z ∷ codes "is in its own chain" ∷ []) else []
 reason b t (NpreFact y applied) =
@@ -159,11 +160,12 @@ abbrev pub first_answer : NeedKind → Id → List Fact → Option Resolution
 first_answer kind z [] = None
 first_answer kind z (f ∷ fs) = or_other (answered kind z f) (first_answer kind z fs)
 
--- the SYSMODs that would supply it
+-- the SYSMODs that would supply it, or that supply it until the command deletes them
 abbrev pub supply_words : Option Resolution → List Text
 supply_words (Some ByItself) = codes "it supplies this itself" ∷ []
 supply_words (Some (Open (y ∷ ys))) = list_text (y ∷ ys) ∷ codes "would supply it" ∷ []
-supply_words (Some (Open [])) = codes "no SYSMOD that supplies it is received" ∷ []
+supply_words (Some (Open [])) = codes "no SYSMOD that supplies it can be installed" ∷ []
+supply_words (Some (Supplied ids)) = codes "another candidate's DELETE takes out" ∷ list_text ids ∷ []
 supply_words _ = codes "nothing supplies it" ∷ []
 
 abbrev pub need_line : OpenNeed → List Text → Text

@@ -187,16 +187,18 @@ fn append_existing_element_reason<'a>(
     Ok(())
 }
 
-// Appends that the zone does not have the element to update, if the test failed because of that.
+// Appends that the zone does not have the element to update, if the test failed because of that: no candidate that is
+// the FMID of the id brings the element.
 fn append_missing_element_reason(
     test: Test,
     element: &ChangedElement,
     text: &mut Vec<u8>,
 ) -> Result<(), AllocError>
     ensures { OnOk result (text.new.items
-        ≡ text.old.items ++ missing_reason test element.now.elem_type element.now.name element.now.replaces) }
+        ≡ text.old.items
+        ++ missing_reason test element.now.elem_type element.now.name element.now.replaces element.now.brought) }
 {
-    let is_reason = is_update_test(test) && !element.replaces;
+    let is_reason = is_update_test(test) && !element.replaces && !element.brought;
     if !is_reason {
         return Ok(());
     }
@@ -313,6 +315,7 @@ fn append_reason(
         Fact::Npre { id, applied } => append_npre_reason(test, id, *applied, text),
         Fact::Forbidden(id) => append_forbidden_reason(test, id, text),
         Fact::Standing { .. }
+        | Fact::Superseder(_)
         | Fact::Entry { .. }
         | Fact::Requisite { .. }
         | Fact::Takes(_)

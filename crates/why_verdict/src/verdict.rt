@@ -6,7 +6,7 @@ ghost use Rattle.terms.specs.Spelling.{need_text};
 ghost use Rattle.judge_system.specs.TestSets.{tests_of};
 ghost use Rattle.judge_system.specs.Views.{need_view, failure_view};
 ghost use Rattle.report.specs.Views.{status_view, line_view};
-ghost use Rattle.report.specs.Facts.{Open};
+ghost use Rattle.report.specs.Facts.{Supplied, Open};
 ghost use Rattle.report.specs.FactViews.{resolution_view, fact_view};
 ghost use Rattle.why_verdict.specs.Verdict.{answered, first_answer, supply_words, need_line, need_told, causer_told};
 ghost use Rattle.why_verdict.specs.Verdict.{test_told, failure_told, verdict_word, why_told, status_told};
@@ -65,7 +65,7 @@ fn first_resolution<'f>(need: &OpenNeed, facts: &'f [Fact<'_>]) -> Option<&'f Re
     None
 }
 
-// Appends the line of a need with the received SYSMODs that would supply it.
+// Appends the line of a need with the received SYSMODs that would supply it, or says that there are none.
 fn append_open_need<'a>(
     need: &'a OpenNeed,
     ids: &'a [Id],
@@ -75,7 +75,7 @@ fn append_open_need<'a>(
         ≡ text.old.items ++ need_line (need_view need.now) (supply_words (Some (Open ids.now)))) }
 {
     if ids.is_empty() {
-        return append_need_line(need, b"no SYSMOD that supplies it is received", text);
+        return append_need_line(need, b"no SYSMOD that supplies it can be installed", text);
     }
     let need_word = LineWord::Text(b"NEED");
     let kind = LineWord::Text(need_text(need.kind));
@@ -83,6 +83,24 @@ fn append_open_need<'a>(
     let ids = LineWord::Ids(ids);
     let would = LineWord::Text(b"would supply it");
     let words = [need_word, kind, id, ids, would];
+    append_words(INDENT, &words, text)
+}
+
+// Appends the line of a need with the SYSMODs that supply it until another candidate deletes them.
+fn append_deleted_need<'a>(
+    need: &'a OpenNeed,
+    ids: &'a [Id],
+    text: &mut Vec<u8>,
+) -> Result<(), AllocError>
+    ensures { OnOk result (text.new.items
+        ≡ text.old.items ++ need_line (need_view need.now) (supply_words (Some (Supplied ids.now)))) }
+{
+    let need_word = LineWord::Text(b"NEED");
+    let kind = LineWord::Text(need_text(need.kind));
+    let id = LineWord::WithColon(need.id.as_bytes());
+    let takes_out = LineWord::Text(b"another candidate's DELETE takes out");
+    let ids = LineWord::Ids(ids);
+    let words = [need_word, kind, id, takes_out, ids];
     append_words(INDENT, &words, text)
 }
 
@@ -115,7 +133,8 @@ fn append_need_resolution<'a>(
         return append_need_line(need, UNSUPPLIED, text);
     };
     match resolution {
-        Resolution::Supplied(_) | Resolution::Waived => append_need_line(need, UNSUPPLIED, text),
+        Resolution::Supplied(ids) => append_deleted_need(need, ids.as_slice(), text),
+        Resolution::Waived => append_need_line(need, UNSUPPLIED, text),
         Resolution::ByItself => append_need_line(need, b"it supplies this itself", text),
         Resolution::Open(ids) => append_open_need(need, ids.as_slice(), text),
     }

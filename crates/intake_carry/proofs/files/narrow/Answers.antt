@@ -7,8 +7,8 @@ use Rattle.intake_carry.specs.Carried.{FileBecomes, is_held_by_copy}
 use Rattle.intake_sysmod.specs.Users.{run_of}
 use Rattle.intake_carry.proofs.files.narrow.Goals as goal
 
-pub returns : goal.returns
-returns c = λ holds carried.
+pub returns-clause-items : goal.returns-clause-items
+returns-clause-items c = λ holds carried.
     let gathered = c.in-Ok.gathered in
     let files = c.args.files.now in
     let held = c.args.held.placed.items in

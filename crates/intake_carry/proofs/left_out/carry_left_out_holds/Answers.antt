@@ -1,4 +1,4 @@
-use Rattle.std.proofs.Common.{[], ◌++◌, ◌∷◌, Some, ap, length, subst, sym, refl, arith, append-nil}
+use Rattle.std.proofs.Common.{[], ◌∷◌, Some, ap, length, subst, sym, refl, arith, append-nil}
 use Rattle.std.specs.Prelude.{◌↔◌, IsTrue}
 use Rattle.mcs.specs.declared.hold_item.HoldItem.TheVariants.{Hold}
 use Rattle.intake_holds.specs.Holds.{LeftHoldBecomes, IsInternal, IsFixcat, IsLeft, left_at}

@@ -1,15 +1,18 @@
-use Rattle.std.proofs.Common.{map, option_map, inr}
+use Rattle.std.proofs.Common.{◌≡◌, ◌∙◌, ap, map, option_map, inr, refl, Some, None, Option, is_some, Vec, ℕ}
 use Rattle.std.proofs.lemmas.Result.{on_ok_weaker, on_err_weaker}
-use Rattle.mcs.specs.Files as ptfin
-use Rattle.mcs.specs.HoldItems as hold
+use Rattle.std.specs.declared.alloc.Global.{Global}
 use Rattle.intake_command.specs.Files.{named}
-use Rattle.intake_command.proofs.Within.{service_outputs}
 use Rattle.intake_command.proofs.keep.keep_service.Goals as goal
+
+same_some : (o : Option (Vec ℕ Global)) → is_some (option_map (λ bytes. bytes.items) o) ≡ is_some o
+same_some None = refl
+same_some (Some bytes) = refl
 
 pub returns-clause-ok : goal.returns-clause-ok
 returns-clause-ok g c =
     on_ok_weaker c.put_files.result (λ put. (
-      map named c.service_files-files.result,
+      map named c.deref.result.now,
+      map (λ n. n.now) c.service_removals-removed.result.now,
       (
         c.in_ok-ptfin.ptfin.items,
         c.in_ok-hold.hold.items,
@@ -17,24 +20,12 @@ returns-clause-ok g c =
         option_map (λ bytes. bytes.items) c.args.stand_ins,
         c.in_ok-ptfin.ensures,
         c.in_ok-hold.ensures,
-        c.service_files-files.ensures,
+        same_some c.args.stand_ins,
+        ap (map named) c.deref.ensures.value ∙ c.in_ok-files.ensures,
+        c.service_removals-removed.ensures,
       ),
       put,
     )) c.put_files.ensures.ok
 
 pub returns-clause-err : goal.returns-clause-err
-returns-clause-err g c =
-    on_err_weaker c.put_files.result (λ lost. inr (
-      map named c.service_files-files.result,
-      lost.0,
-      service_outputs (ptfin.items c.args.meant.now) (hold.items c.args.held.now) _ (
-        c.in_ok-ptfin.ptfin.items,
-        c.in_ok-hold.hold.items,
-        c.args.remarks.items,
-        option_map (λ bytes. bytes.items) c.args.stand_ins,
-        c.in_ok-ptfin.ensures,
-        c.in_ok-hold.ensures,
-        c.service_files-files.ensures,
-      ),
-      lost.1,
-    )) c.put_files.ensures.err
+returns-clause-err g c = on_err_weaker c.put_files.result (λ left. inr left) c.put_files.ensures.err

@@ -1,7 +1,7 @@
 use Rattle.std.proofs.lemmas.List.Elements.{All-nil}
 use Rattle.intake_command.specs.Serving.{DraftsRemarks}
 use Rattle.intake_command.proofs.Doing.{idle, on_err}
-use Rattle.intake_command.proofs.Within.{drafts_more, drafts_within, within}
+use Rattle.intake_command.proofs.Harmless.{drafts_more, drafts_harmless, harmless}
 use Rattle.intake_command.proofs.service.draft_remarks.Goals as goal
 
 pub loop-place-init : goal.loop-place-init
@@ -13,12 +13,12 @@ loop-place-preserved g c =
 
 pub returns-in_err-append_remark_line-clause-err : goal.returns-in_err-append_remark_line-clause-err
 returns-in_err-append_remark_line-clause-err g c =
-    on_err _ (drafts_within g.H.IntakeHost c.args.folder.now c.loop-place.invariant)
+    on_err _ (drafts_harmless g.H.IntakeHost c.args.folder.now c.loop-place.invariant)
 
 pub returns-in_err-lines-clause-err : goal.returns-in_err-lines-clause-err
 returns-in_err-lines-clause-err g c =
-    on_err _ (within g.H.IntakeHost c.args.folder.now
-    (drafts_within g.H.IntakeHost c.args.folder.now c.loop-place.invariant) c.in_err-lines.ensures.err)
+    on_err _ (harmless g.H.IntakeHost c.args.folder.now
+    (drafts_harmless g.H.IntakeHost c.args.folder.now c.loop-place.invariant) c.in_err-lines.ensures.err)
 
 pub returns-clause-ok : goal.returns-clause-ok
 returns-clause-ok g c = c.loop-place.invariant

@@ -1,19 +1,23 @@
 use Rattle.std.proofs.Common.{ap, length, refl, arith}
 use Rattle.std.specs.String.{string_bytes}
 use Rattle.intake_command.proofs.Doing.{idle, on_err, quiet, quiet_did, weaker}
-use Rattle.intake_command.proofs.OneByOne.{read_next, read_whole}
-use Rattle.intake_command.proofs.Within.{read_quiet}
+use Rattle.intake_holds.proofs.Adding.{adds_none}
+use Rattle.intake_command.specs.Serving.{held_in}
+use Rattle.intake_command.proofs.OneByOne.{added_next, read_next, read_whole}
+use Rattle.intake_command.proofs.Harmless.{read_quiet}
 use Rattle.intake_command.proofs.service.read_files.Goals as goal
 
 pub loop-name-init : goal.loop-name-init
 loop-name-init g c = record {
   read = idle g.H.IntakeHost _ (c.new-files.ensures.items, refl);
-  held = λ k. k;
+  held = adds_none c.args.held.now (held_in c.new-files.result.items) (ap held_in c.new-files.ensures.items);
 }
 
 pub loop-name-preserved : goal.loop-name-preserved
 loop-name-preserved g c = record {
-  held = λ k. c.in_ok-file.ensures.held (c.loop-name.invariant.held k);
+  held = added_next c.args.held.now c.loop-name.held c.read_file.new.held c.loop-name.files.items
+      c.push.new.self.items c.in_ok-file.file c.in_ok-push.ensures.items c.loop-name.invariant.held
+      c.in_ok-file.ensures.held;
   read = read_next g.H.IntakeHost string_bytes c.args.asked.now.files.items c.loop-name.name-index c.name-item.result _
       c.loop-name.files.items c.push.new.self.items c.in_ok-file.file c.in_ok-file.ensures.ok.0
       (omega (arith, ap length c.deref-name-items.ensures.value))

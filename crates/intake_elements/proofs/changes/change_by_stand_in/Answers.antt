@@ -1,4 +1,4 @@
-use Rattle.std.proofs.Common.{subst, sym}
+use Rattle.std.proofs.Common.{subst, sym, ◌∙◌, true≢false}
 use Rattle.std.proofs.lemmas.Result.{IfOk-weaker}
 use Rattle.std.proofs.lemmas.Option.{IfSome_then}
 use Rattle.intake_elements.specs.Elements.{IsTarget}
@@ -12,5 +12,6 @@ returns c =
       target_is = subst (λ decide. IsTarget decide stated.word.items stated.name.items change.elem_type change.name)
           (sym c.if-not-options.false) made.0;
       action_is = made.1;
-      level_free = c.requires.level_free c.if-not-options.false;
+      lacks_nothing = c.requires.lacks_nothing c.if-not-options.false;
+      text_is = λ e. absurd (true≢false (sym c.if-not-options.false ∙ e));
     })) c.stand_in_change.ensures

@@ -6,7 +6,8 @@ pub returns : goal.returns
 returns c =
     let id = rw c.in-Some-2.is at c.in_ok-function.ensures in
     record {
-      function_is = ap text_in c.in-Some.is ∙ ap (λ t. Some t) (sym (id ∙ c.as_slice-2.ensures.value));
-      req_is = subst (λ l. AreSame l c.in-Some-3.req) c.as_slice-3.ensures.value
+      read = sym c.as_slice-faulty.ensures.value ∙ c.are_all_read.ensures c.if-not-are_all_read.false;
+      function_is = ap text_in c.in-Some.is ∙ ap (λ t. Some t) (sym (id ∙ c.as_slice.ensures.value));
+      req_is = subst (λ l. AreSame l c.in-Some-3.req) c.as_slice-2.ensures.value
           (rw c.in-Some-3.is at c.in_ok-req.ensures);
     }

@@ -1,7 +1,7 @@
 use Rattle.std.proofs.Common.{ap, length, arith, ◌∙◌}
 use Rattle.terms.proofs.BesideLists.{beside_next, beside_through}
 use Rattle.intake_sysmod.specs.NoLooser.{IsVer}
-use Rattle.intake_sysmod.proofs.VersMore.{ver_made}
+use Rattle.intake_sysmod.proofs.VersMore.{ver_made, wholly_read}
 use Rattle.intake_sysmod.proofs.vers.vers_for_srels.Goals as goal
 
 pub loop-srel-preserved : goal.loop-srel-preserved
@@ -14,6 +14,9 @@ loop-srel-preserved c =
     c.requires (c.in-Some.ensures.same ∙ c.as_slice.ensures.value) c.in_ok-ver_for_srel.ensures) c.loop-srel.invariant
 
 pub returns : goal.returns
-returns c =
-    beside_through (λ _ s. IsVer c.args.stated.now s.items) c.args.stated.now.srels.items c.loop-srel.vers.items
-    c.loop-srel.srel-index (omega (arith, ap length c.deref-srel-items.ensures.value)) c.loop-srel.invariant
+returns c = record {
+  read = wholly_read c.args.stated.now c.args.operands.now c.requires;
+  each = beside_through (λ _ s. IsVer c.args.stated.now s.items) c.args.stated.now.srels.items
+      c.loop-srel.vers.items c.loop-srel.srel-index (omega (arith, ap length c.deref-srel-items.ensures.value))
+      c.loop-srel.invariant;
+}

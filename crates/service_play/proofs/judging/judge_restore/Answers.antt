@@ -1,7 +1,6 @@
 use Rattle.std.proofs.Common.{All, IsTrue, subst, sym}
 use Rattle.std.proofs.lemmas.List.Elements.{filter_passes}
 use Rattle.terms.specs.Lookups.{is_applied}
-use Rattle.judge_system.proofs.Judging.{has_parts}
 use Rattle.service_play.proofs.judging.judge_restore.Goals as goal
 
 pub restore_system-requires : goal.restore_system-requires
@@ -9,9 +8,3 @@ restore_system-requires c =
     let zone = c.args.zone.now in
     let has = c.in_ok-candidates.ensures in
     subst (All (λ x. IsTrue (is_applied zone x))) (sym has.ids) (filter_passes (is_applied zone) has.listed)
-
-pub append_judged-requires : goal.append_judged-requires
-append_judged-requires c =
-    let has = c.in_ok-candidates.ensures in
-    has_parts _ _ _ _ c.in_ok-candidates.candidates.ids c.in_ok-judged.judged
-    (c.in_ok-judged.ensures has.listed has.ids)

@@ -16,7 +16,7 @@ returns g c =
     let it = c.in_ok-store.ensures.ok in
     let begun = c.in_ok-store.store in
     let at = c.verify-verification.new.store in
-    let loads = c.verify-verification.ensures in
+    let loads = c.verify-verification.ensures.loads in
     let alone = loads_alone g.H.Disk.Store begun at c.verify-verification.result loads.reads in
     inr (record {
       begun = begun;
@@ -29,7 +29,11 @@ returns g c =
       closed = λ clean s is closed. looked_closed g.H.Disk.Store begun at c.verify-verification.result alone
           (loads.clean clean)
           clean s (it.over.stands (kept s) is) closed;
-      goes = (alone, loads.none);
+      goes = (
+        alone,
+        loads.none,
+        λ clean. c.verify-verification.ensures.stands clean (it.over.ours (loads.clean clean)),
+      );
       closes = subst (λ conn. g.H.Host.closes c.open_store.new.host conn c.close-2.new.self) c.close.ensures.same
           c.close-2.ensures.closed;
     })

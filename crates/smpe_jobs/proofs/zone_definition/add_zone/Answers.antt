@@ -25,14 +25,14 @@ returns-in_err-heads-clause-ends g c = λ clean s keeps.
     let d = definition c.args.name c.args.kind c.args.srel c.args.related in
     defined_failed g.S.Store old new s d e c.from_residual.result c.from_residual.ensures.1
     (act_unmoved g.S.Store old new s (Define d) e
-    (loaded g.S.Store old new s _ (Err e) clean c.in_err-heads.ensures keeps))
+    (loaded g.S.Store old new s _ (Err e) clean c.in_err-heads.ensures.loads keeps))
 
 -- the definition is refused
 pub returns-in-Some-clause-ends : goal.returns-in-Some-clause-ends
 returns-in-Some-clause-ends g c = λ clean s keeps.
     let d = definition c.args.name c.args.kind c.args.srel c.args.related in
     let had = loaded g.S.Store c.args.store.now c.zone_heads.new.self s _ (Ok c.in_ok-heads.heads) clean
-    c.in_ok-heads.ensures keeps in
+    c.in_ok-heads.ensures.loads keeps in
     let found = c.as_slice.ensures.value ∙ had.0 in (
       refuses s d c.in-Some.fault (sym (c.first_fault.ensures.fault ∙ ap (λ heads. first_fault heads d) found)
           ∙ c.in-Some.is),
@@ -49,7 +49,7 @@ returns-in_err-commit-clause-ends g c = λ clean s keeps.
     let d = definition c.args.name c.args.kind c.args.srel c.args.related in
     let added = NewZone c.args.name c.args.kind c.args.srel c.args.related in
     let sure = c.commit.ensures.clean clean in
-    let had = loaded g.S.Store old before s _ (Ok c.in_ok-heads.heads) sure c.in_ok-heads.ensures keeps in
+    let had = loaded g.S.Store old before s _ (Ok c.in_ok-heads.heads) sure c.in_ok-heads.ensures.loads keeps in
     let found = c.as_slice.ensures.value ∙ had.0 in
     let answers = accepts s d (sym (c.first_fault.ensures.fault ∙ ap (λ heads. first_fault heads d) found) ∙
     c.in_default.is)
@@ -60,7 +60,7 @@ returns-in_err-commit-clause-ends g c = λ clean s keeps.
     defined_failed g.S.Store old new s d e c.from_residual-in_err-commit.result
     c.from_residual-in_err-commit.ensures.1
     (failed_since g.S.Store old before new s (is_later g.S.Store old before
-    (call_load g.S.Store old before _ (Ok c.in_ok-heads.heads) c.in_ok-heads.ensures).follows)
+    (call_load g.S.Store old before _ (Ok c.in_ok-heads.heads) c.in_ok-heads.ensures.loads).follows)
     (IsAfter s (Define d)) (LeadsOn s (Define d)) e
     (failed_more g.S.Store before new s (λ k. k ≡ kept t) (IsAfter s (Define d)) (λ own. own ≡ added)
     (LeadsOn s (Define d)) (λ k same. (t, [], steps_defined s t d answers, same))
@@ -75,7 +75,7 @@ returns-clause-ends g c = λ clean s keeps.
     let before = c.zone_heads.new.self in
     let d = definition c.args.name c.args.kind c.args.srel c.args.related in
     let sure = c.commit.ensures.clean clean in
-    let had = loaded g.S.Store c.args.store.now before s _ (Ok c.in_ok-heads.heads) sure c.in_ok-heads.ensures keeps in
+    let had = loaded g.S.Store c.args.store.now before s _ (Ok c.in_ok-heads.heads) sure c.in_ok-heads.ensures.loads keeps in
     let found = c.as_slice.ensures.value ∙ had.0 in
     let answers = accepts s d (sym (c.first_fault.ensures.fault ∙ ap (λ heads. first_fault heads d) found) ∙
     c.in_default.is)
@@ -97,13 +97,13 @@ returns-in_err-heads-clause-goes g c =
     goes_failed g.S.Store c.args.store.now c.zone_heads.new.self
     (definition c.args.name c.args.kind c.args.srel c.args.related) (λ _. ⊥) e c.from_residual.result
     c.from_residual.ensures.1 (λ change none. absurd none)
-    (call_load g.S.Store c.args.store.now c.zone_heads.new.self _ (Err e) c.in_err-heads.ensures)
+    (call_load g.S.Store c.args.store.now c.zone_heads.new.self _ (Err e) c.in_err-heads.ensures.loads)
 
 pub returns-in-Some-clause-goes : goal.returns-in-Some-clause-goes
 returns-in-Some-clause-goes g c =
     let old = c.args.store.now in
     let new = c.zone_heads.new.self in
-    let loads = c.in_ok-heads.ensures in
+    let loads = c.in_ok-heads.ensures.loads in
     record {
       call = record {
         follows = (call_load g.S.Store old new _ (Ok c.in_ok-heads.heads) loads).follows;
@@ -128,7 +128,7 @@ returns-in_err-commit-clause-goes g c =
     (λ own. own ≡ added) e c.from_residual-in_err-commit.result c.from_residual-in_err-commit.ensures.1
     (λ change own. own)
     (call_after g.S.Store old before new (λ own. own ≡ added) c.in_ok-heads.heads _
-    (call_load g.S.Store old before _ (Ok c.in_ok-heads.heads) c.in_ok-heads.ensures)
+    (call_load g.S.Store old before _ (Ok c.in_ok-heads.heads) c.in_ok-heads.ensures.loads)
     (call_commit g.S.Store before new added _ at.clean at.only at.which))
 
 pub returns-clause-goes : goal.returns-clause-goes
@@ -140,7 +140,7 @@ returns-clause-goes g c =
     let added = NewZone c.args.name c.args.kind c.args.srel c.args.related in
     let at = c.in_ok-commit.ensures in
     let both = call_after g.S.Store old before new (λ own. own ≡ added) c.in_ok-heads.heads _
-    (call_load g.S.Store old before _ (Ok c.in_ok-heads.heads) c.in_ok-heads.ensures)
+    (call_load g.S.Store old before _ (Ok c.in_ok-heads.heads) c.in_ok-heads.ensures.loads)
     (call_commit g.S.Store before new added _ at.clean at.only at.which) in
     record {
       call = record {
@@ -152,7 +152,7 @@ returns-clause-goes g c =
       };
       done = record {
         before = before;
-        loads = loads_read g.S.Store old before _ c.in_ok-heads.ensures.reads;
+        loads = loads_read g.S.Store old before _ c.in_ok-heads.ensures.loads.reads;
         commits = record { made = at.only.made; kept = λ clean. tt; crash = at.only.crash };
       };
       refused = λ refused. absurd (true≢false (sym refused));

@@ -1,26 +1,22 @@
-use Rattle.std.proofs.Common.{◌≡◌, ◌≢◌, ◌⊎◌, ◌+◌, ◌∙◌, List, Contains, ap, filter, map, refl, sym, subst, subst₂}
+use Rattle.std.proofs.Common.{◌≡◌, ◌+◌, ◌∙◌, List, Contains, ap, filter, map, refl, subst}
 use Rattle.std.specs.Prelude.{◌↔◌, option_copied}
 use Rattle.terms.specs.Types.{Text, Id, Global, Zone}
 use Rattle.terms.specs.Choice.{place, counting}
 use Rattle.terms.specs.Judged.{setting}
 use Rattle.terms.specs.Lookups.{is_in}
-use Rattle.terms.specs.Needs.{Needs, Serves, bypassed_ids}
-use Rattle.terms.specs.Over.{IsOver}
-use Rattle.terms.specs.Tests.{Fails, IsEligible, ShareElement}
+use Rattle.terms.specs.Needs.{bypassed_ids}
 use Rattle.terms.specs.Install.{HasInstalled, TakesEffect}
 use Rattle.sysmods.specs.declared.ver_choice.VerChoice.{VerChoice}
 use Rattle.sysmods.specs.Choices.{number_in, choice}
 use Rattle.report.specs.Views.{line_view}
-use Rattle.change.specs.Elements.{HasBases}
 use Rattle.change.specs.Plans.{installation}
 use Rattle.judge_system.specs.Views.{why_failed}
-use Rattle.judge_system.proofs.Judging.{has_parts}
 use Rattle.smpe_service.specs.Decided.{IsDecided}
-use Rattle.smpe_service.specs.Installs.{install_by}
+use Rattle.change.specs.Together.{install_by}
 use Rattle.smpe_service.specs.Statuses.{all_statuses, AreById}
 use Rattle.smpe_service.proofs.Bypassed.{bypassed_kept}
 use Rattle.smpe_service.proofs.Deciding.{is_decided}
-use Rattle.smpe_service.proofs.Decisions.{kept_order, kept_bases, decision, decides, install_lines}
+use Rattle.smpe_service.proofs.Decisions.{decision, decides, install_lines}
 use Rattle.smpe_service.proofs.applied.apply.Goals as goal
 use Rattle.smpe_service.proofs.applied.apply.Goals.{In_ok-decided}
 
@@ -34,13 +30,6 @@ installation_is g zone ids kept date vers pairs global chosen numbers =
     ap (λ h. installation h (choice vers) (number_in vers) zone kept pairs date) global
     ∙ ap (λ c. installation g c (number_in vers) zone kept pairs date) chosen
     ∙ ap (λ n. installation g (counting g zone ids) n zone kept pairs date) numbers
-
-pub decide-requires : goal.decide-requires
-decide-requires c =
-    let is = c.in_ok-judged.ensures.judged in
-    let s = setting c.args.global.now c.args.zone.now (option_copied c.args.related) c.in_ok-candidates.candidates.ids
-    c.args.bypass.now in
-    has_parts (Fails s) (IsEligible s) (Needs s is.survivors) (Serves s.choice) s.cands c.in_ok-judged.judged is.judged
 
 decided : (c : In_ok-decided) → IsDecided (setting c.args.global.now c.args.zone.now (option_copied c.args.related)
     c.in_ok-candidates.candidates.ids c.args.bypass.now) c.in_ok-decided.decided.kept
@@ -61,32 +50,11 @@ bypassed c =
     bypassed_kept _ c.in_ok-decided.decided.kept (map why_failed c.in_ok-decided.decided.failed.items) (decided c)
     c.in_ok-judged.judged.bypassed.items c.in_ok-judged.ensures.judged.bypassed (pairs c) refl
 
-pub install_judged-requires-clause-order : goal.install_judged-requires-clause-order
-install_judged-requires-clause-order c =
-    let at = (goal.at.install_judged-requires-clause-order c).In_ok-decided in
-    let kept = c.in_ok-decided.decided.kept in
-    let candidates = c.in_ok-candidates in
-    subst₂ (λ g chosen. (x y : Id) → Contains kept x → Contains kept y → x ≢ y → ShareElement g x y
-    → IsOver chosen x y ⊎ IsOver chosen y x)
-    (sym c.in_ok-judged.ensures.global)
-    (sym c.in_ok-judged.ensures.counting)
-    (kept_order c.args.global.now c.args.zone.now (option_copied c.args.related) c.args.selection.now c.args.bypass.now
-    c.args.date candidates.candidates.ids kept (map why_failed c.in_ok-decided.decided.failed.items)
-    candidates.ensures.members candidates.ensures.installable (decided at) c.attest-2.ensures c.attest.ensures
-    (pairs at))
-
-pub install_judged-requires-clause-base : goal.install_judged-requires-clause-base
-install_judged-requires-clause-base c =
-    let at = (goal.at.install_judged-requires-clause-base c).In_ok-decided in
-    let judged = c.in_ok-judged in
-    let candidates = c.in_ok-candidates in
-    let kept = c.in_ok-decided.decided.kept in
-    subst HasBases (sym (installation_is c.args.global.now c.args.zone.now candidates.candidates.ids kept c.args.date
-    judged.judged.vers (pairs at) judged.ensures.global judged.ensures.counting judged.ensures.numbers))
-    (kept_bases c.args.global.now c.args.zone.now (option_copied c.args.related) c.args.selection.now c.args.bypass.now
-    c.args.date candidates.candidates.ids kept (map why_failed c.in_ok-decided.decided.failed.items)
-    candidates.ensures.members candidates.ensures.installable (decided at) c.attest-2.ensures c.attest.ensures
-    (pairs at))
+pub install_judged-requires : goal.install_judged-requires
+install_judged-requires c =
+    let solved = c.in_ok-decided.ensures in
+    c.in_ok-judged.ensures.together c.in_ok-candidates.ensures.installable solved.flags
+    c.in_ok-decided.decided.kept c.in_ok-decided.decided.failed.items solved.are_kept solved.decided
 
 pub returns-clause-installs : goal.returns-clause-installs
 returns-clause-installs c new changed =

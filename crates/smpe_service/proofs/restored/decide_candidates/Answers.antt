@@ -5,7 +5,7 @@ use Rattle.terms.specs.Types.{Id}
 use Rattle.terms.specs.Lookups.{is_applied, is_in}
 use Rattle.terms.specs.Needs.{Serves}
 use Rattle.terms.specs.Restore.{FailsRestore, MayBeRestored, NeedsInRestore, restore_candidates}
-use Rattle.judge_system.proofs.Judging.{has_parts, decided_of}
+use Rattle.judge_system.proofs.Judging.{decided_of}
 use Rattle.undo.specs.Scopes.{restoring_from}
 use Rattle.smpe_service.specs.RestoreDecided.{IsRestoreDecided}
 use Rattle.smpe_service.proofs.restored.decide_candidates.Goals as goal
@@ -15,10 +15,6 @@ restore_system-requires c =
     let zone = c.args.zone.now in
     subst (All (λ x. IsTrue (is_applied zone x))) (sym c.requires.1) (filter_passes (is_applied zone) c.requires.0)
 
-pub decide-requires : goal.decide-requires
-decide-requires c =
-    has_parts _ _ _ _ c.args.candidates.now.ids c.in_ok-judged.judged (c.in_ok-judged.ensures c.requires.0 c.requires.1)
-
 pub returns : goal.returns
 returns c =
     let r = restoring_from c.args.global.now c.args.zone.now c.args.accepted.now in
@@ -26,6 +22,6 @@ returns c =
     IfOk-weaker c.decide.result _ (λ d. (list : List Id) → cands ≡ restore_candidates r list
     → IsRestoreDecided r list cands d.kept d.failed.items)
     (λ d solved list same. decided_of (FailsRestore r) (MayBeRestored r list) (NeedsInRestore r (is_in list))
-    (Serves r.choice) cands c.in_ok-judged.judged (c.in_ok-judged.ensures list same)
+    (Serves r.choice) cands c.in_ok-judged.judged (c.in_ok-judged.ensures.judged list same)
     solved.flags solved.are_kept d.kept d.failed.items solved.decided)
     c.decide.ensures

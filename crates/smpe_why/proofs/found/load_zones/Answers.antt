@@ -12,14 +12,14 @@ pub returns-in_err-zone : goal.returns-in_err-zone
 returns-in_err-zone g c = handed_on g.S.Store _ _ c.args.store.now c.load_zone.new.self c.in_err-zone.field-0.0
     c.from_residual-in_err-zone.result c.from_residual-in_err-zone.ensures.1
     (loads_both g.S.Store _ _ c.args.store.now c.load_global.new.self c.load_zone.new.self c.in_ok-global.global _
-    c.in_ok-global.ensures.loads c.in_err-zone.ensures)
+    c.in_ok-global.ensures.loads c.in_err-zone.ensures.loads)
 
 pub returns-in_err-heads : goal.returns-in_err-heads
 returns-in_err-heads g c = handed_on g.S.Store _ _ c.args.store.now c.zone_heads.new.self c.in_err-heads.field-0.0
     c.from_residual-in_err-heads.result c.from_residual-in_err-heads.ensures.1
     (loads_both g.S.Store _ _ c.args.store.now c.load_zone.new.self c.zone_heads.new.self c.in_ok-zone.zone _
     (loads_both g.S.Store _ _ c.args.store.now c.load_global.new.self c.load_zone.new.self c.in_ok-global.global _
-    c.in_ok-global.ensures.loads c.in_ok-zone.ensures) c.in_err-heads.ensures)
+    c.in_ok-global.ensures.loads c.in_ok-zone.ensures.loads) c.in_err-heads.ensures.loads)
 
 pub returns-in_default : goal.returns-in_default
 returns-in_default g c = answered g.S.Store _ _ c.args.store.now c.zone_heads.new.self c.in_ok-heads.heads _
@@ -28,7 +28,7 @@ returns-in_default g c = answered g.S.Store _ _ c.args.store.now c.zone_heads.ne
     (search rules))
     (loads_both g.S.Store _ _ c.args.store.now c.load_zone.new.self c.zone_heads.new.self c.in_ok-zone.zone _
     (loads_both g.S.Store _ _ c.args.store.now c.load_global.new.self c.load_zone.new.self c.in_ok-global.global _
-    c.in_ok-global.ensures.loads c.in_ok-zone.ensures) c.in_ok-heads.ensures)
+    c.in_ok-global.ensures.loads c.in_ok-zone.ensures.loads) c.in_ok-heads.ensures.loads)
 
 pub returns-in_err-related : goal.returns-in_err-related
 returns-in_err-related g c = handed_on g.S.Store _ _ c.args.store.now c.load_zone-2.new.self c.in_err-related.field-0.0
@@ -36,7 +36,7 @@ returns-in_err-related g c = handed_on g.S.Store _ _ c.args.store.now c.load_zon
     (loads_both g.S.Store _ _ c.args.store.now c.zone_heads.new.self c.load_zone-2.new.self c.in_ok-heads.heads _
     (loads_both g.S.Store _ _ c.args.store.now c.load_zone.new.self c.zone_heads.new.self c.in_ok-zone.zone _
     (loads_both g.S.Store _ _ c.args.store.now c.load_global.new.self c.load_zone.new.self c.in_ok-global.global _
-    c.in_ok-global.ensures.loads c.in_ok-zone.ensures) c.in_ok-heads.ensures) c.in_err-related.ensures)
+    c.in_ok-global.ensures.loads c.in_ok-zone.ensures.loads) c.in_ok-heads.ensures.loads) c.in_err-related.ensures.loads)
 
 pub returns : goal.returns
 returns g c = answered g.S.Store _ _ c.args.store.now c.load_zone-2.new.self c.in_ok-related.related _
@@ -46,4 +46,4 @@ returns g c = answered g.S.Store _ _ c.args.store.now c.load_zone-2.new.self c.i
     (loads_both g.S.Store _ _ c.args.store.now c.zone_heads.new.self c.load_zone-2.new.self c.in_ok-heads.heads _
     (loads_both g.S.Store _ _ c.args.store.now c.load_zone.new.self c.zone_heads.new.self c.in_ok-zone.zone _
     (loads_both g.S.Store _ _ c.args.store.now c.load_global.new.self c.load_zone.new.self c.in_ok-global.global _
-    c.in_ok-global.ensures.loads c.in_ok-zone.ensures) c.in_ok-heads.ensures) c.in_ok-related.ensures)
+    c.in_ok-global.ensures.loads c.in_ok-zone.ensures.loads) c.in_ok-heads.ensures.loads) c.in_ok-related.ensures.loads)

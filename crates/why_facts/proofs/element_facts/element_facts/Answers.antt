@@ -1,10 +1,11 @@
-use Rattle.std.proofs.Common.{◌≡◌, ◌∙◌, arith, ap, length}
+use Rattle.std.proofs.Common.{◌≡◌, ◌∙◌, arith, ap, ap₂, length}
 use Rattle.terms.proofs.BesideLists.{beside_next, beside_through}
 use Rattle.terms.specs.Lookups.{changes_of}
 use Rattle.zones.specs.Scopes.{global_of}
 use Rattle.report.specs.Facts.{ElementFact, IsElementFact}
 use Rattle.terms.specs.Types.{Change}
 use Rattle.terms.specs.Changes.{is_replacement}
+use Rattle.terms.specs.Tests.{has_candidate_base}
 use Rattle.std.specs.Prelude.{option_map}
 use Rattle.why_facts.specs.Asking.{setting_in}
 use Rattle.report.specs.FactViews.{level_view, fact_view}
@@ -21,9 +22,10 @@ loop-change-preserved c =
     c.loop-change.change-index c.change-item.result _ (omega (arith, ap length items))
     (rw items at c.change-item.is) c.in_ok-push.ensures.items (
       f,
-      ap (λ b. ElementFact c.change.inside.elem_type c.change.inside.name b f) c.is_replacement.ensures
-          ∙ ap (λ (h : Change). ElementFact h.elem_type h.name (is_replacement c.change-item.result.action) f)
-          c.change.view_is,
+      ap₂ (λ b brought. ElementFact c.change.inside.elem_type c.change.inside.name b brought f)
+          c.is_replacement.ensures c.is_brought.ensures
+          ∙ ap (λ (h : Change). ElementFact h.elem_type h.name (is_replacement c.change-item.result.action)
+          (has_candidate_base (setting_in asking) asking.id h.elem_type h.name) f) c.change.view_is,
       c.in_ok-found.ensures,
     ) c.loop-change.invariant
 

@@ -15,9 +15,10 @@ pub returns-in_default : goal.returns-in_default
 returns-in_default c =
     let e = c.args.element.now in
     subst (λ (o : Option ElementLevel). OnOk c.append_words.result (c.append_words.new.text.items
-    ≡ c.args.text.now.items ++ fact_text (ElementFact e.elem_type e.name e.replaces (option_map level_view o))))
+    ≡ c.args.text.now.items
+    ++ fact_text (ElementFact e.elem_type e.name e.replaces e.brought (option_map level_view o))))
     (sym c.in_default.is) (IfOk-weaker c.append_words.result _ _
-    (λ done put. element_missing e.elem_type e.name e.replaces c.args.text.now.items c.type_text.ensures
+    (λ done put. element_missing e.elem_type e.name e.replaces e.brought c.args.text.now.items c.type_text.ensures
     c.as_bytes.ensures.same put) c.append_words.ensures)
 
 pub loop-umid-preserved : goal.loop-umid-preserved
@@ -32,12 +33,12 @@ returns c =
     let found = c.in-Some.found in
     let f = level_view found in
     subst (λ (o : Option ElementLevel). c.loop-umid.text.items
-    ≡ c.args.text.now.items ++ fact_text (ElementFact e.elem_type e.name e.replaces (option_map level_view o)))
+    ≡ c.args.text.now.items ++ fact_text (ElementFact e.elem_type e.name e.replaces e.brought (option_map level_view o)))
     (sym c.in-Some.is) (c.loop-umid.invariant
     ∙ ap (λ l. c.append_maker.new.text.items ++ flat_map (λ m. maker_line (codes "UMID") (maker_view m)) l)
     (take_all c.loop-umid.umid-index c.as_slice-umid-items.result.now (omega arith)
     ∙ c.as_slice-umid-items.ensures.value)
     ∙ ap (λ l. c.append_maker.new.text.items ++ l)
     (sym (flat_map-map (maker_line (codes "UMID")) maker_view found.umids.items))
-    ∙ element_there e.elem_type e.name e.replaces f c.args.text.now.items c.type_text.ensures c.as_bytes.ensures.same
+    ∙ element_there e.elem_type e.name e.replaces e.brought f c.args.text.now.items c.type_text.ensures c.as_bytes.ensures.same
     c.as_bytes-2.ensures.same c.in_ok-append_words.ensures c.in_ok-append_maker.ensures)

@@ -1,4 +1,4 @@
-use Rattle.std.proofs.Common.{All, Contains, refl, subst, sym}
+use Rattle.std.proofs.Common.{◌∙◌, All, Contains, ap, length, refl, subst, sym}
 use Rattle.terms.specs.Types.{Id}
 use Rattle.judge_system.specs.declared.stated.RequisiteOf.{RequisiteOf}
 use Rattle.judge_system.proofs.judged.Judged.new.Goals as goal
@@ -26,4 +26,11 @@ returns-clause-numbered c = record {
     c.in_ok-eligible.ensures,
     c.as_slice.ensures.value,
   ) at c.in_ok-system.ensures;
+}
+
+pub returns-clause-parts : goal.returns-clause-parts
+returns-clause-parts c = record {
+  size = c.in_ok-system.ensures.needs.size;
+  tests = c.requires.rows ∙ ap length (sym c.in_ok-ids.ensures.ids);
+  needs = sym (c.in_ok-system.ensures.needs.needs.lengths ∙ ap length c.as_slice-3.ensures.value);
 }

@@ -24,13 +24,13 @@ returns-in_default g c =
     ))
 
 pub returns-in_err-heads : goal.returns-in_err-heads
-returns-in_err-heads g c = handed_on c.from_residual.ensures.1 (load_uses c.in_err-heads.ensures)
+returns-in_err-heads g c = handed_on c.from_residual.ensures.1 (load_uses c.in_err-heads.ensures.loads)
     (λ s inventory un is. un)
 
 pub returns-in_default-target_name : goal.returns-in_default-target_name
 returns-in_default-target_name g c =
     let other : c.args.kind ≢ Target = search rules in
-    answered (load_uses c.in_ok-heads.ensures) (λ own none. absurd none) (λ s inventory loaded is. (
+    answered (load_uses c.in_ok-heads.ensures.loads) (λ own none. absurd none) (λ s inventory loaded is. (
       not_target c.args.kind other (related_none s c.in-Some.name (sym is.boundary ∙ c.in-Some.is)
           c.as_slice.result.now (c.as_slice.ensures.value ∙ loaded.0) c.args.self.now is
           c.in_default-target_name.ensures),
@@ -39,15 +39,15 @@ returns-in_default-target_name g c =
 
 pub returns-in_err-ensure_zone_loaded : goal.returns-in_err-ensure_zone_loaded
 returns-in_err-ensure_zone_loaded g c = handed_on c.from_residual-in_err-ensure_zone_loaded.ensures.1
-    (after (load_uses c.in_ok-heads.ensures) c.in_err-ensure_zone_loaded.ensures.uses)
+    (after (load_uses c.in_ok-heads.ensures.loads) c.in_err-ensure_zone_loaded.ensures.uses)
     (λ s inventory both is. unmoved_since g.S.Store c.args.store.now c.zone_heads.new.self
-    c.ensure_zone_loaded.new.store s (load_uses c.zone_heads.ensures).goes.follows
+    c.ensure_zone_loaded.new.store s (load_uses c.zone_heads.ensures.loads).goes.follows
     c.in_err-ensure_zone_loaded.field-0.0 (both.1 both.0.1 is))
 
 pub returns : goal.returns
 returns g c =
     let other : c.args.kind ≢ Target = search rules in
-    answered (after (load_uses c.in_ok-heads.ensures) c.in_ok-ensure_zone_loaded.ensures.uses) (λ own none. absurd none)
+    answered (after (load_uses c.in_ok-heads.ensures.loads) c.in_ok-ensure_zone_loaded.ensures.uses) (λ own none. absurd none)
     (λ s inventory both is.
     let sought = both.1 both.0.1 is in (
       not_target c.args.kind other (related_some s c.in-Some.name (sym is.boundary ∙ c.in-Some.is)

@@ -1,0 +1,19 @@
+//! What `smpe` says on standard error next to a report: which card it means, which command ran in another zone than it
+//! was meant for, why a zone was refused, and what a run should be warned of, as the tables show that it has left. The
+//! crate makes texts, and no contract says which. Every call that makes one returns an error if memory runs out.
+#![tactic(auto)]
+
+mod asking;
+mod chosen;
+mod deleted;
+mod known;
+mod lowered;
+mod ran;
+mod received;
+mod related;
+mod report;
+mod warnings;
+
+pub use asking::Database;
+pub use related::{RelatedZone, related_name};
+pub use report::{ReadFile, ReportWatch, careful_zone_hint};
