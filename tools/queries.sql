@@ -216,10 +216,11 @@ updated AS (
   JOIN entry AS above ON above.zone = updates.zone AND above.id = by
   JOIN entry AS below ON below.zone = updates.zone AND below.id = u.value
   WHERE u.value <> by AND below.date <= above.date),
+step AS (SELECT DISTINCT zone, id, names FROM steps),
 over (zone, by, id) AS (
   SELECT zone, by, by FROM replaced UNION SELECT zone, by, by FROM updates
   UNION
-  SELECT steps.zone, over.by, names FROM over JOIN steps ON steps.zone = over.zone AND steps.id = over.id)
+  SELECT step.zone, over.by, names FROM over JOIN step ON step.zone = over.zone AND step.id = over.id)
 SELECT lost.zone, lost.type, lost.name, lost.id, how, lost.by, sup AS fixes
 FROM (
   SELECT zone, type, name, id, 'REPLACED' AS how, by, 1 AS is_below FROM replaced
