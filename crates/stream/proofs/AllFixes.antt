@@ -1,0 +1,280 @@
+-- APPLY and ACCEPT lose no fix of a clean stream.
+use Rattle.std.proofs.Common.{◌≡◌, ◌≢◌, ◌⊎◌, ◌∙◌, Bool, true, false, not, List, [], ◌∷◌, Option, None, Some, Contains}
+use Rattle.std.proofs.Common.{IsTrue, is_some, inl, inr, refl, sym, ap, subst, true≢false}
+use Rattle.std.specs.Option.{option_map_or}
+use Rattle.std.proofs.lemmas.Bool.{cases_Bool, false_from_ne_true}
+use Rattle.std.proofs.lemmas.Option.{same_Some}
+use Rattle.terms.specs.declared.kinds.ElemType.{ElemType}
+use Rattle.terms.specs.declared.codes.Test.TheVariants.{OwnedByAnother}
+use Rattle.terms.specs.Types.{Text, Id, Lines, Action, Replaces, Updates, Change, Element, Zone}
+use Rattle.terms.specs.Lookups.{change_of, has_change, element_of, is_applied, is_supplied, supby_of}
+use Rattle.terms.specs.Choice.{sup_of, del_of}
+use Rattle.terms.specs.Over.{names, IsOver, Supersedes, owner}
+use Rattle.terms.specs.Changes.{is_replacement, has_replacement, has_update}
+use Rattle.terms.specs.Deleted.{deletions, zone_less}
+use Rattle.terms.specs.Tests.{Setting}
+use Rattle.terms.specs.Install.{Installation, TakesEffect, cleared, HasInstalled, IsReplacer, HasBase, IsUpdater}
+use Rattle.terms.specs.Install.{IsUpdated, HasElementAfter}
+use Rattle.terms.proofs.ChangedElements.{replaces_changes}
+use Rattle.terms.proofs.Each.{All_from_each}
+use Rattle.terms.proofs.Leads.{reaches_more, reaches_through}
+use Rattle.terms.proofs.ListMembers.{here, there, here_or, none_in}
+use Rattle.terms.proofs.Loops.{sup_named}
+use Rattle.terms.proofs.NothingDeleted.{deletions_none, zone_less_none}
+use Rattle.terms.proofs.TextOrder.{same_or_not}
+use Rattle.change.proofs.KeptTogether.{replaces_or_updates, kept_over}
+use Rattle.machine_laws.proofs.Installable.{not_supplied}
+use Rattle.machine_laws.proofs.Supplied.{supplied_or, supplied_applied, supplied_by}
+use Rattle.machine_laws.proofs.Given.{Keeps, installing, eligible, kept_candidate, candidate_ver, unapplied}
+use Rattle.machine_laws.proofs.Chains.{view_element}
+use Rattle.machine_laws.proofs.Effect.{effect_or_not, applied_either}
+use Rattle.stream.specs.Stream.{IsInStream, IsClean, IsOfStream, IsInLevel, HasAllFixes}
+use Rattle.stream.proofs.Below.{direct}
+use Rattle.stream.proofs.NoRegression.{over_level}
+
+-- one that passes, or none
+search : {X : Type 0} (P : X → Type 0) → ((x : X) → P x ⊎ (¬ P x)) → (xs : List X)
+    → ((x : X) × P x) ⊎ ((x : X) → Contains xs x → ¬ P x)
+search P decide [] = inr (λ x is. absurd (none_in x is))
+search {X} P decide (y ∷ ys) = by (decide y) (search P decide ys)
+  where
+    by : P y ⊎ (¬ P y) → ((x : X) × P x) ⊎ ((x : X) → Contains ys x → ¬ P x)
+        → ((x : X) × P x) ⊎ ((x : X) → Contains (y ∷ ys) x → ¬ P x)
+    by (inl has) rest = inl (y, has)
+    by (inr out) (inl some) = inl some
+    by (inr out) (inr none) = inr (λ x is has. elim (here_or y ys x is) [
+      | inl same ↦ out (subst P (sym same) has)
+      | inr later ↦ none x later has
+    ])
+
+-- the records of an update
+record UpdatesBy (o : Option Change) : Type 0 where
+  h : Change
+  at : o ≡ Some h
+  update : Lines
+  does : h.action ≡ Updates update
+
+updates_by : (o : Option Change) → option_map_or (λ h. not (is_replacement h.action)) o false ≡ true → UpdatesBy o
+updates_by None has = absurd (true≢false (sym has))
+updates_by (Some h) has = by h.action refl has
+  where
+    by : (a : Action) → h.action ≡ a → not (is_replacement a) ≡ true → UpdatesBy (Some h)
+    by (Replaces distlib syslib lines) at is = absurd (true≢false (sym is))
+    by (Updates lines) at is = record { h = h; at = refl; update = lines; does = at }
+
+-- none replaces and updates an element
+not_both : (o : Option Change) → option_map_or (λ h. is_replacement h.action) o false ≡ true
+    → option_map_or (λ h. not (is_replacement h.action)) o false ≡ true → ⊥
+not_both None replaces updates = true≢false (sym replaces)
+not_both (Some h) replaces updates = true≢false (sym updates ∙ ap not replaces)
+
+module _ (s : Setting) (survivors kept : List Id) (k : Keeps s survivors kept) (bypassed : List (Id × Id)) (date : Text)
+    (new : Zone) (installed : HasInstalled (installing s kept bypassed date) new)
+    (clean : IsClean s.global s.choice) (is : IsOfStream s.global s.choice s.zone)
+    (plain : (x : Id) → Contains kept x → del_of s.choice x ≡ []) where
+  abbrev i : Installation
+  i = installing s kept bypassed date
+
+  -- nothing is deleted
+  uncleared : cleared i ≡ s.zone
+  uncleared =
+      ap (λ dels. zone_less s.global s.choice dels s.zone)
+      (deletions_none s.choice kept (All_from_each (λ x. del_of s.choice x ≡ []) kept plain))
+      ∙ zone_less_none s.global s.choice s.zone k.is_zone.held
+
+  abbrev Over : Id → Id → Type 0
+  Over = IsOver s.choice
+
+  over_through : (x y z : Id) → Over x y → (y ≡ z) ⊎ Over y z → Over x z
+  over_through x y z over (inl same) = subst (Over x) same over
+  over_through x y z over (inr more) = reaches_through (names s.choice) x y z over more
+
+  module _ (type : ElemType) (name : Text) where
+    abbrev ChangesIt : Id → Type 0
+    ChangesIt x = has_change s.global x type name ≡ true
+
+    -- the new zone has the element, and y is in its level
+    abbrev HasFix : Id → Type 0
+    HasFix y = (e : Element) × (element_of new type name ≡ Some e) × IsInLevel s.choice e y
+
+    -- ---- what was in the level
+
+    -- what takes effect is over the level of the element that it changes
+    over_old : (x : Id) (old : Element) → TakesEffect i x → ChangesIt x → element_of s.zone type name ≡ Some old
+        → (r : Id) → Contains (old.rmid ∷ old.umids) r → Over x r
+    over_old x old effect changes found = over_level s.global s.choice s.zone clean is x type name old
+        (candidate_ver s survivors kept k x cand) (not_supplied s.global s.zone x (k.installable x cand)) found owned
+        changes
+      where
+        cand : Contains s.cands x
+        cand = kept_candidate s survivors kept k x effect.kept
+
+        owned : old.fmid ≡ owner s.global s.choice x
+        owned = elim (same_or_not old.fmid (owner s.global s.choice x)) [
+          | inl same ↦ same
+          | inr other ↦ absurd ((eligible s survivors kept k x effect.kept).0.0.1 OwnedByAnother (
+            old,
+            (
+              type,
+              name,
+              changes,
+              view_element s survivors kept k x type name old effect.kept
+                  (ap (λ zone. element_of zone type name) uncleared ∙ found),
+            ),
+            other,
+          ))
+        ]
+
+    -- a replacement's level is the replacer, and what updates it
+    replaced_rmid : (r : Id) (base e : Element) → HasBase i type name (Some r) base
+        → IsUpdated i type name (Some r) base e → e.rmid ≡ r
+    replaced_rmid r base e has updated =
+        ap (λ (o : Element). o.rmid) updated.rest ∙ ap (λ (o : Element). o.rmid) has.1.4.2
+
+    kept_level : (y : Id) (old : Element) (r : Id) → element_of s.zone type name ≡ Some old
+        → Contains (old.rmid ∷ old.umids) r → (r ≡ y) ⊎ Over r y → (e : Element) (replacer : Option Id) (base : Element)
+        → HasBase i type name replacer base → IsUpdated i type name replacer base e → IsInLevel s.choice e y
+    kept_level y old r found within up e None base has updated = (r, level, up)
+      where
+        same : base ≡ old
+        same = same_Some base old (sym has.1 ∙ ap (λ zone. element_of zone type name) uncleared ∙ found)
+
+        rmid : e.rmid ≡ old.rmid
+        rmid = ap (λ (o : Element). o.rmid) updated.rest ∙ ap (λ (o : Element). o.rmid) same
+
+        level : Contains (e.rmid ∷ e.umids) r
+        level = elim (here_or old.rmid old.umids r within) [
+          | inl first ↦ subst (Contains (e.rmid ∷ e.umids)) (rmid ∙ first) (here e.rmid e.umids)
+          | inr later ↦ there e.rmid e.umids r ((updated.umids r).1
+              (inl (subst (λ (o : Element). Contains o.umids r) (sym same) later)))
+        ]
+    kept_level y old r found within up e (Some q) base has updated = (
+      q,
+      subst (Contains (e.rmid ∷ e.umids)) (replaced_rmid q base e has updated) (here e.rmid e.umids),
+      inr (over_through q r y (over_old q old has.0.installed (replaces_it q has.0.replaces) found r within) up),
+    )
+      where
+        replaces_it : (x : Id) → has_replacement s.global x type name ≡ true → ChangesIt x
+        replaces_it x = replaces_changes s.global x type name
+
+    changes_or_not : (x : Id) → (TakesEffect i x × ChangesIt x) ⊎ (¬ (TakesEffect i x × ChangesIt x))
+    changes_or_not x = elim (effect_or_not s survivors kept k bypassed date x) [
+      | inl effect ↦ elim (cases_Bool (has_change s.global x type name)) [
+        | inl changes ↦ inl (effect, changes)
+        | inr none ↦ inr (λ both. true≢false (sym both.1 ∙ none))
+      ]
+      | inr out ↦ inr (λ both. out both.0)
+    ]
+
+    stays_in_level : (y : Id) (old : Element) → element_of s.zone type name ≡ Some old → IsInLevel s.choice old y
+        → HasFix y
+    stays_in_level y old found (r, within, up) =
+        elim (search (λ x. TakesEffect i x × ChangesIt x) changes_or_not kept) [
+          | inl some ↦
+              let after = installed.changed type name some.0 some.1.0 some.1.1 in
+              let made : HasElementAfter i type name after.0 = after.2 in (
+                after.0,
+                after.1,
+                kept_level y old r found within up after.0 made.0 made.1 made.2 made.3,
+              )
+          | inr none ↦ (
+              old,
+              installed.unchanged type name (λ x effect. false_from_ne_true (has_change s.global x type name)
+                  (λ changes. none x effect.kept (effect, changes)))
+                  ∙ ap (λ zone. element_of zone type name) uncleared ∙ found,
+              (r, within, up),
+            )
+        ]
+
+    -- ---- what takes effect
+
+    made_level : (y : Id) → TakesEffect i y → ChangesIt y → (e : Element) (replacer : Option Id) (base : Element)
+        → HasBase i type name replacer base → IsUpdated i type name replacer base e → IsInLevel s.choice e y
+    made_level y effect changes e replacer base has updated =
+        elim (replaces_or_updates s.global y type name changes) [
+          | inl replaces ↦ replacing replacer has updated replaces
+          | inr updates ↦ updating replacer has updated (updates_by (change_of s.global y type name) updates) updates
+        ]
+      where
+        replaced : (q : Id) → HasBase i type name (Some q) base → IsUpdated i type name (Some q) base e
+            → (q ≡ y) ⊎ Over q y → IsInLevel s.choice e y
+        replaced q has updated up = (
+          q,
+          subst (Contains (e.rmid ∷ e.umids)) (replaced_rmid q base e has updated) (here e.rmid e.umids),
+          up,
+        )
+
+        replacing : (replacer : Option Id) → HasBase i type name replacer base
+            → IsUpdated i type name replacer base e → has_replacement s.global y type name ≡ true
+            → IsInLevel s.choice e y
+        replacing None has updated replaces = absurd (true≢false (sym replaces ∙ has.0 y effect))
+        replacing (Some q) has updated replaces = elim (same_or_not y q) [
+          | inl same ↦ replaced q has updated (inl (sym same))
+          | inr other ↦ replaced q has updated (inr (has.0.over y effect replaces other))
+        ]
+
+        updated_by : (replacer : Option Id) (update : Lines) → IsUpdated i type name replacer base e
+            → IsUpdater i type name replacer y update → IsInLevel s.choice e y
+        updated_by replacer update updated updater =
+            (y, there e.rmid e.umids y ((updated.umids y).1 (inr (update, updater))), inl refl)
+
+        updating : (replacer : Option Id) → HasBase i type name replacer base → IsUpdated i type name replacer base e
+            → UpdatesBy (change_of s.global y type name) → has_update s.global y type name ≡ true
+            → IsInLevel s.choice e y
+        updating None has updated by updates = updated_by None by.update updated (record {
+          installed = effect;
+          updates = (by.h, by.at, by.does);
+          over = tt;
+        })
+        updating (Some q) has updated by updates =
+            elim (kept_over s survivors kept k.members k.is_zone k.global k.chosen (unapplied s survivors kept k) y q
+            effect.kept has.0.installed.kept other
+            (type, name, changes, replaces_changes s.global q type name has.0.replaces)) [
+              | inl over ↦ updated_by (Some q) by.update updated (record {
+                installed = effect;
+                updates = (by.h, by.at, by.does);
+                over = over;
+              })
+              | inr under ↦ replaced q has updated (inr under)
+            ]
+          where
+            other : y ≢ q
+            other same = not_both (change_of s.global y type name)
+                (subst (λ x. has_replacement s.global x type name ≡ true) (sym same) has.0.replaces) updates
+
+    comes_in_level : (y : Id) → TakesEffect i y → ChangesIt y → HasFix y
+    comes_in_level y effect changes =
+        let after = installed.changed type name y effect changes in
+        let made : HasElementAfter i type name after.0 = after.2 in
+        (after.0, after.1, made_level y effect changes after.0 made.0 made.1 made.2 made.3)
+
+    -- what supersedes y brings its fix
+    superseded_in_level : (y b : Id) → IsInStream s.choice y → ChangesIt y → TakesEffect i b → Supersedes s.choice b y
+        → HasFix y
+    superseded_in_level y b in_stream changes effect supersedes =
+        let fix = comes_in_level b effect (clean.elements b y in_stream
+        (direct s.choice clean.requisites b y supersedes) type name changes) in
+        (fix.0, fix.1, (fix.2.0, fix.2.1, inr (elim fix.2.2 [
+          | inl same ↦ subst (λ x. Over x y) (sym same) over
+          | inr up ↦ over_through fix.2.0 b y up (inr over)
+        ])))
+      where
+        over : Over b y
+        over = reaches_more (sup_of s.choice) (names s.choice) (λ x z named. sup_named s.choice x z named) b y supersedes
+
+  pub keeps_fixes : HasAllFixes s.global s.choice s.zone → HasAllFixes s.global s.choice new
+  keeps_fixes fixes y in_stream there type name changes = elim (supplied_or new y there) [
+    | inl on ↦ elim (applied_either s survivors kept k bypassed date new installed y on) [
+      | inl effect ↦ comes_in_level type name y effect changes
+      | inr left ↦ was (supplied_applied s.zone y (subst (λ zone. is_applied zone y ≡ true) uncleared left))
+    ]
+    | inr by ↦ elim ((installed.supby y by.0).0 by.1) [
+      | inl old ↦ was (supplied_by s.zone y by.0 (subst (λ zone. Contains (supby_of zone y) by.0) uncleared old))
+      | inr over ↦ superseded_in_level type name y by.0 in_stream changes over.0 over.1
+    ]
+  ]
+    where
+      was : is_supplied s.zone y ≡ true → (e : Element) × (element_of new type name ≡ Some e) × IsInLevel s.choice e y
+      was supplied =
+          let fix = fixes y in_stream supplied type name changes in
+          stays_in_level type name y fix.0 fix.1 fix.2
