@@ -129,7 +129,7 @@ module _ (s : Setting) (survivors kept : List Id) (k : Keeps s survivors kept) (
     replaced_rmid : (r : Id) (base e : Element) → HasBase i type name (Some r) base
         → IsUpdated i type name (Some r) base e → e.rmid ≡ r
     replaced_rmid r base e has updated =
-        ap (λ (o : Element). o.rmid) updated.rest ∙ ap (λ (o : Element). o.rmid) has.1.4.2
+        ap (λ (o : Element). o.rmid) updated.rest ∙ ap (λ (o : Element). o.rmid) has.1.6
 
     kept_level : (y : Id) (old : Element) (r : Id) → element_of s.zone type name ≡ Some old
         → Contains (old.rmid ∷ old.umids) r → (r ≡ y) ⊎ Over r y → (e : Element) (replacer : Option Id) (base : Element)

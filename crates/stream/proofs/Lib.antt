@@ -1,2 +1,5 @@
 mod Below
 mod NoRegression
+mod StaysOfStream
+mod AllFixes
+mod Installed

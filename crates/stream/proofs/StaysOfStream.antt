@@ -30,6 +30,10 @@ has_none : (xs : List Id) → ((x : Id) → ¬ Contains xs x) → xs ≡ []
 has_none [] none = refl
 has_none (x ∷ xs) none = absurd (none x (here x xs))
 
+-- what an entry waives, if there is one
+abbrev waived_in : Option Entry → List Id
+waived_in o = option_map_or (λ e. e.waived) o []
+
 -- with requisites checked, none is bypassed
 none_bypassed : (s : Setting) → ChecksRequisites s.bypass → (x : Id) → bypassed_ids s x ≡ []
 none_bypassed s checks x =
@@ -56,25 +60,21 @@ module _ (s : Setting) (survivors kept : List Id) (k : Keeps s survivors kept) (
   left_unwaived x =
       ap waived_in (entry_of_less s.global s.choice dels s.zone k.is_zone x) ∙ by (entry_of s.zone x) refl
     where
-      waived_in : Option Entry → List Id
-      waived_in o = option_map_or (λ e. e.waived) o []
+      unless : (ids : List Id) → ids ≡ [] → (b : Bool) → (if b then [] else ids) ≡ []
+      unless ids none true = refl
+      unless ids none false = none
 
-      entry : (e : Entry) → e.waived ≡ [] → (held gone : Bool)
-          → option_map_or (λ e. e.waived) (if held then Some (record e { waived = if gone then [] else e.waived })
-          else None) [] ≡ []
-      entry e none false gone = refl
-      entry e none true true = refl
-      entry e none true false = none
+      entry : (e : Entry) → e.waived ≡ [] → (held : Bool) → waived_in (if held then Some e else None) ≡ []
+      entry e none true = none
+      entry e none false = refl
 
       by : (o : Option Entry) → entry_of s.zone x ≡ o
           → waived_in (passing has_content (option_map (entry_less (is_taken_out s.global s.choice dels s.zone)) o))
           ≡ []
-      unfolding waived_in
       by None at = refl
-      by (Some e) at =
-          entry e (sym (ap (λ o. option_map_or (λ (e : Entry). e.waived) o []) at) ∙ is.unwaived x)
+      by (Some e) at = entry (entry_less (is_taken_out s.global s.choice dels s.zone) e)
+          (unless e.waived (sym (ap waived_in at) ∙ is.unwaived x) (is_taken_out s.global s.choice dels s.zone e.id))
           (has_content (entry_less (is_taken_out s.global s.choice dels s.zone) e))
-          (is_taken_out s.global s.choice dels s.zone e.id)
 
   new_unwaived : (x : Id) → waived_of new x ≡ []
   new_unwaived x = elim (effect_or_not s survivors kept k bypassed date x) [

@@ -2,13 +2,17 @@
 -- said of the tests that a candidate fails by itself in other ways: by an element with another owner, or by an element
 -- that it updates and that is absent.
 use Rattle.std.specs.Prelude.{◌≡◌, ◌≢◌, List, [], Option, Contains}
-use Rattle.terms.specs.Types.{Id, Global, Zone, Selection, Bypass}
+use Rattle.terms.specs.Types.{Date, Id, Global, Zone, NamedZone, Selection, Bypass}
 use Rattle.terms.specs.Lookups.{IsZone}
-use Rattle.terms.specs.Choice.{counting}
+use Rattle.terms.specs.Choice.{counting, del_of}
+use Rattle.terms.specs.Forms.{IsDottedDate}
 use Rattle.terms.specs.Candidates.{AreCandidates}
 use Rattle.terms.specs.Tests.{owner_of, ChangesOwnedByAnother, Regresses, ShareElement, MayNotShare}
 use Rattle.terms.specs.Judged.{setting}
-use Rattle.stream.specs.Stream.{IsClean, IsOfStream}
+use Rattle.terms.specs.Install.{HasInstalled}
+use Rattle.store_schema.specs.Inventory.{Inventory, IsInventory}
+use Rattle.machine.specs.Installing.{Decision, IsDecision}
+use Rattle.stream.specs.Stream.{IsClean, IsOfStream, HasAllFixes, ChecksRequisites}
 
 -- Two candidates of one owner do not clash by an element that both change.
 abbrev pub NeverClashesByElement : Type 0
@@ -27,3 +31,23 @@ NeverRegresses =
     → IsOfStream g (counting g zone []) zone
     → (x : Id) → Contains cands x → ¬ ChangesOwnedByAnother (setting g zone related cands bypass) x
     → ¬ Regresses (setting g zone related cands bypass) x
+
+-- An APPLY or ACCEPT that checks all requisites leaves the zone of the stream.
+abbrev pub InstallStaysOfStream : Type 0
+InstallStaysOfStream =
+    (i : Inventory) (z : NamedZone) (related : Option Zone) (sel : Selection) (bypass : Bypass) (date : Date)
+    (d : Decision) (new : Zone) → IsInventory i → Contains i.zones z → IsDottedDate date
+    → IsDecision i.global z.zone related sel bypass date d → HasInstalled d.installing new → ChecksRequisites bypass
+    → IsClean i.global d.setting.choice → IsOfStream i.global (counting i.global z.zone []) z.zone
+    → IsOfStream i.global (counting i.global new []) new
+
+-- An APPLY or ACCEPT of SYSMODs without DELETE loses no fix: if the zone had all of them, it still has, and it has those
+-- that the command brings.
+abbrev pub InstallLosesNoFix : Type 0
+InstallLosesNoFix =
+    (i : Inventory) (z : NamedZone) (related : Option Zone) (sel : Selection) (bypass : Bypass) (date : Date)
+    (d : Decision) (new : Zone) → IsInventory i → Contains i.zones z
+    → IsDecision i.global z.zone related sel bypass date d → HasInstalled d.installing new
+    → IsClean i.global d.setting.choice → IsOfStream i.global (counting i.global z.zone []) z.zone
+    → ((x : Id) → Contains d.kept x → del_of d.setting.choice x ≡ [])
+    → HasAllFixes i.global d.setting.choice z.zone → HasAllFixes i.global d.setting.choice new

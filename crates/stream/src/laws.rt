@@ -1,5 +1,6 @@
 //! What a clean stream promises for every zone of it.
 ghost use Rattle.stream.specs.Laws.{NeverClashesByElement, NeverRegresses};
+ghost use Rattle.stream.specs.Laws.{InstallStaysOfStream, InstallLosesNoFix};
 
 /// Two candidates of one owner do not clash by an element that both change.
 pub fn never_clashes_by_element()
@@ -9,4 +10,14 @@ pub fn never_clashes_by_element()
 /// A candidate that changes no element of another owner regresses none.
 pub fn never_regresses()
     ensures { NeverRegresses }
+{}
+
+/// An APPLY or ACCEPT that checks all requisites leaves the zone of the stream.
+pub fn install_stays_of_stream()
+    ensures { InstallStaysOfStream }
+{}
+
+/// An APPLY or ACCEPT of SYSMODs without DELETE loses no fix.
+pub fn install_loses_no_fix()
+    ensures { InstallLosesNoFix }
 {}

@@ -8,4 +8,4 @@
 
 mod laws;
 
-pub use laws::{never_clashes_by_element, never_regresses};
+pub use laws::{install_loses_no_fix, install_stays_of_stream, never_clashes_by_element, never_regresses};
