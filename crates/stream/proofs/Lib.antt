@@ -3,3 +3,6 @@ mod NoRegression
 mod StaysOfStream
 mod AllFixes
 mod Installed
+mod OneVer
+mod Received
+mod Served

@@ -18,7 +18,7 @@ use Rattle.terms.specs.Candidates.{is_installable, AreCandidates}
 use Rattle.terms.specs.Deleted.{deletions}
 use Rattle.terms.specs.Tests.{ShareElement, ChangesOwnedByAnother, Regresses}
 use Rattle.terms.specs.Judged.{setting}
-use Rattle.terms.specs.Closed.{IsOwned}
+use Rattle.terms.specs.Closed.{IsOwned, IsClosedZone}
 use Rattle.terms.proofs.ChangedElements.{replaces_changes, update_changes}
 use Rattle.terms.proofs.ElementOrder.{type_from_number}
 use Rattle.terms.proofs.ListMembers.{here_or, there}
@@ -72,11 +72,11 @@ candidate_installable g zone sel cands are x there =
 
 -- ---- a zone by another choice
 
--- The zone is of the stream by each choice by which the same counts for what is applied.
-pub of_stream_by : (g : Global) (was now : Choice) (zone : Zone) → IsZone zone
-    → ((x : Id) → IsTrue (is_applied zone x) → was x ≡ now x) → IsOfStream g was zone → IsOfStream g now zone
-of_stream_by g was now zone is_zone same is = record {
-  closed = closed_by g was now zone is.closed (λ x there. same x (applied_in_ids zone is_zone x there));
+-- A closed zone is of the stream by each choice by which the same counts for what is applied.
+pub of_stream_closed : (g h : Global) (was now : Choice) (zone : Zone) → IsClosedZone h now zone
+    → ((x : Id) → IsTrue (is_applied zone x) → was x ≡ now x) → IsOfStream g was zone → IsOfStream h now zone
+of_stream_closed g h was now zone closed same is = record {
+  closed = closed;
   unwaived = is.unwaived;
   supby = λ x b. (
     λ there.
@@ -86,6 +86,11 @@ of_stream_by g was now zone is_zone same is = record {
         (is.supby x b).1 (by.0, subst (λ o. Contains (option_map_or (λ v. v.sup) o []) x) (sym (same b by.0)) by.1),
   );
 }
+
+pub of_stream_by : (g : Global) (was now : Choice) (zone : Zone) → IsZone zone
+    → ((x : Id) → IsTrue (is_applied zone x) → was x ≡ now x) → IsOfStream g was zone → IsOfStream g now zone
+of_stream_by g was now zone is_zone same is = of_stream_closed g g was now zone
+    (closed_by g was now zone is.closed (λ x there. same x (applied_in_ids zone is_zone x there))) same is
 
 -- the candidates do not matter
 pub of_stream_whatever : (g : Global) (zone : Zone) (cands others : List Id) → IsZone zone
