@@ -16,7 +16,7 @@ use Rattle.terms.proofs.Searches.{first_of_one}
 use Rattle.machine_laws.proofs.AppliedIds.{of_applied}
 use Rattle.machine_laws.proofs.KeptChoice.{counts_whatever}
 use Rattle.stream.specs.Stream.{IsInStream, HasRequisitesOf, IsClean, IsInLevel, HasAllFixes}
-use Rattle.stream.specs.Service.{ver_for, IsCleanFor, CleanByWhatCounts}
+use Rattle.stream.specs.Service.{ver_for, IsCleanFor}
 use Rattle.stream.proofs.Below.{names_in_stream}
 
 -- ---- the ++VER that counts
@@ -111,7 +111,9 @@ module _ (g : Global) (was now : Choice) (same : (x : Id) → was x ≡ now x) w
       let fix = fixes y (was_in y of_y) there type name changes in
       (fix.0, fix.1, level_by was now fix.0 y (λ x of_x. same x) fix.2)
 
-pub clean_by_what_counts : CleanByWhatCounts
-clean_by_what_counts g zone cands is_zone closed clean =
+-- In a closed zone a clean stream is clean by the ++VERs that count, whatever the candidates are.
+pub clean_by_what_counts : (g : Global) (zone : Zone) (cands : List Id) → IsClosedZone g (counting g zone []) zone
+    → IsCleanFor g zone.srel → IsClean g (counting g zone cands)
+clean_by_what_counts g zone cands closed clean =
     clean_by g (ver_for g zone.srel) (counting g zone cands)
     (λ x. sym (counts_for g zone cands closed clean.single x)) clean.clean

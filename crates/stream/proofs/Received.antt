@@ -57,7 +57,7 @@ module _ (g h : Global) (zone : Zone) (is_zone : IsZone zone) (keeps : KeepsRece
       (λ x on. sym (alike_choice g h zone x (applied_alike x on))) is.of_stream
 
   clean : IsClean h now
-  clean = clean_by_what_counts h zone [] is_zone closed after
+  clean = clean_by_what_counts h zone [] closed after
 
   abbrev HasFix : Id → ElemType → Text → Type 0
   HasFix y type name = (e : Element) × (element_of zone type name ≡ Some e) × IsInLevel now e y

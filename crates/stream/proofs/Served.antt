@@ -31,7 +31,8 @@ use Rattle.machine_laws.proofs.StepForms.{step_storable}
 use Rattle.machine_laws.proofs.StepKeeps.{named_has, empty_closed, each_zone}
 use Rattle.stream.specs.Stream.{IsClean, IsOfStream, ChecksRequisites}
 use Rattle.stream.specs.Service.{ver_for, IsCleanFor, IsServed, AreServed, HasCleanStreams, IsService}
-use Rattle.stream.specs.Service.{IsServiceAct, Serves, empty_state, ServiceServesAll}
+use Rattle.stream.specs.Service.{IsServiceAct, Serves, empty_state, ServedZonesPass, ServiceServesAll}
+use Rattle.stream.proofs.NoRegression.{never_clashes_by_element, never_regresses}
 use Rattle.stream.proofs.Installed.{install_stays_of_stream, install_loses_no_fix}
 use Rattle.stream.proofs.OneVer.{counts_for, clean_by_what_counts, fixes_by}
 use Rattle.stream.proofs.Received.{received_served}
@@ -76,9 +77,6 @@ module _ (s : State) (is : IsStorable s) (all : AreServed s) (clean : HasCleanSt
   clean_for : IsCleanFor g z.zone.srel
   clean_for = All-contains (λ (z : NamedZone). IsCleanFor g z.zone.srel) s.zones z clean there
 
-  is_zone : IsZone z.zone
-  is_zone = All-contains (λ (z : NamedZone). IsZone z.zone) s.zones z (each_zone s is) there
-
   abbrev chosen : Choice
   chosen = installs.decision.setting.choice
 
@@ -91,7 +89,7 @@ module _ (s : State) (is : IsStorable s) (all : AreServed s) (clean : HasCleanSt
 
   clean_by_chosen : IsClean g chosen
   clean_by_chosen = subst (IsClean g) (sym chosen_is)
-      (clean_by_what_counts g z.zone installs.decides.cands is_zone served.of_stream.closed clean_for)
+      (clean_by_what_counts g z.zone installs.decides.cands served.of_stream.closed clean_for)
 
   of_stream : IsOfStream g (counting g new []) new
   of_stream = install_stays_of_stream (record { global = g; zones = s.zones }) z related sel bypass date
@@ -196,6 +194,15 @@ runs_served [] s t outcomes (same, none) is all = subst AreServed (sym same) all
 runs_served (a ∷ acts) s t outcomes (m, front, back, serves, runs, are) is all =
     runs_served acts m t back runs (step_storable s m a front is serves.forms serves.steps)
     (act_served s a m front serves is all)
+
+-- ---- the laws
+
+pub served_zones_pass : ServedZonesPass
+served_zones_pass g zone related sel cands bypass is_zone are clean is =
+    let by = clean_by_what_counts g zone cands is.of_stream.closed clean in (
+      never_regresses g zone related sel cands bypass is_zone are by is.of_stream,
+      never_clashes_by_element g zone related sel cands bypass is_zone are by,
+    )
 
 pub service_serves_all : ServiceServesAll
 service_serves_all acts t outcomes runs =

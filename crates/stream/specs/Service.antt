@@ -1,11 +1,13 @@
 -- What a clean stream promises for every system: whatever commands have run on it, its zones are of the stream and lack
 -- no fix.
-use Rattle.std.specs.Prelude.{◌≡◌, ◌≤◌, List, [], Option, None, length, slice_get, All}
+use Rattle.std.specs.Prelude.{◌≡◌, ◌≢◌, ◌≤◌, List, [], Option, None, length, slice_get, All, Contains}
 use Rattle.terms.specs.Types.{Srel, Id, Global, Zone, NamedZone, Selection, Command, Set, Receive, Reject, Apply, Accept}
-use Rattle.terms.specs.Types.{Restore, ListZone, Report}
+use Rattle.terms.specs.Types.{Restore, ListZone, Report, Bypass}
 use Rattle.terms.specs.Lookups.{IsZone}
 use Rattle.terms.specs.Choice.{Choice, vers_of, counting, del_of}
-use Rattle.terms.specs.Closed.{IsClosedZone}
+use Rattle.terms.specs.Candidates.{AreCandidates}
+use Rattle.terms.specs.Tests.{owner_of, ChangesOwnedByAnother, Regresses, ShareElement, MayNotShare}
+use Rattle.terms.specs.Judged.{setting}
 use Rattle.store_schema.specs.Inventory.{empty_inventory}
 use Rattle.machine.specs.Outcome.{Outcome}
 use Rattle.machine.specs.State.{State}
@@ -63,11 +65,17 @@ empty_state = record { global = empty_inventory.global; zones = empty_inventory.
 
 -- ---- the laws
 
--- In a closed zone a clean stream is clean by the ++VERs that count, whatever the candidates are.
-abbrev pub CleanByWhatCounts : Type 0
-CleanByWhatCounts =
-    (g : Global) (zone : Zone) (cands : List Id) → IsZone zone → IsClosedZone g (counting g zone []) zone
-    → IsCleanFor g zone.srel → IsClean g (counting g zone cands)
+-- In such a zone no candidate that changes only elements of its own owner regresses one, and no two candidates of one
+-- owner clash by an element.
+abbrev pub ServedZonesPass : Type 0
+ServedZonesPass =
+    (g : Global) (zone : Zone) (related : Option Zone) (sel : Selection) (cands : List Id) (bypass : Bypass)
+    → IsZone zone → AreCandidates g zone sel cands → IsCleanFor g zone.srel → IsServed g zone
+    → (((x : Id) → Contains cands x → ¬ ChangesOwnedByAnother (setting g zone related cands bypass) x
+    → ¬ Regresses (setting g zone related cands bypass) x)
+    × ((x y : Id) → Contains cands x → Contains cands y → x ≢ y
+    → owner_of (setting g zone related cands bypass) x ≡ owner_of (setting g zone related cands bypass) y
+    → ShareElement g x y → ¬ MayNotShare (setting g zone related cands bypass) x y))
 
 -- Whatever acts of service have run from the empty state, all zones are of their streams and have all fixes.
 abbrev pub ServiceServesAll : Type 0

@@ -1,7 +1,7 @@
 //! What a clean stream promises for every zone of it.
 ghost use Rattle.stream.specs.Laws.{NeverClashesByElement, NeverRegresses};
 ghost use Rattle.stream.specs.Laws.{InstallStaysOfStream, InstallLosesNoFix};
-ghost use Rattle.stream.specs.Service.{CleanByWhatCounts, ServiceServesAll};
+ghost use Rattle.stream.specs.Service.{ServedZonesPass, ServiceServesAll};
 
 /// Two candidates of one owner do not clash by an element that both change.
 pub fn never_clashes_by_element()
@@ -23,9 +23,9 @@ pub fn install_loses_no_fix()
     ensures { InstallLosesNoFix }
 {}
 
-/// In a closed zone a clean stream is clean by the `++VER`s that count, whatever the candidates are.
-pub fn clean_by_what_counts()
-    ensures { CleanByWhatCounts }
+/// In a zone that is served no candidate regresses an element of its owner, and no two candidates clash by one.
+pub fn served_zones_pass()
+    ensures { ServedZonesPass }
 {}
 
 /// Whatever acts of service have run from the empty state, all zones are of their streams and have all fixes.
