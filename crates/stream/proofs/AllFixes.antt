@@ -22,14 +22,14 @@ use Rattle.terms.proofs.ListMembers.{here, there, here_or, none_in}
 use Rattle.terms.proofs.Loops.{sup_named}
 use Rattle.terms.proofs.NothingDeleted.{deletions_none, zone_less_none}
 use Rattle.terms.proofs.TextOrder.{same_or_not}
-use Rattle.change.proofs.KeptTogether.{replaces_or_updates, kept_over}
+use Rattle.change.proofs.KeptTogether.{replaces_or_updates, kept_over, kept_owner}
 use Rattle.machine_laws.proofs.Installable.{not_supplied}
 use Rattle.machine_laws.proofs.Supplied.{supplied_or, supplied_applied, supplied_by}
 use Rattle.machine_laws.proofs.Given.{Keeps, installing, eligible, kept_candidate, candidate_ver, unapplied}
 use Rattle.machine_laws.proofs.Chains.{view_element}
 use Rattle.machine_laws.proofs.Effect.{effect_or_not, applied_either}
-use Rattle.stream.specs.Stream.{IsInStream, IsClean, IsOfStream, IsInLevel, HasAllFixes}
-use Rattle.stream.proofs.Below.{direct}
+use Rattle.stream.specs.Stream.{IsInStream, IsClean, IsOfStream, IsInLevel, HasAllFixes, HasOwners}
+use Rattle.stream.proofs.Below.{direct, supported}
 use Rattle.stream.proofs.NoRegression.{over_level}
 
 -- one that passes, or none
@@ -99,31 +99,31 @@ module _ (s : Setting) (survivors kept : List Id) (k : Keeps s survivors kept) (
 
     -- ---- what was in the level
 
+    -- OwnedByAnother: what takes effect owns the element that it changes
+    old_owner : (x : Id) (old : Element) → TakesEffect i x → ChangesIt x → element_of s.zone type name ≡ Some old
+        → old.fmid ≡ owner s.global s.choice x
+    old_owner x old effect changes found = elim (same_or_not old.fmid (owner s.global s.choice x)) [
+      | inl same ↦ same
+      | inr other ↦ absurd ((eligible s survivors kept k x effect.kept).0.0.1 OwnedByAnother (
+        old,
+        (
+          type,
+          name,
+          changes,
+          view_element s survivors kept k x type name old effect.kept
+              (ap (λ zone. element_of zone type name) uncleared ∙ found),
+        ),
+        other,
+      ))
+    ]
+
     -- what takes effect is over the level of the element that it changes
     over_old : (x : Id) (old : Element) → TakesEffect i x → ChangesIt x → element_of s.zone type name ≡ Some old
         → (r : Id) → Contains (old.rmid ∷ old.umids) r → Over x r
-    over_old x old effect changes found = over_level s.global s.choice s.zone clean is x type name old
-        (candidate_ver s survivors kept k x cand) (not_supplied s.global s.zone x (k.installable x cand)) found owned
-        changes
-      where
-        cand : Contains s.cands x
-        cand = kept_candidate s survivors kept k x effect.kept
-
-        owned : old.fmid ≡ owner s.global s.choice x
-        owned = elim (same_or_not old.fmid (owner s.global s.choice x)) [
-          | inl same ↦ same
-          | inr other ↦ absurd ((eligible s survivors kept k x effect.kept).0.0.1 OwnedByAnother (
-            old,
-            (
-              type,
-              name,
-              changes,
-              view_element s survivors kept k x type name old effect.kept
-                  (ap (λ zone. element_of zone type name) uncleared ∙ found),
-            ),
-            other,
-          ))
-        ]
+    over_old x old effect changes found =
+        let cand = kept_candidate s survivors kept k x effect.kept in
+        over_level s.global s.choice s.zone clean is x type name old (candidate_ver s survivors kept k x cand)
+        (not_supplied s.global s.zone x (k.installable x cand)) found (old_owner x old effect changes found) changes
 
     -- a replacement's level is the replacer, and what updates it
     replaced_rmid : (r : Id) (base e : Element) → HasBase i type name (Some r) base
@@ -185,6 +185,41 @@ module _ (s : Setting) (survivors kept : List Id) (k : Keeps s survivors kept) (
               (r, within, up),
             )
         ]
+
+    -- ---- owners
+
+    base_found : (base : Element) → element_of (cleared i) type name ≡ Some base
+        → element_of s.zone type name ≡ Some base
+    base_found base found = ap (λ zone. element_of zone type name) (sym uncleared) ∙ found
+
+    -- the element after it has the owner of all that change it
+    made_owner : (y : Id) → TakesEffect i y → ChangesIt y → (e : Element) (replacer : Option Id) (base : Element)
+        → HasBase i type name replacer base → IsUpdated i type name replacer base e
+        → owner s.global s.choice y ≡ e.fmid
+    made_owner y effect changes e None base has updated =
+        sym (old_owner y base effect changes (base_found base has.1))
+        ∙ sym (ap (λ (o : Element). o.fmid) updated.rest)
+    made_owner y effect changes e (Some q) base has updated =
+        kept_owner s survivors kept k.members y q effect.kept has.0.installed.kept
+        (type, name, changes, replaces_changes s.global q type name has.0.replaces)
+        ∙ sym (ap (λ (o : Element). o.fmid) updated.rest ∙ ap (λ (o : Element). o.fmid) has.1.6)
+
+    -- and so has the element before it
+    kept_owner_of : (y : Id) (old : Element) → element_of s.zone type name ≡ Some old
+        → owner s.global s.choice y ≡ old.fmid → (e : Element) → element_of new type name ≡ Some e
+        → owner s.global s.choice y ≡ e.fmid
+    kept_owner_of y old found owns e now = elim (search (λ x. TakesEffect i x × ChangesIt x) changes_or_not kept) [
+      | inl some ↦
+          let after = installed.changed type name some.0 some.1.0 some.1.1 in
+          let made : HasElementAfter i type name after.0 = after.2 in
+          owns ∙ old_owner some.0 old some.1.0 some.1.1 found
+          ∙ made_owner some.0 some.1.0 some.1.1 after.0 made.0 made.1 made.2 made.3
+          ∙ ap (λ (o : Element). o.fmid) (same_Some after.0 e (sym after.1 ∙ now))
+      | inr none ↦ owns ∙ ap (λ (o : Element). o.fmid) (same_Some old e
+          (sym (installed.unchanged type name (λ x effect. false_from_ne_true (has_change s.global x type name)
+          (λ changes. none x effect.kept (effect, changes)))
+          ∙ ap (λ zone. element_of zone type name) uncleared ∙ found) ∙ now))
+    ]
 
     -- ---- what takes effect
 
@@ -278,3 +313,21 @@ module _ (s : Setting) (survivors kept : List Id) (k : Keeps s survivors kept) (
       was supplied =
           let fix = fixes y in_stream supplied type name changes in
           stays_in_level type name y fix.0 fix.1 fix.2
+
+  pub keeps_owners : HasAllFixes s.global s.choice s.zone → HasOwners s.global s.choice s.zone
+      → HasOwners s.global s.choice new
+  keeps_owners fixes owners y on type name changes e found =
+      elim (applied_either s survivors kept k bypassed date new installed y on) [
+        | inl effect ↦
+            let after = installed.changed type name y effect changes in
+            let made : HasElementAfter i type name after.0 = after.2 in
+            made_owner type name y effect changes after.0 made.0 made.1 made.2 made.3
+            ∙ ap (λ (o : Element). o.fmid) (same_Some after.0 e (sym after.1 ∙ found))
+        | inr left ↦ stayed (subst (λ zone. is_applied zone y ≡ true) uncleared left)
+      ]
+    where
+      stayed : is_applied s.zone y ≡ true → owner s.global s.choice y ≡ e.fmid
+      stayed was =
+          let fix = fixes y (supported s.global s.choice s.zone clean.requisites is y was).received
+          (supplied_applied s.zone y was) type name changes in
+          kept_owner_of type name y fix.0 fix.1 (owners y was type name changes fix.0 fix.1) e found

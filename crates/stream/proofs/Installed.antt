@@ -19,11 +19,11 @@ use Rattle.machine_laws.proofs.InstallForms.{installed_forms}
 use Rattle.machine_laws.proofs.InstallKeeps.{install_keeps_closed}
 use Rattle.machine_laws.proofs.Installs.{IsInstall}
 use Rattle.machine_laws.proofs.TextForms.{text_form}
-use Rattle.stream.specs.Stream.{IsClean, IsOfStream, HasAllFixes, ChecksRequisites}
+use Rattle.stream.specs.Stream.{IsClean, IsOfStream, HasAllFixes, HasOwners, ChecksRequisites}
 use Rattle.stream.specs.Laws.{InstallStaysOfStream, InstallLosesNoFix}
 use Rattle.stream.proofs.NoRegression.{of_stream_by, of_stream_whatever}
 use Rattle.stream.proofs.StaysOfStream.{stays_of_stream}
-use Rattle.stream.proofs.AllFixes.{keeps_fixes}
+use Rattle.stream.proofs.AllFixes.{keeps_fixes, keeps_owners}
 
 module _ (i : Inventory) (z : NamedZone) (related : Option Zone) (sel : Selection) (bypass : Bypass) (date : Text)
     (d : Decision) (new : Zone) (inventory : IsInventory i) (there : Contains i.zones z)
@@ -88,6 +88,18 @@ module _ (i : Inventory) (z : NamedZone) (related : Option Zone) (sel : Selectio
       (installed i.global z.zone related sel bypass date d new install) clean_by of_stream
       (λ x kept. ap (λ c. del_of c x) (sym chosen) ∙ plain x kept)
       (subst (λ c. HasAllFixes i.global c z.zone) chosen fixes))
+
+  pub installed_owners : ((x : Id) → Contains d.kept x → del_of d.setting.choice x ≡ [])
+      → HasAllFixes i.global d.setting.choice z.zone → HasOwners i.global d.setting.choice z.zone
+      → HasOwners i.global d.setting.choice new
+  unfolding install
+  installed_owners plain fixes owners = subst (λ c. HasOwners i.global c new) (sym chosen)
+      (keeps_owners s (kept_set i.global z.zone related sel bypass date d new install).survivors d.kept
+      (keeps i.global z.zone related sel bypass date d new install) decides.bypassed date new
+      (installed i.global z.zone related sel bypass date d new install) clean_by of_stream
+      (λ x kept. ap (λ c. del_of c x) (sym chosen) ∙ plain x kept)
+      (subst (λ c. HasAllFixes i.global c z.zone) chosen fixes)
+      (subst (λ c. HasOwners i.global c z.zone) chosen owners))
 
 -- ---- the laws
 

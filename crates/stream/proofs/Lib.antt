@@ -4,5 +4,7 @@ mod StaysOfStream
 mod AllFixes
 mod Installed
 mod OneVer
+mod Alike
 mod Received
+mod Rejected
 mod Served

@@ -114,7 +114,7 @@ found_key zone type name e found =
     )
 
 -- the RMID and the UMIDs change it
-level_changes : (g : Global) (c : Choice) (zone : Zone) (e : Element) → IsOwned g c zone e → (z : Id)
+pub level_changes : (g : Global) (c : Choice) (zone : Zone) (e : Element) → IsOwned g c zone e → (z : Id)
     → Contains (e.rmid ∷ e.umids) z → IsTrue (has_change g z e.elem_type e.name)
 level_changes g c zone e owned z within = elim (here_or e.rmid e.umids z within) [
   | inl same ↦ subst (λ y. IsTrue (has_change g y e.elem_type e.name)) same

@@ -15,7 +15,7 @@ use Rattle.terms.proofs.Leads.{reaches_more}
 use Rattle.terms.proofs.Searches.{first_of_one}
 use Rattle.machine_laws.proofs.AppliedIds.{of_applied}
 use Rattle.machine_laws.proofs.KeptChoice.{counts_whatever}
-use Rattle.stream.specs.Stream.{IsInStream, HasRequisitesOf, IsClean, IsInLevel, HasAllFixes}
+use Rattle.stream.specs.Stream.{IsInStream, HasRequisitesOf, IsClean, IsInLevel, HasAllFixes, HasOwners}
 use Rattle.stream.specs.Service.{ver_for, IsCleanFor}
 use Rattle.stream.proofs.Below.{names_in_stream}
 
@@ -110,6 +110,9 @@ module _ (g : Global) (was now : Choice) (same : (x : Id) → was x ≡ now x) w
   fixes_by zone fixes y of_y there type name changes =
       let fix = fixes y (was_in y of_y) there type name changes in
       (fix.0, fix.1, level_by was now fix.0 y (λ x of_x. same x) fix.2)
+
+  pub owners_by : (zone : Zone) → HasOwners g was zone → HasOwners g now zone
+  owners_by zone owners y on type name changes e found = sym (same_owner y) ∙ owners y on type name changes e found
 
 -- In a closed zone a clean stream is clean by the ++VERs that count, whatever the candidates are.
 pub clean_by_what_counts : (g : Global) (zone : Zone) (cands : List Id) → IsClosedZone g (counting g zone []) zone

@@ -8,7 +8,7 @@ use Rattle.terms.specs.declared.kinds.ElemType.{ElemType}
 use Rattle.terms.specs.Types.{Text, Id, Change, Global, Element, Zone, type_number}
 use Rattle.terms.specs.Lookups.{IsZone, has_change, changes_of, element_of, is_applied, is_supplied, sysmod_of}
 use Rattle.terms.specs.Choice.{Choice, counting, sup_of}
-use Rattle.terms.specs.Over.{names, IsOver}
+use Rattle.terms.specs.Over.{names, IsOver, owner}
 use Rattle.terms.specs.Closed.{IsSupported, IsClosedZone}
 use Rattle.terms.proofs.Applied.{in_applied_ids}
 use Rattle.terms.proofs.Leads.{reaches_named, reaches_through}
@@ -19,19 +19,37 @@ use Rattle.machine_laws.proofs.AlikeSysmods.{still_closed}
 use Rattle.machine_laws.proofs.AppliedIds.{applied_in_ids, of_applied}
 use Rattle.machine_laws.proofs.ReceiveKeeps.{KeepsReceived}
 use Rattle.machine_laws.proofs.Supplied.{supplied_or, supplied_applied}
-use Rattle.stream.specs.Stream.{IsInStream, IsClean, IsOfStream, IsInLevel}
+use Rattle.stream.specs.Stream.{IsInStream, IsClean, IsOfStream, IsInLevel, HasAllFixes}
 use Rattle.stream.specs.Service.{IsCleanFor, IsServed}
+use Rattle.stream.proofs.Alike.{alike_change, alike_owner}
 use Rattle.stream.proofs.NoRegression.{of_stream_closed}
 use Rattle.stream.proofs.OneVer.{level_by, clean_by_what_counts}
 
--- the same element statements, but for the sources
-alike_change : (g h : Global) (x : Id) (type : ElemType) (name : Text) → AreAlike g h x
-    → has_change h x type name ≡ has_change g x type name
-alike_change g h x type name alike = ap
-    (λ hs. is_some (find (λ (c : Change). (type_number c.elem_type == type_number type) && bytes_eq c.name name) hs))
-    (sym (map_or_map (λ s. s.changes) but_sources [] (λ s. refl) (sysmod_of h x))
-    ∙ ap (λ o. option_map_or (λ s. s.changes) o []) alike
-    ∙ map_or_map (λ s. s.changes) but_sources [] (λ s. refl) (sysmod_of g x))
+-- the zone has the element, and y is in its level
+abbrev pub HasFix : Zone → Choice → Id → ElemType → Text → Type 0
+HasFix zone c y type name = (e : Element) × (element_of zone type name ≡ Some e) × IsInLevel c e y
+
+-- If the level has what applied SYSMODs change, it has what superseded ones change: what supersedes them changes it too.
+module _ (g : Global) (zone : Zone) (c : Choice) (clean : IsClean g c) (is : IsOfStream g c zone)
+    (applied : (y : Id) → is_applied zone y ≡ true → (type : ElemType) (name : Text)
+    → has_change g y type name ≡ true → HasFix zone c y type name) where
+  superseded_fix : (y b : Id) → IsInStream c y → is_applied zone b ≡ true → Contains (sup_of c b) y
+      → (type : ElemType) (name : Text) → has_change g y type name ≡ true → HasFix zone c y type name
+  superseded_fix y b in_stream on named type name changes =
+      let fix = applied b on type name (clean.elements b y in_stream named type name changes) in
+      (fix.0, fix.1, (fix.2.0, fix.2.1, inr (elim fix.2.2 [
+        | inl same ↦ subst (λ x. IsOver c x y) (sym same) over
+        | inr up ↦ reaches_through (names c) fix.2.0 b y up over
+      ])))
+    where
+      over : IsOver c b y
+      over = reaches_named (names c) b y (sup_named c b y named)
+
+  pub fixes_from_applied : HasAllFixes g c zone
+  fixes_from_applied y in_stream there type name changes = elim (supplied_or zone y there) [
+    | inl on ↦ applied y on type name changes
+    | inr by ↦ let sup = (is.supby y by.0).0 by.1 in superseded_fix y by.0 in_stream sup.0 sup.1 type name changes
+  ]
 
 module _ (g h : Global) (zone : Zone) (is_zone : IsZone zone) (keeps : KeepsReceived g h) (is : IsServed g zone)
     (after : IsCleanFor h zone.srel) where
@@ -59,36 +77,22 @@ module _ (g h : Global) (zone : Zone) (is_zone : IsZone zone) (keeps : KeepsRece
   clean : IsClean h now
   clean = clean_by_what_counts h zone [] closed after
 
-  abbrev HasFix : Id → ElemType → Text → Type 0
-  HasFix y type name = (e : Element) × (element_of zone type name ≡ Some e) × IsInLevel now e y
-
   applied_fix : (y : Id) → is_applied zone y ≡ true → (type : ElemType) (name : Text)
-      → has_change h y type name ≡ true → HasFix y type name
+      → has_change h y type name ≡ true → HasFix zone now y type name
   applied_fix y on type name changes =
       let fix = is.fixes y (of_applied (IsSupported was zone) zone is.of_stream.closed.supported y on).received (supplied_applied zone y on) type name
       (sym (alike_change g h y type name (applied_alike y on)) ∙ changes) in
       (fix.0, fix.1, level_by was now fix.0 y still_counts fix.2)
 
-  -- What supersedes an id has the level of its elements.
-  superseded_fix : (y b : Id) → IsInStream now y → is_applied zone b ≡ true → Contains (sup_of now b) y
-      → (type : ElemType) (name : Text) → has_change h y type name ≡ true → HasFix y type name
-  superseded_fix y b in_stream on named type name changes =
-      let fix = applied_fix b on type name (clean.elements b y in_stream named type name changes) in
-      (fix.0, fix.1, (fix.2.0, fix.2.1, inr (elim fix.2.2 [
-        | inl same ↦ subst (λ x. IsOver now x y) (sym same) over
-        | inr up ↦ reaches_through (names now) fix.2.0 b y up over
-      ])))
-    where
-      over : IsOver now b y
-      over = reaches_named (names now) b y (sup_named now b y named)
+  owned : (y : Id) → is_applied zone y ≡ true → (type : ElemType) (name : Text) → has_change h y type name ≡ true
+      → (e : Element) → element_of zone type name ≡ Some e → owner h now y ≡ e.fmid
+  owned y on type name changes e found =
+      alike_owner g h was now y (applied_alike y on) (sym (alike_choice g h zone y (applied_alike y on)))
+      ∙ is.owners y on type name (sym (alike_change g h y type name (applied_alike y on)) ∙ changes) e found
 
   pub received_served : IsServed h zone
   received_served = record {
     of_stream = of_stream;
-    fixes = λ y in_stream there type name changes. elim (supplied_or zone y there) [
-      | inl on ↦ applied_fix y on type name changes
-      | inr by ↦
-          let sup = (of_stream.supby y by.0).0 by.1 in
-          superseded_fix y by.0 in_stream sup.0 sup.1 type name changes
-    ];
+    fixes = fixes_from_applied h zone now clean of_stream applied_fix;
+    owners = owned;
   }

@@ -10,7 +10,7 @@ use Rattle.terms.specs.declared.kinds.ZoneKind.{ZoneKind}
 use Rattle.terms.specs.Types.{Text, Id, Global, Zone, a_zone, NamedZone, Selection, Bypass, ReceiveOperands, Install}
 use Rattle.terms.specs.Types.{Command, Set, Receive, Reject, Apply, Accept, Restore, ListZone, Report}
 use Rattle.terms.specs.Lookups.{IsZone}
-use Rattle.terms.specs.Choice.{Choice, vers_of, counting}
+use Rattle.terms.specs.Choice.{Choice, vers_of, counting, del_of}
 use Rattle.terms.specs.Forms.{IsDottedDate}
 use Rattle.terms.specs.Rising.{with_item}
 use Rattle.terms.specs.Tests.{Setting}
@@ -21,21 +21,23 @@ use Rattle.store_schema.proofs.Number.{empty_is_inventory}
 use Rattle.machine.specs.Outcome.{Outcome, Line}
 use Rattle.machine.specs.Installing.{InstallsSelected}
 use Rattle.machine.specs.State.{State, zone_named, target_of, with_zone, ZoneDefinition, ZoneFault, define_zone}
-use Rattle.machine.specs.Machine.{Files, Takes, TakesAll, TakesNone, TakesNoHold, InstallsThere, RunsThere, Act, Begin}
-use Rattle.machine.specs.Machine.{Perform, Faulty, Define, state_after, Steps}
+use Rattle.machine.specs.Machine.{Files, Takes, TakesAll, TakesNone, TakesNoHold, Rejects, InstallsThere, RunsThere}
+use Rattle.machine.specs.Machine.{Act, Begin, Perform, Faulty, Define, state_after, Steps}
 use Rattle.machine.specs.Runs.{Runs}
 use Rattle.machine_laws.specs.Storable.{IsStorable, HasActForms}
 use Rattle.machine_laws.proofs.Defined.{defined}
 use Rattle.machine_laws.proofs.ReceiveKeeps.{items_keep}
+use Rattle.machine_laws.proofs.RejectKeeps.{reject_keeps_closed}
 use Rattle.machine_laws.proofs.StepForms.{step_storable}
 use Rattle.machine_laws.proofs.StepKeeps.{named_has, empty_closed, each_zone}
-use Rattle.stream.specs.Stream.{IsClean, IsOfStream, ChecksRequisites}
+use Rattle.stream.specs.Stream.{IsClean, IsOfStream, HasAllFixes, ChecksRequisites}
 use Rattle.stream.specs.Service.{ver_for, IsCleanFor, IsServed, AreServed, HasCleanStreams, IsService}
 use Rattle.stream.specs.Service.{IsServiceAct, Serves, empty_state, ServedZonesPass, ServiceServesAll}
 use Rattle.stream.proofs.NoRegression.{never_clashes_by_element, never_regresses}
-use Rattle.stream.proofs.Installed.{install_stays_of_stream, install_loses_no_fix}
-use Rattle.stream.proofs.OneVer.{counts_for, clean_by_what_counts, fixes_by}
+use Rattle.stream.proofs.Installed.{install_stays_of_stream, install_loses_no_fix, installed_owners}
+use Rattle.stream.proofs.OneVer.{counts_for, clean_by_what_counts, fixes_by, owners_by}
 use Rattle.stream.proofs.Received.{received_served}
+use Rattle.stream.proofs.Rejected.{rejects_keep, rejected_served}
 
 -- ---- zones that come in
 
@@ -55,6 +57,7 @@ empty_served g kind srel related = record {
     supby = λ x b. (λ there. absurd (none_in b there), λ by. absurd (true≢false (sym by.0)));
   };
   fixes = λ y in_stream there type name changes. absurd (true≢false (sym there));
+  owners = λ y on type name changes e found. absurd (true≢false (sym on));
 }
 
 defined_served : (s t : State) (d : ZoneDefinition) → define_zone s d ≡ Ok t → AreServed s → AreServed t
@@ -104,16 +107,26 @@ module _ (s : State) (is : IsStorable s) (all : AreServed s) (clean : HasCleanSt
       ∙ sym (counts_for g new [] of_stream.closed
       (subst (λ srel. (y : Id) → length (vers_of g srel y) ≤ 1) (sym same_srel) clean_for.single) x)
 
+  -- what is kept has no DELETE
+  plain : (x : Id) → Contains installs.decision.kept x → del_of chosen x ≡ []
+  plain x kept = ap (λ o. option_map_or (λ v. v.del) o []) (for_srel x) ∙ clean_for.plain x
+
+  chosen_before : (x : Id) → counting g z.zone [] x ≡ chosen x
+  chosen_before x = counts_for g z.zone [] served.of_stream.closed clean_for.single x ∙ sym (for_srel x)
+
+  fixes : HasAllFixes g chosen z.zone
+  fixes = fixes_by g (counting g z.zone []) chosen chosen_before z.zone served.fixes
+
   pub installed_served : IsServed g new
   installed_served = record {
     of_stream = of_stream;
     fixes = fixes_by g chosen (counting g new []) counts_after new
         (install_loses_no_fix (record { global = g; zones = s.zones }) z related sel bypass date installs.decision new
-        is there installs.decides installs.installs clean_by_chosen served.of_stream
-        (λ x kept. ap (λ o. option_map_or (λ v. v.del) o []) (for_srel x) ∙ clean_for.plain x)
-        (fixes_by g (counting g z.zone []) chosen
-        (λ x. counts_for g z.zone [] served.of_stream.closed clean_for.single x ∙ sym (for_srel x)) z.zone
-        served.fixes));
+        is there installs.decides installs.installs clean_by_chosen served.of_stream plain fixes);
+    owners = owners_by g chosen (counting g new []) counts_after new
+        (installed_owners (record { global = g; zones = s.zones }) z related sel bypass date installs.decision new
+        is there installs.decides installs.installs clean_by_chosen served.of_stream plain fixes
+        (owners_by g (counting g z.zone []) chosen chosen_before z.zone served.owners));
   }
 
 -- the zone of a name is one of the zones
@@ -150,6 +163,17 @@ taken_served files s what t outcome (TakesAll items holds middle g lines more re
 taken_served files s what t outcome (TakesNone fault reads is_fault) is all after = all
 taken_served files s what t outcome (TakesNoHold items fault has reads is_fault) is all after = all
 
+-- ---- REJECT
+
+rejects_served : (s : State) (ids : List Id) (t : State) (outcome : Outcome) → Rejects s ids t outcome → IsStorable s
+    → AreServed s → HasCleanStreams t → AreServed t
+rejects_served s ids t outcome r is all after = subst AreServed (sym r.state) (λ k d below.
+    rejected_served s.global r.new (get_or s.zones k d).zone is.global (each_zone s is k d below)
+    (rejects_keep s.zones ids s.global r.new r.lines r.runs)
+    (reject_keeps_closed s.zones (each_zone s is) ids s.global r.new r.lines r.runs
+    (λ k d below. (all k d below).of_stream.closed) k d below)
+    (all k d below) (subst HasCleanStreams r.state after k d below))
+
 -- ---- acts
 
 command_served : (date : Text) (files : Files) (s : State) (c : Command) (t : State) (outcome : Outcome) → IsService c
@@ -159,7 +183,8 @@ command_served date files s (Set name) t outcome service dated runs is all befor
     subst AreServed (sym runs.0) all
 command_served date files s (Receive what) t outcome service dated runs is all before after =
     taken_served files s what t outcome runs is all after
-command_served date files s (Reject ids) t outcome service dated runs is all before after = absurd service
+command_served date files s (Reject ids) t outcome service dated runs is all before after =
+    rejects_served s ids t outcome runs is all after
 command_served date files s (Apply i) t outcome service dated runs is all before after =
     installs_served date s (Apply i) i (λ name. None) t outcome dated runs service is all before
 command_served date files s (Accept i) t outcome service dated runs is all before after =

@@ -1,6 +1,6 @@
--- What a clean stream promises for every zone of it. DELETE, BYPASS and RESTORE can break the promises, and nothing is
--- said of the tests that a candidate fails by itself in other ways: by an element with another owner, or by an element
--- that it updates and that is absent.
+-- What a clean stream promises for a zone of it, by the ++VERs that count for a command. Left out are RESTORE, a BYPASS
+-- of requisites and, for fixes, DELETE. Nothing is said of candidates that fail the tests OwnedByAnother and
+-- NothingToUpdate.
 use Rattle.std.specs.Prelude.{◌≡◌, ◌≢◌, List, [], Option, Contains}
 use Rattle.terms.specs.Types.{Date, Id, Global, Zone, NamedZone, Selection, Bypass}
 use Rattle.terms.specs.Lookups.{IsZone}

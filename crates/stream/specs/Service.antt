@@ -1,5 +1,5 @@
 -- What a clean stream promises for every system: whatever commands have run on it, its zones are of the stream and lack
--- no fix.
+-- no fix. Left out are RESTORE, a BYPASS of requisites, DELETE, and SYSMODs with two ++VERs for one SREL.
 use Rattle.std.specs.Prelude.{◌≡◌, ◌≢◌, ◌≤◌, List, [], Option, None, length, slice_get, All, Contains}
 use Rattle.terms.specs.Types.{Srel, Id, Global, Zone, NamedZone, Selection, Command, Set, Receive, Reject, Apply, Accept}
 use Rattle.terms.specs.Types.{Restore, ListZone, Report, Bypass}
@@ -14,7 +14,7 @@ use Rattle.machine.specs.State.{State}
 use Rattle.machine.specs.Machine.{Act, Begin, Perform, Faulty, Define, Steps}
 use Rattle.machine.specs.Runs.{Runs}
 use Rattle.machine_laws.specs.Storable.{HasActForms}
-use Rattle.stream.specs.Stream.{IsClean, IsOfStream, HasAllFixes, ChecksRequisites}
+use Rattle.stream.specs.Stream.{IsClean, IsOfStream, HasAllFixes, HasOwners, ChecksRequisites}
 
 -- the ++VER of each SYSMOD for the SREL, or the first of several
 abbrev pub ver_for : Global → Srel → Choice
@@ -26,10 +26,11 @@ pub record IsCleanFor (g : Global) (srel : Srel) : Type 0 where
   pub plain : (x : Id) → del_of (ver_for g srel) x ≡ []
   pub clean : IsClean g (ver_for g srel)
 
--- The zone is of the stream, and has all its fixes.
+-- The zone is of the stream, has all its fixes, and each element has the owner of the applied SYSMODs that change it.
 pub record IsServed (g : Global) (zone : Zone) : Type 0 where
   pub of_stream : IsOfStream g (counting g zone []) zone
   pub fixes : HasAllFixes g (counting g zone []) zone
+  pub owners : HasOwners g (counting g zone []) zone
 
 -- all zones are
 abbrev pub AreServed : State → Type 0
@@ -39,9 +40,8 @@ AreServed s = All (λ z. IsServed s.global z.zone) s.zones
 abbrev pub HasCleanStreams : State → Type 0
 HasCleanStreams s = All (λ z. IsCleanFor s.global z.zone.srel) s.zones
 
--- An APPLY or ACCEPT checks all requisites, and no command is a REJECT or a RESTORE.
+-- An APPLY or ACCEPT checks all requisites, and no command is a RESTORE.
 abbrev pub IsService : Command → Type 0
-IsService (Reject ids) = ⊥
 IsService (Apply i) = ChecksRequisites i.bypass
 IsService (Accept i) = ChecksRequisites i.bypass
 IsService (Restore what check) = ⊥

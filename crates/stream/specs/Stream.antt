@@ -63,6 +63,12 @@ HasAllFixes g c zone =
     → IsTrue (has_change g y type name)
     → (e : Element) × (element_of zone type name ≡ Some e) × IsInLevel c e y
 
+-- Each applied SYSMOD has the owner of every element that it changes.
+abbrev pub HasOwners : Global → Choice → Zone → Type 0
+HasOwners g c zone =
+    (y : Id) → IsTrue (is_applied zone y) → (type : ElemType) (name : Name) → IsTrue (has_change g y type name)
+    → (e : Element) → element_of zone type name ≡ Some e → owner g c y ≡ e.fmid
+
 -- ---- commands
 
 -- BYPASS covers no requisite. It may cover holds, levels (ID) and what is not in the target zone (APPLYCHECK).

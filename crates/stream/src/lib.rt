@@ -1,9 +1,11 @@
 //! Laws on a clean stream of service. Each is the contract of a function that does nothing, and there is no other code
 //! here.
 //!
-//! A stream is clean if three rules hold of its SYSMODs alone (`specs/Stream`). Then, in every zone that only such
-//! service has made, no candidate regresses an element of its owner (`NoRegression`), and no two candidates clash by
-//! one.
+//! A stream is clean if three rules hold of its SYSMODs (`specs/Stream`). In a zone of a clean stream all that a
+//! supplied SYSMOD is over is supplied (`Below`). So no candidate regresses an element of its owner, and no two
+//! candidates clash by one (`NoRegression`). APPLY and ACCEPT leave the zone of the stream (`StaysOfStream`) and lose
+//! no fix (`AllFixes`), and so do RECEIVE (`Received`) and REJECT (`Rejected`). Together they say it of all acts from
+//! the state without zones (`Served`), if no SYSMOD has two `++VER`s for one SREL (`OneVer`).
 #![tactic(auto)]
 
 mod laws;
