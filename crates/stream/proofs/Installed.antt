@@ -3,7 +3,7 @@ use Rattle.std.proofs.Common.{◌≡◌, ◌∙◌, List, [], Option, All, Conta
 use Rattle.std.proofs.lemmas.List.Elements.{All-contains}
 use Rattle.terms.specs.Types.{Text, Id, Zone, Selection, Bypass, NamedZone}
 use Rattle.terms.specs.Lookups.{is_applied}
-use Rattle.terms.specs.Choice.{Choice, counting, del_of}
+use Rattle.terms.specs.Choice.{counting}
 use Rattle.terms.specs.Tests.{Setting}
 use Rattle.terms.specs.Install.{HasInstalled}
 use Rattle.terms.specs.Texts.{HasForm}
@@ -14,7 +14,7 @@ use Rattle.machine.specs.Installing.{Decision, IsDecision}
 use Rattle.machine_laws.proofs.AlikeSysmods.{closed_by}
 use Rattle.machine_laws.proofs.AppliedIds.{applied_in_ids}
 use Rattle.machine_laws.proofs.Decisions.{decision_forms}
-use Rattle.machine_laws.proofs.Given.{decided, kept_set, keeps, installed, bypassed_for, choice_after}
+use Rattle.machine_laws.proofs.Given.{Keeps, decided, installing, kept_set, keeps, installed, bypassed_for, choice_after}
 use Rattle.machine_laws.proofs.InstallForms.{installed_forms}
 use Rattle.machine_laws.proofs.InstallKeeps.{install_keeps_closed}
 use Rattle.machine_laws.proofs.Installs.{IsInstall}
@@ -44,6 +44,9 @@ module _ (i : Inventory) (z : NamedZone) (related : Option Zone) (sel : Selectio
   abbrev s : Setting
   s = decided i.global z.zone related sel bypass date d new install
 
+  abbrev survivors : List Id
+  survivors = (kept_set i.global z.zone related sel bypass date d new install).survivors
+
   chosen : d.setting.choice ≡ s.choice
   unfolding install
   chosen = ap (λ (t : Setting). t.choice) decides.setting
@@ -68,7 +71,7 @@ module _ (i : Inventory) (z : NamedZone) (related : Option Zone) (sel : Selectio
   unfolding install
   installed_of_stream dated checks =
       of_stream_by i.global s.choice (counting i.global new []) new installs.is_zone same
-      (stays_of_stream s (kept_set i.global z.zone related sel bypass date d new install).survivors d.kept
+      (stays_of_stream s survivors d.kept
       (keeps i.global z.zone related sel bypass date d new install) decides.bypassed date new
       (installed i.global z.zone related sel bypass date d new install)
       (bypassed_for i.global z.zone related sel bypass date d new install) checks clean_by.requisites of_stream
@@ -79,27 +82,25 @@ module _ (i : Inventory) (z : NamedZone) (related : Option Zone) (sel : Selectio
       same : (x : Id) → IsTrue (is_applied new x) → s.choice x ≡ counting i.global new [] x
       same x on = choice_after i.global z.zone related sel bypass date d new install x (in_applied_ids new x on)
 
-  pub installed_fixes : ((x : Id) → Contains d.kept x → del_of d.setting.choice x ≡ [])
-      → HasAllFixes i.global d.setting.choice z.zone → HasAllFixes i.global d.setting.choice new
+  pub installed_fixes : HasOwners i.global d.setting.choice z.zone → HasAllFixes i.global d.setting.choice z.zone
+      → HasOwners i.global d.setting.choice new × HasAllFixes i.global d.setting.choice new
   unfolding install
-  installed_fixes plain fixes = subst (λ c. HasAllFixes i.global c new) (sym chosen)
-      (keeps_fixes s (kept_set i.global z.zone related sel bypass date d new install).survivors d.kept
-      (keeps i.global z.zone related sel bypass date d new install) decides.bypassed date new
-      (installed i.global z.zone related sel bypass date d new install) clean_by of_stream
-      (λ x kept. ap (λ c. del_of c x) (sym chosen) ∙ plain x kept)
-      (subst (λ c. HasAllFixes i.global c z.zone) chosen fixes))
+  installed_fixes owners fixes =
+      subst (λ c. HasOwners i.global c new × HasAllFixes i.global c new) (sym chosen)
+      (keeps_owners s survivors d.kept k decides.bypassed date new now clean_by of_stream own have,
+      keeps_fixes s survivors d.kept k decides.bypassed date new now clean_by of_stream own have)
+    where
+      k : Keeps s survivors d.kept
+      k = keeps i.global z.zone related sel bypass date d new install
 
-  pub installed_owners : ((x : Id) → Contains d.kept x → del_of d.setting.choice x ≡ [])
-      → HasAllFixes i.global d.setting.choice z.zone → HasOwners i.global d.setting.choice z.zone
-      → HasOwners i.global d.setting.choice new
-  unfolding install
-  installed_owners plain fixes owners = subst (λ c. HasOwners i.global c new) (sym chosen)
-      (keeps_owners s (kept_set i.global z.zone related sel bypass date d new install).survivors d.kept
-      (keeps i.global z.zone related sel bypass date d new install) decides.bypassed date new
-      (installed i.global z.zone related sel bypass date d new install) clean_by of_stream
-      (λ x kept. ap (λ c. del_of c x) (sym chosen) ∙ plain x kept)
-      (subst (λ c. HasAllFixes i.global c z.zone) chosen fixes)
-      (subst (λ c. HasOwners i.global c z.zone) chosen owners))
+      now : HasInstalled (installing s d.kept decides.bypassed date) new
+      now = installed i.global z.zone related sel bypass date d new install
+
+      own : HasOwners i.global s.choice z.zone
+      own = subst (λ c. HasOwners i.global c z.zone) chosen owners
+
+      have : HasAllFixes i.global s.choice z.zone
+      have = subst (λ c. HasAllFixes i.global c z.zone) chosen fixes
 
 -- ---- the laws
 
@@ -108,5 +109,5 @@ install_stays_of_stream i z related sel bypass date d new inventory there dated 
     installed_of_stream i z related sel bypass date d new inventory there decides installs clean is dated checks
 
 pub install_loses_no_fix : InstallLosesNoFix
-install_loses_no_fix i z related sel bypass date d new inventory there decides installs clean is plain fixes =
-    installed_fixes i z related sel bypass date d new inventory there decides installs clean is plain fixes
+install_loses_no_fix i z related sel bypass date d new inventory there decides installs clean is =
+    installed_fixes i z related sel bypass date d new inventory there decides installs clean is

@@ -10,7 +10,7 @@ use Rattle.terms.specs.declared.kinds.ZoneKind.{ZoneKind}
 use Rattle.terms.specs.Types.{Text, Id, Global, Zone, a_zone, NamedZone, Selection, Bypass, ReceiveOperands, Install}
 use Rattle.terms.specs.Types.{Command, Set, Receive, Reject, Apply, Accept, Restore, ListZone, Report}
 use Rattle.terms.specs.Lookups.{IsZone}
-use Rattle.terms.specs.Choice.{Choice, vers_of, counting, del_of}
+use Rattle.terms.specs.Choice.{Choice, vers_of, counting}
 use Rattle.terms.specs.Forms.{IsDottedDate}
 use Rattle.terms.specs.Rising.{with_item}
 use Rattle.terms.specs.Tests.{Setting}
@@ -30,11 +30,11 @@ use Rattle.machine_laws.proofs.ReceiveKeeps.{items_keep}
 use Rattle.machine_laws.proofs.RejectKeeps.{reject_keeps_closed}
 use Rattle.machine_laws.proofs.StepForms.{step_storable}
 use Rattle.machine_laws.proofs.StepKeeps.{named_has, empty_closed, each_zone}
-use Rattle.stream.specs.Stream.{IsClean, IsOfStream, HasAllFixes, ChecksRequisites}
+use Rattle.stream.specs.Stream.{IsClean, IsOfStream, HasAllFixes, HasOwners, ChecksRequisites}
 use Rattle.stream.specs.Service.{ver_for, IsCleanFor, IsServed, AreServed, HasCleanStreams, IsService}
 use Rattle.stream.specs.Service.{IsServiceAct, Serves, empty_state, ServedZonesPass, ServiceServesAll}
 use Rattle.stream.proofs.NoRegression.{never_clashes_by_element, never_regresses}
-use Rattle.stream.proofs.Installed.{install_stays_of_stream, install_loses_no_fix, installed_owners}
+use Rattle.stream.proofs.Installed.{install_stays_of_stream, install_loses_no_fix}
 use Rattle.stream.proofs.OneVer.{counts_for, clean_by_what_counts, fixes_by, owners_by}
 use Rattle.stream.proofs.Received.{received_served}
 use Rattle.stream.proofs.Rejected.{rejects_keep, rejected_served}
@@ -107,27 +107,21 @@ module _ (s : State) (is : IsStorable s) (all : AreServed s) (clean : HasCleanSt
       ∙ sym (counts_for g new [] of_stream.closed
       (subst (λ srel. (y : Id) → length (vers_of g srel y) ≤ 1) (sym same_srel) clean_for.single) x)
 
-  -- what is kept has no DELETE
-  plain : (x : Id) → Contains installs.decision.kept x → del_of chosen x ≡ []
-  plain x kept = ap (λ o. option_map_or (λ v. v.del) o []) (for_srel x) ∙ clean_for.plain x
-
   chosen_before : (x : Id) → counting g z.zone [] x ≡ chosen x
   chosen_before x = counts_for g z.zone [] served.of_stream.closed clean_for.single x ∙ sym (for_srel x)
-
-  fixes : HasAllFixes g chosen z.zone
-  fixes = fixes_by g (counting g z.zone []) chosen chosen_before z.zone served.fixes
 
   pub installed_served : IsServed g new
   installed_served = record {
     of_stream = of_stream;
-    fixes = fixes_by g chosen (counting g new []) counts_after new
-        (install_loses_no_fix (record { global = g; zones = s.zones }) z related sel bypass date installs.decision new
-        is there installs.decides installs.installs clean_by_chosen served.of_stream plain fixes);
-    owners = owners_by g chosen (counting g new []) counts_after new
-        (installed_owners (record { global = g; zones = s.zones }) z related sel bypass date installs.decision new
-        is there installs.decides installs.installs clean_by_chosen served.of_stream plain fixes
-        (owners_by g (counting g z.zone []) chosen chosen_before z.zone served.owners));
+    fixes = fixes_by g chosen (counting g new []) counts_after new after.1;
+    owners = owners_by g chosen (counting g new []) counts_after new after.0;
   }
+    where
+      after : HasOwners g chosen new × HasAllFixes g chosen new
+      after = install_loses_no_fix (record { global = g; zones = s.zones }) z related sel bypass date
+          installs.decision new is there installs.decides installs.installs clean_by_chosen served.of_stream
+          (owners_by g (counting g z.zone []) chosen chosen_before z.zone served.owners)
+          (fixes_by g (counting g z.zone []) chosen chosen_before z.zone served.fixes)
 
 -- the zone of a name is one of the zones
 named_there : (zones : List NamedZone) (name : Text) (zone : Zone) → zone_named zones name ≡ Some zone

@@ -1,10 +1,9 @@
--- What a clean stream promises for a zone of it, by the ++VERs that count for a command. Left out are RESTORE, a BYPASS
--- of requisites and, for fixes, DELETE. Nothing is said of candidates that fail the tests OwnedByAnother and
--- NothingToUpdate.
+-- What a clean stream promises for a zone of it, by the ++VERs that count for a command. Left out are RESTORE and a
+-- BYPASS of requisites. Nothing is said of candidates that fail the tests OwnedByAnother and NothingToUpdate.
 use Rattle.std.specs.Prelude.{◌≡◌, ◌≢◌, List, [], Option, Contains}
 use Rattle.terms.specs.Types.{Date, Id, Global, Zone, NamedZone, Selection, Bypass}
 use Rattle.terms.specs.Lookups.{IsZone}
-use Rattle.terms.specs.Choice.{counting, del_of}
+use Rattle.terms.specs.Choice.{counting}
 use Rattle.terms.specs.Forms.{IsDottedDate}
 use Rattle.terms.specs.Candidates.{AreCandidates}
 use Rattle.terms.specs.Tests.{owner_of, ChangesOwnedByAnother, Regresses, ShareElement, MayNotShare}
@@ -12,7 +11,7 @@ use Rattle.terms.specs.Judged.{setting}
 use Rattle.terms.specs.Install.{HasInstalled}
 use Rattle.store_schema.specs.Inventory.{Inventory, IsInventory}
 use Rattle.machine.specs.Installing.{Decision, IsDecision}
-use Rattle.stream.specs.Stream.{IsClean, IsOfStream, HasAllFixes, ChecksRequisites}
+use Rattle.stream.specs.Stream.{IsClean, IsOfStream, HasAllFixes, HasOwners, ChecksRequisites}
 
 -- Two candidates of one owner do not clash by an element that both change.
 abbrev pub NeverClashesByElement : Type 0
@@ -41,13 +40,13 @@ InstallStaysOfStream =
     → IsClean i.global d.setting.choice → IsOfStream i.global (counting i.global z.zone []) z.zone
     → IsOfStream i.global (counting i.global new []) new
 
--- An APPLY or ACCEPT of SYSMODs without DELETE loses no fix: if the zone had all of them, it still has, and it has those
--- that the command brings.
+-- An APPLY or ACCEPT loses no fix: if each element had the owner of the applied SYSMODs that change it, and the zone
+-- lacked no fix, it lacks none after the command, among them those that the command brought.
 abbrev pub InstallLosesNoFix : Type 0
 InstallLosesNoFix =
     (i : Inventory) (z : NamedZone) (related : Option Zone) (sel : Selection) (bypass : Bypass) (date : Date)
     (d : Decision) (new : Zone) → IsInventory i → Contains i.zones z
     → IsDecision i.global z.zone related sel bypass date d → HasInstalled d.installing new
     → IsClean i.global d.setting.choice → IsOfStream i.global (counting i.global z.zone []) z.zone
-    → ((x : Id) → Contains d.kept x → del_of d.setting.choice x ≡ [])
-    → HasAllFixes i.global d.setting.choice z.zone → HasAllFixes i.global d.setting.choice new
+    → HasOwners i.global d.setting.choice z.zone → HasAllFixes i.global d.setting.choice z.zone
+    → HasOwners i.global d.setting.choice new × HasAllFixes i.global d.setting.choice new

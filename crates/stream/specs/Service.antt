@@ -1,10 +1,10 @@
 -- What a clean stream promises for every system: whatever commands have run on it, its zones are of the stream and lack
--- no fix. Left out are RESTORE, a BYPASS of requisites, DELETE, and SYSMODs with two ++VERs for one SREL.
+-- no fix. Left out are RESTORE, a BYPASS of requisites, and SYSMODs with two ++VERs for one SREL.
 use Rattle.std.specs.Prelude.{◌≡◌, ◌≢◌, ◌≤◌, List, [], Option, None, length, slice_get, All, Contains}
 use Rattle.terms.specs.Types.{Srel, Id, Global, Zone, NamedZone, Selection, Command, Set, Receive, Reject, Apply, Accept}
 use Rattle.terms.specs.Types.{Restore, ListZone, Report, Bypass}
 use Rattle.terms.specs.Lookups.{IsZone}
-use Rattle.terms.specs.Choice.{Choice, vers_of, counting, del_of}
+use Rattle.terms.specs.Choice.{Choice, vers_of, counting}
 use Rattle.terms.specs.Candidates.{AreCandidates}
 use Rattle.terms.specs.Tests.{owner_of, ChangesOwnedByAnother, Regresses, ShareElement, MayNotShare}
 use Rattle.terms.specs.Judged.{setting}
@@ -20,10 +20,9 @@ use Rattle.stream.specs.Stream.{IsClean, IsOfStream, HasAllFixes, HasOwners, Che
 abbrev pub ver_for : Global → Srel → Choice
 ver_for g srel x = slice_get (vers_of g srel x) 0
 
--- What is received for the SREL is a clean stream, in which no SYSMOD has two ++VERs or DELETE.
+-- What is received for the SREL is a clean stream, in which no SYSMOD has two ++VERs.
 pub record IsCleanFor (g : Global) (srel : Srel) : Type 0 where
   pub single : (x : Id) → length (vers_of g srel x) ≤ 1
-  pub plain : (x : Id) → del_of (ver_for g srel) x ≡ []
   pub clean : IsClean g (ver_for g srel)
 
 -- The zone is of the stream, has all its fixes, and each element has the owner of the applied SYSMODs that change it.

@@ -18,7 +18,7 @@ pub fn install_stays_of_stream()
     ensures { InstallStaysOfStream }
 {}
 
-/// An APPLY or ACCEPT of SYSMODs without DELETE loses no fix.
+/// An APPLY or ACCEPT loses no fix.
 pub fn install_loses_no_fix()
     ensures { InstallLosesNoFix }
 {}
