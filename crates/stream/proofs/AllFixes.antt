@@ -1,6 +1,6 @@
 -- APPLY and ACCEPT lose no fix of a clean stream.
 use Rattle.std.proofs.Common.{◌≡◌, ◌≢◌, ◌⊎◌, ◌∙◌, Bool, true, false, not, List, [], ◌∷◌, Option, None, Some, Contains}
-use Rattle.std.proofs.Common.{IsTrue, is_some, inl, inr, refl, sym, ap, subst, true≢false}
+use Rattle.std.proofs.Common.{inl, inr, refl, sym, ap, subst, true≢false}
 use Rattle.std.specs.Prelude.{◌&&◌, unwrap_or, if◌then◌else◌}
 use Rattle.std.specs.Option.{option_map_or}
 use Rattle.std.proofs.lemmas.Bool.{cases_Bool, false_from_ne_true}
@@ -14,7 +14,7 @@ use Rattle.terms.specs.Over.{names, IsOver, Supersedes, owner}
 use Rattle.terms.specs.Changes.{is_replacement, has_replacement, has_update}
 use Rattle.terms.specs.Deleted.{deletions, is_deleted}
 use Rattle.terms.specs.Tests.{Setting}
-use Rattle.terms.specs.Install.{Installation, TakesEffect, cleared, HasInstalled, IsReplacer, HasBase, IsUpdater}
+use Rattle.terms.specs.Install.{Installation, TakesEffect, cleared, HasInstalled, HasBase, IsUpdater}
 use Rattle.terms.specs.Install.{IsUpdated, HasElementAfter}
 use Rattle.terms.proofs.ChangedElements.{replaces_changes}
 use Rattle.terms.proofs.Leads.{reaches_named, reaches_through}
@@ -171,11 +171,11 @@ module _ (s : Setting) (survivors kept : List Id) (k : Keeps s survivors kept) (
                 kept_level y old r found within up after.0 made.0 made.1 made.2 made.3,
               )
           | inr none ↦ (
-              old,
-              installed.unchanged type name (λ x effect. false_from_ne_true (has_change s.global x type name)
-                  (λ changes. none x effect.kept (effect, changes))) ∙ found,
-              (r, within, up),
-            )
+            old,
+            installed.unchanged type name (λ x effect. false_from_ne_true (has_change s.global x type name)
+                (λ changes. none x effect.kept (effect, changes))) ∙ found,
+            (r, within, up),
+          )
         ]
 
     -- ---- owners
@@ -318,10 +318,14 @@ module _ (s : Setting) (survivors kept : List Id) (k : Keeps s survivors kept) (
 
     up_to : (y b : Id) → Contains (sup_of s.choice b) y → (e : Element) → IsInLevel s.choice e b
         → IsInLevel s.choice e y
-    up_to y b named e (r, within, up) = (r, within, inr (elim up [
-      | inl same ↦ subst (λ x. Over x y) (sym same) over
-      | inr over_b ↦ over_through r b y over_b (inr over)
-    ]))
+    up_to y b named e (r, within, up) = (
+      r,
+      within,
+      inr (elim up [
+        | inl same ↦ subst (λ x. Over x y) (sym same) over
+        | inr over_b ↦ over_through r b y over_b (inr over)
+      ]),
+    )
       where
         over : Over b y
         over = reaches_named (names s.choice) b y (sup_named s.choice b y named)

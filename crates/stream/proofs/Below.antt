@@ -1,6 +1,6 @@
 -- In a zone of a clean stream, all that a supplied SYSMOD is over is supplied.
-use Rattle.std.proofs.Common.{◌≡◌, ◌∙◌, true, List, [], ◌∷◌, ◌++◌, Option, None, Some, Contains, All, IfSome, IsSome}
-use Rattle.std.proofs.Common.{inl, inr, refl, sym, ap, subst}
+use Rattle.std.proofs.Common.{◌≡◌, ◌∙◌, true, [], ◌++◌, Option, None, Some, Contains, IfSome, IsSome}
+use Rattle.std.proofs.Common.{inl, inr, refl, ap, subst}
 use Rattle.std.specs.Option.{option_map_or, option_and_then}
 use Rattle.std.proofs.lemmas.List.Elements.{All-contains, Contains-append_cases}
 use Rattle.terms.specs.Types.{Id, Ver, Global, Zone}

@@ -1,5 +1,5 @@
 -- What an APPLY or ACCEPT makes of a zone of a clean stream: it stays of the stream, and keeps its fixes.
-use Rattle.std.proofs.Common.{◌≡◌, ◌∙◌, List, [], Option, All, Contains, IsTrue, sym, ap, subst}
+use Rattle.std.proofs.Common.{◌≡◌, List, [], Option, All, Contains, IsTrue, sym, ap, subst}
 use Rattle.std.proofs.lemmas.List.Elements.{All-contains}
 use Rattle.terms.specs.Types.{Text, Id, Zone, Selection, Bypass, NamedZone}
 use Rattle.terms.specs.Lookups.{is_applied}
@@ -86,9 +86,10 @@ module _ (i : Inventory) (z : NamedZone) (related : Option Zone) (sel : Selectio
       → HasOwners i.global d.setting.choice new × HasAllFixes i.global d.setting.choice new
   unfolding install
   installed_fixes owners fixes =
-      subst (λ c. HasOwners i.global c new × HasAllFixes i.global c new) (sym chosen)
-      (keeps_owners s survivors d.kept k decides.bypassed date new now clean_by of_stream own have,
-      keeps_fixes s survivors d.kept k decides.bypassed date new now clean_by of_stream own have)
+      subst (λ c. HasOwners i.global c new × HasAllFixes i.global c new) (sym chosen) (
+        keeps_owners s survivors d.kept k decides.bypassed date new now clean_by of_stream own have,
+        keeps_fixes s survivors d.kept k decides.bypassed date new now clean_by of_stream own have,
+      )
     where
       k : Keeps s survivors d.kept
       k = keeps i.global z.zone related sel bypass date d new install

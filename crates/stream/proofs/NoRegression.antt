@@ -1,6 +1,6 @@
 -- In a zone of a clean stream, no candidate regresses an element of its owner, and no two candidates clash by one.
-use Rattle.std.proofs.Common.{◌≡◌, ◌≢◌, ◌∙◌, ◌+◌, Bool, true, false, not, List, [], ◌∷◌, Option, Some, None, Contains}
-use Rattle.std.proofs.Common.{IsTrue, IsSome, is_some, length, filter, All, inl, inr, refl, sym, ap, subst, arith, true≢false}
+use Rattle.std.proofs.Common.{◌≡◌, ◌≢◌, ◌∙◌, Bool, true, false, not, List, [], ◌∷◌, Some, Contains}
+use Rattle.std.proofs.Common.{IsTrue, is_some, length, filter, inl, inr, refl, sym, ap, subst, arith, true≢false}
 use Rattle.std.specs.Prelude.{◌&&◌, ◌==◌, ◌-◌, position, slice_get, nat_lt, unwrap_or}
 use Rattle.std.specs.List.{position_or_len}
 use Rattle.std.specs.Option.{option_map_or}
@@ -9,15 +9,14 @@ use Rattle.std.proofs.lemmas.Bool.{and_parts, ltb-true, eqb-true}
 use Rattle.std.proofs.lemmas.List.Elements.{All-contains}
 use Rattle.std.proofs.lemmas.Option.{slice_get_cases}
 use Rattle.terms.specs.declared.kinds.ElemType.{ElemType}
-use Rattle.terms.specs.Types.{Text, Id, Applied, Global, Element, Zone, Selection, Bypass, type_number}
-use Rattle.terms.specs.Lookups.{IsZone, is_nil, is_in, has_change, element_of, is_applied, is_supplied, applied_ids}
-use Rattle.terms.specs.Choice.{Choice, vers_of, fits, counting, sup_of}
+use Rattle.terms.specs.Types.{Text, Id, Applied, Global, Element, Zone, Selection, type_number}
+use Rattle.terms.specs.Lookups.{IsZone, is_nil, is_in, has_change, element_of, is_applied, is_supplied}
+use Rattle.terms.specs.Choice.{Choice, vers_of, fits, counting}
 use Rattle.terms.specs.Over.{IsOver, owner, chain}
-use Rattle.terms.specs.Changes.{has_replacement, has_update}
+use Rattle.terms.specs.Changes.{has_update}
 use Rattle.terms.specs.Candidates.{is_installable, AreCandidates}
 use Rattle.terms.specs.Deleted.{deletions}
-use Rattle.terms.specs.Tests.{ShareElement, ChangesOwnedByAnother, Regresses}
-use Rattle.terms.specs.Judged.{setting}
+use Rattle.terms.specs.Tests.{ShareElement}
 use Rattle.terms.specs.Closed.{IsOwned, IsClosedZone}
 use Rattle.terms.proofs.ChangedElements.{replaces_changes, update_changes}
 use Rattle.terms.proofs.ElementOrder.{type_from_number}
@@ -143,9 +142,13 @@ module _ (g : Global) (c : Choice) (zone : Zone) (clean : IsClean g c) (is : IsO
       → (z : Id) → Contains (e.rmid ∷ e.umids) z → IsOver c x z
   over_level x type name e in_stream out found owned changes z within =
       over_applied x z in_stream out (All-contains (λ y. is_applied zone y ≡ true) ids z of.applied among)
-      (sym owned ∙ sym (All-contains (λ y. owner g c y ≡ e.fmid) ids z of.owner among))
-      (type, name, changes, subst (λ n. IsTrue (has_change g z type n)) key.2
-      (subst (λ t. IsTrue (has_change g z t e.name)) key.1 (level_changes g c zone e of z within)))
+      (sym owned ∙ sym (All-contains (λ y. owner g c y ≡ e.fmid) ids z of.owner among)) (
+        type,
+        name,
+        changes,
+        subst (λ n. IsTrue (has_change g z type n)) key.2
+            (subst (λ t. IsTrue (has_change g z t e.name)) key.1 (level_changes g c zone e of z within)),
+      )
     where
       ids : List Id
       ids = e.fmid ∷ e.rmid ∷ e.umids

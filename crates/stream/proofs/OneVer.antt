@@ -1,12 +1,11 @@
 -- If no SYSMOD has two ++VERs for an SREL, the same ++VERs count for every command, and all that is said by one choice
 -- of ++VERs is true by the other.
-use Rattle.std.proofs.Common.{◌≡◌, ◌≢◌, ◌⊎◌, ◌∙◌, ◌≤◌, ◌-◌, ℕ, zero, suc, Bool, List, [], ◌∷◌, ◌++◌, Option, None, Some}
-use Rattle.std.proofs.Common.{Contains, IsSome, IsTrue, is_some, length, inl, inr, refl, sym, ap, subst, arith, true, true≢false}
+use Rattle.std.proofs.Common.{◌≡◌, ◌∙◌, ◌≤◌, ◌-◌, ℕ, zero, suc, List, [], ◌∷◌, ◌++◌, Option, None, Some}
+use Rattle.std.proofs.Common.{Contains, IsSome, is_some, length, inl, inr, refl, sym, ap, subst, arith, true, true≢false}
 use Rattle.std.specs.Prelude.{slice_get, position, unwrap_or, if◌then◌else◌}
 use Rattle.std.specs.Option.{option_map_or, option_and_then}
-use Rattle.terms.specs.declared.kinds.ElemType.{ElemType}
-use Rattle.terms.specs.Types.{Text, Id, Ver, Applied, Global, Element, Zone}
-use Rattle.terms.specs.Lookups.{IsZone, at_most_one, is_in, is_applied, is_function, applied_of}
+use Rattle.terms.specs.Types.{Id, Ver, Applied, Global, Element, Zone}
+use Rattle.terms.specs.Lookups.{at_most_one, is_in, is_applied, is_function, applied_of}
 use Rattle.terms.specs.Choice.{Choice, vers_of, fits, place, counting, fmid_of, pre_of, sup_of}
 use Rattle.terms.specs.Over.{names, IsOver, owner}
 use Rattle.terms.specs.Closed.{IsSupported, IsClosedZone}
@@ -15,7 +14,7 @@ use Rattle.terms.proofs.Leads.{reaches_more}
 use Rattle.terms.proofs.Searches.{first_of_one}
 use Rattle.machine_laws.proofs.AppliedIds.{of_applied}
 use Rattle.machine_laws.proofs.KeptChoice.{counts_whatever}
-use Rattle.stream.specs.Stream.{IsInStream, HasRequisitesOf, IsClean, IsInLevel, HasAllFixes, HasOwners}
+use Rattle.stream.specs.Stream.{IsInStream, IsClean, IsInLevel, HasAllFixes, HasOwners}
 use Rattle.stream.specs.Service.{ver_for, IsCleanFor}
 use Rattle.stream.proofs.Below.{names_in_stream}
 

@@ -1,20 +1,16 @@
 -- RECEIVE keeps a zone of the stream, and its fixes, as long as the stream is clean after it.
-use Rattle.std.proofs.Common.{◌≡◌, ◌⊎◌, ◌∙◌, true, List, [], Option, Some, Contains, IsTrue, IsSome}
-use Rattle.std.proofs.Common.{is_some, find, inl, inr, refl, sym, ap, subst}
-use Rattle.std.specs.Prelude.{◌&&◌, ◌==◌}
-use Rattle.std.specs.Option.{option_map_or}
-use Rattle.std.specs.Str.{bytes_eq}
+use Rattle.std.proofs.Common.{◌≡◌, ◌∙◌, true, [], Some, Contains}
+use Rattle.std.proofs.Common.{inl, inr, sym, subst}
 use Rattle.terms.specs.declared.kinds.ElemType.{ElemType}
-use Rattle.terms.specs.Types.{Text, Id, Change, Global, Element, Zone, type_number}
-use Rattle.terms.specs.Lookups.{IsZone, has_change, changes_of, element_of, is_applied, is_supplied, sysmod_of}
+use Rattle.terms.specs.Types.{Text, Id, Global, Element, Zone}
+use Rattle.terms.specs.Lookups.{IsZone, has_change, element_of, is_applied}
 use Rattle.terms.specs.Choice.{Choice, counting, sup_of}
 use Rattle.terms.specs.Over.{names, IsOver, owner}
 use Rattle.terms.specs.Closed.{IsSupported, IsClosedZone}
 use Rattle.terms.proofs.Applied.{in_applied_ids}
 use Rattle.terms.proofs.Leads.{reaches_named, reaches_through}
 use Rattle.terms.proofs.Loops.{sup_named}
-use Rattle.terms.proofs.Options.{map_or_map}
-use Rattle.machine_laws.proofs.AlikeSysmods.{but_sources, AreAlike, alike_choice, applied_received, chosen_received}
+use Rattle.machine_laws.proofs.AlikeSysmods.{AreAlike, alike_choice, applied_received, chosen_received}
 use Rattle.machine_laws.proofs.AlikeSysmods.{still_closed}
 use Rattle.machine_laws.proofs.AppliedIds.{applied_in_ids, of_applied}
 use Rattle.machine_laws.proofs.ReceiveKeeps.{KeepsReceived}
@@ -36,11 +32,18 @@ module _ (g : Global) (zone : Zone) (c : Choice) (clean : IsClean g c) (is : IsO
   superseded_fix : (y b : Id) → IsInStream c y → is_applied zone b ≡ true → Contains (sup_of c b) y
       → (type : ElemType) (name : Text) → has_change g y type name ≡ true → HasFix zone c y type name
   superseded_fix y b in_stream on named type name changes =
-      let fix = applied b on type name (clean.elements b y in_stream named type name changes) in
-      (fix.0, fix.1, (fix.2.0, fix.2.1, inr (elim fix.2.2 [
-        | inl same ↦ subst (λ x. IsOver c x y) (sym same) over
-        | inr up ↦ reaches_through (names c) fix.2.0 b y up over
-      ])))
+      let fix = applied b on type name (clean.elements b y in_stream named type name changes) in (
+        fix.0,
+        fix.1,
+        (
+          fix.2.0,
+          fix.2.1,
+          inr (elim fix.2.2 [
+            | inl same ↦ subst (λ x. IsOver c x y) (sym same) over
+            | inr up ↦ reaches_through (names c) fix.2.0 b y up over
+          ]),
+        ),
+      )
     where
       over : IsOver c b y
       over = reaches_named (names c) b y (sup_named c b y named)

@@ -1,5 +1,5 @@
 -- REJECT keeps a zone of the stream, and its fixes, as long as the stream is clean after it.
-use Rattle.std.proofs.Common.{◌≡◌, ◌⊎◌, ◌∙◌, Bool, true, false, not, cond, List, [], ◌∷◌, None, Some, Contains, IsTrue}
+use Rattle.std.proofs.Common.{◌≡◌, ◌⊎◌, ◌∙◌, Bool, true, false, not, cond, List, [], ◌∷◌, None, Some, Contains}
 use Rattle.std.proofs.Common.{is_some, inl, inr, refl, sym, ap, subst, true≢false}
 use Rattle.std.specs.Prelude.{Ok, Err, if◌then◌else◌}
 use Rattle.std.specs.List.{list_any}
@@ -28,7 +28,7 @@ use Rattle.machine_laws.proofs.AppliedIds.{of_applied}
 use Rattle.machine_laws.proofs.ReceiveKeeps.{KeepsReceived}
 use Rattle.machine_laws.proofs.RejectKeeps.{without_alike}
 use Rattle.machine_laws.proofs.Supplied.{supplied_applied}
-use Rattle.stream.specs.Stream.{IsInStream, IsClean, IsOfStream, IsInLevel}
+use Rattle.stream.specs.Stream.{IsInStream, IsClean, IsOfStream}
 use Rattle.stream.specs.Service.{IsCleanFor, IsServed}
 use Rattle.stream.proofs.Alike.{alike_change, alike_owner}
 use Rattle.stream.proofs.NoRegression.{of_stream_closed, found_key, level_changes}
@@ -107,12 +107,16 @@ module _ (g h : Global) (zone : Zone) (is_global : IsGlobal g) (is_zone : IsZone
     still_over e found r within over = elim (same_or_not r y) [
       | inl same ↦ inl same
       | inr other ↦ elim (clean.ordered r y (received r r_on) (received y on) other
-          (All-contains (λ x. owner h now x ≡ e.fmid) ids r of.owner among ∙ sym (own e found))
-          (type, name, subst (λ n. has_change h r type n ≡ true) key.2
-          (subst (λ t. has_change h r t e.name ≡ true) key.1 (level_changes h now zone e of r within)), changes)) [
-        | inl up ↦ inr up
-        | inr under ↦ absurd (no_loop r y over under)
-      ]
+          (All-contains (λ x. owner h now x ≡ e.fmid) ids r of.owner among ∙ sym (own e found)) (
+            type,
+            name,
+            subst (λ n. has_change h r type n ≡ true) key.2
+                (subst (λ t. has_change h r t e.name ≡ true) key.1 (level_changes h now zone e of r within)),
+            changes,
+          )) [
+            | inl up ↦ inr up
+            | inr under ↦ absurd (no_loop r y over under)
+          ]
     ]
       where
         ids : List Id
@@ -136,11 +140,18 @@ module _ (g h : Global) (zone : Zone) (is_global : IsGlobal g) (is_zone : IsZone
     applied_fix : HasFix zone now y type name
     applied_fix =
         let fix = is.fixes y (of_applied (IsSupported was zone) zone is.of_stream.closed.supported y on).received
-        (supplied_applied zone y on) type name changed in
-        (fix.0, fix.1, (fix.2.0, fix.2.1, elim fix.2.2 [
-          | inl same ↦ inl same
-          | inr over ↦ still_over fix.0 fix.1 fix.2.0 fix.2.1 over
-        ]))
+        (supplied_applied zone y on) type name changed in (
+          fix.0,
+          fix.1,
+          (
+            fix.2.0,
+            fix.2.1,
+            elim fix.2.2 [
+              | inl same ↦ inl same
+              | inr over ↦ still_over fix.0 fix.1 fix.2.0 fix.2.1 over
+            ],
+          ),
+        )
 
   pub rejected_served : IsServed h zone
   rejected_served = record {

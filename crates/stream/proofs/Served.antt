@@ -2,14 +2,12 @@
 use Rattle.std.proofs.Common.{◌≡◌, ◌∙◌, inl, inr, Bool, true, false, List, [], ◌∷◌, Option, None, Some, All, Contains}
 use Rattle.std.proofs.Common.{◌≤◌, length, get_or, refl, sym, ap, subst, arith, true≢false}
 use Rattle.std.specs.Prelude.{Result, Ok, Err, if◌then◌else◌}
-use Rattle.std.specs.Option.{option_map_or}
 use Rattle.std.specs.Ordering.{nat_cmp}
 use Rattle.std.specs.Cmp.Lexicographic.{slice_cmp}
 use Rattle.std.proofs.lemmas.List.Elements.{All-contains, All-contains_itself}
 use Rattle.terms.specs.declared.kinds.ZoneKind.{ZoneKind}
 use Rattle.terms.specs.Types.{Text, Id, Global, Zone, a_zone, NamedZone, Selection, Bypass, ReceiveOperands, Install}
 use Rattle.terms.specs.Types.{Command, Set, Receive, Reject, Apply, Accept, Restore, ListZone, Report}
-use Rattle.terms.specs.Lookups.{IsZone}
 use Rattle.terms.specs.Choice.{Choice, vers_of, counting}
 use Rattle.terms.specs.Forms.{IsDottedDate}
 use Rattle.terms.specs.Rising.{with_item}

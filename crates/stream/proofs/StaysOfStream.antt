@@ -1,18 +1,16 @@
 -- APPLY and ACCEPT leave a zone of a clean stream a zone of the stream.
 use Rattle.std.proofs.Common.{◌≡◌, ◌∙◌, Bool, true, false, List, [], ◌∷◌, Option, None, Some, Contains}
-use Rattle.std.proofs.Common.{IsTrue, inl, inr, refl, sym, ap, subst}
+use Rattle.std.proofs.Common.{inl, inr, refl, sym, ap, subst}
 use Rattle.std.specs.Prelude.{◌↔◌, ◌&&◌, ◌++◌, option_map, if◌then◌else◌}
 use Rattle.std.specs.Option.{option_map_or}
-use Rattle.std.proofs.lemmas.Bool.{and_from}
 use Rattle.terms.specs.declared.codes.NeedKind.TheVariants.{Ifreq}
-use Rattle.terms.specs.Types.{Text, Id, Entry, Zone, Selection, Bypass, NamedZone}
-use Rattle.terms.specs.Lookups.{IsZone, has_content, entry_of, is_applied, supby_of, waived_of}
-use Rattle.terms.specs.Choice.{counting, pre_of, req_of, sup_of}
-use Rattle.terms.specs.Deleted.{deletions, is_deleted, is_taken_out, entry_less, zone_less}
+use Rattle.terms.specs.Types.{Text, Id, Entry, Zone}
+use Rattle.terms.specs.Lookups.{has_content, entry_of, is_applied, supby_of, waived_of}
+use Rattle.terms.specs.Choice.{pre_of, req_of, sup_of}
+use Rattle.terms.specs.Deleted.{deletions, is_deleted, is_taken_out, entry_less}
 use Rattle.terms.specs.Tests.{Setting}
 use Rattle.terms.specs.Needs.{asked, bypassed_ids}
-use Rattle.terms.specs.Judged.{setting}
-use Rattle.terms.specs.Install.{Installation, TakesEffect, cleared, HasInstalled}
+use Rattle.terms.specs.Install.{Installation, cleared, HasInstalled}
 use Rattle.terms.specs.Closed.{IsClosedZone}
 use Rattle.terms.proofs.Leads.{reaches_named}
 use Rattle.terms.proofs.ListMembers.{here, none_in}
@@ -21,7 +19,7 @@ use Rattle.zones.proofs.Lookups.{entry_of_less}
 use Rattle.machine_laws.proofs.Supplied.{left_applied, left_supby, supby_left}
 use Rattle.machine_laws.proofs.Given.{Keeps, installing}
 use Rattle.machine_laws.proofs.Effect.{effect_or_not, effect_applied, applied_either}
-use Rattle.machine_laws.proofs.Undeleted.{applied_undeleted, undeleted_applied}
+use Rattle.machine_laws.proofs.Undeleted.{undeleted_applied}
 use Rattle.stream.specs.Stream.{KeepsRequisites, IsOfStream, ChecksRequisites}
 use Rattle.stream.proofs.Below.{direct}
 
@@ -104,9 +102,9 @@ module _ (s : Setting) (survivors kept : List Id) (k : Keeps s survivors kept) (
           was.1,
         )
     | inr new_one ↦ (
-        effect_applied s survivors kept k bypassed date new installed b new_one.0,
-        direct s.choice keeps b x new_one.1,
-      )
+      effect_applied s survivors kept k bypassed date new installed b new_one.0,
+      direct s.choice keeps b x new_one.1,
+    )
   ]
 
   supby_named : (x b : Id) → is_applied new b ≡ true → Contains (sup_of s.choice b) x → Contains (supby_of new x) b

@@ -1,8 +1,8 @@
 -- What a clean stream promises for every system: whatever commands have run on it, its zones are of the stream and lack
 -- no fix. Left out are RESTORE, a BYPASS of requisites, and SYSMODs with two ++VERs for one SREL.
 use Rattle.std.specs.Prelude.{◌≡◌, ◌≢◌, ◌≤◌, List, [], Option, None, length, slice_get, All, Contains}
-use Rattle.terms.specs.Types.{Srel, Id, Global, Zone, NamedZone, Selection, Command, Set, Receive, Reject, Apply, Accept}
-use Rattle.terms.specs.Types.{Restore, ListZone, Report, Bypass}
+use Rattle.terms.specs.Types.{Srel, Id, Global, Zone, Selection, Command, Apply, Accept}
+use Rattle.terms.specs.Types.{Restore, Bypass}
 use Rattle.terms.specs.Lookups.{IsZone}
 use Rattle.terms.specs.Choice.{Choice, vers_of, counting}
 use Rattle.terms.specs.Candidates.{AreCandidates}
@@ -11,7 +11,7 @@ use Rattle.terms.specs.Judged.{setting}
 use Rattle.store_schema.specs.Inventory.{empty_inventory}
 use Rattle.machine.specs.Outcome.{Outcome}
 use Rattle.machine.specs.State.{State}
-use Rattle.machine.specs.Machine.{Act, Begin, Perform, Faulty, Define, Steps}
+use Rattle.machine.specs.Machine.{Act, Perform, Steps}
 use Rattle.machine.specs.Runs.{Runs}
 use Rattle.machine_laws.specs.Storable.{HasActForms}
 use Rattle.stream.specs.Stream.{IsClean, IsOfStream, HasAllFixes, HasOwners, ChecksRequisites}

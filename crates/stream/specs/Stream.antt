@@ -1,6 +1,6 @@
 -- The stream of service: what is received with a ++VER that counts. What makes it clean, which zones are of it, and
 -- which fixes a zone has.
-use Rattle.std.specs.Prelude.{◌≡◌, ◌≢◌, ◌⊎◌, ◌↔◌, List, [], ◌∷◌, ◌++◌, Some, IsSome, IsTrue, IsFalse, Contains}
+use Rattle.std.specs.Prelude.{◌≡◌, ◌≢◌, ◌⊎◌, ◌↔◌, [], ◌∷◌, ◌++◌, Some, IsSome, IsTrue, IsFalse, Contains}
 use Rattle.terms.specs.declared.kinds.ElemType.{ElemType}
 use Rattle.terms.specs.Types.{Name, Id, Global, Element, Zone, Bypass}
 use Rattle.terms.specs.Lookups.{has_change, element_of, is_applied, is_supplied, supby_of, waived_of}

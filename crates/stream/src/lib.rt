@@ -10,5 +10,7 @@
 
 mod laws;
 
-pub use laws::{install_loses_no_fix, install_stays_of_stream, never_clashes_by_element, never_regresses};
-pub use laws::{served_zones_pass, service_serves_all};
+pub use laws::{
+    install_loses_no_fix, install_stays_of_stream, never_clashes_by_element, never_regresses,
+    served_zones_pass, service_serves_all,
+};
