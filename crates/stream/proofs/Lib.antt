@@ -1,0 +1,10 @@
+mod Below
+mod NoRegression
+mod StaysOfStream
+mod AllFixes
+mod Installed
+mod OneVer
+mod Alike
+mod Received
+mod Rejected
+mod Served
