@@ -54,6 +54,10 @@ asked_more (job ∷ jobs) more acts (inl is) = inl is
 asked_more (job ∷ jobs) more acts (inr (front, back, asks, rest, is)) =
     inr (front, back, asks, asked_more jobs more back rest, is)
 
+-- a store, with a boundary
+abbrev pub placed : {S : Type 0} → Held S → Option Text → At S
+placed at boundary = (at, boundary)
+
 -- what may begin a job: no command
 abbrev IsFresh : Act → Type 0
 IsFresh (Perform date files c) = ⊥

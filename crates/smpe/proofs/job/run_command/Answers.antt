@@ -10,7 +10,7 @@ use Rattle.smpe.proofs.Commanding.{commands_err, reported}
 use Rattle.smpe_jobs.proofs.Early.{failed_first, broke_first}
 use Rattle.store.specs.Own.{IsOwnOf}
 use Rattle.smpe_session.specs.Writing.{AnswersOf, AnswersRun, IsOutcomeOf, boundary_after}
-use Rattle.smpe.proofs.Going.{goes_one, early_first, fails_by, fails_told, performs_passes, goes_early}
+use Rattle.smpe.proofs.Going.{placed, goes_one, early_first, fails_by, fails_told, performs_passes, goes_early}
 use Rattle.smpe.proofs.job.run_command.Goals as goal
 
 pub returns-in_err-performed-clause-ends : goal.returns-in_err-performed-clause-ends
@@ -87,8 +87,8 @@ returns-in_ok-write_report-in-Lists-clause-ends g c clean s is keeps =
 
 pub returns-in_err-performed-clause-goes : goal.returns-in_err-performed-clause-goes
 returns-in_err-performed-clause-goes g c =
-    let old = (c.args.store.now, c.args.session.now.boundary) in
-    let new = (c.perform.new.store, c.perform.new.session.boundary) in
+    let old = placed c.args.store.now c.args.session.now.boundary in
+    let new = placed c.perform.new.store c.perform.new.session.boundary in
     let command = command_of c.args.command.now in
     let act = Perform c.args.input.now.date c.args.input.now.files command in
     let taken = g.W.Sink.taken c.args.w.now in
@@ -101,8 +101,8 @@ returns-in_err-performed-clause-goes g c =
 
 pub returns-in_err-write_report-in-Told-clause-goes : goal.returns-in_err-write_report-in-Told-clause-goes
 returns-in_err-write_report-in-Told-clause-goes g c =
-    let old = (c.args.store.now, c.args.session.now.boundary) in
-    let new = (c.perform.new.store, c.perform.new.session.boundary) in
+    let old = placed c.args.store.now c.args.session.now.boundary in
+    let new = placed c.perform.new.store c.perform.new.session.boundary in
     let command = command_of c.args.command.now in
     let act = Perform c.args.input.now.date c.args.input.now.files command in
     let a = g.W.Sink.taken c.args.w.now in
@@ -121,8 +121,8 @@ returns-in_err-write_report-in-Told-clause-goes g c =
 
 pub returns-in_ok-write_report-in-Told-clause-goes : goal.returns-in_ok-write_report-in-Told-clause-goes
 returns-in_ok-write_report-in-Told-clause-goes g c =
-    let old = (c.args.store.now, c.args.session.now.boundary) in
-    let new = (c.perform.new.store, c.perform.new.session.boundary) in
+    let old = placed c.args.store.now c.args.session.now.boundary in
+    let new = placed c.perform.new.store c.perform.new.session.boundary in
     let command = command_of c.args.command.now in
     let outcome = outcome_view c.in-Told.outcome in
     let answers = subst (AnswersOf command old.1 new.1) c.in-Told.is c.in_ok-performed.ensures.header in
@@ -138,8 +138,8 @@ returns-in_ok-write_report-in-Told-clause-goes g c =
 
 pub returns-in_err-write_report-in-Lists-clause-goes : goal.returns-in_err-write_report-in-Lists-clause-goes
 returns-in_err-write_report-in-Lists-clause-goes g c =
-    let old = (c.args.store.now, c.args.session.now.boundary) in
-    let new = (c.perform.new.store, c.perform.new.session.boundary) in
+    let old = placed c.args.store.now c.args.session.now.boundary in
+    let new = placed c.perform.new.store c.perform.new.session.boundary in
     let command = command_of c.args.command.now in
     let act = Perform c.args.input.now.date c.args.input.now.files command in
     let a = g.W.Sink.taken c.args.w.now in
@@ -160,8 +160,8 @@ returns-in_err-write_report-in-Lists-clause-goes g c =
 
 pub returns-in_ok-write_report-in-Lists-clause-goes : goal.returns-in_ok-write_report-in-Lists-clause-goes
 returns-in_ok-write_report-in-Lists-clause-goes g c =
-    let old = (c.args.store.now, c.args.session.now.boundary) in
-    let new = (c.perform.new.store, c.perform.new.session.boundary) in
+    let old = placed c.args.store.now c.args.session.now.boundary in
+    let new = placed c.perform.new.store c.perform.new.session.boundary in
     let command = command_of c.args.command.now in
     let outcome = outcome_view c.list.result in
     let lists = subst (AnswersOf command old.1 new.1) c.in-Lists.is c.in_ok-performed.ensures.header in

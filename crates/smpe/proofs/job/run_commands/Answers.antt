@@ -8,7 +8,7 @@ use Rattle.smpe.specs.Going.{GoesCommands, GoesEarly}
 use Rattle.store.proofs.GoingCalls.{follows_itself, follows_on}
 use Rattle.smpe.proofs.Taken.{taken_more, taken_split}
 use Rattle.smpe.proofs.Commanding.{commands_err, commands_more, commands_stop, commands_early}
-use Rattle.smpe.proofs.Going.{goes_none, commands_passed, early_commands, goes_early}
+use Rattle.smpe.proofs.Going.{placed, goes_none, commands_passed, early_commands, goes_early}
 use Rattle.smpe.proofs.job.run_commands.Goals as goal
 
 pub loop-command-init : goal.loop-command-init
@@ -46,9 +46,9 @@ loop-command-preserved g c = record {
       let old = g.W.Sink.taken c.args.w.now in
       let new = g.W.Sink.taken c.run_command.new.w in
       let code = c.max-code.ensures in
-      let begun = (c.args.store.now, c.args.session.now.boundary) in
-      let mid = (c.loop-command.store, c.loop-command.session.boundary) in
-      let at = (c.run_command.new.store, c.run_command.new.session.boundary) in
+      let begun = placed c.args.store.now c.args.session.now.boundary in
+      let mid = placed c.loop-command.store c.loop-command.session.boundary in
+      let at = placed c.run_command.new.store c.run_command.new.session.boundary in
       rw code (subst (λ cs. GoesCommands g.S.Store begun at (map perform cs) old new
       (Ok (max c.loop-command.code c.in_ok-next.next)))
       (sym (taken_more command_of c.args.commands.now c.loop-command.command-index c.command-item.result
@@ -92,9 +92,9 @@ returns-in_err-next-clause-goes g c =
     let perform = Perform c.args.input.now.date c.args.input.now.files in
     let old = g.W.Sink.taken c.args.w.now in
     let new = g.W.Sink.taken c.run_command.new.w in
-    let begun = (c.args.store.now, c.args.session.now.boundary) in
-    let mid = (c.loop-command.store, c.loop-command.session.boundary) in
-    let at = (c.run_command.new.store, c.run_command.new.session.boundary) in
+    let begun = placed c.args.store.now c.args.session.now.boundary in
+    let mid = placed c.loop-command.store c.loop-command.session.boundary in
+    let at = placed c.run_command.new.store c.run_command.new.session.boundary in
     let error = c.in_err-next.field-0.0 in
     goes_early g.S.Store begun at (map perform (map command_of c.args.commands.now)) old new
     c.from_residual.result error c.from_residual.ensures.1
