@@ -1,7 +1,7 @@
 use Rattle.std.proofs.Common.{◌∙◌, map, refl, sym, ap, subst}
 use Rattle.std.proofs.lemmas.Result.{IfOk-weaker}
 use Rattle.machine.specs.Machine.{Perform}
-use Rattle.machine.specs.Outcome.{header_of}
+use Rattle.machine.specs.Outcome.{Refused, header_of}
 use Rattle.report.specs.Views.{line_view, header_view, outcome_view, refusal_view}
 use Rattle.store.proofs.Keeping.{act_unmoved}
 use Rattle.smpe_session.specs.Places.{install_command}
@@ -85,7 +85,9 @@ returns-in-Err-clause-header g c =
     let i = c.args.operands.now in (
       c.install_header-header.ensures.view i (sym (ap (λ w. w.check) c.operands.view_is))
           ∙ ap (header_of (install_command c.args.kind i)) stays,
-      stays ∙ sym (installs_stay c.args.kind i _ c.args.session.now.boundary),
+      stays ∙ sym (installs_stay c.args.kind i
+          (Refused (header_view c.install_header-header.result) (refusal_view c.in-Err.refusal))
+          c.args.session.now.boundary),
     )
 
 pub returns-clause-header : goal.returns-clause-header
