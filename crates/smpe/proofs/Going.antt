@@ -165,18 +165,18 @@ module _ {S : Type 0} (g : Ghosts S) where
   }
   early_by at b b' new acts a c e (act ∷ done) rest before had outcomes fresh are (m, front, back, step, more, is) appends
       last = record {
-    done = act ∷ done;
-    rest = rest;
-    acts_are = are;
-    before = before;
-    had = had;
-    ran = record {
-      outcomes = outcomes;
-      runs = (m, front, back, ran_from at b b' act m front (subst BeginsFresh are fresh) step, more, is);
-      appends = appends;
-    };
-    last = last;
-  }
+        done = act ∷ done;
+        rest = rest;
+        acts_are = are;
+        before = before;
+        had = had;
+        ran = record {
+          outcomes = outcomes;
+          runs = (m, front, back, ran_from at b b' act m front (subst BeginsFresh are fresh) step, more, is);
+          appends = appends;
+        };
+        last = last;
+      }
 
   early_from : (at : Held S) (b b' : Option Text) (new : Held S) (acts : List Act) (a c : Option (List ℕ))
       (e : JobError) → BeginsFresh acts → GoesEarly g (at, b) new acts a c e → GoesEarly g (at, b') new acts a c e
