@@ -65,7 +65,7 @@ module _ (g : Global) (was now : Choice) (same : (x : Id) → was x ≡ now x) w
   was_in : (x : Id) → IsInStream now x → IsInStream was x
   was_in x = subst IsSome (sym (same x))
 
-  same_owner : (x : Id) → owner g was x ≡ owner g now x
+  pub same_owner : (x : Id) → owner g was x ≡ owner g now x
   same_owner x = ap (λ (o : Option Ver). if is_function g x then x else unwrap_or (option_and_then (λ v. v.fmid) o) x)
       (same x)
 

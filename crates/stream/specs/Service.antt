@@ -1,5 +1,5 @@
 -- What a clean stream promises for every system: whatever commands have run on it, its zones are of the stream and lack
--- no fix. Left out are RESTORE, a BYPASS of requisites, and SYSMODs with two ++VERs for one SREL.
+-- no fix. Left out are a BYPASS of requisites, and SYSMODs with two ++VERs for one SREL.
 use Rattle.std.specs.Prelude.{◌≡◌, ◌≢◌, ◌≤◌, List, [], Option, None, length, slice_get, All, Contains}
 use Rattle.terms.specs.Types.{Srel, Id, Global, Zone, Selection, Command, Apply, Accept}
 use Rattle.terms.specs.Types.{Restore, Bypass}
@@ -39,11 +39,10 @@ AreServed s = All (λ z. IsServed s.global z.zone) s.zones
 abbrev pub HasCleanStreams : State → Type 0
 HasCleanStreams s = All (λ z. IsCleanFor s.global z.zone.srel) s.zones
 
--- An APPLY or ACCEPT checks all requisites, and no command is a RESTORE.
+-- An APPLY or ACCEPT checks all requisites.
 abbrev pub IsService : Command → Type 0
 IsService (Apply i) = ChecksRequisites i.bypass
 IsService (Accept i) = ChecksRequisites i.bypass
-IsService (Restore what check) = ⊥
 IsService _ = Unit {0}
 
 abbrev pub IsServiceAct : Act → Type 0
