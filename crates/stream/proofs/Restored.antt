@@ -1,8 +1,9 @@
 -- RESTORE keeps a zone of the stream, and its fixes, if its distribution zone lacks no fix either.
-use Rattle.std.proofs.Common.{◌≡◌, ◌≢◌, ◌⊎◌, ◌↔◌, ◌∙◌, ◌≤◌, Bool, true, false, not, List, [], ◌∷◌, Option, None, Some}
-use Rattle.std.proofs.Common.{All, Any, Contains, IsTrue, IsFalse, filter, is_some, length, inl, inr, refl, sym, ap, subst}
+use Rattle.std.proofs.Common.{◌≡◌, ◌⊎◌, ◌↔◌, ◌∙◌, ◌≤◌, Bool, true, false, not, List, [], ◌∷◌, Option, None, Some}
+use Rattle.std.proofs.Common.{All, Contains, IsTrue, IsFalse, filter, is_some, length, inl, inr, refl, sym, ap}
+use Rattle.std.proofs.Common.{subst}
 use Rattle.std.proofs.Common.{true≢false}
-use Rattle.std.specs.Prelude.{◌&&◌, ◌||◌}
+use Rattle.std.specs.Prelude.{◌||◌}
 use Rattle.std.specs.List.{list_any}
 use Rattle.std.specs.Option.{option_map_or}
 use Rattle.std.specs.Str.{bytes_eq}
@@ -12,7 +13,7 @@ use Rattle.std.proofs.lemmas.List.Folds.{Any-from_list_any}
 use Rattle.terms.specs.declared.kinds.ElemType.{ElemType}
 use Rattle.terms.specs.declared.codes.NeedKind.TheVariants.{Elem}
 use Rattle.terms.specs.declared.codes.Test.TheVariants.{OtherLevel}
-use Rattle.terms.specs.Types.{Text, Id, Applied, Change, Global, Entry, Element, Zone, RestoreList}
+use Rattle.terms.specs.Types.{Text, Id, Change, Global, Entry, Element, Zone, RestoreList}
 use Rattle.terms.specs.Lookups.{IsZone, is_nil, is_in, waives_applied, changes_of, has_change, element_of, entry_of}
 use Rattle.terms.specs.Lookups.{is_applied, is_supplied, supby_of, waived_of}
 use Rattle.terms.specs.Choice.{Choice, vers_of, counting, sup_of}
@@ -23,7 +24,7 @@ use Rattle.terms.specs.Restore.{Restoring, MayBeRestored, IsRestored, Restores, 
 use Rattle.terms.specs.Closed.{IsSupported, IsOwned, IsClosedZone}
 use Rattle.terms.proofs.ChangedElements.{change_found, replaces_changes}
 use Rattle.terms.proofs.Each.{any_in, in_any}
-use Rattle.terms.proofs.Ids.{is_in_from_Contains, Contains_from_is_in}
+use Rattle.terms.proofs.Ids.{is_in_from_Contains}
 use Rattle.terms.proofs.ListMembers.{here, there, in_filter, filter_in}
 use Rattle.terms.proofs.Nil.{nil_from}
 use Rattle.terms.proofs.Searches.{All_find, All_from_no_list_any}
@@ -33,7 +34,7 @@ use Rattle.machine_laws.proofs.AlikeSysmods.{closed_by}
 use Rattle.machine_laws.proofs.AppliedIds.{of_applied}
 use Rattle.machine_laws.proofs.TakenOff.{applied_left, supby_left, waived_left}
 use Rattle.machine_laws.proofs.Supplied.{supplied_applied}
-use Rattle.stream.specs.Stream.{IsInStream, IsClean, IsOfStream, HasAllFixes, HasOwners}
+use Rattle.stream.specs.Stream.{IsInStream, IsOfStream, HasAllFixes, HasOwners}
 use Rattle.stream.specs.Service.{ver_for, IsCleanFor, IsServed}
 use Rattle.stream.proofs.NoRegression.{of_stream_closed, found_key}
 use Rattle.stream.proofs.OneVer.{counts_for, fixes_by, owners_by, same_owner}
@@ -124,7 +125,8 @@ module _ (g : Global) (zone accepted : Zone) (what : RestoreList) (new : Zone) (
 
       names : Contains (supby_of new x) b → IsTrue (is_applied new b) × Contains (sup_of c b) x
       names stands =
-          let from = filter_in (λ y. not (is_in kept y)) (supby_of zone x) b (subst (λ ids. Contains ids b) at stands) in
+          let from = filter_in (λ y. not (is_in kept y)) (supby_of zone x) b
+          (subst (λ ids. Contains ids b) at stands) in
           let was = (old.supby x b).0 from.0 in (
             applied_left (is_in kept) zone new is_zone done.entries b
                 ∙ and_from (is_applied zone b) (not (is_in kept b)) was.0 from.1,
@@ -188,8 +190,11 @@ module _ (g : Global) (zone accepted : Zone) (what : RestoreList) (new : Zone) (
               },
             ) in
             elim serves.2 [
-              | inl same ↦ absurd (not_kept ((members b).1 (stays.0, stays.1,
-                  subst (λ y. IsTrue (stays.0 y)) same serves.1)))
+              | inl same ↦ absurd (not_kept ((members b).1 (
+                stays.0,
+                stays.1,
+                subst (λ y. IsTrue (stays.0 y)) same serves.1,
+              )))
               | inr over ↦ absurd (true≢false (sym over.0))
             ]
       ]

@@ -1,4 +1,4 @@
--- Acts of service leave all zones of their streams, with all fixes.
+-- Commands and definitions of zones leave all zones of their streams, lacking no fix.
 use Rattle.std.proofs.Common.{◌≡◌, ◌∙◌, inl, inr, Bool, true, false, List, [], ◌∷◌, Option, None, Some, All, Contains}
 use Rattle.std.proofs.Common.{◌≤◌, IsTrue, map, length, get_or, refl, sym, ap, subst, arith, true≢false}
 use Rattle.std.specs.Prelude.{Result, Ok, Err, option_map, if◌then◌else◌}
@@ -136,7 +136,8 @@ module _ (s : State) (is : IsStorable s) (all : AreServed s) (clean : HasCleanSt
 -- the zone of a name is one of the zones
 named_there : (zones : List NamedZone) (name : Text) (zone : Zone) → zone_named zones name ≡ Some zone
     → (z : NamedZone) × Contains zones z × (z.zone ≡ zone)
-named_there zones name zone = named_has (λ (v : Zone). (z : NamedZone) × Contains zones z × (z.zone ≡ v)) zones name zone
+named_there zones name zone =
+    named_has (λ (v : Zone). (z : NamedZone) × Contains zones z × (z.zone ≡ v)) zones name zone
     (λ k d below. (get_or zones k d, All-contains_itself zones k d below, refl))
 
 -- CHECK changes nothing
