@@ -25,7 +25,8 @@ use Rattle.zones.proofs.Lookups.{element_of_less}
 use Rattle.terms.proofs.TextOrder.{same_or_not}
 use Rattle.change.proofs.KeptTogether.{replaces_or_updates, kept_over, kept_owner}
 use Rattle.machine_laws.proofs.Installable.{not_supplied}
-use Rattle.machine_laws.proofs.Supplied.{supplied_or, supplied_applied, left_applied, applied_left, left_supby, left_element}
+use Rattle.machine_laws.proofs.Supplied.{supplied_or, supplied_applied, left_applied, applied_left, left_supby}
+use Rattle.machine_laws.proofs.Supplied.{left_element}
 use Rattle.machine_laws.proofs.Given.{Keeps, installing, eligible, kept_candidate, candidate_ver, unapplied}
 use Rattle.machine_laws.proofs.Chains.{view_element, undeleted_fmid}
 use Rattle.machine_laws.proofs.Effect.{effect_or_not, applied_either}

@@ -52,7 +52,8 @@ module _ (g : Global) (c : Choice) (zone : Zone) (keeps : KeepsRequisites c) (is
 
   pre_supplied : (x z : Id) → is_applied zone x ≡ true → Contains (pre_of c x) z → is_supplied zone z ≡ true
   pre_supplied x z on named =
-      All-contains (λ y. is_supplied zone y ≡ true) (binding_ids c zone (is_applied zone) x) z (supported x on).requisites
+      All-contains (λ y. is_supplied zone y ≡ true) (binding_ids c zone (is_applied zone) x) z
+      (supported x on).requisites
       (is_bound c zone (is_applied zone) x z (record {
         unwaived_by = ap (λ ids. is_in ids z) (is.unwaived x);
         by = inl named;

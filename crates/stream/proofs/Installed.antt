@@ -14,7 +14,8 @@ use Rattle.machine.specs.Installing.{Decision, IsDecision}
 use Rattle.machine_laws.proofs.AlikeSysmods.{closed_by}
 use Rattle.machine_laws.proofs.AppliedIds.{applied_in_ids}
 use Rattle.machine_laws.proofs.Decisions.{decision_forms}
-use Rattle.machine_laws.proofs.Given.{Keeps, decided, installing, kept_set, keeps, installed, bypassed_for, choice_after}
+use Rattle.machine_laws.proofs.Given.{Keeps, decided, installing, kept_set, keeps, installed, bypassed_for}
+use Rattle.machine_laws.proofs.Given.{choice_after}
 use Rattle.machine_laws.proofs.InstallForms.{installed_forms}
 use Rattle.machine_laws.proofs.InstallKeeps.{install_keeps_closed}
 use Rattle.machine_laws.proofs.Installs.{IsInstall}

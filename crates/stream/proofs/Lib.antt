@@ -7,4 +7,5 @@ mod OneVer
 mod Alike
 mod Received
 mod Rejected
+mod Restored
 mod Served

@@ -1,7 +1,8 @@
 -- If no SYSMOD has two ++VERs for an SREL, the same ++VERs count for every command, and all that is said by one choice
 -- of ++VERs is true by the other.
 use Rattle.std.proofs.Common.{◌≡◌, ◌∙◌, ◌≤◌, ◌-◌, ℕ, zero, suc, List, [], ◌∷◌, ◌++◌, Option, None, Some}
-use Rattle.std.proofs.Common.{Contains, IsSome, is_some, length, inl, inr, refl, sym, ap, subst, arith, true, true≢false}
+use Rattle.std.proofs.Common.{Contains, IsSome, is_some, length, inl, inr, refl, sym, ap, subst, arith, true}
+use Rattle.std.proofs.Common.{true≢false}
 use Rattle.std.specs.Prelude.{slice_get, position, unwrap_or, if◌then◌else◌}
 use Rattle.std.specs.Option.{option_map_or, option_and_then}
 use Rattle.terms.specs.Types.{Id, Ver, Applied, Global, Element, Zone}
@@ -65,7 +66,7 @@ module _ (g : Global) (was now : Choice) (same : (x : Id) → was x ≡ now x) w
   was_in : (x : Id) → IsInStream now x → IsInStream was x
   was_in x = subst IsSome (sym (same x))
 
-  same_owner : (x : Id) → owner g was x ≡ owner g now x
+  pub same_owner : (x : Id) → owner g was x ≡ owner g now x
   same_owner x = ap (λ (o : Option Ver). if is_function g x then x else unwrap_or (option_and_then (λ v. v.fmid) o) x)
       (same x)
 

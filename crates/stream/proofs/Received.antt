@@ -25,7 +25,8 @@ use Rattle.stream.proofs.OneVer.{level_by, clean_by_what_counts}
 abbrev pub HasFix : Zone → Choice → Id → ElemType → Text → Type 0
 HasFix zone c y type name = (e : Element) × (element_of zone type name ≡ Some e) × IsInLevel c e y
 
--- If the level has what applied SYSMODs change, it has what superseded ones change: what supersedes them changes it too.
+-- If the levels have all applied SYSMODs, they have the superseded ones too, since what supersedes an id changes all
+-- that it changes.
 module _ (g : Global) (zone : Zone) (c : Choice) (clean : IsClean g c) (is : IsOfStream g c zone)
     (applied : (y : Id) → is_applied zone y ≡ true → (type : ElemType) (name : Text)
     → has_change g y type name ≡ true → HasFix zone c y type name) where
@@ -83,8 +84,8 @@ module _ (g h : Global) (zone : Zone) (is_zone : IsZone zone) (keeps : KeepsRece
   applied_fix : (y : Id) → is_applied zone y ≡ true → (type : ElemType) (name : Text)
       → has_change h y type name ≡ true → HasFix zone now y type name
   applied_fix y on type name changes =
-      let fix = is.fixes y (of_applied (IsSupported was zone) zone is.of_stream.closed.supported y on).received (supplied_applied zone y on) type name
-      (sym (alike_change g h y type name (applied_alike y on)) ∙ changes) in
+      let fix = is.fixes y (of_applied (IsSupported was zone) zone is.of_stream.closed.supported y on).received
+      (supplied_applied zone y on) type name (sym (alike_change g h y type name (applied_alike y on)) ∙ changes) in
       (fix.0, fix.1, level_by was now fix.0 y still_counts fix.2)
 
   owned : (y : Id) → is_applied zone y ≡ true → (type : ElemType) (name : Text) → has_change h y type name ≡ true

@@ -1,12 +1,19 @@
--- Acts of service leave all zones of their streams, with all fixes.
+-- Commands and definitions of zones leave all zones of their streams, lacking no fix.
 use Rattle.std.proofs.Common.{◌≡◌, ◌∙◌, inl, inr, Bool, true, false, List, [], ◌∷◌, Option, None, Some, All, Contains}
-use Rattle.std.proofs.Common.{◌≤◌, length, get_or, refl, sym, ap, subst, arith, true≢false}
-use Rattle.std.specs.Prelude.{Result, Ok, Err, if◌then◌else◌}
+use Rattle.std.proofs.Common.{◌≤◌, IsTrue, map, length, get_or, refl, sym, ap, subst, arith, true≢false}
+use Rattle.std.specs.Prelude.{Result, Ok, Err, option_map, if◌then◌else◌}
+use Rattle.std.specs.Option.{option_and_then}
+use Rattle.std.specs.Str.{bytes_eq}
 use Rattle.std.specs.Ordering.{nat_cmp}
-use Rattle.std.specs.Cmp.Lexicographic.{slice_cmp}
+use Rattle.std.specs.Cmp.Lexicographic.{slice_cmp, texts_ties}
+use Rattle.std.proofs.lemmas.Cmp.{nat_list_cmp_total}
+use Rattle.std.proofs.lemmas.Option.{same_Some}
 use Rattle.std.proofs.lemmas.List.Elements.{All-contains, All-contains_itself}
 use Rattle.terms.specs.declared.kinds.ZoneKind.{ZoneKind}
+use Rattle.terms.specs.declared.kinds.ZoneKind.TheVariants.{Target, Distribution}
 use Rattle.terms.specs.Types.{Text, Id, Global, Zone, a_zone, NamedZone, Selection, Bypass, ReceiveOperands, Install}
+use Rattle.terms.specs.Types.{RestoreList}
+use Rattle.terms.specs.Lookups.{IsZone, is_before, IsRising}
 use Rattle.terms.specs.Types.{Command, Set, Receive, Reject, Apply, Accept, Restore, ListZone, Report}
 use Rattle.terms.specs.Choice.{Choice, vers_of, counting}
 use Rattle.terms.specs.Forms.{IsDottedDate}
@@ -14,18 +21,22 @@ use Rattle.terms.specs.Rising.{with_item}
 use Rattle.terms.specs.Tests.{Setting}
 use Rattle.terms.specs.Install.{Installation}
 use Rattle.terms.proofs.ListMembers.{none_in}
+use Rattle.terms.proofs.Pairs.{pairs_unmap}
 use Rattle.terms.proofs.Placing.{All_with_item}
+use Rattle.store_schema.specs.Inventory.{IsRelated}
 use Rattle.store_schema.proofs.Number.{empty_is_inventory}
 use Rattle.machine.specs.Outcome.{Outcome, Line}
 use Rattle.machine.specs.Installing.{InstallsSelected}
 use Rattle.machine.specs.State.{State, zone_named, target_of, with_zone, ZoneDefinition, ZoneFault, define_zone}
 use Rattle.machine.specs.Machine.{Files, Takes, TakesAll, TakesNone, TakesNoHold, Rejects, InstallsThere, RunsThere}
-use Rattle.machine.specs.Machine.{Act, Begin, Perform, Faulty, Define, state_after, Steps}
+use Rattle.machine.specs.Machine.{RestoresThere, Act, Begin, Perform, Faulty, Define, state_after, Steps}
 use Rattle.machine.specs.Runs.{Runs}
 use Rattle.machine_laws.specs.Storable.{IsStorable, HasActForms}
 use Rattle.machine_laws.proofs.Defined.{defined}
+use Rattle.machine_laws.proofs.Lists.{find_itself}
 use Rattle.machine_laws.proofs.ReceiveKeeps.{items_keep}
 use Rattle.machine_laws.proofs.RejectKeeps.{reject_keeps_closed}
+use Rattle.machine_laws.proofs.RestoreKeeps.{restore_keeps_closed}
 use Rattle.machine_laws.proofs.StepForms.{step_storable}
 use Rattle.machine_laws.proofs.StepKeeps.{named_has, empty_closed, each_zone}
 use Rattle.stream.specs.Stream.{IsClean, IsOfStream, HasAllFixes, HasOwners, ChecksRequisites}
@@ -36,6 +47,7 @@ use Rattle.stream.proofs.Installed.{install_stays_of_stream, install_loses_no_fi
 use Rattle.stream.proofs.OneVer.{counts_for, clean_by_what_counts, fixes_by, owners_by}
 use Rattle.stream.proofs.Received.{received_served}
 use Rattle.stream.proofs.Rejected.{rejects_keep, rejected_served}
+use Rattle.stream.proofs.Restored.{restored_served}
 
 -- ---- zones that come in
 
@@ -124,7 +136,8 @@ module _ (s : State) (is : IsStorable s) (all : AreServed s) (clean : HasCleanSt
 -- the zone of a name is one of the zones
 named_there : (zones : List NamedZone) (name : Text) (zone : Zone) → zone_named zones name ≡ Some zone
     → (z : NamedZone) × Contains zones z × (z.zone ≡ zone)
-named_there zones name zone = named_has (λ (v : Zone). (z : NamedZone) × Contains zones z × (z.zone ≡ v)) zones name zone
+named_there zones name zone =
+    named_has (λ (v : Zone). (z : NamedZone) × Contains zones z × (z.zone ≡ v)) zones name zone
     (λ k d below. (get_or zones k d, All-contains_itself zones k d below, refl))
 
 -- CHECK changes nothing
@@ -166,6 +179,55 @@ rejects_served s ids t outcome r is all after = subst AreServed (sym r.state) (�
     (λ k d below. (all k d below).of_stream.closed) k d below)
     (all k d below) (subst HasCleanStreams r.state after k d below))
 
+-- ---- RESTORE
+
+-- the zone that a zone names as related has its SREL
+related_srel : (zones : List NamedZone) → IsRising (map (λ z. z.name) zones) → (kind : ZoneKind) (srel : Text)
+    (related : Option Text) (accepted : Zone) → IsRelated zones kind srel related
+    → option_and_then (zone_named zones) related ≡ Some accepted → accepted.srel ≡ srel
+related_srel zones rising Target srel None accepted is found = absurd is
+related_srel zones rising Target srel (Some name) accepted (z, there, named, kind, has) found =
+    let rises = pairs_unmap (λ (a b : NamedZone). IsTrue (is_before a.name b.name))
+    (λ (x y : Text). IsTrue (is_before x y)) (λ z. z.name) (λ a b lower. lower) zones rising in
+    let itself = find_itself nat_list_cmp_total (λ (z : NamedZone). z.name) bytes_eq texts_ties zones z rises there in
+    let is : Some z.zone ≡ Some accepted = sym (ap (option_map (λ (z : NamedZone). z.zone)) itself)
+    ∙ ap (zone_named zones) named ∙ found in
+    ap (λ (v : Zone). v.srel) (sym (same_Some z.zone accepted is)) ∙ has
+related_srel zones rising Distribution srel related accepted is found =
+    absurd (cc (sym found ∙ ap (option_and_then (zone_named zones)) is))
+
+restores_served : (s : State) (what : RestoreList) (check : Bool) (t : State) (outcome : Outcome)
+    → RestoresThere s what check t outcome → IsStorable s → AreServed s → HasCleanStreams s → AreServed t
+restores_served s what check t outcome r is all clean = subst AreServed (sym r.state)
+    (if_checked check s (with_zone s r.name r.new) all
+    (placed_served s.global s.zones (record { name = r.name; zone = r.new }) all
+    (restored_served s.global r.zone r.accepted what r.new r.lines r.restores is_zone zone_served level same_srel
+    (named_has (λ z. IsCleanFor s.global z.srel) s.zones r.name r.zone clean r.is_there)
+    (restore_keeps_closed s.global r.zone r.accepted what r.new r.lines r.restores is.global is_zone same_srel
+    zone_served.of_stream.closed level.of_stream.closed))))
+  where
+    served_of : (zone : Zone) (name : Text) → zone_named s.zones name ≡ Some zone → IsServed s.global zone
+    served_of zone name = named_has (IsServed s.global) s.zones name zone all
+
+    zone_served : IsServed s.global r.zone
+    zone_served = served_of r.zone r.name r.is_there
+
+    by : (related : Option Text) → option_and_then (zone_named s.zones) related ≡ Some r.accepted
+        → IsServed s.global r.accepted
+    by None found = absurd (cc found)
+    by (Some name) found = served_of r.accepted name found
+
+    level : IsServed s.global r.accepted
+    level = by r.zone.related r.related
+
+    is_zone : IsZone r.zone
+    is_zone = named_has IsZone s.zones r.name r.zone (each_zone s is) r.is_there
+
+    same_srel : r.accepted.srel ≡ r.zone.srel
+    same_srel = related_srel s.zones is.names r.zone.kind r.zone.srel r.zone.related r.accepted
+        (named_has (λ z. IsRelated s.zones z.kind z.srel z.related) s.zones r.name r.zone is.related r.is_there)
+        r.related
+
 -- ---- acts
 
 command_served : (date : Text) (files : Files) (s : State) (c : Command) (t : State) (outcome : Outcome) → IsService c
@@ -181,7 +243,8 @@ command_served date files s (Apply i) t outcome service dated runs is all before
     installs_served date s (Apply i) i (λ name. None) t outcome dated runs service is all before
 command_served date files s (Accept i) t outcome service dated runs is all before after =
     installs_served date s (Accept i) i (target_of s.zones) t outcome dated runs service is all before
-command_served date files s (Restore what check) t outcome service dated runs is all before after = absurd service
+command_served date files s (Restore what check) t outcome service dated runs is all before after =
+    restores_served s what check t outcome runs is all before
 command_served date files s (ListZone text) t outcome service dated runs is all before after =
     subst AreServed (sym runs.0) all
 command_served date files s Report t outcome service dated runs is all before after = subst AreServed (sym runs.0) all

@@ -1,5 +1,5 @@
--- What a clean stream promises for a zone of it, by the ++VERs that count for a command. Left out are RESTORE and a
--- BYPASS of requisites. Nothing is said of candidates that fail the tests OwnedByAnother and NothingToUpdate.
+-- What a clean stream promises for an APPLY or ACCEPT in a zone of it, by the ++VERs that count for the command.
+-- Nothing is said of a BYPASS of requisites, or of candidates that fail the tests OwnedByAnother and NothingToUpdate.
 use Rattle.std.specs.Prelude.{◌≡◌, ◌≢◌, List, [], Option, Contains}
 use Rattle.terms.specs.Types.{Date, Id, Global, Zone, NamedZone, Selection, Bypass}
 use Rattle.terms.specs.Lookups.{IsZone}

@@ -1,8 +1,8 @@
 -- What a clean stream promises for every system: whatever commands have run on it, its zones are of the stream and lack
--- no fix. Left out are RESTORE, a BYPASS of requisites, and SYSMODs with two ++VERs for one SREL.
+-- no fix. Left out are a BYPASS of requisites, and SYSMODs with two ++VERs for one SREL.
 use Rattle.std.specs.Prelude.{◌≡◌, ◌≢◌, ◌≤◌, List, [], Option, None, length, slice_get, All, Contains}
 use Rattle.terms.specs.Types.{Srel, Id, Global, Zone, Selection, Command, Apply, Accept}
-use Rattle.terms.specs.Types.{Restore, Bypass}
+use Rattle.terms.specs.Types.{Bypass}
 use Rattle.terms.specs.Lookups.{IsZone}
 use Rattle.terms.specs.Choice.{Choice, vers_of, counting}
 use Rattle.terms.specs.Candidates.{AreCandidates}
@@ -25,7 +25,7 @@ pub record IsCleanFor (g : Global) (srel : Srel) : Type 0 where
   pub single : (x : Id) → length (vers_of g srel x) ≤ 1
   pub clean : IsClean g (ver_for g srel)
 
--- The zone is of the stream, has all its fixes, and each element has the owner of the applied SYSMODs that change it.
+-- The zone is of the stream and lacks no fix, and each element has the owner of the applied SYSMODs that change it.
 pub record IsServed (g : Global) (zone : Zone) : Type 0 where
   pub of_stream : IsOfStream g (counting g zone []) zone
   pub fixes : HasAllFixes g (counting g zone []) zone
@@ -39,18 +39,17 @@ AreServed s = All (λ z. IsServed s.global z.zone) s.zones
 abbrev pub HasCleanStreams : State → Type 0
 HasCleanStreams s = All (λ z. IsCleanFor s.global z.zone.srel) s.zones
 
--- An APPLY or ACCEPT checks all requisites, and no command is a RESTORE.
+-- An APPLY or ACCEPT checks all requisites.
 abbrev pub IsService : Command → Type 0
 IsService (Apply i) = ChecksRequisites i.bypass
 IsService (Accept i) = ChecksRequisites i.bypass
-IsService (Restore what check) = ⊥
 IsService _ = Unit {0}
 
 abbrev pub IsServiceAct : Act → Type 0
 IsServiceAct (Perform date files c) = IsService c
 IsServiceAct _ = Unit {0}
 
--- an act of service, with clean streams before and after it
+-- an act of service, with clean streams before it and after it
 pub record Serves (s : State) (a : Act) (t : State) (outcomes : List Outcome) : Type 0 where
   pub service : IsServiceAct a
   pub forms : HasActForms a
@@ -76,7 +75,7 @@ ServedZonesPass =
     → owner_of (setting g zone related cands bypass) x ≡ owner_of (setting g zone related cands bypass) y
     → ShareElement g x y → ¬ MayNotShare (setting g zone related cands bypass) x y))
 
--- Whatever acts of service have run from the empty state, all zones are of their streams and have all fixes.
+-- Whatever acts of service have run from the state without zones, all zones are of their streams and lack no fix.
 abbrev pub ServiceServesAll : Type 0
 ServiceServesAll =
     (acts : List Act) (t : State) (outcomes : List Outcome) → Runs Serves empty_state acts t outcomes → AreServed t

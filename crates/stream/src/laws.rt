@@ -1,4 +1,4 @@
-//! What a clean stream promises for every zone of it.
+//! What a clean stream promises for every zone that was made of it.
 ghost use Rattle.stream.specs.Laws.{NeverClashesByElement, NeverRegresses};
 ghost use Rattle.stream.specs.Laws.{InstallStaysOfStream, InstallLosesNoFix};
 ghost use Rattle.stream.specs.Service.{ServedZonesPass, ServiceServesAll};
@@ -28,7 +28,7 @@ pub fn served_zones_pass()
     ensures { ServedZonesPass }
 {}
 
-/// Whatever acts of service have run from the empty state, all zones are of their streams and have all fixes.
+/// Whatever commands have run from the state without zones, all zones are of their streams and lack no fix.
 pub fn service_serves_all()
     ensures { ServiceServesAll }
 {}

@@ -4,8 +4,9 @@
 //! A stream is clean if three rules hold of its SYSMODs (`specs/Stream`). In a zone of a clean stream all that a
 //! supplied SYSMOD is over is supplied (`Below`). So no candidate regresses an element of its owner, and no two
 //! candidates clash by one (`NoRegression`). APPLY and ACCEPT leave the zone of the stream (`StaysOfStream`) and lose
-//! no fix (`AllFixes`), and so do RECEIVE (`Received`) and REJECT (`Rejected`). Together they say it of all acts from
-//! the state without zones (`Served`), if no SYSMOD has two `++VER`s for one SREL (`OneVer`).
+//! no fix (`AllFixes`, `Installed`). If no SYSMOD has two `++VER`s for one SREL (`OneVer`), RECEIVE (`Received`),
+//! REJECT (`Rejected`) and RESTORE (`Restored`) do so too, and so do all commands and definitions of zones, one after
+//! the other, from the state without zones on (`Served`).
 #![tactic(auto)]
 
 mod laws;
