@@ -20,7 +20,7 @@ use Rattle.stream.specs.Stream.{IsClean, IsOfStream, HasAllFixes, HasOwners, Che
 abbrev pub ver_for : Global → Srel → Choice
 ver_for g srel x = slice_get (vers_of g srel x) 0
 
--- What is received for the SREL is a clean stream, in which no SYSMOD has two ++VERs.
+-- The SYSMODs that are received for the SREL are a clean stream, and none has two ++VERs for it.
 pub record IsCleanFor (g : Global) (srel : Srel) : Type 0 where
   pub single : (x : Id) → length (vers_of g srel x) ≤ 1
   pub clean : IsClean g (ver_for g srel)
@@ -57,7 +57,7 @@ pub record Serves (s : State) (a : Act) (t : State) (outcomes : List Outcome) : 
   pub before : HasCleanStreams s
   pub after : HasCleanStreams t
 
--- the state without zones, in which nothing is received
+-- the state without zones and without received SYSMODs
 abbrev pub empty_state : State
 empty_state = record { global = empty_inventory.global; zones = empty_inventory.zones; boundary = None }
 
