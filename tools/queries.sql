@@ -154,9 +154,10 @@ WHERE related IS NOT NULL AND accepted.id IS NULL;
 -- What was put on over a requisite or a hold: each requisite that BYPASS waived, and each hold that stands on what is
 -- applied. `sure` is YES where BYPASS alone can have done that: a waived requisite, or an internal hold. An external
 -- hold may have been received later, so it is PERHAPS, and is left out if its DATE is after the day of the APPLY or the
--- zone supplies its reason. `open` is 0 where the zone supplies the requisite by now.
+-- zone supplies its reason. `open` is 0 where the zone supplies the requisite by now. (A requisite of a function that
+-- is in none of its own operands is one that the ++IF of another SYSMOD states for it.)
 CREATE TEMP VIEW bypassed AS
-SELECT zone.name AS zone, entry.id, entry.date, coalesce(states.operand, '') AS kind, waived.value AS reason,
+SELECT zone.name AS zone, entry.id, entry.date, coalesce(states.operand, 'IFREQ') AS kind, waived.value AS reason,
   NULL AS class, NULL AS origin, 'YES' AS sure,
   NOT EXISTS (SELECT 1 FROM entry AS what WHERE what.zone = zone.name AND what.id = waived.value
     AND (what.date IS NOT NULL OR what.supby <> '')) AS open, NULL AS comment
@@ -165,6 +166,8 @@ JOIN json_each('["' || replace(entry.waived, ',', '","') || '"]') AS waived
 LEFT JOIN chosen ON chosen.zone = zone.name AND chosen.id = entry.id
 LEFT JOIN states ON states.id = entry.id AND states.srel = zone.srel AND states.number = coalesce(chosen.n, 1)
   AND states.operand IN ('PRE', 'REQ', 'IFREQ') AND states.names = waived.value
+  AND (function IS NULL OR EXISTS (
+    SELECT 1 FROM entry AS f WHERE f.zone = zone.name AND f.id = function AND f.date IS NOT NULL))
 GROUP BY zone.name, entry.id, states.operand, waived.value
 UNION ALL
 SELECT zone, held.id, entry.date, held.kind, reason, class, origin,
@@ -190,9 +193,10 @@ JOIN states ON states.id = counting.id AND states.srel = zone.srel AND states.nu
 WHERE operand IN ('PRE', 'SUP', 'FMID');
 
 -- The elements of a zone whose level lost what a SYSMOD that is applied there has changed: REPLACED where `by`, the
--- RMID, is not over the SYSMOD and neither the RMID nor a UMID supersedes it; UPDATED where `by`, a UMID, is not over it
--- and was put on it, so that the lines which both change are those of `by`. `fixes` is what the SYSMOD supersedes. (Who
--- is over whom leads through received SYSMODs alone; an update that one over it makes on the same day is not seen.)
+-- RMID, is not over the SYSMOD and neither the RMID nor a UMID supersedes it; UPDATED where `by`, a UMID, is not over
+-- it and was put on it, so that the lines which both change are those of `by`. `fixes` is what the SYSMOD supersedes.
+-- (Who is over whom leads through received SYSMODs alone; an update that one over it makes on the same day is not
+-- seen.)
 CREATE TEMP VIEW regressed AS
 WITH RECURSIVE
 changed AS (
@@ -216,10 +220,11 @@ updated AS (
   JOIN entry AS above ON above.zone = updates.zone AND above.id = by
   JOIN entry AS below ON below.zone = updates.zone AND below.id = u.value
   WHERE u.value <> by AND below.date <= above.date),
+step AS (SELECT DISTINCT zone, id, names FROM steps),
 over (zone, by, id) AS (
   SELECT zone, by, by FROM replaced UNION SELECT zone, by, by FROM updates
   UNION
-  SELECT steps.zone, over.by, names FROM over JOIN steps ON steps.zone = over.zone AND steps.id = over.id)
+  SELECT step.zone, over.by, names FROM over JOIN step ON step.zone = over.zone AND step.id = over.id)
 SELECT lost.zone, lost.type, lost.name, lost.id, how, lost.by, sup AS fixes
 FROM (
   SELECT zone, type, name, id, 'REPLACED' AS how, by, 1 AS is_below FROM replaced

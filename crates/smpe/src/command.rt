@@ -40,7 +40,7 @@ pub fn perform<S: Alter>(
         (λ own. IsOwnOf (command_of command.now) own × IfOk result (AnswersRun own))
         (λ s ended. IsSessionOf s session.old → HasDone S.Store store.old store.new s session.new date files.now
         (command_of command.now) ended) result }
-    ensures header { IfOk result (AnswersOf (command_of command.now)) }
+    ensures header { IfOk result (AnswersOf (command_of command.now) session.old.boundary session.new.boundary) }
     ensures looks { LooksOnly (command_of command.now) → (store.new ≡ store.old)
         × ¬ IsErrOf result StoreError.Fault }
 {

@@ -7,7 +7,7 @@ ghost use Rattle.report.specs.Views.{header_view};
 ghost use Rattle.smpe_session.specs.Sessions.{IsSessionOf, HasPerformed};
 ghost use Rattle.smpe_session.specs.Places.{install_command};
 ghost use Rattle.smpe_session.specs.Uses.{UsesStore};
-ghost use Rattle.smpe_session.specs.Writing.{TellsOutcomeOf, TellsRun};
+ghost use Rattle.smpe_session.specs.Writing.{AnswersAt, TellsRun};
 ghost use Rattle.store.specs.Own.{IsOfZone};
 
 use cntl::Install;
@@ -53,7 +53,8 @@ pub(crate) fn install<S: Alter>(
         (λ s ended. IsSessionOf s session.old → (files : Files)
         → HasPerformed S.Store store.old store.new s session.new date files
         (install_command kind operands.now) ended) result }
-    ensures header { IfOk result (TellsOutcomeOf (install_command kind operands.now)) }
+    ensures header { IfOk result (AnswersAt (install_command kind operands.now) session.old.boundary
+        session.new.boundary) }
 {
     let related = session.load_related_zone(store, kind)?;
     let header = install_header(kind, session.boundary, operands.check);

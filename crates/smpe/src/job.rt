@@ -44,7 +44,7 @@ fn run_command<S: Alter, W: Sink>(
         → Keeps S.Store store.old s
         → EndsCommands S.Store store.old store.new s session.new input.now.date input.now.files
         (command_of command.now ∷ []) (W.taken w.old) (W.taken w.new) result }
-    ensures goes { GoesCommands S.Store store.old store.new
+    ensures goes { GoesCommands S.Store (store.old, session.old.boundary) (store.new, session.new.boundary)
         (Perform input.now.date input.now.files (command_of command.now) ∷ []) (W.taken w.old) (W.taken w.new) result }
     ensures fault { TellsOfSink (W.has_failed w.old) (W.has_failed w.new) result }
 {
@@ -69,9 +69,9 @@ fn run_commands<S: Alter, W: Sink>(
         → Keeps S.Store store.old s
         → EndsCommands S.Store store.old store.new s session.new input.now.date input.now.files
         (map command_of commands.now) (W.taken w.old) (W.taken w.new) result }
-    ensures goes { GoesCommands S.Store store.old store.new (map (Perform input.now.date input.now.files)
-        (map command_of commands.now))
-        (W.taken w.old) (W.taken w.new) result }
+    ensures goes { GoesCommands S.Store (store.old, session.old.boundary) (store.new, session.new.boundary)
+        (map (Perform input.now.date input.now.files) (map command_of commands.now)) (W.taken w.old) (W.taken w.new)
+        result }
     ensures fault { TellsOfSink (W.has_failed w.old) (W.has_failed w.new) result }
 {
     let mut code: u8 = 0;

@@ -5,7 +5,7 @@ ghost use Rattle.fields.specs.Choices.{restore_list_of};
 ghost use Rattle.machine.specs.Machine.{Files};
 ghost use Rattle.smpe_session.specs.Sessions.{IsSessionOf, HasPerformed};
 ghost use Rattle.smpe_session.specs.Uses.{UsesStore};
-ghost use Rattle.smpe_session.specs.Writing.{TellsOutcomeOf, TellsRun};
+ghost use Rattle.smpe_session.specs.Writing.{AnswersAt, TellsRun};
 ghost use Rattle.store.specs.Own.{IsOfZone};
 
 use fields::RestoreList;
@@ -31,7 +31,8 @@ pub(crate) fn restore<S: Alter>(
         (λ s ended. IsSessionOf s session.old → (date : Text) (files : Files)
         → HasPerformed S.Store store.old store.new s session.new date files (Restore (restore_list_of list.now) check)
         ended) result }
-    ensures header { IfOk result (TellsOutcomeOf (Restore (restore_list_of list.now) check)) }
+    ensures header { IfOk result (AnswersAt (Restore (restore_list_of list.now) check) session.old.boundary
+        session.new.boundary) }
 {
     let distribution_name = session.load_distribution_zone(store)?;
     let header = Header {

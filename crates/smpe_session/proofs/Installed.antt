@@ -33,6 +33,7 @@ use Rattle.machine_laws.proofs.InstallForms.{apply_kept}
 use Rattle.smpe_session.specs.declared.session.Session.{Session}
 use Rattle.smpe_session.specs.Sessions.{IsSessionOf}
 use Rattle.smpe_session.specs.Places.{install_command, related_for, IsPlace, ChangesZone}
+use Rattle.smpe_session.specs.Writing.{boundary_after}
 use Rattle.smpe_session.proofs.Places.{install_at}
 use Rattle.smpe_session.proofs.Seeking.{zones_updated, some_updated}
 
@@ -201,3 +202,9 @@ install_changes date kind i s at name zone related sel bypass delta printed line
 pub install_refused : (date : Text) (files : Files) (c : Command) (s : State) (header : Header) (why : Refusal)
     → header ≡ header_of c s.boundary → misplaced s c ≡ Some why → Performs date files s c s (Refused header why)
 install_refused date files c s header why headed at = inl (why, at, refl, ap (λ h. Refused h why) headed)
+
+-- an install moves no boundary
+pub installs_stay : (kind : ZoneKind) (i : Install) (outcome : Outcome) (boundary : Option Text)
+    → boundary_after (install_command kind i) outcome boundary ≡ boundary
+installs_stay Target i outcome boundary = refl
+installs_stay Distribution i outcome boundary = refl

@@ -1,5 +1,5 @@
 -- Calls over the store one after the other, and what becomes of their results.
-use Rattle.std.proofs.Common.{◌≡◌, ◌⊎◌, ◌∙◌, Result, Ok, Err, sym, ap, subst}
+use Rattle.std.proofs.Common.{Option, ◌≡◌, ◌⊎◌, ◌∙◌, Result, Ok, Err, sym, ap, subst}
 use Rattle.std.specs.Prelude.{IfOk, IfErr, IsErrAnd, IsErrOf, OnOk, OnErr}
 use Rattle.std.proofs.lemmas.Result.{err_from_is_err_and}
 use Rattle.sqlite.specs.Store.{Ghosts}
@@ -31,7 +31,7 @@ use Rattle.smpe_session.specs.declared.session.Session.{Session}
 use Rattle.smpe_session.specs.declared.session.Performed.{Performed}
 use Rattle.smpe_session.specs.Sessions.{IsSessionOf, HasPerformed, HasDone, told}
 use Rattle.smpe_session.specs.Uses.{UsesStore}
-use Rattle.smpe_session.specs.Writing.{TellsRun, TellsOutcomeOf, AnswersOf, AnswersRun}
+use Rattle.smpe_session.specs.Writing.{TellsRun, AnswersAt, AnswersOf, AnswersRun}
 
 -- how calls end
 abbrev pub Ending : Type 0 → Type 1
@@ -136,10 +136,11 @@ no_answer (Ok x) P Q is = absurd is
 no_answer (Err e) P Q is = tt
 
 -- The outcome of a command is told.
-pub told_of : (c : Command) (r : Result Outcome StoreError) (told_so : Result Performed StoreError) → told_so ≡ told r
-    → IfOk r (TellsOutcomeOf c) → IfOk told_so (AnswersOf c)
-told_of c (Ok outcome) told_so is of = subst (λ q. IfOk q (AnswersOf c)) (sym is) of
-told_of c (Err e) told_so is of = subst (λ q. IfOk q (AnswersOf c)) (sym is) tt
+pub told_of : (c : Command) (old new : Option Text) (r : Result Outcome StoreError)
+    (told_so : Result Performed StoreError) → told_so ≡ told r → IfOk r (AnswersAt c old new)
+    → IfOk told_so (AnswersOf c old new)
+told_of c old new (Ok outcome) told_so is of = subst (λ q. IfOk q (AnswersOf c old new)) (sym is) of
+told_of c old new (Err e) told_so is of = subst (λ q. IfOk q (AnswersOf c old new)) (sym is) tt
 
 -- a commit
 pub commit_uses : {S : Type 0} (g : Ghosts S) (old new : Held S) (change : Change) (r : Result (Unit {0}) StoreError)

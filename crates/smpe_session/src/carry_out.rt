@@ -49,7 +49,8 @@ impl Session {
             (Ran (header_view header) (map line_view lines.items))
             → HasPerformed S.Store store.old store.new s self.new date files c ended) result }
         ensures header { (c : Command) (boundary : Option Text) → header_view header ≡ header_of c boundary
-            → IfOk result (TellsOutcomeOf c) }
+            → IfOk result (TellsOutcomeOf c boundary) }
+        ensures boundary { self.new.boundary ≡ self.old.boundary }
     {
         let ZoneChange { name, delta } = change;
         // (for the clause `uses`: the edits of the delta have their form)

@@ -21,7 +21,7 @@ impl Session {
     pub fn report(&self, alloc: Global) -> Result<Outcome<'static>, AllocError>
         ensures performs { IfOk result (λ outcome. (s : State) → IsSessionOf s self.now → IsInventory (kept s)
             → (date : Text) (files : Files) → Performs date files s Report s (outcome_view outcome)) }
-        ensures header { IfOk result (TellsOutcomeOf Report) }
+        ensures header { IfOk result (TellsOutcomeOf Report self.now.boundary) }
     {
         let header = Header {
             word: CommandWord::Report,

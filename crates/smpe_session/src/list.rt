@@ -16,7 +16,7 @@ impl Session {
     pub fn list(&self, text: bool) -> Outcome<'_>
         ensures performs { (s : State) → IsSessionOf s self.now
             → (date : Text) (files : Files) → Performs date files s (ListZone text) s (outcome_view result) }
-        ensures header { TellsOutcomeOf (ListZone text) result }
+        ensures header { TellsOutcomeOf (ListZone text) self.now.boundary result }
     {
         let header = Header {
             word: CommandWord::List,

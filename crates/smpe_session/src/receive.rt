@@ -9,7 +9,7 @@ ghost use Rattle.report.specs.Views.{line_view};
 ghost use Rattle.smpe_session.specs.Sessions.{IsSessionOf, HasPerformed};
 ghost use Rattle.smpe_session.specs.Received.{AreTaken};
 ghost use Rattle.smpe_session.specs.Uses.{UsesStore};
-ghost use Rattle.smpe_session.specs.Writing.{TellsOutcomeOf, TellsRun};
+ghost use Rattle.smpe_session.specs.Writing.{AnswersAt, TellsRun};
 ghost use Rattle.store.specs.Own.{IsReceived};
 
 use crate::boundary::refusal_unless_global;
@@ -65,7 +65,7 @@ impl Session {
         ensures uses { UsesStore S.Store store.old store.new (λ own. IsReceived own × IfOk result (TellsRun own))
             (λ s ended. IsSessionOf s self.old → (date : Text)
             → HasPerformed S.Store store.old store.new s self.new date files.now (Receive what.now) ended) result }
-        ensures header { IfOk result (TellsOutcomeOf (Receive what.now)) }
+        ensures header { IfOk result (AnswersAt (Receive what.now) self.old.boundary self.new.boundary) }
     {
         let header = Header {
             word: CommandWord::Receive,

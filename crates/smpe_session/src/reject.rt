@@ -1,12 +1,12 @@
 //! REJECT: SYSMODs that no zone has applied leave the global zone.
-ghost use Rattle.std.specs.Prelude.{IfOk};
+ghost use Rattle.std.specs.Prelude.{◌≡◌, IfOk};
 ghost use Rattle.terms.specs.Types.{Text, Reject};
 ghost use Rattle.machine.specs.Machine.{Files};
 ghost use Rattle.smpe_session.specs.Sessions.{IsSessionOf, HasPerformed};
 ghost use Rattle.smpe_session.specs.KnownZones.{HasAllZones};
 ghost use Rattle.store.specs.CallEnds.{EndsLoad};
 ghost use Rattle.smpe_session.specs.Uses.{UsesStore};
-ghost use Rattle.smpe_session.specs.Writing.{TellsOutcomeOf, TellsRun};
+ghost use Rattle.smpe_session.specs.Writing.{AnswersAt, TellsRun};
 ghost use Rattle.store.specs.Own.{IsRejected};
 
 use crate::boundary::refusal_unless_global;
@@ -24,8 +24,9 @@ impl Session {
     // Loads each zone that the session does not have yet. Returns `Memory` if memory runs out, `Fault` if the database
     // fails, and `NoState` if the rows of zones stand for none.
     fn load_all_zones<S: Alter>(&mut self, store: &mut Store<S>) -> Result<(), StoreError>
-        ensures { UsesStore S.Store store.old store.new (λ _. ⊥) (λ s ended. IsSessionOf s self.old
+        ensures uses { UsesStore S.Store store.old store.new (λ _. ⊥) (λ s ended. IsSessionOf s self.old
             → EndsLoad S.Store store.old store.new s (λ _. HasAllZones s self.new) ended) result }
+        ensures boundary { self.new.boundary ≡ self.old.boundary }
     {
         let names = store.zone_names()?;
         for name in names.as_slice() {
@@ -46,7 +47,7 @@ impl Session {
         ensures uses { UsesStore S.Store store.old store.new (λ own. IsRejected own × IfOk result (TellsRun own))
             (λ s ended. IsSessionOf s self.old → (date : Text) (files : Files)
             → HasPerformed S.Store store.old store.new s self.new date files (Reject ids.now) ended) result }
-        ensures header { IfOk result (TellsOutcomeOf (Reject ids.now)) }
+        ensures header { IfOk result (AnswersAt (Reject ids.now) self.old.boundary self.new.boundary) }
     {
         let header = Header {
             word: CommandWord::Reject,

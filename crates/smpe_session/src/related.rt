@@ -1,4 +1,5 @@
 //! At which other zone a command looks: ACCEPT at a target zone, RESTORE at the distribution zone.
+ghost use Rattle.std.specs.Prelude.{◌≡◌};
 ghost use Rattle.store.specs.CallEnds.{EndsLoad};
 ghost use Rattle.smpe_session.specs.Places.{HasRelated};
 ghost use Rattle.smpe_session.specs.Restored.{HasAccepted};
@@ -21,8 +22,9 @@ impl Session {
         store: &mut Store<S>,
         kind: ZoneKind,
     ) -> Result<Option<ZoneName>, StoreError>
-        ensures { UsesStore S.Store store.old store.new (λ _. ⊥) (λ s ended. IsSessionOf s self.old
+        ensures uses { UsesStore S.Store store.old store.new (λ _. ⊥) (λ s ended. IsSessionOf s self.old
             → EndsLoad S.Store store.old store.new s (λ related. HasRelated s self.new kind related) ended) result }
+        ensures boundary { self.new.boundary ≡ self.old.boundary }
     {
         if kind == ZoneKind::Target {
             return Ok(None);
@@ -45,8 +47,9 @@ impl Session {
         &mut self,
         store: &mut Store<S>,
     ) -> Result<Option<ZoneName>, StoreError>
-        ensures { UsesStore S.Store store.old store.new (λ _. ⊥) (λ s ended. IsSessionOf s self.old
+        ensures uses { UsesStore S.Store store.old store.new (λ _. ⊥) (λ s ended. IsSessionOf s self.old
             → EndsLoad S.Store store.old store.new s (λ accepted. HasAccepted s self.new accepted) ended) result }
+        ensures boundary { self.new.boundary ≡ self.old.boundary }
     {
         let Some(accepted) = self.zone_at(self.boundary).and_then(|zone| zone.related()) else {
             return Ok(None);

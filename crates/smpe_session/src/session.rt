@@ -1,5 +1,5 @@
 //! What a job has in memory.
-ghost use Rattle.std.specs.Prelude.{IfOk};
+ghost use Rattle.std.specs.Prelude.{◌≡◌, None, IfOk};
 ghost use Rattle.sqlite.specs.Held.{state};
 ghost use Rattle.sqlite.specs.State.{HasCleanDisk};
 ghost use Rattle.store_rows.specs.Reads.{OnlyReads};
@@ -45,6 +45,7 @@ impl Session {
         ensures rows { HasCleanDisk (state S.Store store.new)
             → IfOk result (λ session. ShowsGlobal S.Store store.old session.global) }
         ensures reads { OnlyReads S.Store store_schema StoreError.NoState StoreError.Fault store.old store.new result }
+        ensures boundary { IfOk result (λ session. session.boundary ≡ None) }
     {
         let global = store.load_global()?;
         Ok(Session {

@@ -1,5 +1,5 @@
 //! SET: the boundary is another zone.
-ghost use Rattle.std.specs.Prelude.{IsSome, OnOk, IfOk};
+ghost use Rattle.std.specs.Prelude.{◌≡◌, IsSome, OnOk, IfOk};
 ghost use Rattle.std.specs.Str.{bytes_eq};
 ghost use Rattle.indexmap.specs.IndexMap.{get};
 ghost use Rattle.terms.specs.Types.{Text, Set};
@@ -8,7 +8,7 @@ ghost use Rattle.smpe_session.specs.Sessions.{IsSessionOf, HasPerformed};
 ghost use Rattle.smpe_session.specs.KnownZones.{IsSought};
 ghost use Rattle.store.specs.CallEnds.{EndsLoad};
 ghost use Rattle.smpe_session.specs.Uses.{UsesStore};
-ghost use Rattle.smpe_session.specs.Writing.{TellsOutcomeOf};
+ghost use Rattle.smpe_session.specs.Writing.{AnswersAt};
 
 use crate::session::Session;
 use fields::ZoneName;
@@ -31,6 +31,7 @@ impl Session {
             → EndsLoad S.Store store.old store.new s (IsSought s self.new name) ended) result }
         ensures stay { OnOk result ((q : Text) → IsSome (get bytes_eq self.old.zones q)
             → IsSome (get bytes_eq self.new.zones q)) }
+        ensures boundary { self.new.boundary ≡ self.old.boundary }
     {
         if name.is_global() || self.zones.contains_key(&name) {
             return Ok(true);
@@ -55,7 +56,7 @@ impl Session {
         ensures uses { UsesStore S.Store store.old store.new (λ _. ⊥) (λ s ended. IsSessionOf s self.old
             → (date : Text) (files : Files)
             → HasPerformed S.Store store.old store.new s self.new date files (Set name) ended) result }
-        ensures header { IfOk result (TellsOutcomeOf (Set name)) }
+        ensures header { IfOk result (AnswersAt (Set name) self.old.boundary self.new.boundary) }
     {
         let header = Header {
             word: CommandWord::Set,

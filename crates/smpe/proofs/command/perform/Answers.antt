@@ -55,37 +55,38 @@ returns-in_ok-report-in-Report-clause-uses g c = rw c.in-Report.is (answered not
 
 pub returns-in-Set-clause-header : goal.returns-in-Set-clause-header
 returns-in-Set-clause-header g c = rw c.in-Set.is
-    (told_of (Set c.in-Set.name) c.set.result _ c.wrap_outcome.ensures c.set.ensures.header)
+    (told_of (Set c.in-Set.name) _ _ c.set.result _ c.wrap_outcome.ensures c.set.ensures.header)
 
 pub returns-in-Receive-clause-header : goal.returns-in-Receive-clause-header
 returns-in-Receive-clause-header g c = rw c.in-Receive.is
-    (told_of (Receive c.in-Receive.operands) c.receive.result _ c.wrap_outcome-in-Receive.ensures
+    (told_of (Receive c.in-Receive.operands) _ _ c.receive.result _ c.wrap_outcome-in-Receive.ensures
     c.receive.ensures.header)
 
 pub returns-in-Reject-clause-header : goal.returns-in-Reject-clause-header
 returns-in-Reject-clause-header g c = rw c.in-Reject.is
-    (told_of (Reject c.in-Reject.ids) c.reject.result _ c.wrap_outcome-in-Reject.ensures c.reject.ensures.header)
+    (told_of (Reject c.in-Reject.ids) _ _ c.reject.result _ c.wrap_outcome-in-Reject.ensures c.reject.ensures.header)
 
 pub returns-in-Apply-clause-header : goal.returns-in-Apply-clause-header
 returns-in-Apply-clause-header g c = rw c.in-Apply.is
-    (told_of (Apply c.in-Apply.operands) c.install.result _ c.wrap_outcome-in-Apply.ensures c.install.ensures.header)
+    (told_of (Apply c.in-Apply.operands) _ _ c.install.result _ c.wrap_outcome-in-Apply.ensures c.install.ensures.header)
 
 pub returns-in-Accept-clause-header : goal.returns-in-Accept-clause-header
 returns-in-Accept-clause-header g c = rw c.in-Accept.is
-    (told_of (Accept c.in-Accept.operands) c.install-in-Accept.result _ c.wrap_outcome-in-Accept.ensures
+    (told_of (Accept c.in-Accept.operands) _ _ c.install-in-Accept.result _ c.wrap_outcome-in-Accept.ensures
     c.install-in-Accept.ensures.header)
 
 pub returns-in-Restore-clause-header : goal.returns-in-Restore-clause-header
 returns-in-Restore-clause-header g c = rw c.in-Restore.is
-    (told_of (Restore (restore_list_of c.in-Restore.list) c.in-Restore.check) c.restore.result _
+    (told_of (Restore (restore_list_of c.in-Restore.list) c.in-Restore.check) _ _ c.restore.result _
     c.wrap_outcome-in-Restore.ensures c.restore.ensures.header)
 
 pub returns-in-List-clause-header : goal.returns-in-List-clause-header
-returns-in-List-clause-header g c = rw c.in-List.is refl
+returns-in-List-clause-header g c = rw c.in-List.is (refl, refl)
 
 pub returns-in_err-report-in-Report-clause-header : goal.returns-in_err-report-in-Report-clause-header
 returns-in_err-report-in-Report-clause-header g c =
     no_answer c.from_residual.result _ _ c.from_residual.ensures.1
 
 pub returns-in_ok-report-in-Report-clause-header : goal.returns-in_ok-report-in-Report-clause-header
-returns-in_ok-report-in-Report-clause-header g c = rw c.in-Report.is c.in_ok-report-in-Report.ensures.header
+returns-in_ok-report-in-Report-clause-header g c =
+    rw c.in-Report.is (c.in_ok-report-in-Report.ensures.header, refl)

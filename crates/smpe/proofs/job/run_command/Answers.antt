@@ -1,4 +1,5 @@
-use Rattle.std.proofs.Common.{[], ◌∷◌, Err, refl, sym, ap, subst}
+use Rattle.std.proofs.Common.{◌≡◌, [], ◌∷◌, Err, refl, sym, ap, subst}
+use Rattle.terms.specs.Types.{ListZone}
 use Rattle.machine.specs.Machine.{Perform, Performs}
 use Rattle.cntl.specs.Views.{command_of}
 use Rattle.report.specs.Views.{outcome_view}
@@ -8,8 +9,8 @@ use Rattle.smpe.proofs.Reports.{sent_all, sent_part}
 use Rattle.smpe.proofs.Commanding.{commands_err, reported}
 use Rattle.smpe_jobs.proofs.Early.{failed_first, broke_first}
 use Rattle.store.specs.Own.{IsOwnOf}
-use Rattle.smpe_session.specs.Writing.{AnswersOf, AnswersRun, IsOutcomeOf}
-use Rattle.smpe.proofs.Going.{goes_one, early_first, fails_by, fails_told, performs_passes, goes_early}
+use Rattle.smpe_session.specs.Writing.{AnswersOf, AnswersRun, IsOutcomeOf, boundary_after}
+use Rattle.smpe.proofs.Going.{placed, goes_one, early_first, fails_by, fails_told, performs_passes, goes_early}
 use Rattle.smpe.proofs.job.run_command.Goals as goal
 
 pub returns-in_err-performed-clause-ends : goal.returns-in_err-performed-clause-ends
@@ -86,86 +87,92 @@ returns-in_ok-write_report-in-Lists-clause-ends g c clean s is keeps =
 
 pub returns-in_err-performed-clause-goes : goal.returns-in_err-performed-clause-goes
 returns-in_err-performed-clause-goes g c =
-    let old = c.args.store.now in
-    let new = c.perform.new.store in
+    let old = placed c.args.store.now c.args.session.now.boundary in
+    let new = placed c.perform.new.store c.perform.new.session.boundary in
     let command = command_of c.args.command.now in
     let act = Perform c.args.input.now.date c.args.input.now.files command in
     let taken = g.W.Sink.taken c.args.w.now in
     let e = c.in_err-performed.field-0.0 in
     let at = c.in_err-performed.ensures.uses.goes in
     goes_early g.S.Store old new (act ∷ []) taken taken c.from_residual.result (job_error e) c.from_residual.ensures.1
-    (early_first g.S.Store old new act [] taken taken (job_error e)
-    (fails_by g.S.Store (λ own. IsOwnOf command own × Unit {0}) old new act taken e e (λ change own. own.0) at.over
+    (early_first g.S.Store old new.0 act [] taken taken (job_error e)
+    (fails_by g.S.Store (λ own. IsOwnOf command own × Unit {0}) old new.0 act taken e e (λ change own. own.0) at.over
     (λ clean is. at.none clean (ap Err is)) (λ is. at.which (ap Err is))))
 
 pub returns-in_err-write_report-in-Told-clause-goes : goal.returns-in_err-write_report-in-Told-clause-goes
 returns-in_err-write_report-in-Told-clause-goes g c =
-    let old = c.args.store.now in
-    let new = c.perform.new.store in
+    let old = placed c.args.store.now c.args.session.now.boundary in
+    let new = placed c.perform.new.store c.perform.new.session.boundary in
     let command = command_of c.args.command.now in
     let act = Perform c.args.input.now.date c.args.input.now.files command in
     let a = g.W.Sink.taken c.args.w.now in
     let b = g.W.Sink.taken c.write_report.new.w in
     let outcome = outcome_view c.in-Told.outcome in
+    let answers = subst (AnswersOf command old.1 new.1) c.in-Told.is c.in_ok-performed.ensures.header in
     goes_early g.S.Store old new (act ∷ []) a b c.from_residual-in_err-write_report-in-Told.result Write
     c.from_residual-in_err-write_report-in-Told.ensures.1
-    (early_first g.S.Store old new act [] a b Write
+    (early_first g.S.Store old new.0 act [] a b Write
     (fails_told g.S.Store old new act outcome a b
     (performs_passes g.S.Store old new c.args.input.now.date c.args.input.now.files command c.in_ok-performed.performed
     outcome
-    (subst (AnswersOf command) c.in-Told.is c.in_ok-performed.ensures.header)
+    answers.0 answers.1
     (λ change ran. subst (AnswersRun change) c.in-Told.is ran) c.in_ok-performed.ensures.uses.goes.over)
     (sent_part _ _ _ _ _ c.in_err-write_report-in-Told.ensures.sends c.in_err-write_report-in-Told.ensures.fault)))
 
 pub returns-in_ok-write_report-in-Told-clause-goes : goal.returns-in_ok-write_report-in-Told-clause-goes
 returns-in_ok-write_report-in-Told-clause-goes g c =
-    let old = c.args.store.now in
-    let new = c.perform.new.store in
+    let old = placed c.args.store.now c.args.session.now.boundary in
+    let new = placed c.perform.new.store c.perform.new.session.boundary in
     let command = command_of c.args.command.now in
     let outcome = outcome_view c.in-Told.outcome in
+    let answers = subst (AnswersOf command old.1 new.1) c.in-Told.is c.in_ok-performed.ensures.header in
     goes_one g.S.Store old new (Perform c.args.input.now.date c.args.input.now.files command) outcome
     (g.W.Sink.taken c.args.w.now)
     (g.W.Sink.taken c.write_report.new.w) _
     (performs_passes g.S.Store old new c.args.input.now.date c.args.input.now.files command c.in_ok-performed.performed
     outcome
-    (subst (AnswersOf command) c.in-Told.is c.in_ok-performed.ensures.header)
+    answers.0 answers.1
     (λ change ran. subst (AnswersRun change) c.in-Told.is ran) c.in_ok-performed.ensures.uses.goes.over)
     (sent_all _ _ _ _ _ c.in_ok-write_report-in-Told.ensures.sends c.in_ok-write_report-in-Told.ensures.fault)
     c.in_ok-write_report-in-Told.ensures.code
 
 pub returns-in_err-write_report-in-Lists-clause-goes : goal.returns-in_err-write_report-in-Lists-clause-goes
 returns-in_err-write_report-in-Lists-clause-goes g c =
-    let old = c.args.store.now in
-    let new = c.perform.new.store in
+    let old = placed c.args.store.now c.args.session.now.boundary in
+    let new = placed c.perform.new.store c.perform.new.session.boundary in
     let command = command_of c.args.command.now in
     let act = Perform c.args.input.now.date c.args.input.now.files command in
     let a = g.W.Sink.taken c.args.w.now in
     let b = g.W.Sink.taken c.write_report-in-Lists.new.w in
     let outcome = outcome_view c.list.result in
+    let lists = subst (AnswersOf command old.1 new.1) c.in-Lists.is c.in_ok-performed.ensures.header in
     goes_early g.S.Store old new (act ∷ []) a b c.from_residual-in_err-write_report-in-Lists.result Write
     c.from_residual-in_err-write_report-in-Lists.ensures.1
-    (early_first g.S.Store old new act [] a b Write
+    (early_first g.S.Store old new.0 act [] a b Write
     (fails_told g.S.Store old new act outcome a b
     (performs_passes g.S.Store old new c.args.input.now.date c.args.input.now.files command c.in_ok-performed.performed
     outcome
-    (subst (λ d. IsOutcomeOf d outcome) (sym (subst (AnswersOf command) c.in-Lists.is c.in_ok-performed.ensures.header))
-    c.list.ensures.header)
+    (subst (λ d. IsOutcomeOf d old.1 outcome) (sym lists.0)
+    (subst (λ boundary. IsOutcomeOf (ListZone c.in-Lists.text) boundary outcome) lists.1 c.list.ensures.header))
+    (subst (λ d. new.1 ≡ boundary_after d outcome old.1) (sym lists.0) lists.1)
     (λ change ran. absurd (subst (AnswersRun change) c.in-Lists.is ran)) c.in_ok-performed.ensures.uses.goes.over)
     (sent_part _ _ _ _ _ c.in_err-write_report-in-Lists.ensures.sends c.in_err-write_report-in-Lists.ensures.fault)))
 
 pub returns-in_ok-write_report-in-Lists-clause-goes : goal.returns-in_ok-write_report-in-Lists-clause-goes
 returns-in_ok-write_report-in-Lists-clause-goes g c =
-    let old = c.args.store.now in
-    let new = c.perform.new.store in
+    let old = placed c.args.store.now c.args.session.now.boundary in
+    let new = placed c.perform.new.store c.perform.new.session.boundary in
     let command = command_of c.args.command.now in
     let outcome = outcome_view c.list.result in
+    let lists = subst (AnswersOf command old.1 new.1) c.in-Lists.is c.in_ok-performed.ensures.header in
     goes_one g.S.Store old new (Perform c.args.input.now.date c.args.input.now.files command) outcome
     (g.W.Sink.taken c.args.w.now)
     (g.W.Sink.taken c.write_report-in-Lists.new.w) _
     (performs_passes g.S.Store old new c.args.input.now.date c.args.input.now.files command c.in_ok-performed.performed
     outcome
-    (subst (λ d. IsOutcomeOf d outcome) (sym (subst (AnswersOf command) c.in-Lists.is c.in_ok-performed.ensures.header))
-    c.list.ensures.header)
+    (subst (λ d. IsOutcomeOf d old.1 outcome) (sym lists.0)
+    (subst (λ boundary. IsOutcomeOf (ListZone c.in-Lists.text) boundary outcome) lists.1 c.list.ensures.header))
+    (subst (λ d. new.1 ≡ boundary_after d outcome old.1) (sym lists.0) lists.1)
     (λ change ran. absurd (subst (AnswersRun change) c.in-Lists.is ran)) c.in_ok-performed.ensures.uses.goes.over)
     (sent_all _ _ _ _ _ c.in_ok-write_report-in-Lists.ensures.sends c.in_ok-write_report-in-Lists.ensures.fault)
     c.in_ok-write_report-in-Lists.ensures.code

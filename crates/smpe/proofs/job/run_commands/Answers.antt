@@ -8,14 +8,14 @@ use Rattle.smpe.specs.Going.{GoesCommands, GoesEarly}
 use Rattle.store.proofs.GoingCalls.{follows_itself, follows_on}
 use Rattle.smpe.proofs.Taken.{taken_more, taken_split}
 use Rattle.smpe.proofs.Commanding.{commands_err, commands_more, commands_stop, commands_early}
-use Rattle.smpe.proofs.Going.{goes_none, commands_passed, early_commands, goes_early}
+use Rattle.smpe.proofs.Going.{placed, goes_none, commands_passed, early_commands, goes_early}
 use Rattle.smpe.proofs.job.run_commands.Goals as goal
 
 pub loop-command-init : goal.loop-command-init
 loop-command-init g c = record {
   follows = follows_itself g.S.Store c.args.store.now;
   ran = search rules;
-  goes = goes_none g.S.Store c.args.store.now (g.W.Sink.taken c.args.w.now);
+  goes = goes_none g.S.Store (c.args.store.now, c.args.session.now.boundary) (g.W.Sink.taken c.args.w.now);
   sound = search rules;
 }
 
@@ -46,12 +46,14 @@ loop-command-preserved g c = record {
       let old = g.W.Sink.taken c.args.w.now in
       let new = g.W.Sink.taken c.run_command.new.w in
       let code = c.max-code.ensures in
-      rw code (subst (λ cs. GoesCommands g.S.Store c.args.store.now c.run_command.new.store (map perform cs) old new
+      let begun = placed c.args.store.now c.args.session.now.boundary in
+      let mid = placed c.loop-command.store c.loop-command.session.boundary in
+      let at = placed c.run_command.new.store c.run_command.new.session.boundary in
+      rw code (subst (λ cs. GoesCommands g.S.Store begun at (map perform cs) old new
       (Ok (max c.loop-command.code c.in_ok-next.next)))
       (sym (taken_more command_of c.args.commands.now c.loop-command.command-index c.command-item.result
       c.loop-command-test.true c.command-item.is))
-      (commands_passed g.S.Store c.args.input.now.date c.args.input.now.files c.args.store.now c.loop-command.store
-      c.run_command.new.store done (command_of c.command-item.result ∷ []) old (g.W.Sink.taken c.loop-command.w) new
+      (commands_passed g.S.Store c.args.input.now.date c.args.input.now.files begun mid at done (command_of c.command-item.result ∷ []) old (g.W.Sink.taken c.loop-command.w) new
       c.loop-command.code c.loop-command.invariant.goes c.in_ok-next.next c.in_ok-next.ensures.goes));
   sound = λ none. c.in_ok-next.ensures.fault (c.loop-command.invariant.sound none);
 }
@@ -90,21 +92,23 @@ returns-in_err-next-clause-goes g c =
     let perform = Perform c.args.input.now.date c.args.input.now.files in
     let old = g.W.Sink.taken c.args.w.now in
     let new = g.W.Sink.taken c.run_command.new.w in
-    let at = c.run_command.new.store in
+    let begun = placed c.args.store.now c.args.session.now.boundary in
+    let mid = placed c.loop-command.store c.loop-command.session.boundary in
+    let at = placed c.run_command.new.store c.run_command.new.session.boundary in
     let error = c.in_err-next.field-0.0 in
-    goes_early g.S.Store c.args.store.now at (map perform (map command_of c.args.commands.now)) old new
+    goes_early g.S.Store begun at (map perform (map command_of c.args.commands.now)) old new
     c.from_residual.result error c.from_residual.ensures.1
-    (subst (λ cs. GoesEarly g.S.Store c.args.store.now at (map perform cs) old new error)
+    (subst (λ cs. GoesEarly g.S.Store begun at.0 (map perform cs) old new error)
     (sym (taken_split command_of c.args.commands.now c.loop-command.command-index c.command-item.result
     c.loop-command-test.true c.command-item.is))
-    (early_commands g.S.Store c.args.input.now.date c.args.input.now.files c.args.store.now c.loop-command.store at done
-    next old
+    (early_commands g.S.Store c.args.input.now.date c.args.input.now.files begun mid at done next old
     (g.W.Sink.taken c.loop-command.w) new c.loop-command.code c.loop-command.invariant.goes rest error
     c.in_err-next.ensures.goes))
 
 pub returns-clause-goes : goal.returns-clause-goes
 returns-clause-goes g c =
-    subst (λ cs. GoesCommands g.S.Store c.args.store.now c.loop-command.store
+    subst (λ cs. GoesCommands g.S.Store (c.args.store.now, c.args.session.now.boundary)
+    (c.loop-command.store, c.loop-command.session.boundary)
     (map (Perform c.args.input.now.date c.args.input.now.files) (map command_of cs)) (g.W.Sink.taken c.args.w.now)
     (g.W.Sink.taken c.loop-command.w) (Ok c.loop-command.code))
     (take_all c.loop-command.command-index c.args.commands.now (omega (arith, c.loop-command-test.false)))

@@ -20,7 +20,7 @@ invariant-loop-command g l = record {
       (take l.command-index
       l.commands))
       (g.W.Sink.taken l.fn.w) (g.W.Sink.taken l.w) (Ok l.code);
-  goes : GoesCommands g.S.Store l.fn.store l.store
+  goes : GoesCommands g.S.Store (l.fn.store, l.fn.session.boundary) (l.store, l.session.boundary)
       (map (Perform l.fn.input.date l.fn.input.files) (map command_of (take l.command-index l.commands)))
       (g.W.Sink.taken l.fn.w) (g.W.Sink.taken l.w) (Ok l.code);
   sound : g.W.Sink.has_failed l.fn.w ≡ false → g.W.Sink.has_failed l.w ≡ false;

@@ -1,9 +1,9 @@
-use Rattle.std.proofs.Common.{◌∷◌, map, [], Err, refl, ap, subst}
+use Rattle.std.proofs.Common.{◌∷◌, map, [], Err, None, refl, ap, subst}
 use Rattle.std.specs.Io.KnownBytes.{Appends}
 use Rattle.report.specs.Sent.{WrotePart}
 use Rattle.cntl.specs.Views.{command_of}
 use Rattle.cntl.specs.Faults.{FailsFile}
-use Rattle.machine.specs.Machine.{RunFiles, Begin, Code, Files}
+use Rattle.machine.specs.Machine.{RunFiles, Begin, Perform, Code, Files}
 use Rattle.store.proofs.NoState.{loads_read}
 use Rattle.smpe_jobs.specs.declared.error.JobError.TheVariants.{Write}
 use Rattle.smpe_jobs.specs.Errors.{job_error}
@@ -12,6 +12,7 @@ use Rattle.smpe_jobs.proofs.Early.{ends_unbegun}
 use Rattle.smpe.proofs.Reports.{sent_all, sent_part}
 use Rattle.smpe.proofs.Single.{control_same, job_err, faulty_ran, faulty_broke, unbegun, begun}
 use Rattle.smpe_jobs.proofs.Closing.{keeps_closed, job_closed}
+use Rattle.smpe.specs.Going.{GoesCommands}
 use Rattle.smpe.proofs.Going.{jobs_unbegun, job_early, begin_early, faulty_early, fails_by, faulty_goes, begun_goes}
 use Rattle.smpe.proofs.job.run_job.Goals as goal
 
@@ -149,7 +150,7 @@ returns-in_err-session-clause-goes g c =
     c.from_residual-in_err-session.result (job_error e) c.from_residual-in_err-session.ensures.1
     (begin_early g.S.Store c.args.date c.args.cntl.now files old new (map command_of c.in-Ok.commands.items) taken
     (job_error e) c.in-Ok.ensures.commands
-    (fails_by g.S.Store (λ own. ⊥) old new Begin taken e e (λ change none. none)
+    (fails_by g.S.Store (λ own. ⊥) (old, None) new Begin taken e e (λ change none. none)
     at.uses.goes.over (λ clean is. at.uses.goes.none clean (ap Err is)) (λ is. at.uses.goes.which (ap Err is))))
 
 pub returns-clause-goes : goal.returns-clause-goes
@@ -157,14 +158,20 @@ returns-clause-goes g c =
     let old = c.args.store.now in
     let at = c.begin.new.store in
     let began = c.in_ok-session.ensures in
-    begun_goes g.S.Store c.args.date c.args.cntl.now (record { ptfin = c.args.ptfin.now; holds = c.args.hold.now })
-    old at c.run_commands.new.store (map command_of c.in-Ok.commands.items)
+    let new = c.run_commands.new.store in
+    let boundary = c.run_commands.new.session.boundary in
+    let files : Files = record { ptfin = c.args.ptfin.now; holds = c.args.hold.now } in
+    let acts = map (Perform c.args.date files) (map command_of c.in-Ok.commands.items) in
+    begun_goes g.S.Store c.args.date c.args.cntl.now files old at new boundary (map command_of c.in-Ok.commands.items)
     (g.W.Sink.taken c.args.w.now) (g.W.Sink.taken c.run_commands.new.w) c.run_commands.result c.in-Ok.ensures.commands (
       loads_read g.S.Store old at _ began.reads,
       refl,
+      refl,
       λ clean. (c.in_ok-session.session.global, began.rows clean),
     )
-    (rw c.deref.ensures.value at c.run_commands.ensures.goes)
+    (subst (λ begun. GoesCommands g.S.Store (at, begun) (new, boundary) acts (g.W.Sink.taken c.args.w.now)
+    (g.W.Sink.taken c.run_commands.new.w) c.run_commands.result) began.boundary
+    (rw c.deref.ensures.value at c.run_commands.ensures.goes))
 
 -- ---- the store behind it
 

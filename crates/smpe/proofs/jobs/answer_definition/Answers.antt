@@ -1,4 +1,4 @@
-use Rattle.std.proofs.Common.{Err, [], ◌∷◌, ◌∙◌, refl, sym, ap, subst}
+use Rattle.std.proofs.Common.{Err, None, [], ◌∷◌, ◌∙◌, refl, sym, ap, subst}
 use Rattle.machine.specs.Machine.{Define, NewZone}
 use Rattle.store.proofs.Going.{goes_err}
 use Rattle.smpe_jobs.specs.declared.zone_error.ZoneError.TheVariants.{Store}
@@ -63,7 +63,7 @@ returns-in-Err-Store-clause-goes g c taken =
     let at = c.in-Err-Store.ensures.goes.call in
     subst (GoesAmong g.S.Store old new (NewZone d ∷ []) taken taken) (sym c.from.ensures)
     (define_early g.S.Store old new d taken (job_error e)
-    (fails_by g.S.Store (IsOwn (Define d)) old new (Define d) taken e c.in-Err-Store.field-0 (λ change own. own) at.over
+    (fails_by g.S.Store (IsOwn (Define d)) (old, None) new (Define d) taken e c.in-Err-Store.field-0 (λ change own. own) at.over
     (λ clean is. at.none clean (ap Err (c.in-Err-Store.field-0-is ∙ ap Store is)))
     (λ is. at.which (ap Err (c.in-Err-Store.field-0-is ∙ ap Store is)))))
 

@@ -92,12 +92,12 @@ returns-clause-uses g c = answered c.in_ok-outcome.ensures.uses
 -- ---- the header
 
 pub returns-then-header-clause-header : goal.returns-then-header-clause-header
-returns-then-header-clause-header g c = λ command boundary is. (boundary, is)
+returns-then-header-clause-header g c = λ command boundary is. is
 
 pub returns-in_default-clause-header : goal.returns-in_default-clause-header
 returns-in_default-clause-header g c = λ command boundary is.
     IfOk-weaker c.commit_change.result (λ given. given ≡ report.Ran c.args.header c.args.lines)
-    (TellsOutcomeOf command) (λ given same. subst (TellsOutcomeOf command) (sym same) (boundary, is))
+    (TellsOutcomeOf command boundary) (λ given same. subst (TellsOutcomeOf command boundary) (sym same) is)
     c.commit_change.ensures.answer
 
 pub returns-in_err-prepared-clause-header : goal.returns-in_err-prepared-clause-header
@@ -110,4 +110,4 @@ returns-in_err-outcome-clause-header g c = λ command boundary is.
 
 pub returns-clause-header : goal.returns-clause-header
 returns-clause-header g c = λ command boundary is.
-    subst (TellsOutcomeOf command) (sym c.in_ok-outcome.ensures.answer) (boundary, is)
+    subst (TellsOutcomeOf command boundary) (sym c.in_ok-outcome.ensures.answer) is

@@ -37,13 +37,13 @@ returns-in-None-clause-performs c = λ s is date files.
 -- ---- the header
 
 pub returns-in_default-clause-header : goal.returns-in_default-clause-header
-returns-in_default-clause-header c = (c.args.self.now.boundary, refl)
+returns-in_default-clause-header c = refl
 
 pub returns-then-is_global-clause-header : goal.returns-then-is_global-clause-header
-returns-then-is_global-clause-header c = (c.args.self.now.boundary, refl)
+returns-then-is_global-clause-header c = refl
 
 pub returns-in-Some-get-clause-header : goal.returns-in-Some-get-clause-header
-returns-in-Some-get-clause-header c = (c.args.self.now.boundary, refl)
+returns-in-Some-get-clause-header c = refl
 
 pub returns-in-None-clause-header : goal.returns-in-None-clause-header
-returns-in-None-clause-header c = (c.args.self.now.boundary, refl)
+returns-in-None-clause-header c = refl

@@ -7,28 +7,28 @@ use Rattle.smpe_session.proofs.Stepping.{unmoved_since}
 use Rattle.smpe_session.proofs.Using.{nothing, after, answered, handed_on, load_uses}
 use Rattle.smpe_session.proofs.session.Session.load_related_zone.Goals as goal
 
-pub returns-then-eq : goal.returns-then-eq
-returns-then-eq g c =
+pub returns-then-eq-clause-uses : goal.returns-then-eq-clause-uses
+returns-then-eq-clause-uses g c =
     let same : c.args.kind ≡ Target = search rules in
     answered nothing (λ own none. absurd none) (λ s inventory keeps is. (
       subst (λ k. HasRelated s c.args.self.now k None) (sym same) (related_target s c.args.self.now is),
       keeps,
     ))
 
-pub returns-in_default : goal.returns-in_default
-returns-in_default g c =
+pub returns-in_default-clause-uses : goal.returns-in_default-clause-uses
+returns-in_default-clause-uses g c =
     let other : c.args.kind ≢ Target = search rules in
     answered nothing (λ own none. absurd none) (λ s inventory keeps is. (
       not_target c.args.kind other (related_nowhere s c.args.self.now is c.in_default.is),
       keeps,
     ))
 
-pub returns-in_err-heads : goal.returns-in_err-heads
-returns-in_err-heads g c = handed_on c.from_residual.ensures.1 (load_uses c.in_err-heads.ensures.loads)
+pub returns-in_err-heads-clause-uses : goal.returns-in_err-heads-clause-uses
+returns-in_err-heads-clause-uses g c = handed_on c.from_residual.ensures.1 (load_uses c.in_err-heads.ensures.loads)
     (λ s inventory un is. un)
 
-pub returns-in_default-target_name : goal.returns-in_default-target_name
-returns-in_default-target_name g c =
+pub returns-in_default-target_name-clause-uses : goal.returns-in_default-target_name-clause-uses
+returns-in_default-target_name-clause-uses g c =
     let other : c.args.kind ≢ Target = search rules in
     answered (load_uses c.in_ok-heads.ensures.loads) (λ own none. absurd none) (λ s inventory loaded is. (
       not_target c.args.kind other (related_none s c.in-Some.name (sym is.boundary ∙ c.in-Some.is)
@@ -37,15 +37,15 @@ returns-in_default-target_name g c =
       loaded.1,
     ))
 
-pub returns-in_err-ensure_zone_loaded : goal.returns-in_err-ensure_zone_loaded
-returns-in_err-ensure_zone_loaded g c = handed_on c.from_residual-in_err-ensure_zone_loaded.ensures.1
+pub returns-in_err-ensure_zone_loaded-clause-uses : goal.returns-in_err-ensure_zone_loaded-clause-uses
+returns-in_err-ensure_zone_loaded-clause-uses g c = handed_on c.from_residual-in_err-ensure_zone_loaded.ensures.1
     (after (load_uses c.in_ok-heads.ensures.loads) c.in_err-ensure_zone_loaded.ensures.uses)
     (λ s inventory both is. unmoved_since g.S.Store c.args.store.now c.zone_heads.new.self
     c.ensure_zone_loaded.new.store s (load_uses c.zone_heads.ensures.loads).goes.follows
     c.in_err-ensure_zone_loaded.field-0.0 (both.1 both.0.1 is))
 
-pub returns : goal.returns
-returns g c =
+pub returns-clause-uses : goal.returns-clause-uses
+returns-clause-uses g c =
     let other : c.args.kind ≢ Target = search rules in
     answered (after (load_uses c.in_ok-heads.ensures.loads) c.in_ok-ensure_zone_loaded.ensures.uses) (λ own none. absurd none)
     (λ s inventory both is.

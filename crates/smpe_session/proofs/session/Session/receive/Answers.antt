@@ -7,7 +7,7 @@ use Rattle.mcs.specs.HoldItems.{items as hold_items}
 use Rattle.report.specs.Views.{line_view}
 use Rattle.store.specs.declared.change.Change.TheVariants as Change
 use Rattle.store.specs.Own.{IsReceived}
-use Rattle.smpe_session.specs.Writing.{TellsOutcomeOf, TellsRun}
+use Rattle.smpe_session.specs.Writing.{AnswersAt, TellsRun}
 use Rattle.smpe_session.proofs.Leading.{led, refused, stated_in}
 use Rattle.smpe_session.proofs.Places.{receive_at}
 use Rattle.smpe_session.proofs.Received.{each_of_ptfin, each_of_hold_file, received, received_here}
@@ -93,13 +93,16 @@ returns-clause-uses g c =
 -- ---- the header
 
 pub returns-in-Some-clause-header : goal.returns-in-Some-clause-header
-returns-in-Some-clause-header g c = (c.args.self.now.boundary, refl)
+returns-in-Some-clause-header g c = (refl, refl)
 
 pub returns-in-Err-clause-header : goal.returns-in-Err-clause-header
-returns-in-Err-clause-header g c = (c.args.self.now.boundary, refl)
+returns-in-Err-clause-header g c = (refl, refl)
 
 pub returns-clause-header : goal.returns-clause-header
 returns-clause-header g c =
-    IfOk-weaker c.commit_change.result _ (TellsOutcomeOf (Receive c.args.what.now))
-    (λ told same. subst (TellsOutcomeOf (Receive c.args.what.now)) (sym same) (c.args.self.now.boundary, refl))
-    c.commit_change.ensures.answer
+    let boundary = c.args.self.now.boundary in
+    let stays : c.match-this.self ≡ record c.args.self.now { global = c.receive_found_items.new.global } =
+    search rules in
+    rw stays (IfOk-weaker c.commit_change.result _ (AnswersAt (Receive c.args.what.now) boundary boundary)
+    (λ told same. subst (AnswersAt (Receive c.args.what.now) boundary boundary) (sym same) (refl, refl))
+    c.commit_change.ensures.answer)

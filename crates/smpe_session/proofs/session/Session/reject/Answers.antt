@@ -6,7 +6,7 @@ use Rattle.report.specs.Views.{line_view}
 use Rattle.store.specs.declared.change.Change.TheVariants as Change
 use Rattle.store.specs.Own.{IsRejected}
 use Rattle.store.proofs.Keeping.{act_unmoved}
-use Rattle.smpe_session.specs.Writing.{TellsOutcomeOf, TellsRun}
+use Rattle.smpe_session.specs.Writing.{AnswersAt, TellsRun}
 use Rattle.smpe_session.proofs.AllZones.{alike}
 use Rattle.smpe_session.proofs.Leading.{led, refused, stated_in}
 use Rattle.smpe_session.proofs.Rejected.{rejected, rejected_here}
@@ -25,19 +25,19 @@ returns-in-Some-clause-uses g c = answered nothing (λ own none. absurd none) (�
 ))
 
 pub returns-in_err-load_all_zones-clause-uses : goal.returns-in_err-load_all_zones-clause-uses
-returns-in_err-load_all_zones-clause-uses g c = handed_on c.from_residual.ensures.1 c.in_err-load_all_zones.ensures
+returns-in_err-load_all_zones-clause-uses g c = handed_on c.from_residual.ensures.1 c.in_err-load_all_zones.ensures.uses
     (λ s inventory un is date files. act_unmoved g.S.Store c.args.store.now c.load_all_zones.new.store s
     (Perform date files (Reject c.args.ids.now)) c.in_err-load_all_zones.field-0.0 (un is))
 
 pub returns-in_err-edits-clause-uses : goal.returns-in_err-edits-clause-uses
-returns-in_err-edits-clause-uses g c = ran_short c.from_residual-in_err-edits.ensures.1 c.in_ok-load_all_zones.ensures
+returns-in_err-edits-clause-uses g c = ran_short c.from_residual-in_err-edits.ensures.1 c.in_ok-load_all_zones.ensures.uses
     (λ s inventory had is date files. stopped g.S.Store c.load_all_zones.new.store s
     (Perform date files (Reject c.args.ids.now)) (had is).1)
 
 pub returns-clause-uses : goal.returns-clause-uses
 returns-clause-uses g c =
     let stays : c.match-this.self ≡ record c.load_all_zones.new.self { global = c.reject.new.global } = search rules in
-    rw stays (weaker (after c.in_ok-load_all_zones.ensures c.commit_change.ensures.uses)
+    rw stays (weaker (after c.in_ok-load_all_zones.ensures.uses c.commit_change.ensures.uses)
     (λ change is.
     let own = subst IsRejected (sym is) c.in_ok-edits.ensures.rejects in (
       own,
@@ -56,7 +56,7 @@ returns-clause-uses g c =
     (c.in_ok-edits.ensures.runs s.zones (alike s at inventory c.reject.ensures.names had.0))
     (c.in_ok-edits.ensures.fits new) (c.in_ok-edits.ensures.edits new) in
     performs_since g.S.Store c.args.store.now c.load_all_zones.new.store c.commit_change.new.store s
-    c.load_all_zones.ensures.goes.follows _ date files (Reject c.args.ids.now) c.commit_change.result
+    c.load_all_zones.ensures.uses.goes.follows _ date files (Reject c.args.ids.now) c.commit_change.result
     (led g.S.Store c.load_all_zones.new.store c.commit_change.new.store date files (Reject c.args.ids.now) s
     c.args.self.now.boundary at (record at { global = new }) rejects.edits.items lines _ is.boundary had.0.session refl
     refl leads (Change.Global (stated_in c.commit_change.ensures.uses) rejects.edits) c.in_ok-edits.ensures.rejects tt
@@ -66,10 +66,14 @@ returns-clause-uses g c =
 -- ---- the header
 
 pub returns-in-Some-clause-header : goal.returns-in-Some-clause-header
-returns-in-Some-clause-header g c = (c.args.self.now.boundary, refl)
+returns-in-Some-clause-header g c = (refl, refl)
 
 pub returns-clause-header : goal.returns-clause-header
 returns-clause-header g c =
-    IfOk-weaker c.commit_change.result _ (TellsOutcomeOf (Reject c.args.ids.now))
-    (λ told same. subst (TellsOutcomeOf (Reject c.args.ids.now)) (sym same) (c.args.self.now.boundary, refl))
-    c.commit_change.ensures.answer
+    let at = c.load_all_zones.new.self in
+    let stays : c.match-this.self ≡ record at { global = c.reject.new.global } = search rules in
+    rw stays (IfOk-weaker c.commit_change.result _
+    (AnswersAt (Reject c.args.ids.now) c.args.self.now.boundary at.boundary)
+    (λ told same. subst (AnswersAt (Reject c.args.ids.now) c.args.self.now.boundary at.boundary) (sym same)
+    (refl, c.load_all_zones.ensures.boundary))
+    c.commit_change.ensures.answer)

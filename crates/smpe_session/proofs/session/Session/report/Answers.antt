@@ -1,7 +1,7 @@
-use Rattle.std.proofs.Common.{◌∙◌, Some, refl, sym, subst}
+use Rattle.std.proofs.Common.{◌∙◌, Some, ap, refl, sym, subst}
 use Rattle.std.proofs.lemmas.Result.{IfOk-weaker}
 use Rattle.terms.specs.Types.{Report}
-use Rattle.machine.specs.Outcome.{Ran, NoBoundary, WrongKind}
+use Rattle.machine.specs.Outcome.{Ran, NoBoundary, WrongKind, header_of}
 use Rattle.machine.specs.Errsysmods.{AreErrsysmods}
 use Rattle.machine.specs.Machine.{Performs}
 use Rattle.smpe_session.specs.Writing.{IsOutcomeOf, TellsOutcomeOf}
@@ -35,11 +35,15 @@ returns-in-None-clause-performs c = λ s is inventory date files.
 -- ---- the header
 
 pub returns-in_default-clause-header : goal.returns-in_default-clause-header
-returns-in_default-clause-header c = (c.args.self.now.boundary, refl)
+returns-in_default-clause-header c = refl
 
 pub returns-in-Some-get-clause-header : goal.returns-in-Some-get-clause-header
-returns-in-Some-get-clause-header c = IfOk-weaker c.errsysmods.result _ (TellsOutcomeOf Report)
-    (λ outcome told. subst (IsOutcomeOf Report) (sym told.outcome_is) (Some c.in-Some.name, refl)) c.errsysmods.ensures
+returns-in-Some-get-clause-header c =
+    let boundary = c.args.self.now.boundary in
+    IfOk-weaker c.errsysmods.result _ (TellsOutcomeOf Report boundary)
+    (λ outcome told. subst (IsOutcomeOf Report boundary) (sym told.outcome_is)
+    (ap (header_of Report) (sym c.in-Some.is)))
+    c.errsysmods.ensures
 
 pub returns-in-None-clause-header : goal.returns-in-None-clause-header
-returns-in-None-clause-header c = (c.args.self.now.boundary, refl)
+returns-in-None-clause-header c = refl

@@ -39,7 +39,7 @@ returns-clause-uses g c = answered c.in_ok-ensure_zone_loaded.ensures.uses (λ o
 -- ---- the header
 
 pub returns-then-not-branch-clause-header : goal.returns-then-not-branch-clause-header
-returns-then-not-branch-clause-header g c = (Some c.args.name, refl)
+returns-then-not-branch-clause-header g c = (refl, c.ensure_zone_loaded.ensures.boundary)
 
 pub returns-clause-header : goal.returns-clause-header
-returns-clause-header g c = (Some c.args.name, refl)
+returns-clause-header g c = (refl, refl)

@@ -1,0 +1,11 @@
+mod Below
+mod NoRegression
+mod StaysOfStream
+mod AllFixes
+mod Installed
+mod OneVer
+mod Alike
+mod Received
+mod Rejected
+mod Restored
+mod Served
