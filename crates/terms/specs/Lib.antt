@@ -33,4 +33,5 @@ pub mod Install
 pub mod Failures
 pub mod Restore
 pub mod Closed
+pub mod Stream
 pub mod Beside

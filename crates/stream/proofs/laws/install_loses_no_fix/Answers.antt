@@ -1,5 +1,0 @@
-use Rattle.stream.proofs.Installed.{install_loses_no_fix}
-use Rattle.stream.proofs.laws.install_loses_no_fix.Goals as goal
-
-pub returns : goal.returns
-returns c = install_loses_no_fix

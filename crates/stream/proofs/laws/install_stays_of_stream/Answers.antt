@@ -1,5 +1,0 @@
-use Rattle.stream.proofs.Installed.{install_stays_of_stream}
-use Rattle.stream.proofs.laws.install_stays_of_stream.Goals as goal
-
-pub returns : goal.returns
-returns c = install_stays_of_stream

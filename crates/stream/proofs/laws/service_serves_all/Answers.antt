@@ -1,5 +1,0 @@
-use Rattle.stream.proofs.Served.{service_serves_all}
-use Rattle.stream.proofs.laws.service_serves_all.Goals as goal
-
-pub returns : goal.returns
-returns c = service_serves_all
