@@ -3,6 +3,7 @@ import argparse
 import contextlib
 import os
 import resource
+import shutil
 import subprocess
 import sys
 import tempfile
@@ -19,6 +20,8 @@ def positive(word):
 
 def made_of_c(room, name, *libraries):
     """A program of bench/NAME.c, or None where the compiler has nothing to make it with."""
+    if not shutil.which("cc"):
+        sys.exit("bench: the command cc is not on the PATH; a small program in C starts the others")
     words = ["cc", "-O2", "-o", f"{room}/{name}", f"{HERE}/{name}.c", *libraries]
     made = subprocess.run(words, stdout=subprocess.DEVNULL, stderr=subprocess.DEVNULL)
     return f"{room}/{name}" if made.returncode == 0 else None
@@ -67,5 +70,7 @@ def run(main):
         sys.exit("bench: stopped")
     except subprocess.CalledProcessError as error:
         sys.exit(f"bench: {error.cmd[0]} ended with status {error.returncode}")
-    except (OSError, ValueError, subprocess.SubprocessError) as error:
+    except OSError as error:
+        sys.exit(f"bench: {error.filename}: {error.strerror}")
+    except (ValueError, subprocess.SubprocessError) as error:
         sys.exit(f"bench: {error}")
