@@ -103,7 +103,7 @@ static void solve(const char *path) {
   Solver *solver = solve_jobs(pool);
   double solved = seconds();
   int count = order_packages(solver);
-  printf("%.3f %.3f %.3f %d\n", built - start, solved - built, seconds() - solved, count);
+  printf("%.6f %.6f %.6f %d\n", built - start, solved - built, seconds() - solved, count);
 }
 
 // SQLite
@@ -177,7 +177,7 @@ static void read_database(const char *path) {
   sqlite3 *base = opened(path);
   int count = tables_of(base, tables);
   long sum = read_rows(base, tables, count);
-  printf("%.3f %ld\n", seconds() - start, sum);
+  printf("%.6f %ld\n", seconds() - start, sum);
 }
 
 // The rows of a table that the other database has and this one lacks, in the order of their keys.
@@ -235,7 +235,7 @@ static void write_database(const char *after, const char *copy) {
   run(base, "DETACH after; PRAGMA journal_mode = WAL; PRAGMA synchronous = FULL; PRAGMA foreign_keys = OFF");
   double start = seconds();
   write_rows(base, tables, count);
-  printf("%.3f %ld\n", seconds() - start, written);
+  printf("%.6f %ld\n", seconds() - start, written);
 }
 
 int main(int count, char **words) {
