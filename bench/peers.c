@@ -217,9 +217,10 @@ PART void write_rows(sqlite3 *base, const Table *tables, int count) {
     sqlite3_finalize(insert);
   }
   run(base, "COMMIT");
+  if (sqlite3_close(base)) fail("%s", sqlite3_errmsg(base));
 }
 
-// As smpe writes: with a log, each commit synced.
+// As smpe writes: with a log, each commit synced, and the log is moved into the file at the end.
 static void write_database(const char *after, const char *copy) {
   Table tables[MOST_TABLES];
   sqlite3 *base = opened(copy);
