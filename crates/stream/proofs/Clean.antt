@@ -1,14 +1,13 @@
 -- A stream is clean exactly if nothing is found.
-use Rattle.std.proofs.Common.{◌≡◌, ◌≢◌, ◌∙◌, ◌⊎◌, inl, inr, Bool, true, false, List, [], ◌∷◌, ◌++◌, length, Option, None}
-use Rattle.std.proofs.Common.{Some, All, Contains, refl, sym, ap, subst, true≢false, arith}
+use Rattle.std.proofs.Common.{◌≡◌, ◌≢◌, ◌∙◌, ◌⊎◌, inl, inr, Bool, true, false, List, [], ◌∷◌, ◌++◌, length, Option}
+use Rattle.std.proofs.Common.{None, Some, All, Contains, refl, sym, ap, subst, true≢false, arith}
 use Rattle.std.specs.Prelude.{◌↔◌}
-use Rattle.std.proofs.lemmas.List.Elements.{All-head, All-contains}
+use Rattle.std.proofs.lemmas.List.Elements.{All-head}
 use Rattle.std.proofs.lemmas.Option.{same_Some}
 use Rattle.terms.proofs.Ids.{Contains_from_is_in, is_in_from_Contains}
 use Rattle.terms.proofs.ListMembers.{here, none_in}
 use Rattle.terms.proofs.TextOrder.{same_or_not}
-use Rattle.terms.specs.declared.kinds.ElemType.{ElemType}
-use Rattle.terms.specs.Types.{Text, Id, Global}
+use Rattle.terms.specs.Types.{Id, Global}
 use Rattle.terms.specs.Choice.{Choice, fmid_of, pre_of, sup_of}
 use Rattle.terms.specs.Lookups.{is_in, has_change}
 use Rattle.terms.specs.Stream.{IsInStream, IsOrdered, HasRequisitesOf, KeepsRequisites, KeepsElements, IsClean}
@@ -49,7 +48,7 @@ module _ (g : Global) (c : Choice) where
   none_unordered (u ∷ us) all ordered =
       let h = All-head (IsUnordered g c) u us all in
       absurd (elim (ordered u.one u.other h.one h.other h.apart h.owner
-      (u.elem_type, (u.name, (h.by_one, h.by_other)))) [
+      (u.elem_type, u.name, h.by_one, h.by_other)) [
         | inl over ↦ h.not_over over
         | inr under ↦ h.not_under under
       ])
@@ -84,7 +83,8 @@ module _ (g : Global) (c : Choice) where
     }
       where
         refuted : (lack : Lack) → Lacks c x y lack → ⊥
-        refuted lack lacks = none_in (a_lost_requisite x y lack) (subst (λ l. Contains l (a_lost_requisite x y lack)) none
+        refuted lack lacks = none_in (a_lost_requisite x y lack)
+            (subst (λ l. Contains l (a_lost_requisite x y lack)) none
             ((tell.requisites (a_lost_requisite x y lack)).1 ((there, is), lacks)))
 
     keeps_elements : found.elements.items ≡ [] → KeepsElements g c
@@ -116,8 +116,8 @@ module _ (g : Global) (c : Choice) where
         by (Sup z) out = out.1 (has.sup z out.0)
 
     no_lost_element : IsClean g c → (b : LostElement) → ¬ IsLostElement g c b
-    no_lost_element clean b lost = true≢false (sym (clean.elements b.superseding b.superseded lost.0.0 lost.0.1 b.elem_type
-        b.name lost.1) ∙ lost.2)
+    no_lost_element clean b lost = true≢false (sym (clean.elements b.superseding b.superseded lost.0.0 lost.0.1
+        b.elem_type b.name lost.1) ∙ lost.2)
 
     pub none_lost_requisite : IsClean g c → found.requisites.items ≡ []
     none_lost_requisite clean = no_breach found.requisites.items (IsLostRequisite c) tell.requisites

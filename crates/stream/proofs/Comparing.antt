@@ -2,9 +2,7 @@
 use Rattle.std.proofs.Common.{◌≡◌, ◌≢◌, ◌∙◌, ◌⊎◌, inl, inr, ℕ, ◌+◌, ◌<◌, Bool, true, false, List, [], ◌∷◌, ◌++◌}
 use Rattle.std.proofs.Common.{length, take, get_or, map, Option, None, Some, Contains, All, AllPairs, IsTrue, refl, sym}
 use Rattle.std.proofs.Common.{ap, ap₂, subst, subst₂, cond, arith, true≢false, append_assoc, append-nil}
-use Rattle.std.specs.declared.cmp.Ordering.{Ordering}
-use Rattle.std.specs.declared.cmp.Ordering.TheVariants.{Equal}
-use Rattle.std.specs.Ordering.{nat_cmp, is_eq, is_lt, ordering_then}
+use Rattle.std.specs.Ordering.{nat_cmp, is_eq, is_lt}
 use Rattle.std.specs.Cmp.{IsTotalOrder}
 use Rattle.std.specs.Cmp.Lexicographic.{slice_cmp}
 use Rattle.std.specs.BTreeMap.{BTreeMap, get, Updates, IsEmpty, is_at}
@@ -14,15 +12,15 @@ use Rattle.std.proofs.lemmas.Bool.{and_parts}
 use Rattle.std.proofs.lemmas.Cmp.{then_total, on_total, nat_list_cmp_total, tied_itself}
 use Rattle.std.proofs.lemmas.List.{length_push, map_more, length-take-le, get_or-take, get_or_default}
 use Rattle.std.proofs.lemmas.List.Concat.{flat_map-append}
-use Rattle.std.proofs.lemmas.List.Elements.{All-push, Contains-get_or, Contains-append_left, Contains-append_right}
+use Rattle.std.proofs.lemmas.List.Elements.{All-push, Contains-get_or, Contains-append_left}
 use Rattle.std.proofs.lemmas.List.Elements.{Contains-append_cases, Contains-push, Contains-push_cases}
-use Rattle.std.proofs.lemmas.Map.Lookups.{CmpEqualImpliesEq, exact_bytes}
+use Rattle.std.proofs.lemmas.Map.Lookups.{exact_bytes}
 use Rattle.std.proofs.lemmas.Option.{same_Some}
 use Rattle.terms.proofs.ChangedElements.{change_has, change_found, changes_rise}
 use Rattle.terms.proofs.Leads.{reaches_through}
 use Rattle.terms.proofs.ListMembers.{none_in, in_map, map_in, in_flat, flat_in}
 use Rattle.terms.proofs.Lists.{front_more}
-use Rattle.terms.proofs.Orderings.{Equal_from_is_eq, is_eq_then, Less_from_is_lt}
+use Rattle.terms.proofs.Orderings.{Equal_from_is_eq, is_eq_then}
 use Rattle.terms.specs.Types.{Id, Change, Global}
 use Rattle.terms.specs.Choice.{Choice}
 use Rattle.terms.specs.Lookups.{change_key, changes_of, has_change, element_cmp}
@@ -30,7 +28,7 @@ use Rattle.terms.specs.Global.{IsGlobal}
 use Rattle.terms.specs.Over.{IsOver, names, owner}
 use Rattle.terms.specs.Stream.{IsInStream}
 use Rattle.terms.proofs.ElementOrder.{element_cmp_total}
-use Rattle.sorted.specs.ElementKeys.{Key, key_cmp}
+use Rattle.sorted.specs.ElementKeys.{key_cmp}
 use Rattle.sorted.proofs.ElementKeys.{key_total, key_exact}
 use Rattle.stream.specs.declared.breaches.Unordered.{Unordered}
 use Rattle.terms.specs.declared.kinds.ElemType.{ElemType}
@@ -38,7 +36,7 @@ use Rattle.terms.specs.Types.{Text}
 use Rattle.stream.specs.Breaches.{IsUnordered}
 use Rattle.stream.specs.Ordering.{IsOrder}
 use Rattle.stream.specs.Comparing.{Part, part_cmp, Claim, a_claim, claim_of, claims_of, IsClaim, an_unordered, Compares}
-use Rattle.stream.specs.Comparing.{HasFound, MayShare, AreBefore, IsCompared, AreOrdered}
+use Rattle.stream.specs.Comparing.{HasFound, AreBefore, IsCompared, AreOrdered}
 
 -- each of those so far has the relation to the next one
 newest : {X : Type 0} (R : X → X → Type 0) (xs : List X) (k : ℕ) (x : X) → AllPairs R xs → k < length xs
@@ -199,7 +197,8 @@ module _ (g : Global) (c : Choice) where
             let there = is.stands k y at in
             let first = is.valid (a_claim k y) there in
             let apart = before y there in
-            let has : HasFound after = subst HasFound (sym pushed) (omega (arith, length_push found (an_unordered k y x))) in
+            let has : HasFound after = subst HasFound (sym pushed)
+            (omega (arith, length_push found (an_unordered k y x))) in
             made (λ was. has) (λ a old same. inl has)
             (subst (All (IsUnordered g c)) (sym pushed) (All-push (IsUnordered g c) found (an_unordered k y x) is.sound
             (record {
@@ -225,7 +224,8 @@ module _ (g : Global) (c : Choice) where
       → Contains (claims ++ map (claim_of g c x) (take i (changes_of g x))) (a_claim (change_key h, owner g c x) y)
       → (y ≢ x) × ¬ IsOver c y x
   part_is_new global x claims i h before below at y is =
-      elim (Contains-append_cases claims (map (claim_of g c x) (take i hs)) (a_claim (change_key h, owner g c x) y) is) [
+      elim (Contains-append_cases claims (map (claim_of g c x) (take i hs)) (a_claim (change_key h, owner g c x) y)
+      is) [
         | inl earlier ↦ before (a_claim (change_key h, owner g c x) y) earlier
         | inr own ↦
             let from = map_in (claim_of g c x) (take i hs) (a_claim (change_key h, owner g c x) y) own in
@@ -256,7 +256,8 @@ module _ (g : Global) (c : Choice) where
       let among : Contains hs h = subst (Contains hs) (sym at) (Contains-get_or hs i h below) in
       subst (λ l. IsCompared g c l new after)
       (append_assoc claims front (claim_of g c x h ∷ [])
-      ∙ ap (λ l. claims ++ l) (ap (λ v. front ++ claim_of g c x v ∷ []) at ∙ sym (map_more (claim_of g c x) hs i h below)))
+      ∙ ap (λ l. claims ++ l) (ap (λ v. front ++ claim_of g c x v ∷ []) at
+      ∙ sym (map_more (claim_of g c x) hs i h below)))
       (compared_next (claims ++ front) last new found after (change_key h, owner g c x) x is
       (claim_valid x h there among) (part_is_new global x claims i h before below at) updates compares)
 
@@ -273,7 +274,8 @@ module _ (g : Global) (c : Choice) where
       (compared_statement global x claims i h last new found after there before
       (subst (λ l. i < length l) same below) (subst (λ l. h ≡ get_or l i h) same at)
       (subst (λ (w : Id). Updates part_cmp last new (change_key h, w) (Some x)) owned updates)
-      (subst (λ (w : Id). Compares c (change_key h, w) x (get part_cmp last (change_key h, w)) found after) owned compares)
+      (subst (λ (w : Id). Compares c (change_key h, w) x (get part_cmp last (change_key h, w)) found after) owned
+      compares)
       (subst (λ l. IsCompared g c (claims ++ map (claim_of g c x) (take i l)) last found) same is))
 
   -- ---- one SYSMOD more

@@ -1,8 +1,7 @@
 -- The SYSMODs of the stream, and that they make no loop.
-use Rattle.std.proofs.Common.{◌≡◌, ◌∙◌, ◌-◌, Bool, true, false, List, [], ◌++◌, map, filter, is_some, Option, None, Some}
+use Rattle.std.proofs.Common.{◌≡◌, ◌∙◌, ◌-◌, true, List, [], ◌++◌, map, filter, is_some, Option, None, Some}
 use Rattle.std.proofs.Common.{Contains, refl, sym, ap, subst, true≢false}
 use Rattle.std.specs.Prelude.{◌↔◌, slice_get, unwrap_or}
-use Rattle.std.specs.List.{flat_map}
 use Rattle.std.specs.Option.{option_map_or, option_and_then}
 use Rattle.std.specs.Str.{bytes_eq}
 use Rattle.terms.proofs.ListMembers.{none_in, in_map, in_flat, in_filter, filter_in}
@@ -58,8 +57,12 @@ module _ (vers : VerChoice) where
           (contains_at (vers_of vers.global.now vers.srel x) (number_in vers x - 1) v at) is
 
   pub no_loop : ¬ HasLoop vers.global.now → (x : Id) → ¬ IsOver (choice vers) x x
-  no_loop none x loop = none (vers.srel, x, reaches_more (names (choice vers)) (names_for vers.global.now vers.srel)
-      names_among x x loop)
+  no_loop none x loop = none (
+    vers.srel,
+    x,
+    reaches_more (names (choice vers)) (names_for vers.global.now vers.srel)
+        names_among x x loop,
+  )
 
 -- what the choice looks at, one by one
 abbrev by_picks : Global → Text → List Pick → List Pick → Choice

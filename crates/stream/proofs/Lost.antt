@@ -1,17 +1,17 @@
 -- What SYSMODs lack of those that they supersede.
-use Rattle.std.proofs.Common.{◌≡◌, ◌≢◌, ◌∙◌, ◌⊎◌, inl, inr, Bool, true, false, not, List, [], ◌∷◌, ◌++◌, map, filter}
-use Rattle.std.proofs.Common.{Option, None, Some, is_some, Contains, IsTrue, IsFalse, refl, sym, ap, ap₂, subst, subst₂}
+use Rattle.std.proofs.Common.{◌≡◌, ◌≢◌, ◌∙◌, inl, inr, Bool, true, false, not, List, [], ◌++◌, map, filter}
+use Rattle.std.proofs.Common.{None, Some, is_some, Contains, refl, sym, ap, ap₂, subst, subst₂}
 use Rattle.std.proofs.Common.{true≢false}
 use Rattle.std.specs.Prelude.{◌↔◌}
 use Rattle.std.specs.Option.{option_map_or, option_and_then}
 use Rattle.std.proofs.lemmas.List.Elements.{Contains-append_left, Contains-append_right, Contains-append_cases}
 use Rattle.terms.proofs.ChangedElements.{change_has, change_found}
 use Rattle.terms.proofs.Ids.{is_in_from_Contains, Contains_from_is_in}
-use Rattle.terms.proofs.ListMembers.{none_in, in_map, map_in, in_filter, filter_in}
+use Rattle.terms.proofs.ListMembers.{in_map, map_in, in_filter, filter_in}
 use Rattle.terms.proofs.Loops.{sup_named}
 use Rattle.terms.specs.declared.kinds.ElemType.{ElemType}
-use Rattle.terms.specs.Types.{Text, Id, Ver, Change, Global}
-use Rattle.terms.specs.Choice.{Choice, fmid_of, sup_of}
+use Rattle.terms.specs.Types.{Text, Id, Ver, Global}
+use Rattle.terms.specs.Choice.{Choice, sup_of}
 use Rattle.terms.specs.Lookups.{is_in, changes_of, has_change}
 use Rattle.terms.specs.Stream.{IsInStream}
 use Rattle.sysmods.specs.declared.ver_choice.VerChoice.{VerChoice}
@@ -22,7 +22,7 @@ use Rattle.stream.specs.declared.breaches.LostRequisite.{LostRequisite}
 use Rattle.stream.specs.declared.breaches.LostElement.{LostElement}
 use Rattle.stream.specs.Breaches.{Lacks, IsLostRequisite, IsLostElement}
 use Rattle.stream.specs.Gaining.{Gains, OneOf}
-use Rattle.stream.specs.Lost.{VerLacks, a_lost_requisite, a_lost_element, IsLackOf, IsLostStatement, IsLossOf}
+use Rattle.stream.specs.Lost.{VerLacks, a_lost_requisite, IsLackOf, IsLostStatement, IsLossOf}
 use Rattle.stream.proofs.FirstVers.{names_in_stream}
 use Rattle.stream.proofs.Gaining.{gains_alike, gains_nothing, gains_list}
 
@@ -150,9 +150,10 @@ module _ (g : Global) (c : Choice) (x y : Id) where
           let of = change_found g y b.elem_type b.name h.3 in (
             of.0,
             of.1,
-            subst₂ (λ (t : ElemType) (m : Text). has_change g x t m ≡ false) (sym of.2) (sym of.3) h.4,
-            ap₂ (λ u z. a_lost u z b.elem_type b.name) h.1 h.2
-            ∙ ap₂ (λ t m. a_lost x y t m) (sym of.2) (sym of.3),
+            (
+              subst₂ (λ (t : ElemType) (m : Text). has_change g x t m ≡ false) (sym of.2) (sym of.3) h.4,
+              ap₂ (λ u z. a_lost u z b.elem_type b.name) h.1 h.2 ∙ ap₂ (λ t m. a_lost x y t m) (sym of.2) (sym of.3),
+            ),
           )
         where
           a_lost : Id → Id → ElemType → Text → LostElement
@@ -178,8 +179,10 @@ module _ (vers : VerChoice) (ids : List Id)
       turned : (x y : Id) → Contains (sup_of (choice vers) x) y → IsLackOf (choice vers) x y b
           → IsLostRequisite (choice vers) b
       turned x y is h = (
-        (subst (IsInStream (choice vers)) (sym h.3) h.1,
-        subst₂ (λ u z. Contains (sup_of (choice vers) u) z) (sym h.2) (sym h.3) is),
+        (
+          subst (IsInStream (choice vers)) (sym h.3) h.1,
+          subst₂ (λ u z. Contains (sup_of (choice vers) u) z) (sym h.2) (sym h.3) is,
+        ),
         subst₂ (λ u z. Lacks (choice vers) u z b.lack) (sym h.2) (sym h.3) h.4,
       )
 
@@ -197,8 +200,10 @@ module _ (vers : VerChoice) (ids : List Id)
       turned : (x y : Id) → Contains (sup_of (choice vers) x) y → IsLossOf vers.global.now (choice vers) x y b
           → IsLostElement vers.global.now (choice vers) b
       turned x y is h = (
-        (subst (IsInStream (choice vers)) (sym h.2) h.0,
-        subst₂ (λ u z. Contains (sup_of (choice vers) u) z) (sym h.1) (sym h.2) is),
+        (
+          subst (IsInStream (choice vers)) (sym h.2) h.0,
+          subst₂ (λ u z. Contains (sup_of (choice vers) u) z) (sym h.1) (sym h.2) is,
+        ),
         subst (λ z. has_change vers.global.now z b.elem_type b.name ≡ true) (sym h.2) h.3,
         subst (λ u. has_change vers.global.now u b.elem_type b.name ≡ false) (sym h.1) h.4,
       )

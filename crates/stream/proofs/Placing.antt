@@ -1,10 +1,10 @@
 -- SYSMODs get their places, each after all that it names.
-use Rattle.std.proofs.Common.{◌≡◌, ◌≢◌, ◌∙◌, ◌⊎◌, inl, inr, ℕ, ◌+◌, ◌*◌, ◌<◌, ◌≤◌, ◌-◌, suc, List, [], ◌∷◌, ◌++◌, length, take}
-use Rattle.std.proofs.Common.{get_or, true, false, Bool, Option, None, Some, is_some, not, Contains, All, AllPairs, map}
-use Rattle.std.proofs.Common.{refl, sym, ap, subst, subst₂, cond, true≢false, arith, length-append, length-map}
+use Rattle.std.proofs.Common.{◌≡◌, ◌≢◌, ◌∙◌, ◌⊎◌, inl, inr, ◌+◌, ◌<◌, List, [], ◌∷◌, ◌++◌, length}
+use Rattle.std.proofs.Common.{get_or, true, false, Bool, None, Some, is_some, not, Contains, map}
+use Rattle.std.proofs.Common.{refl, sym, ap, subst, subst₂, cond, true≢false, arith, length-append}
 use Rattle.std.specs.Prelude.{◌^◌, ◌&&◌, find}
 use Rattle.std.proofs.lemmas.Bool.{and_parts}
-use Rattle.std.proofs.lemmas.List.{length_push, get_or_append_left, get_or_push}
+use Rattle.std.proofs.lemmas.List.{length-map, length_push, get_or_append_left, get_or_push}
 use Rattle.std.proofs.lemmas.Bool.{false_from_ne_true}
 use Rattle.std.proofs.lemmas.List.Elements.{Contains-get_or, Contains-append_left, Contains-append_right}
 use Rattle.std.proofs.lemmas.List.Elements.{Contains-append_cases, Contains-push, Contains-push_cases}
@@ -14,7 +14,7 @@ use Rattle.indexmap.specs.IndexSet.{insert_key}
 use Rattle.terms.proofs.Apart.{apart_le}
 use Rattle.terms.proofs.Ids.{is_in_from_Contains, Contains_from_is_in}
 use Rattle.terms.proofs.Leads.{reaches_named, reaches_through, all_reached}
-use Rattle.terms.proofs.ListMembers.{none_in, here}
+use Rattle.terms.proofs.ListMembers.{none_in}
 use Rattle.terms.proofs.Pairs.{AllPairs_join, AllPairs_front}
 use Rattle.terms.proofs.Searches.{find_gives, find_some}
 use Rattle.terms.specs.Types.{Id, Sysmod}
@@ -72,14 +72,14 @@ module _ (vers : VerChoice) where
     ];
     apart = all_pairs_push (λ y z. y ≢ z) placed x order.apart
         (λ k d below same. new (subst (Contains placed) same (Contains-get_or placed k d below)));
-    closed = λ y z is names in_stream. Contains-append_left placed (x ∷ []) z
+    closed = λ y z is has in_stream. Contains-append_left placed (x ∷ []) z
         (elim (Contains-push_cases placed x y is) [
-          | inl old ↦ order.closed y z old names in_stream
-          | inr same ↦ named z (subst (λ w. Contains (names_of w) z) (sym same) names) in_stream
+          | inl old ↦ order.closed y z old has in_stream
+          | inr same ↦ named z (subst (λ w. Contains (names_of w) z) (sym same) has) in_stream
         ]);
     order = all_pairs_push (λ y z. ¬ IsOver c y z) placed x order.order
-        (λ k d below over. new (leads_to_placed placed order (get_or placed k d) (Contains-get_or placed k d below) x over
-        there));
+        (λ k d below over. new (leads_to_placed placed order (get_or placed k d) (Contains-get_or placed k d below) x
+        over there));
   }
     where
       names_of : Id → List Id
@@ -180,9 +180,9 @@ module _ (vers : VerChoice) where
           (placing.descends h.0 (length front) x h.1 (omega (arith, length_push front last)))
 
       named : (z : Id) → Contains (names c last) z → IsInStream c z → Contains placed z
-      named z names there = has_place placed z
+      named z has there = has_place placed z
           (false_from_ne_true (is_open c placed z) (λ is. true≢false
-          (sym (find_some (is_open c placed) (names c last) z names is) ∙ ap is_some found))) there
+          (sym (find_some (is_open c placed) (names c last) z has is) ∙ ap is_some found))) there
 
   -- ---- how long it takes
 
@@ -200,7 +200,13 @@ module _ (vers : VerChoice) where
         | inl has ↦ placing.order.stream x has
         | inr on ↦ placing.stream x on
       ])) in
-      omega (arith, le, length-append placed path, length-map vers.global.now.sysmods (λ (s : Sysmod). s.id), global.size)
+      omega (
+        arith,
+        le,
+        length-append placed path,
+        length-map vers.global.now.sysmods (λ (s : Sysmod). s.id),
+        global.size,
+      )
 
 -- an id that is not there comes to the end
 pub inserted_new : (placed : List Id) (x : Id) → ¬ Contains placed x → insert_key bytes_eq placed x ≡ placed ++ x ∷ []

@@ -1,18 +1,18 @@
 -- What breaks the rules of a clean stream, and what `lint` returns.
-use Rattle.std.specs.Prelude.{◌≡◌, ◌≢◌, ◌++◌, ◌↔◌, [], Contains, All, IsTrue, IsFalse}
+use Rattle.std.specs.Prelude.{◌≡◌, ◌≢◌, ◌++◌, Contains, IsTrue, IsFalse}
 use Rattle.terms.specs.Types.{Id, Global}
 use Rattle.terms.specs.Lookups.{has_change}
 use Rattle.terms.specs.Choice.{Choice, fmid_of, pre_of, sup_of}
 use Rattle.terms.specs.Over.{IsOver, owner}
-use Rattle.terms.specs.Stream.{IsInStream, IsOrdered}
+use Rattle.terms.specs.Stream.{IsInStream}
 use Rattle.stream.specs.declared.breaches.Lack.{Lack}
 use Rattle.stream.specs.declared.breaches.Lack.TheVariants.{Fmid, Pre, Sup}
 use Rattle.stream.specs.declared.breaches.LostRequisite.{LostRequisite}
 use Rattle.stream.specs.declared.breaches.LostElement.{LostElement}
 use Rattle.stream.specs.declared.breaches.Unordered.{Unordered}
 
--- x lacks this requisite of y: it has another FMID, names this PRE of y neither in PRE nor in SUP, or does not name this
--- SUP of y in SUP
+-- x lacks this requisite of y: it has another FMID, names this PRE of y neither in PRE nor in SUP, or does not name
+-- this SUP of y in SUP
 abbrev pub Lacks : Choice → Id → Id → Lack → Type 0
 Lacks c x y Fmid = fmid_of c x ≢ fmid_of c y
 Lacks c x y (Pre z) = Contains (pre_of c y) z × ¬ Contains (pre_of c x ++ sup_of c x) z

@@ -77,7 +77,8 @@ fn lost_requisites(
     ids: &[Id],
 ) -> Result<Vec<LostRequisite>, AllocError>
     requires { (x : List ℕ) → Contains ids.now x ↔ IsInStream (choice vers.now) x }
-    ensures { IfOk result (λ found. (b : ALostRequisite) → Contains found.items b ↔ IsLostRequisite (choice vers.now) b) }
+    ensures { IfOk result (λ found. (b : ALostRequisite) → Contains found.items b
+        ↔ IsLostRequisite (choice vers.now) b) }
 {
     let mut found = Vec::new(alloc);
     for id in ids {
@@ -124,10 +125,14 @@ pub fn lint(alloc: Global, global: &GlobalZone, srel: Srel) -> Result<Findings, 
 {
     let vers = first_vers(alloc, global, srel);
     let ids = stream_ids(alloc, &vers)?;
+    let requisites = lost_requisites(alloc, &vers, ids.as_slice())?;
+    let elements = lost_elements(alloc, &vers, ids.as_slice())?;
+    let unordered = unordered_neighbours(alloc, &vers, ids.as_slice())?;
+    let remarks = all_remarks(alloc, &vers, srel, ids.as_slice())?;
     Ok(Findings {
-        requisites: lost_requisites(alloc, &vers, ids.as_slice())?,
-        elements: lost_elements(alloc, &vers, ids.as_slice())?,
-        unordered: unordered_neighbours(alloc, &vers, ids.as_slice())?,
-        remarks: all_remarks(alloc, &vers, srel, ids.as_slice())?,
+        requisites,
+        elements,
+        unordered,
+        remarks,
     })
 }

@@ -13,7 +13,9 @@ pub enum Remark {
     /// No SYSMOD has a `++VER` for the SREL.
     Empty,
     /// The SYSMOD has two or more `++VER`s for the SREL, of which only the first is looked at.
-    SeveralVers { id: Id },
+    SeveralVers {
+        id: Id,
+    },
     /// A requisite of the SYSMOD, by PRE, REQ or an `++IF`, is not in the stream, and no SYSMOD of the stream names it
     /// in SUP.
     Absent {
@@ -77,7 +79,13 @@ fn tell_absent_requisites(
     tell_absent(present, id, NeedKind::Pre, ver.pre.as_slice(), remarks)?;
     tell_absent(present, id, NeedKind::Req, ver.req.as_slice(), remarks)?;
     for condition in ver.ifs.iter() {
-        tell_absent(present, id, NeedKind::Ifreq, condition.req.as_slice(), remarks)?;
+        tell_absent(
+            present,
+            id,
+            NeedKind::Ifreq,
+            condition.req.as_slice(),
+            remarks,
+        )?;
     }
     Ok(())
 }

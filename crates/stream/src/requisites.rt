@@ -1,5 +1,5 @@
 //! The requisites that a SYSMOD lacks of those that it supersedes.
-ghost use Rattle.std.specs.Prelude.{◌≡◌, ◌≢◌, ◌++◌, ◌↔◌, filter, not, Contains, All, IsTrue, IfOk, OnOk};
+ghost use Rattle.std.specs.Prelude.{◌≡◌, ◌≢◌, ◌++◌, ◌↔◌, filter, not, Contains, IsTrue, IfOk, OnOk};
 ghost use Rattle.terms.specs.Choice.{sup_of};
 ghost use Rattle.terms.specs.Lookups.{is_in};
 ghost use Rattle.sysmods.specs.Choices.{choice};

@@ -1,4 +1,4 @@
-use Rattle.std.proofs.Common.{◌≡◌, ◌∙◌, is_some, sym, ap, subst, subst₂, take_all, arith}
+use Rattle.std.proofs.Common.{◌∙◌, sym, ap, subst₂, take_all, arith}
 use Rattle.terms.specs.Lookups.{changes_of}
 use Rattle.sysmods.specs.Choices.{choice}
 use Rattle.stream.specs.Gaining.{Gains, OneOf}
@@ -10,8 +10,9 @@ use Rattle.stream.proofs.elements.append_losses.Goals as goal
 pub loop-change-preserved : goal.loop-change-preserved
 loop-change-preserved c =
     gains_next (IsLostStatement c.global-global.result.now c.args.superseding c.args.superseded) c.args.found.now.items
-    c.loop-change.found.items c.append_if_lost.new.found.items c.changes_of-changes.result.now c.loop-change.change-index
-    c.change-item.result (omega arith) c.change-item.is c.loop-change.invariant c.in_ok-append_if_lost.ensures
+    c.loop-change.found.items c.append_if_lost.new.found.items c.changes_of-changes.result.now
+    c.loop-change.change-index c.change-item.result (omega arith) c.change-item.is c.loop-change.invariant
+    c.in_ok-append_if_lost.ensures
 
 pub returns : goal.returns
 returns c =

@@ -5,5 +5,6 @@ use Rattle.stream.specs.Lost.{IsLossOf}
 use Rattle.stream.proofs.elements.append_lost_elements.Given as goal
 
 abbrev pub invariant-loop-other : goal.invariant-loop-other
-invariant-loop-other l = Gains (OneOf (take l.other-index l.superseded) (IsLossOf l.vers.global.now (choice l.vers) l.id))
+invariant-loop-other l =
+    Gains (OneOf (take l.other-index l.superseded) (IsLossOf l.vers.global.now (choice l.vers) l.id))
     l.initial.found.items l.found.items

@@ -11,4 +11,5 @@ returns c =
     let test = λ (x : Id). is_some (choice vers x) in
     let kept : c.retain.new.self.items ≡ filter test c.in_ok-ids.ids.items =
     filter_same _ _ _ (λ x b q k. search (rules, tests)) _ _ c.retain.ensures.filtered in
-    stream_members vers c.retain.new.self.items (kept ∙ ap (filter test) (c.in_ok-ids.ensures ∙ ap (λ (g : Global). map (λ s. s.id) g.sysmods) c.global.ensures))
+    stream_members vers c.retain.new.self.items (kept ∙ ap (filter test) (c.in_ok-ids.ensures
+    ∙ ap (λ (g : Global). map (λ s. s.id) g.sysmods) c.global.ensures))

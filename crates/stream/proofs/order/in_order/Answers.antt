@@ -1,5 +1,5 @@
-use Rattle.std.proofs.Common.{◌∙◌, Contains, All, length, take, take_all, sym, subst, arith}
-use Rattle.std.proofs.lemmas.List.Elements.{All-weaker, All-more, All-contains, All-nil, Contains-get_or}
+use Rattle.std.proofs.Common.{Contains, All, take, take_all, sym, subst, arith}
+use Rattle.std.proofs.lemmas.List.Elements.{All-weaker, All-more, All-nil}
 use Rattle.sysmods.specs.Choices.{choice}
 use Rattle.terms.specs.Stream.{IsInStream}
 use Rattle.stream.specs.Ordering.{IsOrder}
@@ -8,7 +8,7 @@ use Rattle.stream.proofs.order.in_order.Goals as goal
 
 pub loop-id-init : goal.loop-id-init
 loop-id-init c = record {
-  order = subst (IsOrder (choice c.args.vers.now)) (sym c.new-placed.ensures.keys) (order_none c.args.vers.now);
+  order = subst (IsOrder (choice c.args.vers.now)) (sym c.new-placed.ensures.empty) (order_none c.args.vers.now);
   all = All-nil (Contains c.new-placed.result.keys);
 }
 

@@ -11,8 +11,8 @@ loop-other-init c = gains_none (IsLackOf (choice c.args.vers.now) c.args.id) c.a
 pub loop-other-preserved : goal.loop-other-preserved
 loop-other-preserved c =
     gains_next (IsLackOf (choice c.args.vers.now) c.args.id) c.args.found.now.items c.loop-other.found.items
-    c.append_lacks.new.found.items c.sup-superseded.result.now c.loop-other.other-index c.other-item.result (omega arith)
-    c.other-item.is c.loop-other.invariant c.in_ok-append_lacks.ensures
+    c.append_lacks.new.found.items c.sup-superseded.result.now c.loop-other.other-index c.other-item.result
+    (omega arith) c.other-item.is c.loop-other.invariant c.in_ok-append_lacks.ensures
 
 pub returns : goal.returns
 returns c =

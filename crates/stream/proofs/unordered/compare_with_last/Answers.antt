@@ -12,5 +12,7 @@ returns-clause-found c =
     subst (λ (h : Change). Compares (choice c.args.overs.now) (change_key h, c.args.owner) c.args.id
     (get part_cmp c.args.last.now (change_key h, c.args.owner)) c.args.found.now.items c.push.new.self.items)
     c.change.view_is
-    (rw (sym before) (inr (λ over. true≢false (sym (c.in_ok-over.ensures.over.1 over) ∙ c.if-branch.false),
-    c.in_ok-push.ensures.items)))
+    (rw (sym before) (inr (
+      λ over. true≢false (sym (c.in_ok-over.ensures.over.1 over) ∙ c.if-branch.false),
+      c.in_ok-push.ensures.items,
+    )))

@@ -8,8 +8,8 @@ use Rattle.stream.proofs.unordered.unordered_pairs.Goals as goal
 pub loop-id-init : goal.loop-id-init
 loop-id-init c = record {
   same = c.new-overs.ensures;
-  compared = compared_none c.args.vers.now.global.now (choice c.args.vers.now) c.new-last.result c.new-found.result.items
-      c.new-last.ensures.empty c.new-found.ensures.items;
+  compared = compared_none c.args.vers.now.global.now (choice c.args.vers.now) c.new-last.result
+      c.new-found.result.items c.new-last.ensures.empty c.new-found.ensures.items;
 }
 
 pub loop-id-preserved : goal.loop-id-preserved
