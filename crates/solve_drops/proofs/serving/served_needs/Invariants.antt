@@ -1,5 +1,0 @@
-use Rattle.solve_drops.proofs.Indexing.{AreServedBelow}
-use Rattle.solve_drops.proofs.serving.served_needs.Given as goal
-
-abbrev pub invariant-loop-place : goal.invariant-loop-place
-invariant-loop-place l = AreServedBelow l.system l.place l.rows.items

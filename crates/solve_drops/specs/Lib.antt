@@ -1,3 +1,0 @@
-pub mod Drops
-pub mod Served
-pub mod Search
