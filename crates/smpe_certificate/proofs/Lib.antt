@@ -4,3 +4,4 @@ pub mod Accepting
 pub mod Translating
 pub mod Certifying
 pub mod Collecting
+pub mod Stating
