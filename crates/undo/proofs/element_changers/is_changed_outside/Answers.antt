@@ -1,7 +1,5 @@
-use Rattle.std.proofs.Common.{◌≡◌, ◌∙◌, false, not, filter, sym, ap, subst}
-use Rattle.std.specs.List.{list_any}
-use Rattle.terms.specs.Lookups.{changes_of, is_in}
-use Rattle.undo.specs.Elements.{is_changed_by}
+use Rattle.std.proofs.Common.{◌∙◌, not, filter, sym, ap}
+use Rattle.terms.specs.Lookups.{is_in}
 use Rattle.undo.specs.Scopes.{restoring_of}
 use Rattle.undo.proofs.Changed.{changers_are}
 use Rattle.undo.proofs.GoingWhole.{has_changers_holds}

@@ -1,4 +1,4 @@
-use Rattle.std.proofs.Common.{◌≡◌, ◌∙◌, ◌+◌, [], All, IsTrue, List, ap, sym, subst, subst₂}
+use Rattle.std.proofs.Common.{◌≡◌, ◌∙◌, ◌+◌, All, IsTrue, List, ap, sym, subst, subst₂}
 use Rattle.std.proofs.lemmas.List.{length-map}
 use Rattle.terms.specs.Choice.{counting, place}
 use Rattle.terms.specs.Lookups.{is_applied}

@@ -1,9 +1,8 @@
-use Rattle.std.proofs.Common.{◌≡◌, ◌∙◌, List, ap, sym, subst}
+use Rattle.std.proofs.Common.{◌≡◌, ◌∙◌, List, ap, subst}
 use Rattle.std.specs.Prelude.{IfOk, IsTrue}
 use Rattle.terms.specs.Types.{Id}
 use Rattle.terms.specs.Choice.{counting}
-use Rattle.terms.specs.Restore.{Restoring, restore_candidates}
-use Rattle.undo.specs.Scopes.{restoring}
+use Rattle.terms.specs.Restore.{restore_candidates}
 use Rattle.undo.specs.Whole.{GoesWhole}
 use Rattle.undo.proofs.Settings.{restoring_is}
 use Rattle.undo.proofs.whole.takes_all.Goals as goal
