@@ -1,7 +1,7 @@
 -- From the facts by numbers to the certificate by ids.
-use Rattle.std.proofs.Common.{◌≡◌, ◌<◌, ℕ, zero, suc, Bool, true, false, List, [], ◌∷◌, ◌++◌, length, map, filter, Some}
+use Rattle.std.proofs.Common.{◌≡◌, ◌<◌, ℕ, zero, suc, List, [], ◌∷◌, ◌++◌, length, map, filter, Some}
 use Rattle.std.proofs.Common.{Contains, refl, sym, ap, ◌∙◌, subst, arith, inl, inr, slice_get, slice_index_or, IsTrue}
-use Rattle.std.specs.Prelude.{◌⊎◌, ◌↔◌, All, Any}
+use Rattle.std.specs.Prelude.{◌↔◌, All, Any}
 use Rattle.std.specs.Option.{option_map}
 use Rattle.std.proofs.lemmas.Bool.{cases_Bool}
 use Rattle.std.proofs.lemmas.Option.{slice_get_within, slice_get-get_or, get_or_from_slice_get, same_Some, slice_get-map}
