@@ -1,5 +1,5 @@
 -- What a run has done in all.
-use Rattle.std.proofs.Common.{◌≡◌, ◌⊎◌, ℕ, List, [], ◌∷◌, ◌++◌, map, refl, ap, inl, inr}
+use Rattle.std.proofs.Common.{◌≡◌, ◌⊎◌, ℕ, List, [], ◌∷◌, ◌++◌, map, refl, ap, inl, inr, subst₂}
 use Rattle.std.specs.List.{All}
 use Rattle.std.specs.Prelude.{Some}
 use Rattle.std.specs.String.{string_bytes}
@@ -9,59 +9,61 @@ use Rattle.mcs.specs.Files as ptfin
 use Rattle.mcs.specs.HoldItems as hold
 use Rattle.mcs.specs.declared.file.Item.{Item}
 use Rattle.mcs.specs.declared.hold_item.HoldItem.{HoldItem}
-use Rattle.intake_read.specs.Held.{held_places}
 use Rattle.intake_read.specs.declared.items.WideFile.{WideFile}
-use Rattle.intake_read.specs.declared.items.WideHold.{WideHold}
 use Rattle.intake_sysmod.specs.Users.{run_of}
-use Rattle.intake_carry.specs.Carried.{FilesBecome}
 use Rattle.intake_carry.specs.Unsure.{AreUnsure}
 use Rattle.intake_carry.specs.declared.unsure.Unsure.{Unsure}
 use Rattle.intake_asked.specs.Said.{AreSaid}
 use Rattle.intake_asked.specs.declared.known.KnownSysmods.{KnownSysmods}
 use Rattle.intake_asked.specs.declared.scan.WideCommand.{WideCommand}
 use Rattle.intake_words.specs.declared.options.IntakeOptions.{IntakeOptions}
+use Rattle.intake_service.specs.Carrying.{HasEachSysmod, CarriesFiles}
 use Rattle.intake_command.specs.Acts.{Gives, Discards, IsQuiet}
 use Rattle.intake_command.specs.Done.{HasDone}
 use Rattle.intake_command.specs.Files.{outputs_of}
 use Rattle.intake_command.specs.Serving.{AreRead, KeepsService, ServesFiles, KeepsCommands, IsKnown}
-use Rattle.intake_command.specs.Serving.{folder_of, inputs, held_in, HasEachSysmod, Serves, AreOwn, comparisons}
+use Rattle.intake_command.specs.Serving.{folder_of, inputs, Serves, AreOwn, comparisons}
 use Rattle.intake_command.specs.Serving.{IsHarmless, EndsApart, EndsChecked, EndsServed, EndsAsked, EndsOwn}
 use Rattle.intake_command.specs.declared.surroundings.IntakeHost.{Ghosts}
 use Rattle.intake_command.proofs.Doing.{joined}
 
 module _ {H : Type 0} (host : Ghosts H) (asked : IntakeOptions) where
-  pub served_files : {a b c d : H} (files : List WideFile) (holds : List WideHold) (items : List Item)
-      (outside : List HoldItem) (unsure : List Unsure) (status : ℕ)
-      → HasDone host (AreRead (map string_bytes asked.files.items) files) a b
-      → HasDone host (All IsQuiet) b c → held_places holds ≡ held_in files
-      → FilesBecome asked.decide files holds items outside → AreUnsure (run_of files) items unsure
+  -- `put` and `put_outside` are the same items, as they were handed on to be put into the folder
+  pub served_files : {a b c d : H} (files : List WideFile) (items put : List Item) (outside put_outside : List HoldItem)
+      (unsure : List Unsure) (status : ℕ) → HasDone host (AreRead (map string_bytes asked.files.items) files) a b
+      → HasDone host (All IsQuiet) b c → CarriesFiles asked.decide files items outside
+      → AreUnsure (run_of files) items unsure
       → (status ≡ 0) ⊎ (status ≡ 4) → (status ≡ 0 → HasEachSysmod files items) → (status ≡ 0 → unsure ≡ [])
-      → HasDone host (KeepsService (folder_of asked) asked.decide (ptfin.items items) (hold.items outside)) c d
+      → put ≡ items → put_outside ≡ outside
+      → HasDone host (KeepsService (folder_of asked) asked.decide (ptfin.items put) (hold.items put_outside)) c d
       → HasDone host (ServesFiles asked status) a d
-  served_files {a} {b} {c} {d} files holds items outside unsure status r m held become un is each sure k = record {
-    acts = r.acts ++ m.acts ++ k.acts;
-    lead = joined host a (r.acts ++ m.acts) k.acts c d (joined host a r.acts m.acts b c r.lead m.lead) k.lead;
-    are = record {
-      files = files;
-      reading = r.acts;
-      read = r.are;
-      more = m.acts;
-      quiet = m.are;
-      holds = holds;
-      held_are = held;
-      items = items;
-      outside = outside;
-      become = become;
-      unsure = unsure;
-      are_unsure = un;
-      status_is = is;
-      each = each;
-      sure = sure;
-      keeping = k.acts;
-      keeps = k.are;
-      acts_are = refl;
-    };
-  }
+  served_files {a} {b} {c} {d} files items put outside put_outside unsure status r m carries un is each sure e o keeps =
+      let k = subst₂ (λ i h. HasDone host (KeepsService (folder_of asked) asked.decide (ptfin.items i) (hold.items h))
+      c d) e o keeps in
+      record {
+        acts = r.acts ++ m.acts ++ k.acts;
+        lead = joined host a (r.acts ++ m.acts) k.acts c d (joined host a r.acts m.acts b c r.lead m.lead) k.lead;
+        are = record {
+          files = files;
+          reading = r.acts;
+          read = r.are;
+          more = m.acts;
+          quiet = m.are;
+          holds = carries.0;
+          held_are = carries.1;
+          items = items;
+          outside = outside;
+          become = carries.2;
+          unsure = unsure;
+          are_unsure = un;
+          status_is = is;
+          each = each;
+          sure = sure;
+          keeping = k.acts;
+          keeps = k.are;
+          acts_are = refl;
+        };
+      }
 
   pub served_commands : {a b c d : H} (name : Text) (bytes : List ℕ) (commands : List WideCommand)
       (known : KnownSysmods) (said : List terms.Command) → host.does a (Gives name bytes) b
