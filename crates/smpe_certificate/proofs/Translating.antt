@@ -38,6 +38,9 @@ use Rattle.smpe_certificate.specs.Accepted.{DropInOrder, ineligible_ids, dropped
 use Rattle.smpe_certificate.specs.Certificate.{IsCertificate, IsIneligible, IsDropped, IsServed}
 use Rattle.smpe_certificate.specs.ByNumber.{IsByNumber, IsIneligibleAt, IsFactOf, IsServedAt}
 
+same_parts : (k l : NeedKind) (y z : Id) → ◌≡◌ {A = NeedKind × Id} (k, y) (l, z) → (k ≡ l) × (y ≡ z)
+same_parts k l y z same = (ap (λ (q : NeedKind × Id). q.0) same, ap (λ (q : NeedKind × Id). q.1) same)
+
 module _ (judging : Judging) (j : Judged)
     (is : IsJudged judging.fails judging.eligible judging.needs judging.serves j.ids.keys j)
     (passes : (x : Id) → judging.eligible x ↔ (Contains j.ids.keys x × ((t : Test) → ¬ judging.fails x t)))
@@ -255,14 +258,14 @@ module _ (judging : Judging) (j : Judged)
       g.self_supporting.served a.2 on in
       let s = b.served.all a.0 a.1 (slice_get_within p.needs a.0 a.1 a.2) a.2 on some in
       let one : s.2.need ≡ a.1 = same_Some s.2.need a.1 (sym s.2.at ∙ a.2) in
-      let pair : (s.0.kind, s.0.needed) ≡ (kind, z) =
-      same_Some (s.0.kind, s.0.needed) (kind, z) (sym s.2.stated ∙ a.3) in (
+      let parts = same_parts s.0.kind kind s.0.needed z
+      (same_Some (s.0.kind, s.0.needed) (kind, z) (sym s.2.stated ∙ a.3)) in (
         s.0,
         s.1,
         same_Some s.0.id x
             (sym s.2.id ∙ ap (λ (e : Need). slice_get ids e.of) one ∙ ap (slice_get ids) a.4 ∙ w.1),
-        ap (λ (q : NeedKind × Id). q.0) pair,
-        ap (λ (q : NeedKind × Id). q.1) pair,
+        parts.0,
+        parts.1,
       )
 
   pub certificate_is : IsCertificate own c.kept c
