@@ -4,7 +4,8 @@ use Rattle.std.proofs.Common.{Contains, refl, sym, ap, ◌∙◌, subst, arith, 
 use Rattle.std.specs.Prelude.{◌↔◌, All, Any}
 use Rattle.std.specs.Option.{option_map}
 use Rattle.std.proofs.lemmas.Bool.{cases_Bool}
-use Rattle.std.proofs.lemmas.Option.{slice_get_within, slice_get-get_or, get_or_from_slice_get, same_Some, slice_get-map}
+use Rattle.std.proofs.lemmas.Option.{slice_get_within}
+use Rattle.std.proofs.lemmas.Option.{slice_get-get_or, get_or_from_slice_get, same_Some, slice_get-map}
 use Rattle.std.proofs.lemmas.List.{length-map}
 use Rattle.std.proofs.lemmas.List.Elements.{All-nil, All-cons, All-contains, All-weaker, Contains-append_left}
 use Rattle.std.proofs.lemmas.List.Elements.{Contains-append_cases, Contains-push, Contains-push_cases}
@@ -254,8 +255,8 @@ module _ (judging : Judging) (j : Judged)
       let a = h.all w.0 x z kind w.1 needs in
       let on : IsTrue (holds b.flags a.1.of) = subst (λ m. IsTrue (holds b.flags m)) (sym a.4) w.2 in
       let g = greatest_from_kept p b.flags b.eliminates.are_kept in
-      let some = All-found (λ e. IsTrue (holds b.flags e.of) → Any (λ y. IsTrue (holds b.flags y)) e.any) p.needs a.0 a.1
-      g.self_supporting.served a.2 on in
+      let some = All-found (λ e. IsTrue (holds b.flags e.of) → Any (λ y. IsTrue (holds b.flags y)) e.any) p.needs
+      a.0 a.1 g.self_supporting.served a.2 on in
       let s = b.served.all a.0 a.1 (slice_get_within p.needs a.0 a.1 a.2) a.2 on some in
       let one : s.2.need ≡ a.1 = same_Some s.2.need a.1 (sym s.2.at ∙ a.2) in
       let parts = same_parts s.0.kind kind s.0.needed z
