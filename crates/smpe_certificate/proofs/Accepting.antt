@@ -102,8 +102,10 @@ accepted_is_greatest c a =
     let order = a.in_order in
     let no_ineligible : (set : Id → Bool) → SupportsItself (stated c) set
     → (x : Id) → Contains (ineligible_ids c) x → IsTrue (set x) → ⊥ =
-    λ set supports x is_out inside. elim (Contains-append_cases (dropped_ids c) c.kept x (supports.eligible x inside)) [
-      | inl dropped ↦ fresh (λ f y. StatesServer c f.kind y f.needed) (ineligible_ids c) c.dropped order x is_out dropped
+    λ set supports x is_out inside.
+    elim (Contains-append_cases (dropped_ids c) c.kept x (supports.eligible x inside)) [
+      | inl dropped ↦ fresh (λ f y. StatesServer c f.kind y f.needed) (ineligible_ids c) c.dropped order x is_out
+          dropped
       | inr kept ↦ a.apart x kept (Contains-append_left (ineligible_ids c) (dropped_ids c) x is_out)
     ] in
     record {

@@ -10,7 +10,6 @@ use Rattle.terms.specs.Tests.{Setting, Fails, FailsAlone, IsEligible}
 use Rattle.terms.specs.Needs.{Needs, Serves}
 use Rattle.terms.specs.Candidates.{AreCandidates}
 use Rattle.terms.specs.Judged.{setting, install_judging}
-use Rattle.terms.specs.Judging.{Judging}
 use Rattle.terms.specs.Kept.{StaysKept}
 use Rattle.judge_system.specs.declared.judged.Judged.{Judged}
 use Rattle.judge_system.specs.Judged.{IsJudged}

@@ -1,12 +1,11 @@
 -- Facts that are collected place by place.
-use Rattle.std.proofs.Common.{◌≡◌, ◌≢◌, ◌<◌, ◌+◌, ℕ, Bool, false, List, [], ◌∷◌, ◌++◌, length, map, Some, Contains, refl}
-use Rattle.std.proofs.Common.{sym, ap, ◌∙◌, subst, arith, inl, inr, slice_get, IsTrue}
-use Rattle.std.specs.Prelude.{All, Any}
+use Rattle.std.proofs.Common.{◌≡◌, ◌+◌, ℕ, Bool, List, [], ◌∷◌, ◌++◌, map, Some, Contains}
+use Rattle.std.proofs.Common.{sym, ap, ◌∙◌, subst, arith, inl, inr, slice_get}
 use Rattle.std.proofs.lemmas.Bool.{cases_eq}
 use Rattle.std.proofs.lemmas.List.{map-append}
 use Rattle.std.proofs.lemmas.List.Elements.{All-nil, All-push, Contains-append_left, Contains-push}
 use Rattle.terms.specs.Types.{Id}
-use Rattle.solve.specs.System.{Need, holds}
+use Rattle.solve.specs.System.{holds}
 use Rattle.solve.proofs.Choosing.{same_at}
 use Rattle.solve.proofs.PassingElements.{clash}
 use Rattle.judge_system.specs.declared.judged.Judged.{Judged}

@@ -1,6 +1,7 @@
 -- The search for the candidates to drop, over plain lists.
 use Rattle.std.proofs.Common.{◌≡◌, ◌<◌, ◌≤◌, ◌+◌, ℕ, suc, Bool, false, List, [], ◌∷◌, ◌++◌, Some, length, map, drop}
-use Rattle.std.proofs.Common.{get_or, set, slice_get, Contains, refl, sym, ap, ◌∙◌, subst, arith, inl, inr, add-one, drop-cons}
+use Rattle.std.proofs.Common.{get_or, set, slice_get, Contains, refl, sym, ap, ◌∙◌, subst, arith}
+use Rattle.std.proofs.Common.{inl, inr, add-one, drop-cons}
 use Rattle.std.specs.Prelude.{IsTrue, Vec}
 use Rattle.std.specs.declared.alloc.Global.{Global}
 use Rattle.std.specs.List.{All, Any}

@@ -1,10 +1,11 @@
 -- From the facts by numbers to the certificate by ids.
-use Rattle.std.proofs.Common.{◌≡◌, ◌<◌, ℕ, zero, suc, Bool, true, false, List, [], ◌∷◌, ◌++◌, length, map, filter, Some}
+use Rattle.std.proofs.Common.{◌≡◌, ◌<◌, ℕ, zero, suc, List, [], ◌∷◌, ◌++◌, length, map, filter, Some}
 use Rattle.std.proofs.Common.{Contains, refl, sym, ap, ◌∙◌, subst, arith, inl, inr, slice_get, slice_index_or, IsTrue}
-use Rattle.std.specs.Prelude.{◌⊎◌, ◌↔◌, All, Any}
+use Rattle.std.specs.Prelude.{◌↔◌, All, Any}
 use Rattle.std.specs.Option.{option_map}
 use Rattle.std.proofs.lemmas.Bool.{cases_Bool}
-use Rattle.std.proofs.lemmas.Option.{slice_get_within, slice_get-get_or, get_or_from_slice_get, same_Some, slice_get-map}
+use Rattle.std.proofs.lemmas.Option.{slice_get_within}
+use Rattle.std.proofs.lemmas.Option.{slice_get-get_or, get_or_from_slice_get, same_Some, slice_get-map}
 use Rattle.std.proofs.lemmas.List.{length-map}
 use Rattle.std.proofs.lemmas.List.Elements.{All-nil, All-cons, All-contains, All-weaker, Contains-append_left}
 use Rattle.std.proofs.lemmas.List.Elements.{Contains-append_cases, Contains-push, Contains-push_cases}
@@ -37,6 +38,9 @@ use Rattle.smpe_certificate.specs.Facts.{Dropped, Certificate}
 use Rattle.smpe_certificate.specs.Accepted.{DropInOrder, ineligible_ids, dropped_ids}
 use Rattle.smpe_certificate.specs.Certificate.{IsCertificate, IsIneligible, IsDropped, IsServed}
 use Rattle.smpe_certificate.specs.ByNumber.{IsByNumber, IsIneligibleAt, IsFactOf, IsServedAt}
+
+same_parts : (k l : NeedKind) (y z : Id) → ◌≡◌ {A = NeedKind × Id} (k, y) (l, z) → (k ≡ l) × (y ≡ z)
+same_parts k l y z same = (ap (λ (q : NeedKind × Id). q.0) same, ap (λ (q : NeedKind × Id). q.1) same)
 
 module _ (judging : Judging) (j : Judged)
     (is : IsJudged judging.fails judging.eligible judging.needs judging.serves j.ids.keys j)
@@ -251,18 +255,18 @@ module _ (judging : Judging) (j : Judged)
       let a = h.all w.0 x z kind w.1 needs in
       let on : IsTrue (holds b.flags a.1.of) = subst (λ m. IsTrue (holds b.flags m)) (sym a.4) w.2 in
       let g = greatest_from_kept p b.flags b.eliminates.are_kept in
-      let some = All-found (λ e. IsTrue (holds b.flags e.of) → Any (λ y. IsTrue (holds b.flags y)) e.any) p.needs a.0 a.1
-      g.self_supporting.served a.2 on in
+      let some = All-found (λ e. IsTrue (holds b.flags e.of) → Any (λ y. IsTrue (holds b.flags y)) e.any) p.needs
+      a.0 a.1 g.self_supporting.served a.2 on in
       let s = b.served.all a.0 a.1 (slice_get_within p.needs a.0 a.1 a.2) a.2 on some in
       let one : s.2.need ≡ a.1 = same_Some s.2.need a.1 (sym s.2.at ∙ a.2) in
-      let pair : (s.0.kind, s.0.needed) ≡ (kind, z) =
-      same_Some (s.0.kind, s.0.needed) (kind, z) (sym s.2.stated ∙ a.3) in (
+      let parts = same_parts s.0.kind kind s.0.needed z
+      (same_Some (s.0.kind, s.0.needed) (kind, z) (sym s.2.stated ∙ a.3)) in (
         s.0,
         s.1,
         same_Some s.0.id x
             (sym s.2.id ∙ ap (λ (e : Need). slice_get ids e.of) one ∙ ap (slice_get ids) a.4 ∙ w.1),
-        ap (λ (q : NeedKind × Id). q.0) pair,
-        ap (λ (q : NeedKind × Id). q.1) pair,
+        parts.0,
+        parts.1,
       )
 
   pub certificate_is : IsCertificate own c.kept c

@@ -1,5 +1,6 @@
 -- The facts of a decision, by the numbers of the candidates.
-use Rattle.std.specs.Prelude.{◌≡◌, ◌≢◌, ◌↔◌, ◌<◌, ℕ, Bool, false, List, [], Some, All, Any, Contains, IsTrue, length, map}
+use Rattle.std.specs.Prelude.{◌≡◌, ◌≢◌, ◌↔◌, ◌<◌, ℕ, Bool, false, List, [], Some, All, Any}
+use Rattle.std.specs.Prelude.{Contains, IsTrue, length, map}
 use Rattle.std.specs.Prelude.{slice_get, slice_index_or}
 use Rattle.terms.specs.Beside.{Beside}
 use Rattle.terms.specs.Types.{Id}
