@@ -4,6 +4,7 @@ pub mod Database
 pub mod Told
 pub mod ServiceSet
 pub mod Copied
+pub mod Shop
 pub mod Serving
 pub mod Answering
 pub mod Careful

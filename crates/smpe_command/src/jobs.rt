@@ -7,7 +7,8 @@ ghost use Rattle.smpe_jobs.specs.declared.jobs.Answer.{Answer};
 ghost use Rattle.smpe_jobs.specs.ZoneDefinitions.{definition};
 ghost use Rattle.smpe_command.specs.Database.{JobOver};
 ghost use Rattle.smpe_command.specs.Serving.{Serves, ServesList, ServesMigrate, ServesRun, ServesVerify, ServesZone};
-ghost use Rattle.smpe_command.specs.Serving.{job_told, status_told};
+ghost use Rattle.smpe_command.specs.Serving.{status_told};
+ghost use Rattle.smpe_command.specs.Told.{job_told};
 
 use crate::any_date::any_date;
 use crate::careful::check_commands_if_careful;

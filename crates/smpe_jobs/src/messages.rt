@@ -120,6 +120,15 @@ pub enum Fault<'a> {
     /// A SET of a careful job names this zone.
     #[error("a zone is not defined")]
     NoZone(ZoneName),
+    /// A shop's files cannot be carried. These are the lines that say why.
+    #[error("the files cannot be carried")]
+    NotCarried(Vec<u8>),
+    /// The system uses each source that is kept for checks.
+    #[error("no free source")]
+    NoSource,
+    /// The new file of this name exists, or cannot be written.
+    #[error("cannot write {0}")]
+    CannotWrite(&'a str),
 }
 
 impl From<JobError> for Fault<'_> {
@@ -177,6 +186,16 @@ fn write_unreadable_file<W: Sink>(name: &str, w: &mut W) -> Result<(), WriteFaul
     write_all(b"\n", w)
 }
 
+// Writes the line of a file that exists or cannot be written. This text has two pieces as well.
+fn write_unwritten_file<W: Sink>(name: &str, w: &mut W) -> Result<(), WriteFault>
+    ensures sends { Sent W.Sink w.old w.new (program_line (codes "cannot write " ++ name.now)) }
+    ensures fault { W.has_failed w.new ≡ is_err result }
+{
+    print(b"smpe: cannot write ", w);
+    print(name.as_bytes(), w);
+    write_all(b"\n", w)
+}
+
 // Writes the line of a zone that a SET names and that is not defined. This text has two pieces as well.
 fn write_undefined_zone<W: Sink>(name: &ZoneName, w: &mut W) -> Result<(), WriteFault>
     ensures sends { Sent W.Sink w.old w.new (program_line (codes "no zone " ++ name.now)) }
@@ -202,6 +221,9 @@ fn write_fault<W: Sink>(fault: &Fault<'_>, w: &mut W) -> Result<(), WriteFault>
         Fault::CannotRead(name) => write_unreadable_file(name, w),
         Fault::NoCommand => write_program_line(b"no command", w),
         Fault::NoZone(name) => write_undefined_zone(name, w),
+        Fault::NotCarried(lines) => write_all(lines.as_slice(), w),
+        Fault::NoSource => write_program_line(b"no free source", w),
+        Fault::CannotWrite(name) => write_unwritten_file(name, w),
     }
 }
 
