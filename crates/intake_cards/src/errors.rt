@@ -19,6 +19,8 @@ pub enum CardError {
     /// Records were asked for, and so many bytes follow the last whole one.
     #[error("--records asks for records of 80 bytes, and {bytes} bytes are left over: leave the option out")]
     ShortRecord { bytes: usize },
+    #[error("it has more than 4,294,967,295 bytes: cut it into several files")]
+    TooLong,
 }
 
 impl From<AllocError> for CardError {

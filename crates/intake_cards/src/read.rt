@@ -10,6 +10,9 @@ use crate::line::{CutLine, PastColumns};
 use crate::place::CardPlace;
 use std::alloc::{AllocError, Global};
 
+// The most bytes of a file: as many as there are numbers of cards.
+const LONGEST_FILE: usize = u32::MAX as usize;
+
 /// What was assumed about a card, or what a card should not have.
 #[derive(Clone, Copy, Debug, PartialEq, Eq)]
 pub enum CardNoteReason {
@@ -57,11 +60,11 @@ pub struct CardReader<'a> {
     /// The code that the caller asked for, or that the bytes show.
     pub code: Code,
     /// The number of the file among those that are read.
-    file: usize,
+    file: u32,
     /// The lines or records that have not been read yet.
     rest: &'a [u8],
     /// How many cards were read.
-    cards: usize,
+    cards: u32,
     has_mark: bool,
     has_padding: bool,
     /// The delimiter that ended the cards.
@@ -108,16 +111,19 @@ fn note_characters(notes: &mut Vec<CardNote>, card: &Card) -> Result<(), AllocEr
 
 impl<'a> CardReader<'a> {
     /// A reader of the cards of the file that has this number among those that are read. If no layout or no code is
-    /// given, the bytes decide. Returns an error if they cannot be read as cards, or if records are asked for and 80
-    /// does not divide the length.
+    /// given, the bytes decide. Returns an error if they cannot be read as cards, if there are too many, or if records
+    /// are asked for and 80 does not divide the length.
     pub fn open(
-        file: usize,
+        file: u32,
         bytes: &'a [u8],
         layout: Option<Layout>,
         code: Option<Code>,
     ) -> Result<CardReader<'a>, CardError> {
         if let Some(fault) = unreadable_format(bytes) {
             return Err(fault);
+        }
+        if bytes.len() > LONGEST_FILE {
+            return Err(CardError::TooLong);
         }
         let after_mark = bytes.strip_prefix(b"\xEF\xBB\xBF");
         let text = after_mark.unwrap_or(bytes);
@@ -269,7 +275,7 @@ fn without_padding_after_cards(bytes: &[u8], layout: Layout, code: Code) -> &[u8
 /// The cards of a file, as `CardReader` reads them.
 pub fn read_cards(
     alloc: Global,
-    file: usize,
+    file: u32,
     bytes: &[u8],
     layout: Option<Layout>,
     code: Option<Code>,

@@ -1,6 +1,5 @@
 mod Comparing
 mod Doing
 mod Harmless
-mod HoldParts
 mod OneByOne
 mod Served

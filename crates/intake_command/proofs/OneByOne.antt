@@ -1,16 +1,11 @@
 -- Files that are read one by one, as a loop goes over their names.
 use Rattle.std.proofs.Common.{◌≡◌, ◌<◌, ◌≤◌, ◌+◌, ℕ, List, ◌∷◌, [], ◌++◌, map, take, length, get_or, sym, refl}
-use Rattle.std.proofs.Common.{◌∙◌, subst, ap, ap₂, append_assoc, append-nil, filter, not}
+use Rattle.std.proofs.Common.{subst}
 use Rattle.std.specs.List.{All}
-use Rattle.std.proofs.lemmas.List.{map-append, take_all}
-use Rattle.std.proofs.lemmas.List.Concat.{flat_map-append}
-use Rattle.std.proofs.lemmas.List.Elements.{All-append, All-nil, filter-append}
+use Rattle.std.proofs.lemmas.List.{take_all}
+use Rattle.std.proofs.lemmas.List.Elements.{All-append, All-nil}
 use Rattle.terms.specs.Types.{Text}
-use Rattle.intake_read.specs.Held.{held_places, is_fixcat}
 use Rattle.intake_read.specs.declared.items.WideFile.{WideFile}
-use Rattle.intake_read.specs.declared.items.WideHold.{WideHold}
-use Rattle.intake_holds.specs.Outside.{AreCarried, AddsHoldsAt}
-use Rattle.intake_holds.specs.declared.outside.OutsideHolds.{OutsideHolds}
 use Rattle.intake_holds.proofs.Becoming.{become_more}
 use Rattle.intake_asked.proofs.Passing.{map_next}
 use Rattle.intake_holds.specs.Become.{Become}
@@ -18,7 +13,7 @@ use Rattle.intake_asked.specs.declared.known.KnownFile.{KnownFile}
 use Rattle.intake_asked.specs.declared.known.KnownSysmods.{KnownSysmods}
 use Rattle.intake_command.specs.Acts.{HostAct, Gives, IsQuiet}
 use Rattle.intake_command.specs.Done.{HasDone}
-use Rattle.intake_command.specs.Serving.{AreRead, IsRead, IsKnown, IsKnownRead, held_in}
+use Rattle.intake_command.specs.Serving.{AreRead, IsRead, IsKnown, IsKnownRead}
 use Rattle.intake_command.specs.declared.surroundings.IntakeHost.{Ghosts}
 use Rattle.intake_command.proofs.Doing.{both, joined, one, weaker}
 
@@ -41,26 +36,6 @@ pub read_whole : {X H : Type 0} (host : Ghosts H) (f : X → Text) (names : List
     → HasDone host (AreRead (map f names) files) a b
 read_whole host f names i files whole was =
     weaker host was (λ acts r. subst (λ l. AreRead (map f l) files acts) (take_all i names whole) r)
-
--- ---- the holds outside SYSMODs, which are added file by file
-
-places_append : (xs ys : List WideHold) → held_places (xs ++ ys) ≡ held_places xs ++ held_places ys
-places_append xs ys =
-    ap (map (λ h. h.place)) (filter-append (λ h. not (is_fixcat h)) xs ys)
-    ∙ map-append (λ h. h.place) (filter (λ h. not (is_fixcat h)) xs) (filter (λ h. not (is_fixcat h)) ys)
-
-pub added_next : (old mid new : OutsideHolds) (files more : List WideFile) (file : WideFile)
-    → more ≡ files ++ file ∷ [] → AddsHoldsAt (held_in files) old mid → AddsHoldsAt file.held.items mid new
-    → AddsHoldsAt (held_in more) old new
-added_next old mid new files more file e so_far this = (
-  so_far.0 ++ this.0,
-  places_append so_far.0 this.0 ∙ ap₂ (λ u v. u ++ v) so_far.1 this.1
-      ∙ sym (ap held_in e ∙ flat_map-append (λ (f : WideFile). f.held.items) files (file ∷ [])
-      ∙ ap (λ l. held_in files ++ l) (append-nil file.held.items)),
-  λ before carried.
-      subst (λ l. AreCarried l new) (append_assoc before so_far.0 this.0)
-      (this.2 (before ++ so_far.0) (so_far.2 before carried)),
-)
 
 -- ---- the files of --known, which are read one by one too
 

@@ -9,36 +9,33 @@ use Rattle.mcs.specs.Files as ptfin
 use Rattle.mcs.specs.HoldItems as hold
 use Rattle.mcs.specs.declared.file.Item.{Item}
 use Rattle.mcs.specs.declared.hold_item.HoldItem.{HoldItem}
-use Rattle.intake_read.specs.Held.{held_places}
 use Rattle.intake_read.specs.declared.items.WideFile.{WideFile}
-use Rattle.intake_read.specs.declared.items.WideHold.{WideHold}
 use Rattle.intake_sysmod.specs.Users.{run_of}
-use Rattle.intake_carry.specs.Carried.{FilesBecome}
 use Rattle.intake_carry.specs.Unsure.{AreUnsure}
 use Rattle.intake_carry.specs.declared.unsure.Unsure.{Unsure}
 use Rattle.intake_asked.specs.Said.{AreSaid}
 use Rattle.intake_asked.specs.declared.known.KnownSysmods.{KnownSysmods}
 use Rattle.intake_asked.specs.declared.scan.WideCommand.{WideCommand}
 use Rattle.intake_words.specs.declared.options.IntakeOptions.{IntakeOptions}
+use Rattle.intake_service.specs.Carrying.{HasEachSysmod, CarriesFiles}
 use Rattle.intake_command.specs.Acts.{Gives, Discards, IsQuiet}
 use Rattle.intake_command.specs.Done.{HasDone}
 use Rattle.intake_command.specs.Files.{outputs_of}
 use Rattle.intake_command.specs.Serving.{AreRead, KeepsService, ServesFiles, KeepsCommands, IsKnown}
-use Rattle.intake_command.specs.Serving.{folder_of, inputs, held_in, HasEachSysmod, Serves, AreOwn, comparisons}
+use Rattle.intake_command.specs.Serving.{folder_of, inputs, Serves, AreOwn, comparisons}
 use Rattle.intake_command.specs.Serving.{IsHarmless, EndsApart, EndsChecked, EndsServed, EndsAsked, EndsOwn}
 use Rattle.intake_command.specs.declared.surroundings.IntakeHost.{Ghosts}
 use Rattle.intake_command.proofs.Doing.{joined}
 
 module _ {H : Type 0} (host : Ghosts H) (asked : IntakeOptions) where
-  pub served_files : {a b c d : H} (files : List WideFile) (holds : List WideHold) (items : List Item)
-      (outside : List HoldItem) (unsure : List Unsure) (status : ℕ)
-      → HasDone host (AreRead (map string_bytes asked.files.items) files) a b
-      → HasDone host (All IsQuiet) b c → held_places holds ≡ held_in files
-      → FilesBecome asked.decide files holds items outside → AreUnsure (run_of files) items unsure
+  pub served_files : {a b c d : H} (files : List WideFile) (items : List Item) (outside : List HoldItem)
+      (unsure : List Unsure) (status : ℕ) → HasDone host (AreRead (map string_bytes asked.files.items) files) a b
+      → HasDone host (All IsQuiet) b c → CarriesFiles asked.decide files items outside
+      → AreUnsure (run_of files) items unsure
       → (status ≡ 0) ⊎ (status ≡ 4) → (status ≡ 0 → HasEachSysmod files items) → (status ≡ 0 → unsure ≡ [])
       → HasDone host (KeepsService (folder_of asked) asked.decide (ptfin.items items) (hold.items outside)) c d
       → HasDone host (ServesFiles asked status) a d
-  served_files {a} {b} {c} {d} files holds items outside unsure status r m held become un is each sure k = record {
+  served_files {a} {b} {c} {d} files items outside unsure status r m carries un is each sure k = record {
     acts = r.acts ++ m.acts ++ k.acts;
     lead = joined host a (r.acts ++ m.acts) k.acts c d (joined host a r.acts m.acts b c r.lead m.lead) k.lead;
     are = record {
@@ -47,11 +44,11 @@ module _ {H : Type 0} (host : Ghosts H) (asked : IntakeOptions) where
       read = r.are;
       more = m.acts;
       quiet = m.are;
-      holds = holds;
-      held_are = held;
+      holds = carries.0;
+      held_are = carries.1;
       items = items;
       outside = outside;
-      become = become;
+      become = carries.2;
       unsure = unsure;
       are_unsure = un;
       status_is = is;

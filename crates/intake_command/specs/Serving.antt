@@ -1,8 +1,7 @@
 -- What a run does.
-use Rattle.std.specs.Prelude.{◌≡◌, ◌⊎◌, ℕ, Bool, true, false, List, [], ◌∷◌, ◌++◌, Option, Some, None, Vec, map}
-use Rattle.std.specs.Prelude.{length, option_map}
-use Rattle.std.specs.Prelude.{All, codes, Result, Ok, Err, if◌then◌else◌, option_to_list}
-use Rattle.std.specs.List.{filter, flat_map}
+use Rattle.std.specs.Prelude.{◌≡◌, ◌⊎◌, ℕ, Bool, false, List, [], ◌∷◌, ◌++◌, Option, Some, None, Vec, map}
+use Rattle.std.specs.Prelude.{All, codes, Result, Ok, Err, if◌then◌else◌, option_map, option_to_list}
+use Rattle.std.specs.List.{flat_map}
 use Rattle.std.specs.String.{string_bytes}
 use Rattle.std.specs.declared.alloc.AllocError.{AllocError}
 use Rattle.std.specs.declared.alloc.Global.{Global}
@@ -12,9 +11,7 @@ use Rattle.terms.specs.Types.{Text}
 use Rattle.mcs.specs.Files as ptfin
 use Rattle.mcs.specs.HoldItems as hold
 use Rattle.mcs.specs.declared.file.Item.{Item}
-use Rattle.mcs.specs.declared.file.Item.TheVariants.{Sysmod, Assign}
 use Rattle.mcs.specs.declared.hold_item.HoldItem.{HoldItem}
-use Rattle.intake_cards.specs.declared.place.CardPlace.{CardPlace}
 use Rattle.intake_read.specs.Held.{held_places}
 use Rattle.intake_read.specs.declared.items.WideFile.{WideFile}
 use Rattle.intake_read.specs.declared.items.WideHold.{WideHold}
@@ -30,6 +27,7 @@ use Rattle.intake_asked.specs.declared.scan.WideCommand.{WideCommand}
 use Rattle.intake_asked.specs.Said.{AreSaid}
 use Rattle.intake_words.specs.Asking.{IsAsked, AsksForText}
 use Rattle.intake_words.specs.declared.options.IntakeOptions.{IntakeOptions}
+use Rattle.intake_service.specs.Carrying.{held_in, HasEachSysmod}
 use Rattle.intake_command.specs.Acts.{HostAct, Gives, Begins, Finds, Compares, Drafts, Discards, Puts, Prints}
 use Rattle.intake_command.specs.Acts.{FolderFiles, IsQuiet}
 use Rattle.intake_command.specs.Files.{path_of, command_outputs, outputs_of, remarks_of, service_names, written_in}
@@ -96,18 +94,6 @@ pub record KeepsService (folder : Text) (decided : Bool) (items : List terms.Ite
   pub are_kept : IsServiceFiles items holds decided kept removed
   pub acts_are : acts ≡ Drafts folder (codes "remarks") (first_line (service_names decided)) ∷ drafts
       ++ Prints summary ∷ Puts folder kept removed ∷ []
-
-abbrev pub is_sysmod : Item → Bool
-is_sysmod (Sysmod s) = true
-is_sysmod (Assign a) = false
-
--- There are as many SYSMODs as the files state. As each of these becomes at most one, each is carried.
-abbrev pub HasEachSysmod : List WideFile → List Item → Type 0
-HasEachSysmod files items = length (filter is_sysmod items) ≡ length (run_of files)
-
--- where the holds of the files begin that are in no SYSMOD, but for those of FIXCAT
-abbrev pub held_in : List WideFile → List CardPlace
-held_in files = flat_map (λ f. f.held.items) files
 
 -- The files that are named were read, one by one, and then those of --relfile; what their statements become was put
 -- into the folder. `holds` are the holds outside SYSMODs that the readers of the files handed out, in order. With

@@ -20,8 +20,9 @@ use intake_asked::{
     KnownFile, KnownList, KnownSysmods, gather_known, is_statement_file, known_of_statements,
     read_known, wide_commands,
 };
-use intake_carry::{OutsideHolds, read_statements};
+use intake_carry::OutsideHolds;
 use intake_cntl::{CommandFile, command_file};
+use intake_service::read_file;
 use intake_words::{
     CardOptions, InputFiles, IntakeFault, IntakeOptions, append_remark_lines, command_summary,
     refused_command_lines, refused_command_summary,
@@ -162,17 +163,12 @@ fn known_ptfin(alloc: Global, name: &str, bytes: &[u8]) -> Result<KnownFile, Int
     ensures { IfOk result (IsKnownFile bytes.now) }
 {
     let mut inputs = InputFiles::new(alloc);
+    let mut held = OutsideHolds::new(alloc);
     let guessed = CardOptions {
         layout: None,
         code: None,
     };
-    let mut cards = inputs.open_cards(alloc, name, bytes, guessed)?;
-    let mut notes = Vec::new(alloc);
-    let mut held = OutsideHolds::new(alloc);
-    let file = match read_statements(alloc, &mut cards, &mut notes, &mut held) {
-        Ok(file) => file,
-        Err(error) => return Err(IntakeFault::of_statement(alloc, &inputs, &error)),
-    };
+    let file = read_file(alloc, &mut inputs, name, bytes, guessed, &mut held)?;
     Ok(known_of_statements(alloc, &file)?)
 }
 

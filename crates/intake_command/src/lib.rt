@@ -14,14 +14,10 @@ mod keep;
 mod members;
 mod own;
 mod program;
-mod same;
 mod service;
-mod statements;
 mod surroundings;
 
 pub use files::NamedFile;
 pub use keep::{keep_commands, keep_service};
 pub use program::command;
-pub use same::{are_same_hold_items, are_same_items};
-pub use statements::{hold_file, ptfin};
 pub use surroundings::IntakeHost;

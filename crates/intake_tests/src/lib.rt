@@ -4,6 +4,8 @@
 #[cfg(test)]
 mod cards;
 #[cfg(test)]
+mod carry;
+#[cfg(test)]
 mod commands;
 #[cfg(test)]
 mod narrow_items;

@@ -2,8 +2,8 @@
 
 use intake_cards::{CardReader, RemarkList};
 use intake_carry::{CarryError, Narrowed, OutsideHolds, narrow, read_statements};
-use intake_command::{are_same_hold_items, are_same_items, hold_file, ptfin};
 use intake_read::WideFile;
+use intake_service::{are_same_hold_items, are_same_items, hold_file, ptfin};
 use intake_sysmod::Options;
 use mcs::{read_hold, read_ptfin};
 use std::alloc::{AllocError, Global};
@@ -32,8 +32,8 @@ fn plain_options(alloc: Global) -> Options {
     }
 }
 
-// Appends the cards as lines without the blanks at their ends.
-fn append_cards(lines: &mut Vec<u8>, cards: &[u8]) -> Result<(), AllocError> {
+/// Appends the cards as lines without the blanks at their ends.
+pub(crate) fn append_cards(lines: &mut Vec<u8>, cards: &[u8]) -> Result<(), AllocError> {
     for card in cards.chunks(80) {
         let solid = card
             .iter()

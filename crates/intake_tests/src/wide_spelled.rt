@@ -258,7 +258,7 @@ impl Spelled {
     fn append_notes(&mut self, file: &WideFile) -> Result<(), AllocError> {
         for statement in file.swallowed.as_slice() {
             self.append(b"; in the comment of ")?;
-            self.append_number(statement.comment.card)?;
+            self.append_number(statement.comment.card as usize)?;
             self.append(b": ")?;
             self.append(statement.word.as_slice())?;
             self.append(b" ")?;
@@ -269,7 +269,7 @@ impl Spelled {
                 NoteReason::LowerCase => b"; lower ",
                 NoteReason::TextInNumbers => b"; behind 72 ",
             })?;
-            self.append_number(note.place.card)?;
+            self.append_number(note.place.card as usize)?;
             self.append(b" x ")?;
             self.append_number(note.count)?;
         }
@@ -399,5 +399,5 @@ fn append_error(found: &mut Spelled, error: WideError) -> Result<(), AllocError>
         }
     };
     found.append(b" ")?;
-    found.append_number(place.card)
+    found.append_number(place.card as usize)
 }

@@ -70,17 +70,22 @@ impl InputFiles {
         std::mem::replace(&mut self.reading_lines, Vec::new(alloc))
     }
 
+    // The number of the file that is read next. No command line names as many files as there are numbers.
+    fn next_number(&self) -> u32 {
+        u32::try_from(self.all.len()).unwrap_or(u32::MAX)
+    }
+
     // The name of the file of this number, or an empty text if there is none.
-    pub(crate) fn name(&self, file: usize) -> &str {
-        match self.all.get(file) {
+    pub(crate) fn name(&self, file: u32) -> &str {
+        match self.all.get(file as usize) {
             Some(input) => input.name.as_str(),
             None => "",
         }
     }
 
     // What a card of the file of this number is called: "line" or "record".
-    pub(crate) fn unit(&self, file: usize) -> &'static str {
-        match self.all.get(file) {
+    pub(crate) fn unit(&self, file: u32) -> &'static str {
+        match self.all.get(file as usize) {
             Some(input) => unit_of(input.layout),
             None => unit_of(Layout::Records),
         }
@@ -95,7 +100,7 @@ impl InputFiles {
         bytes: &[u8],
         options: CardOptions,
     ) -> Result<Vec<Card>, IntakeFault> {
-        let read = match read_cards(alloc, self.all.len(), bytes, options.layout, options.code) {
+        let read = match read_cards(alloc, self.next_number(), bytes, options.layout, options.code) {
             Ok(read) => read,
             Err(error) => return Err(IntakeFault::of_cards(alloc, name, error)),
         };
@@ -114,7 +119,7 @@ impl InputFiles {
         bytes: &'a [u8],
         options: CardOptions,
     ) -> Result<CardReader<'a>, IntakeFault> {
-        match CardReader::open(self.all.len(), bytes, options.layout, options.code) {
+        match CardReader::open(self.next_number(), bytes, options.layout, options.code) {
             Ok(cards) => {
                 self.add(alloc, name, cards.layout, cards.code)?;
                 Ok(cards)

@@ -2,7 +2,7 @@ use Rattle.std.proofs.Common.{◌≡◌, ◌++◌, List}
 use Rattle.terms.specs.HoldFile.{IsHoldFile}
 use Rattle.mcs.specs.HoldItems as hold_files
 use Rattle.mcs.specs.declared.hold_item.HoldItem.{HoldItem}
-use Rattle.intake_command.proofs.keep.hold_records.Given as goal
+use Rattle.intake_service.proofs.records.hold_records.Given as goal
 
 -- the items that are printed
 abbrev pub invariant-loop : goal.invariant-loop

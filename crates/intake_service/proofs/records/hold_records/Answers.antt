@@ -1,8 +1,8 @@
 use Rattle.std.proofs.Common.{[], ◌++◌, subst, sym, ap, ◌∙◌, refl, append_assoc}
 use Rattle.terms.specs.HoldFile.{IsHoldFile}
 use Rattle.mcs.specs.HoldItems as hold_files
-use Rattle.intake_command.proofs.HoldParts.{no_items, more_items}
-use Rattle.intake_command.proofs.keep.hold_records.Goals as goal
+use Rattle.intake_service.proofs.HoldParts.{no_items, more_items}
+use Rattle.intake_service.proofs.records.hold_records.Goals as goal
 
 pub loop-init : goal.loop-init
 loop-init c = ([], refl, subst (λ b. IsHoldFile b []) (sym c.new-bytes.ensures.items) no_items)

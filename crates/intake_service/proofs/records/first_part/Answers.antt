@@ -1,5 +1,5 @@
 use Rattle.std.proofs.Common.{◌++◌, ap₂, ◌∙◌, take-append-drop}
-use Rattle.intake_command.proofs.keep.first_part.Goals as goal
+use Rattle.intake_service.proofs.records.first_part.Goals as goal
 
 pub returns-in-Some : goal.returns-in-Some
 returns-in-Some c =

@@ -1,6 +1,0 @@
-use Rattle.std.proofs.Common.{◌≡◌, length, take, filter}
-use Rattle.intake_command.specs.Serving.{is_sysmod}
-use Rattle.intake_command.proofs.service.count_sysmods.Given as goal
-
-abbrev pub invariant-loop-item : goal.invariant-loop-item
-invariant-loop-item l = l.count ≡ length (filter is_sysmod (take l.item-index l.items))

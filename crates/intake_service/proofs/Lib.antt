@@ -1,0 +1,2 @@
+mod HoldParts
+mod Holding
