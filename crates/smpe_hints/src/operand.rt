@@ -3,6 +3,9 @@ use fields::{Class, HoldDate, Id, Name, Reason, Source, Srel, ZoneName};
 use smpe_invocation::{read_date, read_seconds};
 use std::alloc::{AllocError, Global};
 
+// The options that name files of records.
+const RECORD_OPTIONS: &[&str] = &["--cntl", "--ptfin", "--hold"];
+
 /// What the value of an option, or of an operand of a card, looks like.
 #[derive(Clone, Copy, Debug)]
 pub(crate) enum Form {
@@ -108,9 +111,35 @@ impl<'a> CommandLine<'a> {
         self.word_at(1)
     }
 
+    /// Whether an option names this file, so that it should have records of 80 bytes. Other files come as they are.
+    pub fn names_records(self, file: &str) -> bool {
+        RECORD_OPTIONS
+            .iter()
+            .any(|option| self.value(option) == Some(file))
+    }
+
     // Whether the words have the option with a value.
     fn has_option(self, option: &str) -> bool {
         self.value(option).is_some()
+    }
+
+    // Whether a word of `check` is the name of a file, and neither an option nor the value of one. Each option of
+    // `check` has a value, and after `--` there are only files.
+    fn has_file(self) -> bool {
+        let mut is_value = false;
+        for place in 2..self.words.len() {
+            let word = self.word_at(place).unwrap_or("");
+            if is_value {
+                is_value = false;
+            } else if word == "--" {
+                return place.saturating_add(1) < self.words.len();
+            } else if word.starts_with("--") {
+                is_value = word.split_once('=').is_none();
+            } else {
+                return true;
+            }
+        }
+        false
     }
 }
 
@@ -130,7 +159,7 @@ pub fn operand_hint(alloc: Global, words: &[Vec<u8>]) -> Result<Option<String>, 
         }
     }
     match line.subcommand() {
-        Some("check") => match check_fault(line) {
+        Some("check") => match system_fault(line).or(set_fault(line)) {
             Some(fault) => Ok(Some(String::from_str(alloc, fault)?)),
             None => Ok(None),
         },
@@ -157,8 +186,9 @@ fn option_hint(
     }
 }
 
-// Which option `check` needs but does not have, or which of its options exclude each other; `None` if neither.
-fn check_fault(line: CommandLine<'_>) -> Option<&'static str> {
+// Which option that names the system `check` needs but does not have, or which of these exclude each other; `None` if
+// neither.
+fn system_fault(line: CommandLine<'_>) -> Option<&'static str> {
     Some(match (line.has_option("--db"), line.has_option("--srel")) {
         (true, true) =>
             "--srel and --db: check takes the SREL of an empty system or a database, not both",
@@ -169,8 +199,23 @@ fn check_fault(line: CommandLine<'_>) -> Option<&'static str> {
         (false, true)
             if line.has_option("--zone") || line.has_option("--why") || line.has_option("--wait") =>
             "--zone, --why and --wait go with --db, and an empty system has none",
+        _ => return None,
+    })
+}
+
+// The same of the words that name the files, the date of the commands, and the certificate.
+fn set_fault(line: CommandLine<'_>) -> Option<&'static str> {
+    Some(match (line.has_option("--ptfin"), line.has_file()) {
+        (true, true) =>
+            "--ptfin and FILE: check takes records or files as they come, not both; name all without an option",
+        (false, false) =>
+            "FILE is missing, or --ptfin: check needs the files of the service, as they come or as records",
+        (false, true) if line.has_option("--hold") =>
+            "--hold goes with --ptfin: name a file of holds without an option, as the other files",
         _ if line.has_option("--cntl") && !line.has_option("--date") =>
             "--date is missing: with --cntl, check needs the date of the job, as 2024-05-17",
+        _ if line.has_option("--cntl") && line.has_option("--certificate") =>
+            "--cntl and --certificate: a certificate is of the check's own APPLY, not of commands from a file",
         _ => return None,
     })
 }

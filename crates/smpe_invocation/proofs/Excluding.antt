@@ -1,5 +1,6 @@
 -- What a bad operand excludes.
-use Rattle.std.proofs.Common.{◌≡◌, ◌||◌, List, ◌∙◌, ap, sym, refl, subst, true, codes, slice_index, nat_lt, arith}
+use Rattle.std.proofs.Common.{◌≡◌, ◌||◌, ◌+◌, ◌*◌, ℕ, List, ◌∙◌, ap, sym, refl, subst, true, codes, slice_index, nat_lt}
+use Rattle.std.proofs.Common.{arith}
 use Rattle.std.specs.Prelude.{Option, Some, None, Result, Err, IfErr, IsErrAnd}
 use Rattle.std.proofs.lemmas.Result.{err_from_is_err_and}
 use Rattle.std.specs.String.{string_bytes}
@@ -7,8 +8,8 @@ use Rattle.std.proofs.lemmas.Bool.Decides.{nat_tests}
 use Rattle.terms.specs.Types.{Text}
 use Rattle.clap.specs.Words.{Row}
 use Rattle.smpe_invocation.specs.Answers.{Excludes}
-use Rattle.smpe_invocation.specs.Values.{HasCommands, HasDate, HasOptions, HasRelated, HasSystem, HasText, HasValues}
-use Rattle.smpe_invocation.specs.Values.{HasZoneName, Lacks}
+use Rattle.smpe_invocation.specs.Values.{HasCertificate, HasCommands, HasDate, HasOptions, HasRelated, HasSetFiles}
+use Rattle.smpe_invocation.specs.Values.{HasSystem, HasText, HasValues, HasZoneName, Lacks}
 use Rattle.smpe_invocation.specs.declared.fault.ArgFault.{ArgFault}
 use Rattle.smpe_invocation.specs.declared.fault.ArgFault.TheVariants.{Memory, Clap, BadOperand}
 use Rattle.std.proofs.lemmas.Option.{none-some}
@@ -18,6 +19,8 @@ use Rattle.smpe_invocation.specs.declared.asked.SystemCopy.{SystemCopy}
 use Rattle.smpe_invocation.specs.declared.asked.CommandJob.{CommandJob}
 use Rattle.smpe_invocation.specs.declared.asked.Invocation.{Invocation}
 use Rattle.smpe_invocation.specs.declared.asked.Invocation.TheVariants as asked
+use Rattle.smpe_invocation.specs.declared.asked.SetFiles.{SetFiles}
+use Rattle.smpe_invocation.specs.declared.asked.SetFiles.TheVariants.{Records, AsTheyCome}
 
 pub excludes_more : (e : ArgFault) (P Q : Type 0) → (Q → P) → Excludes e P → Excludes e Q
 excludes_more Memory P Q more h = tt
@@ -31,12 +34,14 @@ handed_on r e P Q told more h =
     let is = err_from_is_err_and r told in
     subst (λ q. IfErr q (λ y. Excludes y Q)) (sym (is.1 ∙ ap (λ y. Err y) is.2)) (excludes_more e P Q more h)
 
--- words that begin with two bytes are two
-pub two_words : {A : Type 0} (one two : Text)
-    → (nat_lt (slice_index one 0) (slice_index two 0) || nat_lt (slice_index two 0) (slice_index one 0)) ≡ true
+-- the first and the third byte of a word, in one number
+abbrev pub mark : Text → ℕ
+mark word = 256 * slice_index word 0 + slice_index word 2
+
+-- words with two marks are two
+pub two_words : {A : Type 0} (one two : Text) → (nat_lt (mark one) (mark two) || nat_lt (mark two) (mark one)) ≡ true
     → one ≡ two → A
-two_words one two apart same = absurd (let first = ap (λ (t : Text). slice_index t 0) same in
-    grind (arith, nat_tests, apart, first))
+two_words one two apart same = absurd (let marks = ap mark same in grind (arith, nat_tests, apart, marks))
 
 -- the values of the invocation that a subcommand asks for
 module _ (rows : List Row) where
@@ -47,6 +52,7 @@ module _ (rows : List Row) where
   zone_in (asked.List db zone, h) = two_words (codes "zone") (codes "list") refl h.0
   zone_in (asked.Why db options, h) = two_words (codes "zone") (codes "why") refl h.0
   zone_in (asked.Check system set, h) = two_words (codes "zone") (codes "check") refl h.0
+  zone_in (asked.Lint options, h) = two_words (codes "zone") (codes "lint") refl h.0
   zone_in (asked.Migrate db, h) = two_words (codes "zone") (codes "migrate") refl h.0
   zone_in (asked.Verify db, h) = two_words (codes "zone") (codes "verify") refl h.0
 
@@ -57,6 +63,7 @@ module _ (rows : List Row) where
   run_in (asked.List db zone, h) = two_words (codes "run") (codes "list") refl h.0
   run_in (asked.Why db options, h) = two_words (codes "run") (codes "why") refl h.0
   run_in (asked.Check system set, h) = two_words (codes "run") (codes "check") refl h.0
+  run_in (asked.Lint options, h) = two_words (codes "run") (codes "lint") refl h.0
   run_in (asked.Migrate db, h) = two_words (codes "run") (codes "migrate") refl h.0
   run_in (asked.Verify db, h) = two_words (codes "run") (codes "verify") refl h.0
 
@@ -67,6 +74,7 @@ module _ (rows : List Row) where
   list_in (asked.List db zone, h) = (db, zone, h.1)
   list_in (asked.Why db options, h) = two_words (codes "list") (codes "why") refl h.0
   list_in (asked.Check system set, h) = two_words (codes "list") (codes "check") refl h.0
+  list_in (asked.Lint options, h) = two_words (codes "list") (codes "lint") refl h.0
   list_in (asked.Migrate db, h) = two_words (codes "list") (codes "migrate") refl h.0
   list_in (asked.Verify db, h) = two_words (codes "list") (codes "verify") refl h.0
 
@@ -77,6 +85,7 @@ module _ (rows : List Row) where
   why_in (asked.List db zone, h) = two_words (codes "why") (codes "list") refl h.0
   why_in (asked.Why db options, h) = (db, options, h.1)
   why_in (asked.Check system set, h) = two_words (codes "why") (codes "check") refl h.0
+  why_in (asked.Lint options, h) = two_words (codes "why") (codes "lint") refl h.0
   why_in (asked.Migrate db, h) = two_words (codes "why") (codes "migrate") refl h.0
   why_in (asked.Verify db, h) = two_words (codes "why") (codes "verify") refl h.0
 
@@ -87,8 +96,20 @@ module _ (rows : List Row) where
   check_in (asked.List db zone, h) = two_words (codes "check") (codes "list") refl h.0
   check_in (asked.Why db options, h) = two_words (codes "check") (codes "why") refl h.0
   check_in (asked.Check system set, h) = (system, set, h.1)
+  check_in (asked.Lint options, h) = two_words (codes "check") (codes "lint") refl h.0
   check_in (asked.Migrate db, h) = two_words (codes "check") (codes "migrate") refl h.0
   check_in (asked.Verify db, h) = two_words (codes "check") (codes "verify") refl h.0
+
+  pub lint_in : (i : Invocation) × HasValues (codes "lint", rows) i
+      → (options : _) × HasOptions rows (asked.Lint options)
+  lint_in (asked.Zone db definition, h) = two_words (codes "lint") (codes "zone") refl h.0
+  lint_in (asked.Run db options, h) = two_words (codes "lint") (codes "run") refl h.0
+  lint_in (asked.List db zone, h) = two_words (codes "lint") (codes "list") refl h.0
+  lint_in (asked.Why db options, h) = two_words (codes "lint") (codes "why") refl h.0
+  lint_in (asked.Check system set, h) = two_words (codes "lint") (codes "check") refl h.0
+  lint_in (asked.Lint options, h) = (options, h.1)
+  lint_in (asked.Migrate db, h) = two_words (codes "lint") (codes "migrate") refl h.0
+  lint_in (asked.Verify db, h) = two_words (codes "lint") (codes "verify") refl h.0
 
   pub migrate_in : (i : Invocation) × HasValues (codes "migrate", rows) i
       → (db : _) × HasOptions rows (asked.Migrate db)
@@ -97,6 +118,7 @@ module _ (rows : List Row) where
   migrate_in (asked.List db zone, h) = two_words (codes "migrate") (codes "list") refl h.0
   migrate_in (asked.Why db options, h) = two_words (codes "migrate") (codes "why") refl h.0
   migrate_in (asked.Check system set, h) = two_words (codes "migrate") (codes "check") refl h.0
+  migrate_in (asked.Lint options, h) = two_words (codes "migrate") (codes "lint") refl h.0
   migrate_in (asked.Migrate db, h) = (db, h.1)
   migrate_in (asked.Verify db, h) = two_words (codes "migrate") (codes "verify") refl h.0
 
@@ -107,6 +129,7 @@ module _ (rows : List Row) where
   verify_in (asked.List db zone, h) = two_words (codes "verify") (codes "list") refl h.0
   verify_in (asked.Why db options, h) = two_words (codes "verify") (codes "why") refl h.0
   verify_in (asked.Check system set, h) = two_words (codes "verify") (codes "check") refl h.0
+  verify_in (asked.Lint options, h) = two_words (codes "verify") (codes "lint") refl h.0
   verify_in (asked.Migrate db, h) = two_words (codes "verify") (codes "migrate") refl h.0
   verify_in (asked.Verify db, h) = (db, h.1)
 
@@ -126,6 +149,23 @@ module _ (rows : List Row) where
       → (date : Text) × HasDate rows date
   dated_in named (None, h) = absurd (named h)
   dated_in named (Some commands, h) = (commands.date, h.1)
+
+  -- if the words have PTFIN, the files of the set are records, and otherwise they come as they are
+  pub records_in : ¬ Lacks (codes "ptfin") rows → (files : SetFiles) × HasSetFiles rows files
+      → (ptfin : _) × (hold : _) × HasSetFiles rows (Records ptfin hold)
+  records_in some (Records ptfin hold, h) = (ptfin, hold, h)
+  records_in some (AsTheyCome files, h) = absurd (some h.1)
+
+  pub as_they_come_in : Lacks (codes "ptfin") rows → (files : SetFiles) × HasSetFiles rows files
+      → (files : _) × HasSetFiles rows (AsTheyCome files)
+  as_they_come_in none (Records ptfin hold, h) = absurd (none-some (string_bytes ptfin) (sym none ∙ h.0))
+  as_they_come_in none (AsTheyCome files, h) = (files, h)
+
+  -- if the words have a file for the certificate, it has a name
+  pub certified_in : ¬ Lacks (codes "certificate") rows → (name : Option Text) × HasCertificate rows name
+      → (text : Text) × HasText (codes "certificate") rows text
+  certified_in some (None, h) = absurd (some h)
+  certified_in some (Some name, h) = (name, h.0)
 
   -- a service set that is checked in a copy of a database is not checked in an empty system, and the other way round
   pub empty_in : Lacks (codes "db") rows → (system : CheckedSystem) × HasSystem rows system

@@ -19,10 +19,10 @@ one_more old new a name rules r has added rule global = (
 pub shape_is : (c : Command) (shape : Shape) → IsSubcommand shape c → shape_of c ≡ shape
 shape_is c shape is = ap (λ (a : App). a.top) is.0
 
-pub smpe_is_simple_and_free : (kinds : ValueParser) → is_simple_and_free (smpe kinds) ≡ true
+pub smpe_is_simple_and_free : (kinds forms : ValueParser) → is_simple_and_free (smpe kinds forms) ≡ true
 unfolding clap_on_literals
-smpe_is_simple_and_free kinds = refl
+smpe_is_simple_and_free kinds forms = refl
 
-pub smpe_is_simple : (kinds : ValueParser) → is_simple (smpe kinds) ≡ true
+pub smpe_is_simple : (kinds forms : ValueParser) → is_simple (smpe kinds forms) ≡ true
 unfolding clap_on_literals
-smpe_is_simple kinds = refl
+smpe_is_simple kinds forms = refl

@@ -1,6 +1,7 @@
 -- The command line, in the words of `clap`'s contracts.
 use Rattle.std.specs.Prelude.{◌≡◌, true, false, List, [], ◌∷◌, map, Some, codes}
 use Rattle.clap.specs.Words.{App, Rule, Shape, Text, app_of, new_app, new_rule}
+use Rattle.clap.specs.Lexer.{usize_max}
 use Rattle.clap.specs.declared.builder.action.ArgAction.TheVariants.{Append, SetTrue}
 use Rattle.clap.specs.declared.builder.command.Command.{Command}
 use Rattle.clap.specs.declared.builder.command.Command.TheViews.{out-Command as fields_of}
@@ -27,13 +28,35 @@ required_arg id = record (optional_arg id) { required = true }
 abbrev pub required_repeatable_arg : Text → Rule
 required_repeatable_arg id = record (required_arg id) { action = Some Append }
 
+-- it takes one of these words
+abbrev pub TakesWords : List Text → ValueParser → Type 0
+TakesWords words parser = (names : _) × (parser ≡ Names names) × (map (λ name. name.now) names.now ≡ words)
+
 -- it takes a kind of zones, as it is spelled
 abbrev pub IsKindParser : ValueParser → Type 0
-IsKindParser kinds = (names : _) × (kinds ≡ Names names)
-    × (map (λ name. name.now) names.now ≡ codes "target" ∷ codes "distribution" ∷ [])
+IsKindParser = TakesWords (codes "target" ∷ codes "distribution" ∷ [])
 
 abbrev pub kind_arg : ValueParser → Rule
 kind_arg kinds = record (required_arg (codes "kind")) { parser = Some kinds }
+
+-- it takes a form of the answer of `lint`
+abbrev pub IsFormParser : ValueParser → Type 0
+IsFormParser = TakesWords (codes "text" ∷ codes "json" ∷ [])
+
+abbrev pub form_arg : ValueParser → Rule
+form_arg forms = record (optional_arg (codes "form")) { parser = Some forms }
+
+-- `FILE..`, which are optional
+abbrev pub file_arg : Rule
+file_arg = record (new_rule (codes "file")) {
+  action = Some Append;
+  range = Some (record { start_inclusive = 1; end_inclusive = usize_max });
+  value_names = 1;
+}
+
+-- the same, which are required
+abbrev pub required_file_arg : Rule
+required_file_arg = record file_arg { required = true }
 
 -- a subcommand with these options
 abbrev pub with_options : Text → List Rule → Shape
@@ -67,13 +90,21 @@ why_shape = with_options (codes "why") (database_options (required_arg (codes "z
     ∷ required_repeatable_arg (codes "id") ∷ flag_arg (codes "together") ∷ flag_arg (codes "group")
     ∷ optional_arg (codes "bypass") ∷ []))
 
--- `check --ptfin F [--hold F] [--cntl F --date YYYY-MM-DD]` with `--srel S`, or with `--db F [--wait SECONDS] --zone Z
--- [--why ID]..`
+-- `--srel S`, or `--db F [--wait SECONDS] --zone Z [--why ID]..`, and these after them
+abbrev pub system_options : List Rule → List Rule
+system_options more = optional_arg (codes "srel") ∷ optional_arg (codes "db") ∷ optional_arg (codes "wait")
+    ∷ optional_arg (codes "zone") ∷ optional_repeatable_arg (codes "why") ∷ more
+
+-- `check` of a system, with `FILE..` or `--ptfin F [--hold F]`, and with `--cntl F --date YYYY-MM-DD` or
+-- `--certificate F`
 abbrev pub check_shape : Shape
-check_shape = with_options (codes "check")
-    (optional_arg (codes "srel") ∷ optional_arg (codes "db") ∷ optional_arg (codes "wait") ∷ optional_arg (codes "zone")
-    ∷ optional_repeatable_arg (codes "why") ∷ required_arg (codes "ptfin") ∷ optional_arg (codes "hold")
-    ∷ optional_arg (codes "cntl") ∷ optional_arg (codes "date") ∷ [])
+check_shape = with_options (codes "check") (system_options (optional_arg (codes "ptfin") ∷ optional_arg (codes "hold")
+    ∷ optional_arg (codes "cntl") ∷ optional_arg (codes "date") ∷ optional_arg (codes "certificate") ∷ file_arg ∷ []))
+
+-- `lint --srel S [--form text|json] FILE..`
+abbrev pub lint_shape : ValueParser → Shape
+lint_shape forms = with_options (codes "lint")
+    (required_arg (codes "srel") ∷ form_arg forms ∷ required_file_arg ∷ [])
 
 -- `migrate --db F [--wait SECONDS]`
 abbrev pub migrate_shape : Shape
@@ -83,17 +114,18 @@ migrate_shape = with_options (codes "migrate") (database_options [])
 abbrev pub verify_shape : Shape
 verify_shape = with_options (codes "verify") (database_options [])
 
--- `smpe` with one of the seven, and `--version`
-abbrev pub smpe : ValueParser → App
-smpe kinds = record {
+-- `smpe` with one of the eight, and `--version`
+abbrev pub smpe : ValueParser → ValueParser → App
+smpe kinds forms = record {
   top = record (new_app (codes "smpe")).top {
     is_leaf = false;
     has_version = true;
     subcommand_required = true;
     disable_help_subcommand = true;
   };
-  subs = zone_shape kinds ∷ run_shape ∷ list_shape ∷ why_shape ∷ check_shape ∷ migrate_shape ∷ verify_shape ∷ [];
+  subs = zone_shape kinds ∷ run_shape ∷ list_shape ∷ why_shape ∷ check_shape ∷ lint_shape forms ∷ migrate_shape
+      ∷ verify_shape ∷ [];
 }
 
 abbrev pub IsCommandLine : App → Type 0
-IsCommandLine app = (kinds : ValueParser) × IsKindParser kinds × (app ≡ smpe kinds)
+IsCommandLine app = (kinds forms : ValueParser) × IsKindParser kinds × IsFormParser forms × (app ≡ smpe kinds forms)

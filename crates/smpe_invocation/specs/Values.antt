@@ -1,6 +1,6 @@
 -- The values of the options, as clap's matches have them.
-use Rattle.std.specs.Prelude.{◌≡◌, ◌↔◌, ◌≤◌, ℕ, All, IsTrue, Bool, List, [], ◌∷◌, Option, Some, None, codes, option_map}
-use Rattle.std.specs.Prelude.{IfSome}
+use Rattle.std.specs.Prelude.{◌≡◌, ◌≢◌, ◌↔◌, ◌≤◌, ℕ, All, IsTrue, Bool, List, [], ◌∷◌, Option, Some, None, codes, map}
+use Rattle.std.specs.Prelude.{option_map, IfSome}
 use Rattle.std.specs.Str.Parse.{IsNumeral, digits_value, without_leading_plus}
 use Rattle.std.specs.String.{string_bytes}
 use Rattle.terms.specs.Types.{Text}
@@ -15,7 +15,11 @@ use Rattle.smpe_invocation.specs.declared.asked.CommandJob.{CommandJob}
 use Rattle.smpe_invocation.specs.declared.asked.DatabaseFile.{DatabaseFile}
 use Rattle.smpe_invocation.specs.declared.asked.Invocation.{Invocation}
 use Rattle.smpe_invocation.specs.declared.asked.Invocation.TheVariants as asked
+use Rattle.smpe_invocation.specs.declared.asked.LintForm.{LintForm}
+use Rattle.smpe_invocation.specs.declared.asked.LintForm.TheVariants as lint_form
 use Rattle.smpe_invocation.specs.declared.asked.ServiceSet.{ServiceSet}
+use Rattle.smpe_invocation.specs.declared.asked.SetFiles.{SetFiles}
+use Rattle.smpe_invocation.specs.declared.asked.SetFiles.TheVariants.{Records, AsTheyCome}
 
 abbrev pub HasText : Text → List Row → Text → Type 0
 HasText id rows text = first_of id rows ≡ Some text
@@ -72,15 +76,40 @@ abbrev pub AreIds : Option (List Text) → List Text → Type 0
 AreIds None ids = ids ≡ []
 AreIds (Some texts) ids = (ids ≡ texts) × All IsId ids
 
+-- the names of files that are not values of options: at least one, in their order
+abbrev pub HasFiles : List Row → List Text → Type 0
+HasFiles rows files = (all_of (codes "file") rows ≡ Some files) × (files ≢ [])
+
+abbrev pub form_text : LintForm → Text
+form_text lint_form.Text = codes "text"
+form_text lint_form.Json = codes "json"
+
+-- the form of the answer of `lint`; a text, if the words do not say which
+abbrev pub IsForm : Option Text → LintForm → Type 0
+IsForm None form = form ≡ lint_form.Text
+IsForm (Some text) form = text ≡ form_text form
+
 -- The commands, if the words have a file of them; then they have a date.
 abbrev pub HasCommands : List Row → Option CommandJob → Type 0
 HasCommands rows None = Lacks (codes "cntl") rows
 HasCommands rows (Some commands) =
     HasText (codes "cntl") rows (string_bytes commands.cntl) × HasDate rows commands.date
 
+-- the records of `--ptfin` and `--hold`, or files as they come, and not both
+abbrev pub HasSetFiles : List Row → SetFiles → Type 0
+HasSetFiles rows (Records ptfin hold) = HasText (codes "ptfin") rows (string_bytes ptfin)
+    × HasOptional (codes "hold") rows (option_map string_bytes hold) × Lacks (codes "file") rows
+HasSetFiles rows (AsTheyCome files) = HasFiles rows (map string_bytes files.items) × Lacks (codes "ptfin") rows
+    × Lacks (codes "hold") rows
+
+-- The file for the certificate, if the words have one; then they have no commands.
+abbrev pub HasCertificate : List Row → Option Text → Type 0
+HasCertificate rows None = Lacks (codes "certificate") rows
+HasCertificate rows (Some name) = HasText (codes "certificate") rows name × Lacks (codes "cntl") rows
+
 abbrev pub HasServiceSet : List Row → ServiceSet → Type 0
-HasServiceSet rows set = HasText (codes "ptfin") rows (string_bytes set.ptfin)
-    × HasOptional (codes "hold") rows (option_map string_bytes set.hold) × HasCommands rows set.commands
+HasServiceSet rows set = HasSetFiles rows set.files × HasCommands rows set.commands
+    × HasCertificate rows (option_map string_bytes set.certificate)
 
 -- an empty system with an SREL, or a copy of a database at a zone, and not both
 abbrev pub HasSystem : List Row → CheckedSystem → Type 0
@@ -96,6 +125,7 @@ subcommand (asked.Run db options) = codes "run"
 subcommand (asked.List db zone) = codes "list"
 subcommand (asked.Why db options) = codes "why"
 subcommand (asked.Check system set) = codes "check"
+subcommand (asked.Lint options) = codes "lint"
 subcommand (asked.Migrate db) = codes "migrate"
 subcommand (asked.Verify db) = codes "verify"
 
@@ -115,6 +145,8 @@ HasOptions rows (asked.Why db options) = HasDatabase rows db × HasZoneName (cod
     × HasFlag (codes "group") rows options.group
     × HasOptional (codes "bypass") rows (option_map string_bytes options.bypass)
 HasOptions rows (asked.Check system set) = HasSystem rows system × HasServiceSet rows set
+HasOptions rows (asked.Lint options) = HasSrel rows options.srel × IsForm (first_of (codes "form") rows) options.form
+    × HasFiles rows (map string_bytes options.files.items)
 HasOptions rows (asked.Migrate db) = HasDatabase rows db
 HasOptions rows (asked.Verify db) = HasDatabase rows db
 

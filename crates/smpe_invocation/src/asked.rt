@@ -16,12 +16,22 @@ pub struct CommandJob {
     pub date: YyDdd,
 }
 
-/// A service set, by the names of its files, and the commands to check it with, unless all of it is installed.
+/// The files of a service set, by their names.
+#[derive(Drop)]
+pub enum SetFiles {
+    /// Records, as RECEIVE reads them.
+    Records { ptfin: String, hold: Option<String> },
+    /// A shop's own files, as they come. There is at least one.
+    AsTheyCome(Vec<String>),
+}
+
+/// A service set, the commands to check it with, unless all of it is installed, and the name of a new file for the
+/// certificate of the decision.
 #[derive(Drop)]
 pub struct ServiceSet {
-    pub ptfin: String,
-    pub hold: Option<String>,
+    pub files: SetFiles,
     pub commands: Option<CommandJob>,
+    pub certificate: Option<String>,
 }
 
 /// A copy of a database, the zone into which a service set is tried, and the ids about which `why` is asked afterwards.
@@ -73,6 +83,22 @@ pub struct WhyOptions {
     pub bypass: Option<String>,
 }
 
+/// The form in which the findings of `lint` are printed.
+#[derive(Clone, Copy)]
+pub enum LintForm {
+    Text,
+    Json,
+}
+
+/// The files of a service stream, by their names, the SREL of the systems that it is for, and the form of the answer.
+#[derive(Drop)]
+pub struct LintOptions {
+    pub srel: Srel,
+    pub form: LintForm,
+    /// There is at least one.
+    pub files: Vec<String>,
+}
+
 /// What `smpe` is asked to do. The texts are the names of files.
 #[derive(Drop)]
 pub enum Invocation {
@@ -100,6 +126,10 @@ pub enum Invocation {
     Check {
         system: CheckedSystem,
         set: ServiceSet,
+    },
+    /// Tell what keeps a service stream from being clean, by its files alone.
+    Lint {
+        options: LintOptions,
     },
     /// Migrate a database of an earlier schema to the program's own.
     Migrate {

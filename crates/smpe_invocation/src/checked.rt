@@ -1,17 +1,21 @@
 //! The service set that is checked, and the system in which that is done.
-ghost use Rattle.std.specs.Prelude.{Option, IfOk, IfErr, codes};
+ghost use Rattle.std.specs.Prelude.{Option, IfOk, IfErr, codes, option_map};
+ghost use Rattle.std.specs.String.{string_bytes};
+ghost use Rattle.terms.specs.Types.{Text};
 ghost use Rattle.clap.specs.Words.{found_of, rows_of};
 ghost use Rattle.smpe_invocation.specs.Answers.{Excludes};
-ghost use Rattle.smpe_invocation.specs.Values.{HasCommands, HasServiceSet, HasSystem, Lacks};
+ghost use Rattle.smpe_invocation.specs.Values.{HasCertificate, HasCommands, HasServiceSet, HasSetFiles};
+ghost use Rattle.smpe_invocation.specs.Values.{HasSystem, Lacks};
 ghost use Rattle.smpe_invocation.specs.declared.asked.CheckedSystem.{CheckedSystem};
 ghost use Rattle.smpe_invocation.specs.declared.asked.CommandJob.{CommandJob};
 ghost use Rattle.smpe_invocation.specs.declared.asked.ServiceSet.{ServiceSet};
+ghost use Rattle.smpe_invocation.specs.declared.asked.SetFiles.{SetFiles};
 
-use crate::asked::{CheckedSystem, CommandJob, ServiceSet, SystemCopy};
+use crate::asked::{CheckedSystem, CommandJob, ServiceSet, SetFiles, SystemCopy};
 use crate::fault::ArgFault;
 use crate::option_values::{
-    copy_optional_text, copy_required_text, lacks, read_database, read_job_date, read_optional_ids,
-    read_srel, read_zone_name,
+    copy_optional_text, copy_required_text, lacks, read_database, read_files, read_job_date,
+    read_optional_ids, read_srel, read_zone_name,
 };
 use clap::ArgMatches;
 use std::alloc::Global;
@@ -77,7 +81,66 @@ fn read_command_job(alloc: Global, found: &ArgMatches<'_>) -> Result<Option<Comm
     Ok(Some(CommandJob { cntl, date }))
 }
 
-/// Reads the names of the service set's files, and the commands to check it with.
+// Reads the names of the service set's files: those of records if `--ptfin` is given, otherwise those that come as they
+// are.
+fn read_set_files(alloc: Global, found: &ArgMatches<'_>) -> Result<SetFiles, ArgFault>
+    ensures ok { IfOk result (HasSetFiles (rows_of (found_of found.now))) }
+    ensures err { IfErr result (λ e. Excludes e ((files : SetFiles)
+        × HasSetFiles (rows_of (found_of found.now)) files)) }
+{
+    if lacks(found, "ptfin") {
+        read_files_as_they_come(alloc, found)
+    } else {
+        read_record_files(alloc, found)
+    }
+}
+
+// Reads the names of files that come as they are. Returns `BadOperand` if there are none, or if `--hold` is given.
+fn read_files_as_they_come(alloc: Global, found: &ArgMatches<'_>) -> Result<SetFiles, ArgFault>
+    requires { Lacks (codes "ptfin") (rows_of (found_of found.now)) }
+    ensures ok { IfOk result (HasSetFiles (rows_of (found_of found.now))) }
+    ensures err { IfErr result (λ e. Excludes e ((files : SetFiles)
+        × HasSetFiles (rows_of (found_of found.now)) files)) }
+{
+    if !lacks(found, "hold") {
+        return Err(ArgFault::BadOperand);
+    }
+    let files = read_files(alloc, found)?;
+    Ok(SetFiles::AsTheyCome(files))
+}
+
+// Reads the names of the files of records. Returns `BadOperand` if files that come as they are are named too.
+fn read_record_files(alloc: Global, found: &ArgMatches<'_>) -> Result<SetFiles, ArgFault>
+    requires { ¬ (Lacks (codes "ptfin") (rows_of (found_of found.now))) }
+    ensures ok { IfOk result (HasSetFiles (rows_of (found_of found.now))) }
+    ensures err { IfErr result (λ e. Excludes e ((files : SetFiles)
+        × HasSetFiles (rows_of (found_of found.now)) files)) }
+{
+    if !lacks(found, "file") {
+        return Err(ArgFault::BadOperand);
+    }
+    let ptfin = copy_required_text(alloc, found, "ptfin")?;
+    let hold = copy_optional_text(alloc, found, "hold")?;
+    Ok(SetFiles::Records { ptfin, hold })
+}
+
+// Reads the name of the certificate's file, if `--certificate` is given. Returns `BadOperand` if `--cntl` is given too.
+fn read_certificate(alloc: Global, found: &ArgMatches<'_>) -> Result<Option<String>, ArgFault>
+    ensures ok { IfOk result (λ name. HasCertificate (rows_of (found_of found.now)) (option_map string_bytes name)) }
+    ensures err { IfErr result (λ e. Excludes e ((name : Option Text)
+        × HasCertificate (rows_of (found_of found.now)) name)) }
+{
+    if lacks(found, "certificate") {
+        return Ok(None);
+    }
+    if !lacks(found, "cntl") {
+        return Err(ArgFault::BadOperand);
+    }
+    let name = copy_required_text(alloc, found, "certificate")?;
+    Ok(Some(name))
+}
+
+/// Reads the names of the service set's files, the commands to check it with, and the name of the certificate's file.
 pub(crate) fn read_service_set(
     alloc: Global,
     found: &ArgMatches<'_>,
@@ -87,11 +150,11 @@ pub(crate) fn read_service_set(
         × HasServiceSet (rows_of (found_of found.now)) set)) }
 {
     let commands = read_command_job(alloc, found)?;
-    let ptfin = copy_required_text(alloc, found, "ptfin")?;
-    let hold = copy_optional_text(alloc, found, "hold")?;
+    let files = read_set_files(alloc, found)?;
+    let certificate = read_certificate(alloc, found)?;
     Ok(ServiceSet {
-        ptfin,
-        hold,
+        files,
         commands,
+        certificate,
     })
 }

@@ -2,11 +2,12 @@
 ghost use Rattle.std.specs.Prelude.{◌≡◌, [], false, codes, IfOk};
 ghost use Rattle.clap.specs.Words.{app_of, rule_of};
 ghost use Rattle.clap.specs.declared.builder.value_parser.ValueParser.{ValueParser};
-ghost use Rattle.smpe_invocation.specs.CommandLine.{IsCommandLine, IsKindParser, IsSubcommand, check_shape};
-ghost use Rattle.smpe_invocation.specs.CommandLine.{database_options, flag_arg, kind_arg, list_shape, migrate_shape};
-ghost use Rattle.smpe_invocation.specs.CommandLine.{optional_arg, optional_repeatable_arg, required_arg};
-ghost use Rattle.smpe_invocation.specs.CommandLine.{required_repeatable_arg, run_shape, verify_shape, why_shape};
-ghost use Rattle.smpe_invocation.specs.CommandLine.{with_options, zone_shape};
+ghost use Rattle.smpe_invocation.specs.CommandLine.{IsCommandLine, IsFormParser, IsKindParser, IsSubcommand};
+ghost use Rattle.smpe_invocation.specs.CommandLine.{check_shape, database_options, file_arg, flag_arg, form_arg};
+ghost use Rattle.smpe_invocation.specs.CommandLine.{kind_arg, lint_shape, list_shape, migrate_shape, optional_arg};
+ghost use Rattle.smpe_invocation.specs.CommandLine.{optional_repeatable_arg, required_arg, required_file_arg};
+ghost use Rattle.smpe_invocation.specs.CommandLine.{required_repeatable_arg, run_shape, system_options, verify_shape};
+ghost use Rattle.smpe_invocation.specs.CommandLine.{why_shape, with_options, zone_shape};
 
 use clap::{Arg, ArgAction, Command};
 use std::alloc::{AllocError, Global};
@@ -16,6 +17,9 @@ const VERSION: &str = "1.0.0";
 
 // The kinds of zones that `--kind` takes.
 static KINDS: [&str; 2] = ["target", "distribution"];
+
+// The forms that `--form` takes.
+static FORMS: [&str; 2] = ["text", "json"];
 
 /// `smpe`, with its subcommands.
 pub(crate) fn command_line<'a>(alloc: Global) -> Result<Command<'a>, AllocError>
@@ -35,6 +39,7 @@ pub(crate) fn command_line<'a>(alloc: Global) -> Result<Command<'a>, AllocError>
     .subcommand(list_command(alloc)?)?
     .subcommand(why_command(alloc)?)?
     .subcommand(check_command(alloc)?)?
+    .subcommand(lint_command(alloc)?)?
     .subcommand(migrate_command(alloc)?)?
     .subcommand(verify_command(alloc)?)
 }
@@ -135,16 +140,41 @@ fn why_command<'a>(alloc: Global) -> Result<Command<'a>, AllocError>
     ))
 }
 
-// `clap` takes any of the options for an empty system (`--srel`) and for a copy of a database. The module `checked`
-// refuses a mixture of the two.
+// `clap` takes any of the options for an empty system (`--srel`) and for a copy of a database, and any of the names of
+// files. The module `checked` refuses a mixture of the two systems, and one of records and other files.
 fn check_command<'a>(alloc: Global) -> Result<Command<'a>, AllocError>
     ensures { IfOk result (IsSubcommand check_shape) }
+{
+    checked_system_command(alloc)?
+        .arg(optional_arg(
+            alloc,
+            "ptfin",
+            "The file of records of SYSMODs, in place of FILE",
+        ))?
+        .arg(optional_arg(alloc, "hold", "The file of records of holds, with --ptfin"))?
+        .arg(optional_arg(
+            alloc,
+            "cntl",
+            "The file of commands, in place of an APPLY CHECK of all",
+        ))?
+        .arg(optional_arg(alloc, "date", "The job's date, as YYYY-MM-DD, for --cntl"))?
+        .arg(optional_arg(
+            alloc,
+            "certificate",
+            "A new file for the certificate of the decision, without --cntl",
+        ))?
+        .arg(file_arg(alloc))
+}
+
+// `check` with the options that name the system.
+fn checked_system_command<'a>(alloc: Global) -> Result<Command<'a>, AllocError>
+    ensures { IfOk result (IsSubcommand (with_options (codes "check") (system_options []))) }
 {
     new_command(
         alloc,
         "check",
         "Tells what a service set would do in an empty system, or in a copy of a database",
-        "Example: smpe check --db smpe.db --zone TGT1 --ptfin ptf.rec --hold hold.rec --why UA00001",
+        "Example: smpe check --db smpe.db --zone TGT1 --why UA00001 ptfs.txt holddata.txt",
     )
     .arg(optional_arg(
         alloc,
@@ -162,15 +192,21 @@ fn check_command<'a>(alloc: Global) -> Result<Command<'a>, AllocError>
         alloc,
         "why",
         "An id to ask about afterwards, as why does, once or more often",
-    ))?
-    .arg(required_arg(alloc, "ptfin", "The file of SYSMODs that are received"))?
-    .arg(optional_arg(alloc, "hold", "The file of holds that are received"))?
-    .arg(optional_arg(
+    ))
+}
+
+fn lint_command<'a>(alloc: Global) -> Result<Command<'a>, AllocError>
+    ensures { IfOk result (λ c. (forms : ValueParser) × IsFormParser forms × IsSubcommand (lint_shape forms) c) }
+{
+    new_command(
         alloc,
-        "cntl",
-        "The file of commands, in place of an APPLY CHECK of all",
-    ))?
-    .arg(optional_arg(alloc, "date", "The job's date, as YYYY-MM-DD, for --cntl"))
+        "lint",
+        "Tells whether the service of files can regress, clash or lose a fix on any system",
+        "Example: smpe lint --srel Z038 ptfs.txt",
+    )
+    .arg(required_arg(alloc, "srel", "The SREL of the systems"))?
+    .arg(form_arg(alloc))?
+    .arg(required_file_arg(alloc))
 }
 
 fn migrate_command<'a>(alloc: Global) -> Result<Command<'a>, AllocError>
@@ -201,6 +237,34 @@ fn kind_arg<'a>(alloc: Global) -> Arg<'a>
     ensures global { result.global ≡ false }
 {
     required_arg(alloc, "kind", "The zone's kind").value_parser(KINDS.as_slice())
+}
+
+// `--form`, which takes one of `FORMS`.
+fn form_arg<'a>(alloc: Global) -> Arg<'a>
+    ensures rule { (forms : ValueParser) × IsFormParser forms × (rule_of result ≡ form_arg forms) }
+    ensures global { result.global ≡ false }
+{
+    optional_arg(alloc, "form", "The form of the answer").value_parser(FORMS.as_slice())
+}
+
+// The names of files, any number of them.
+fn file_arg<'a>(alloc: Global) -> Arg<'a>
+    ensures rule { rule_of result ≡ file_arg }
+    ensures global { result.global ≡ false }
+{
+    Arg::new(alloc, "file")
+        .value_name("FILE")
+        .num_args(1usize..)
+        .action(ArgAction::Append)
+        .help("Files of SYSMODs, of holds, or of both, as they come")
+}
+
+// The names of files, at least one.
+fn required_file_arg<'a>(alloc: Global) -> Arg<'a>
+    ensures rule { rule_of result ≡ required_file_arg }
+    ensures global { result.global ≡ false }
+{
+    file_arg(alloc).required(true)
 }
 
 // `--wait`, which each command over a database has.

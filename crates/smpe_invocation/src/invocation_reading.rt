@@ -5,20 +5,21 @@ ghost use Rattle.smpe_invocation.specs.Answers.{Excludes, IsMet, IsRead, IsRefus
 ghost use Rattle.smpe_invocation.specs.Values.{HasValues};
 ghost use Rattle.smpe_invocation.specs.declared.asked.Invocation.{Invocation};
 
-use crate::asked::{Invocation, RunOptions, WhyOptions, ZoneDefinition};
+use crate::asked::{Invocation, LintOptions, RunOptions, WhyOptions, ZoneDefinition};
 use crate::checked::{read_checked_system, read_service_set};
 use crate::command::command_line;
 use crate::fault::ArgFault;
 use crate::option_values::{
-    copy_optional_text, copy_required_text, has_flag, read_database, read_job_date, read_kind,
-    read_related, read_required_ids, read_srel, read_zone_name,
+    copy_optional_text, copy_required_text, has_flag, read_database, read_files, read_form,
+    read_job_date, read_kind, read_related, read_required_ids, read_srel, read_zone_name,
 };
 use clap::ArgMatches;
 use std::alloc::Global;
 
 /// Reads the words, the first of which is the program's name. Returns `Memory` if memory runs out, `Clap` if `clap`
 /// refuses the words or has a text to show instead of them, as for `--help`, and `BadOperand` if a name, an id, an
-/// SREL, a date or a number of seconds has a bad form, or if `check` is asked about no system or about two.
+/// SREL, a date or a number of seconds has a bad form, if `check` is asked about no system or about two, if it gets no
+/// service set or one of both forms, or `--hold` without `--ptfin`, or `--certificate` together with `--cntl`.
 pub fn invocation<'a>(alloc: Global, words: &'a [&'a str]) -> Result<Invocation, ArgFault>
     ensures ok { IfOk result (IsRead (map (λ word. word.now) words.entry.now)) }
     ensures err { IfErr result (IsRefused (map (λ word. word.now) words.entry.now)) }
@@ -49,6 +50,8 @@ fn read_subcommand_options(
         read_why_options(alloc, found)
     } else if name == "check" {
         read_check_options(alloc, found)
+    } else if name == "lint" {
+        read_lint_options(alloc, found)
     } else if name == "migrate" {
         read_migrate_options(alloc, found)
     } else if name == "verify" {
@@ -136,6 +139,18 @@ fn read_check_options(alloc: Global, found: &ArgMatches<'_>) -> Result<Invocatio
     let system = read_checked_system(alloc, found)?;
     let set = read_service_set(alloc, found)?;
     Ok(Invocation::Check { system, set })
+}
+
+fn read_lint_options(alloc: Global, found: &ArgMatches<'_>) -> Result<Invocation, ArgFault>
+    ensures ok { IfOk result (HasValues (codes "lint", rows_of (found_of found.now))) }
+    ensures err { IfErr result (λ e. Excludes e ((invocation : Invocation)
+        × HasValues (codes "lint", rows_of (found_of found.now)) invocation)) }
+{
+    let srel = read_srel(found)?;
+    let form = read_form(found)?;
+    let files = read_files(alloc, found)?;
+    let options = LintOptions { srel, form, files };
+    Ok(Invocation::Lint { options })
 }
 
 fn read_migrate_options(alloc: Global, found: &ArgMatches<'_>) -> Result<Invocation, ArgFault>

@@ -13,8 +13,8 @@ mod invocation_reading;
 mod option_values;
 
 pub use asked::{
-    CheckedSystem, CommandJob, DatabaseFile, Invocation, RunOptions, ServiceSet, SystemCopy,
-    WhyOptions, ZoneDefinition,
+    CheckedSystem, CommandJob, DatabaseFile, Invocation, LintForm, LintOptions, RunOptions,
+    ServiceSet, SetFiles, SystemCopy, WhyOptions, ZoneDefinition,
 };
 pub use date::read_date;
 pub use fault::ArgFault;

@@ -7,12 +7,13 @@ ghost use Rattle.terms.specs.Types.{Text};
 ghost use Rattle.terms.specs.declared.kinds.ZoneKind.{ZoneKind};
 ghost use Rattle.clap.specs.Words.{all_of, first_of, found_of, rows_of};
 ghost use Rattle.smpe_invocation.specs.Answers.{Excludes};
-ghost use Rattle.smpe_invocation.specs.Values.{AreIds, AreSeconds, HasDatabase, HasDate, HasFlag, HasIds};
-ghost use Rattle.smpe_invocation.specs.Values.{HasKind, HasOptional, HasRelated, HasSrel, HasText, HasZoneName};
-ghost use Rattle.smpe_invocation.specs.Values.{IsWait, Lacks};
+ghost use Rattle.smpe_invocation.specs.Values.{AreIds, AreSeconds, HasDatabase, HasDate, HasFiles, HasFlag};
+ghost use Rattle.smpe_invocation.specs.Values.{HasIds, HasKind, HasOptional, HasRelated, HasSrel, HasText};
+ghost use Rattle.smpe_invocation.specs.Values.{HasZoneName, IsForm, IsWait, Lacks};
 ghost use Rattle.smpe_invocation.specs.declared.asked.DatabaseFile.{DatabaseFile};
+ghost use Rattle.smpe_invocation.specs.declared.asked.LintForm.{LintForm};
 
-use crate::asked::DatabaseFile;
+use crate::asked::{DatabaseFile, LintForm};
 use crate::date::read_date;
 use crate::fault::ArgFault;
 use clap::ArgMatches;
@@ -181,6 +182,52 @@ fn option_texts<'a, 'b>(found: &'b ArgMatches<'a>, option: &str) -> Option<&'b [
         ≡ all_of option.now (rows_of (found_of found.now)) }
 {
     found.get_strs(option)
+}
+
+// Copies of the texts.
+fn copy_texts(alloc: Global, texts: &[&str]) -> Result<Vec<String>, AllocError>
+    ensures { IfOk result (λ copies. map string_bytes copies.items ≡ map (λ text. text.now) texts.now) }
+{
+    let mut copies = Vec::new(alloc);
+    for text in texts {
+        let copy = String::from_str(alloc, *text)?;
+        copies.push(copy)?;
+    }
+    Ok(copies)
+}
+
+/// The names of the files that are not values of options. Returns `BadOperand` if the words have none.
+pub(crate) fn read_files(alloc: Global, found: &ArgMatches<'_>) -> Result<Vec<String>, ArgFault>
+    ensures ok { IfOk result (λ files. HasFiles (rows_of (found_of found.now)) (map string_bytes files.items)) }
+    ensures err { IfErr result (λ e. Excludes e ((files : List Text) × HasFiles (rows_of (found_of found.now)) files)) }
+{
+    let Some(texts) = option_texts(found, "file") else {
+        return Err(ArgFault::BadOperand);
+    };
+    if texts.is_empty() {
+        return Err(ArgFault::BadOperand);
+    }
+    let files = copy_texts(alloc, texts)?;
+    Ok(files)
+}
+
+/// The form of `--form`, or `Text` if the words lack it. Returns `BadOperand` for any other text, which `clap` refuses
+/// before.
+pub(crate) fn read_form(found: &ArgMatches<'_>) -> Result<LintForm, ArgFault>
+    ensures ok { IfOk result (IsForm (first_of (codes "form") (rows_of (found_of found.now)))) }
+    ensures err { IfErr result (λ e. Excludes e ((form : LintForm)
+        × IsForm (first_of (codes "form") (rows_of (found_of found.now))) form)) }
+{
+    let Some(text) = option_text(found, "form") else {
+        return Ok(LintForm::Text);
+    };
+    if text == "text" {
+        Ok(LintForm::Text)
+    } else if text == "json" {
+        Ok(LintForm::Json)
+    } else {
+        Err(ArgFault::BadOperand)
+    }
 }
 
 /// The ids of `--id`. Returns `BadOperand` if the words have none.

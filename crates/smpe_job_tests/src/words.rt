@@ -3,7 +3,7 @@
 use fields::Id;
 use scripts::compare;
 use smpe::{ArgFault, DatabaseFile, Invocation, invocation};
-use smpe_invocation::{CheckedSystem, ServiceSet, WhyOptions};
+use smpe_invocation::{CheckedSystem, LintForm, LintOptions, ServiceSet, SetFiles, WhyOptions};
 use std::alloc::Global;
 use std::test::Fail;
 
@@ -51,28 +51,55 @@ const ASKED: &[(&str, &str)] = &[
         "why --db F --zone TGT1 --bypass HOLDSYSTEM(ACTION),PRE --group --id UA00001",
         "F:0 TGT1 UA00001 - group HOLDSYSTEM(ACTION),PRE",
     ),
-    ("check --srel Z038 --ptfin P", "Z038 P - - -"),
-    ("check --db F --zone TGT1 --ptfin P", "F:0 TGT1 - P - - -"),
+    ("check --srel Z038 --ptfin P", "Z038 ptfin P - - - -"),
+    (
+        "check --db F --zone TGT1 --ptfin P",
+        "F:0 TGT1 - ptfin P - - - -",
+    ),
     (
         "check --why UA00001 --db F --wait 5 --zone TGT1 --ptfin P --why UA00002 --hold H",
-        "F:5 TGT1 UA00001,UA00002 P H - -",
+        "F:5 TGT1 UA00001,UA00002 ptfin P H - - -",
     ),
     (
         "check --db F --zone TGT1 --ptfin P --cntl C --date 2024-05-17",
-        "F:0 TGT1 - P - C 24.138",
+        "F:0 TGT1 - ptfin P - C 24.138 -",
     ),
     (
         "check --ptfin P --hold H --srel Z038 --cntl C --date 2024-05-17",
-        "Z038 P H C 24.138",
+        "Z038 ptfin P H C 24.138 -",
     ),
+    (
+        "check --ptfin P --srel Z038 --certificate D",
+        "Z038 ptfin P - - - D",
+    ),
+    ("check --srel Z038 A", "Z038 A - - -"),
+    ("check A --srel Z038 B C", "Z038 A,B,C - - -"),
+    (
+        "check --why UA00001 A --db F --zone TGT1 --certificate=D B",
+        "F:0 TGT1 UA00001 A,B - - D",
+    ),
+    (
+        "check --srel Z038 --cntl C --date 2024-05-17 -- A --hold",
+        "Z038 A,--hold C 24.138 -",
+    ),
+    ("lint --srel Z038 A", "Z038 text A"),
+    ("lint A --form=json B --srel Z038", "Z038 json A,B"),
+    ("lint --form text --srel Z038 A A", "Z038 text A,A"),
     ("migrate --db F --wait 0", "F:0"),
     ("verify --wait 5 --db F", "F:5"),
 ];
 
 /// Words that `clap` refuses, or to which it responds itself.
 const CLAP: &[&str] = &[
-    "check --srel Z038",
     "check --db F --db G --zone TGT1 --ptfin P",
+    "check --srel Z038 --certificate C --certificate D A",
+    "check --srel Z038 -A",
+    "lint --srel Z038",
+    "lint A",
+    "lint --srel Z038 --form xml A",
+    "lint --srel Z038 --form text --form json A",
+    "lint --db F --srel Z038 A",
+    "lnt --srel Z038 A",
     "why --db F --zone TGT1 --id UA00001 --together yes",
     "why --db F --zone TGT1 --id UA00001 --bypass",
     "",
@@ -105,6 +132,15 @@ const CLAP: &[&str] = &[
 const BAD: &[&str] = &[
     "check --srel Z038 --ptfin P --cntl C",
     "check --ptfin P",
+    "check A",
+    "check --srel Z038",
+    "check --srel Z038 --ptfin P A",
+    "check --srel Z038 --hold H",
+    "check --srel Z038 --hold H A",
+    "check --srel Z038 --cntl C A",
+    "check --srel Z038 --cntl C --date 2024-05-17 --certificate D A",
+    "check --srel Z038 --zone TGT1 A",
+    "lint --srel z038 A",
     "check --db F --ptfin P",
     "check --srel Z038 --db F --zone TGT1 --ptfin P",
     "check --srel Z038 --zone TGT1 --ptfin P",
@@ -181,6 +217,7 @@ fn invocation_text(alloc: Global, invocation: &Invocation) -> Result<String, Fai
             let set = service_set_text(alloc, set)?;
             Ok(format!(in alloc; "{system} {set}")?)
         }
+        Invocation::Lint { options } => lint_text(alloc, options),
         Invocation::Migrate { db } => database_text(alloc, db),
         Invocation::Verify { db } => database_text(alloc, db),
     }
@@ -211,10 +248,10 @@ fn system_text(alloc: Global, system: &CheckedSystem) -> Result<String, Fail> {
     }
 }
 
-// The files of a service set, and the date of its commands.
+// The files of a service set, its commands with their date, and the certificate's file.
 fn service_set_text(alloc: Global, set: &ServiceSet) -> Result<String, Fail> {
-    let ptfin = set.ptfin.as_str();
-    let hold = set.hold.as_ref().map_or("-", |text| text.as_str());
+    let files = set_files_text(alloc, &set.files)?;
+    let certificate = set.certificate.as_ref().map_or("-", |text| text.as_str());
     let (cntl, date) = match &set.commands {
         Some(commands) => (
             commands.cntl.as_str(),
@@ -222,7 +259,42 @@ fn service_set_text(alloc: Global, set: &ServiceSet) -> Result<String, Fail> {
         ),
         None => ("-", "-"),
     };
-    Ok(format!(in alloc; "{ptfin} {hold} {cntl} {date}")?)
+    Ok(format!(in alloc; "{files} {cntl} {date} {certificate}")?)
+}
+
+// The names of a service set's files.
+fn set_files_text(alloc: Global, files: &SetFiles) -> Result<String, Fail> {
+    match files {
+        SetFiles::Records { ptfin, hold } => {
+            let hold = hold.as_ref().map_or("-", |text| text.as_str());
+            let ptfin = ptfin.as_str();
+            Ok(format!(in alloc; "ptfin {ptfin} {hold}")?)
+        }
+        SetFiles::AsTheyCome(files) => names_text(alloc, files.as_slice()),
+    }
+}
+
+// What is linted, and in which form it is told.
+fn lint_text(alloc: Global, options: &LintOptions) -> Result<String, Fail> {
+    let srel = std::str::from_utf8(options.srel.as_bytes())?;
+    let form = match options.form {
+        LintForm::Text => "text",
+        LintForm::Json => "json",
+    };
+    let files = names_text(alloc, options.files.as_slice())?;
+    Ok(format!(in alloc; "{srel} {form} {files}")?)
+}
+
+// The names of files, with a comma between two.
+fn names_text(alloc: Global, names: &[String]) -> Result<String, Fail> {
+    let mut text = String::new(alloc);
+    for name in names {
+        if !text.is_empty() {
+            text.push_str(",")?;
+        }
+        text.push_str(name.as_str())?;
+    }
+    Ok(text)
 }
 
 // The name of a database, and the seconds to wait for it.

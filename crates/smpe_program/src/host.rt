@@ -8,11 +8,12 @@ ghost use Rattle.smpe_program.specs.Wary.{IsWary};
 
 use crate::copy::{CopyFault, read_for_copy};
 use crate::left::LeftDatabase;
+use crate::new_file::write_new_file;
 use crate::place::{is_missing, is_surely_no_database};
 use crate::related_zone::query_related_zone;
 use clap::Error as WordsError;
 use smpe_command::{DatabaseBytes, DatabaseFile, Host};
-use smpe_hints::has_whole_records;
+use smpe_hints::{CommandLine, has_whole_records};
 use smpe_warnings::{ReadFile, RelatedZone};
 use sqlite::{Connection, Error, ErrorCode, FileFrom, FileStore, Wary};
 use sqlite_disk::Tally;
@@ -81,6 +82,8 @@ impl Closing {
 #[derive(Drop)]
 pub(crate) struct ProgramHost<'a> {
     rt: &'a HostRuntime,
+    /// The words of the command line.
+    line: CommandLine<'a>,
     /// Whether to create a database if there is none.
     may_create_database: bool,
     /// The zone that `--related` names, and what the database knows of it, for the hints.
@@ -89,21 +92,23 @@ pub(crate) struct ProgramHost<'a> {
     pub(crate) database: Database,
     /// The connection that the command has closed, until the hints have asked it.
     pub(crate) left: LeftDatabase,
-    /// The files that were read.
+    /// The files of records that were read.
     pub(crate) files: Vec<ReadFile>,
-    /// Why a file was not read.
-    pub(crate) unread: Option<String>,
+    /// Why a file was not read, or not created.
+    pub(crate) file_fault: Option<String>,
 }
 
 impl ProgramHost<'_> {
     /// A host that has read nothing and opened no database.
     pub(crate) fn new<'a>(
         rt: &'a HostRuntime,
+        line: CommandLine<'a>,
         may_create_database: bool,
         related_name: Option<&'a str>,
     ) -> ProgramHost<'a> {
         ProgramHost {
             rt,
+            line,
             may_create_database,
             related_name,
             related: RelatedZone::Unknown,
@@ -113,7 +118,7 @@ impl ProgramHost<'_> {
                 conn: None,
             },
             files: Vec::new(rt.alloc()),
-            unread: None,
+            file_fault: None,
         }
     }
 
@@ -130,8 +135,15 @@ impl ProgramHost<'_> {
         }
     }
 
-    // Keeps a copy of the file, for the hints about its records. If memory runs out, these hints are left out.
-    fn keep_file(&mut self, name: &str, bytes: &[u8]) {
+    // Keeps a copy of a file of records, for the hints about its records. If memory runs out, these hints are left out.
+    // If the file does not end with a whole record, it is refused by RECEIVE, and as a command file. Usually it is typed
+    // text, so a line on standard error says what to do.
+    fn keep_records(&mut self, name: &str, bytes: &[u8]) {
+        if !has_whole_records(bytes) {
+            let _ = eprintln!(self.rt;
+                "smpe: {name} is no file of 80-byte records; smpe-cards makes one of text"
+            );
+        }
         let alloc = self.rt.alloc();
         if let (Ok(name), Ok(bytes)) = (
             String::from_str(alloc, name),
@@ -139,6 +151,11 @@ impl ProgramHost<'_> {
         ) {
             let _ = self.files.push(ReadFile { name, bytes });
         }
+    }
+
+    // Notes why a file was not read or not created, for what is said at the end.
+    fn note_file_fault(&mut self, name: &str, error: &io::Error) {
+        self.file_fault = format!(in self.rt.alloc(); "{name}: {error}").ok();
     }
 
     // A copy of the name, or no text if memory runs out.
@@ -149,11 +166,9 @@ impl ProgramHost<'_> {
     // Notes why a database was not copied, for what is said at the end.
     fn note_copy_fault(&mut self, name: &str, fault: &CopyFault) {
         match fault {
-            CopyFault::Unread(error) => {
-                self.unread = format!(in self.rt.alloc(); "{name}: {error}").ok();
-            }
+            CopyFault::Unread(error) => self.note_file_fault(name, error),
             CopyFault::Unfit(why) => {
-                self.unread = format!(in self.rt.alloc(); "{name}: {why}").ok();
+                self.file_fault = format!(in self.rt.alloc(); "{name}: {why}").ok();
             }
             CopyFault::NoDatabase => {
                 let error = Error::SqliteFailure(ErrorCode::NotADatabase);
@@ -215,6 +230,10 @@ impl Host for ProgramHost<'_> {
 
     ghost withholds = { λ _ _ _ _. Unit {0} };
 
+    ghost takes = { λ _ _ _ _. Unit {0} };
+
+    ghost declines = { λ _ _ _ _. Unit {0} };
+
     ghost opens = { λ _ _ conn _. IsNew conn × IsWary conn × (HasCleanDisk (file_state conn) → IsOpened conn) };
 
     ghost holds = { λ _ _ _ _ _. Unit {0} };
@@ -227,21 +246,27 @@ impl Host for ProgramHost<'_> {
 
     ghost prints = { λ _ _ _. Unit {0} };
 
-    // A file that does not end with a whole record is refused by RECEIVE, and as a command file. Usually it is typed
-    // text, so a line on standard error says what to do.
+    // Files that no option names come as they are, and nothing is said of their records.
     fn read(&mut self, name: &str) -> io::Result<Vec<u8>> {
         match fs::read(self.rt, name) {
             Ok(bytes) => {
-                if !has_whole_records(bytes.as_slice()) {
-                    let _ = eprintln!(self.rt;
-                        "smpe: {name} is no file of 80-byte records; smpe-cards makes one of text"
-                    );
+                if self.line.names_records(name) {
+                    self.keep_records(name, bytes.as_slice());
                 }
-                self.keep_file(name, bytes.as_slice());
                 Ok(bytes)
             }
             Err(error) => {
-                self.unread = format!(in self.rt.alloc(); "{name}: {error}").ok();
+                self.note_file_fault(name, &error);
+                Err(error)
+            }
+        }
+    }
+
+    fn write_new(&mut self, name: &str, bytes: &[u8]) -> io::Result<()> {
+        match write_new_file(self.rt, name, bytes) {
+            Ok(()) => Ok(()),
+            Err(error) => {
+                self.note_file_fault(name, &error);
                 Err(error)
             }
         }

@@ -1,12 +1,13 @@
-//! `smpe`: defines a zone of a database, runs a job over it, lists a zone, migrates the database to its schema, or
-//! tells what a service set would do without one. `smpe_command::command` does all of this. Here is the input and
-//! output for which it asks, which is proved safe, and what is said on standard error besides its lines.
+//! `smpe`: defines a zone of a database, runs a job over it, lists a zone, migrates the database to its schema, tells
+//! what a service set would do without one, or lints a service stream. `smpe_command::command` does all of this. Here is
+//! the input and output for which it asks, which is proved safe, and what is said on standard error besides its lines.
 #![tactic(auto)]
 
 mod command_line;
 mod copy;
 mod host;
 mod left;
+mod new_file;
 mod place;
 mod related_zone;
 mod telling;
@@ -16,6 +17,7 @@ use command_line::read_words;
 use host::ProgramHost;
 use report::Out;
 use smpe_command::command;
+use smpe_hints::CommandLine;
 use smpe_warnings::related_name;
 use std::process::ExitCode;
 use telling::{job_warnings, write_hints};
@@ -29,6 +31,7 @@ fn main(rt: HostRuntime) -> ExitCode {
     };
     let mut host = ProgramHost::new(
         &rt,
+        CommandLine { words: known_words },
         may_create_database(known_words),
         related_name(known_words),
     );

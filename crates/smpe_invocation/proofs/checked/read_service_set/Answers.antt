@@ -1,3 +1,4 @@
+use Rattle.std.proofs.Common.{option_map}
 use Rattle.std.specs.String.{string_bytes}
 use Rattle.smpe_invocation.proofs.Excluding.{handed_on}
 use Rattle.smpe_invocation.proofs.checked.read_service_set.Goals as goal
@@ -5,11 +6,17 @@ use Rattle.smpe_invocation.proofs.checked.read_service_set.Goals as goal
 pub returns-in_err-commands-clause-err : goal.returns-in_err-commands-clause-err
 returns-in_err-commands-clause-err c =
     handed_on _ _ _ _ c.from_residual.ensures.1
-    (λ has. (has.0.commands, has.1.2))
+    (λ has. (has.0.commands, has.1.1))
     c.in_err-commands.ensures.err
 
-pub returns-in_err-ptfin-clause-err : goal.returns-in_err-ptfin-clause-err
-returns-in_err-ptfin-clause-err c =
-    handed_on _ _ _ _ c.from_residual-in_err-ptfin.ensures.1
-    (λ has. (string_bytes has.0.ptfin, has.1.0))
-    c.in_err-ptfin.ensures.err
+pub returns-in_err-files-clause-err : goal.returns-in_err-files-clause-err
+returns-in_err-files-clause-err c =
+    handed_on _ _ _ _ c.from_residual-in_err-files.ensures.1
+    (λ has. (has.0.files, has.1.0))
+    c.in_err-files.ensures.err
+
+pub returns-in_err-certificate-clause-err : goal.returns-in_err-certificate-clause-err
+returns-in_err-certificate-clause-err c =
+    handed_on _ _ _ _ c.from_residual-in_err-certificate.ensures.1
+    (λ has. (option_map string_bytes has.0.certificate, has.1.2))
+    c.in_err-certificate.ensures.err

@@ -4,21 +4,16 @@ use Rattle.smpe_invocation.proofs.command.check_command.Goals as goal
 
 pub returns : goal.returns
 returns c =
-    let at1 = one_more _ _ _ _ _ _ c.new_command.ensures c.in_ok-arg.ensures
+    let at1 = one_more _ _ _ _ _ _ c.in_ok-checked_system_command.ensures c.in_ok-arg.ensures
     c.optional_arg.ensures.rule c.optional_arg.ensures.global in
     let at2 = one_more _ _ _ _ _ _ at1 c.in_ok-arg-2.ensures
     c.optional_arg-2.ensures.rule c.optional_arg-2.ensures.global in
-    let at3 = one_more _ _ _ _ _ _ at2 c.in_ok-arg-3.ensures c.wait_arg.ensures.rule c.wait_arg.ensures.global in
-    let at4 = one_more _ _ _ _ _ _ at3 c.in_ok-arg-4.ensures
+    let at3 = one_more _ _ _ _ _ _ at2 c.in_ok-arg-3.ensures
     c.optional_arg-3.ensures.rule c.optional_arg-3.ensures.global in
-    let at5 = one_more _ _ _ _ _ _ at4 c.in_ok-arg-5.ensures
-    c.optional_repeatable_arg.ensures.rule c.optional_repeatable_arg.ensures.global in
-    let at6 = one_more _ _ _ _ _ _ at5 c.in_ok-arg-6.ensures
-    c.required_arg.ensures.rule c.required_arg.ensures.global in
-    let at7 = one_more _ _ _ _ _ _ at6 c.in_ok-arg-7.ensures
+    let at4 = one_more _ _ _ _ _ _ at3 c.in_ok-arg-4.ensures
     c.optional_arg-4.ensures.rule c.optional_arg-4.ensures.global in
-    let at8 = one_more _ _ _ _ _ _ at7 c.in_ok-arg-8.ensures
+    let at5 = one_more _ _ _ _ _ _ at4 c.in_ok-arg-5.ensures
     c.optional_arg-5.ensures.rule c.optional_arg-5.ensures.global in
-    IfOk-weaker c.arg-9.result _ _
-    (λ new added. one_more _ _ _ _ _ _ at8 added c.optional_arg-6.ensures.rule c.optional_arg-6.ensures.global)
-    c.arg-9.ensures
+    IfOk-weaker c.arg-6.result _ _
+    (λ new added. one_more _ _ _ _ _ _ at5 added c.file_arg.ensures.rule c.file_arg.ensures.global)
+    c.arg-6.ensures

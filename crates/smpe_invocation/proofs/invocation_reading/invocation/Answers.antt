@@ -13,10 +13,10 @@ use Rattle.smpe_invocation.proofs.invocation_reading.invocation.Goals.{Joined-ma
 use Rattle.smpe_invocation.proofs.invocation_reading.invocation.Goals as goal
 
 free : (c : Command) → IsCommandLine (app_of c) → is_simple_and_free (app_of c) ≡ true
-free c line = ap is_simple_and_free line.2 ∙ smpe_is_simple_and_free line.0
+free c line = ap is_simple_and_free line.4 ∙ smpe_is_simple_and_free line.0 line.1
 
 simple : (c : Command) → IsCommandLine (app_of c) → is_simple (app_of c) ≡ true
-simple c line = ap is_simple line.2 ∙ smpe_is_simple line.0
+simple c line = ap is_simple line.4 ∙ smpe_is_simple line.0 line.1
 
 met_is : (c : Joined-matches) → option_map {U = Text × List Row} (λ p. (p.0.now, rows_of (found_of p.1.now)))
     c.subcommand.result
