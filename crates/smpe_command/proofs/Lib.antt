@@ -2,5 +2,6 @@ mod Copying
 mod Greatest
 mod Looked
 mod OneJob
+mod ReadingOn
 mod Texts
 pub mod SetZones

@@ -136,7 +136,8 @@ module _ {H D M O : Type 0} (host : HostGhosts H D) (memory : disk.Ghosts M)
   ServesSet h out system commands (Records ptfin hold) r after out' =
       ServesRecords h out system commands (string_bytes ptfin) (option_map string_bytes hold) r after out'
   ServesSet h out system commands (AsTheyCome names) r after out' =
-      ServesShop host memory sink h out system commands (map string_bytes names.items) r after out'
+      ServesShop host memory sink h out system commands (map (λ name. Some (string_bytes name)) names.items) r after
+      out'
 
   abbrev pub ServesCheck : H → O → CheckedSystem → ServiceSet → Result ℕ Fault → H → O → Type 0
   ServesCheck h out system set r after out' = ServesSet h out system set.commands set.files r after out'

@@ -1,5 +1,5 @@
 -- A shop's own files: the package that they come to, and how it is checked.
-use Rattle.std.specs.Prelude.{◌≡◌, ◌⊎◌, ◌×◌, ◌++◌, ℕ, Bool, true, false, max, List, [], ◌∷◌, length, map, find, codes}
+use Rattle.std.specs.Prelude.{◌≡◌, ◌⊎◌, ◌++◌, ℕ, Bool, true, false, max, List, [], ◌∷◌, length, map, find, codes}
 use Rattle.std.specs.Prelude.{Option, Some, None, option_map, Result, Ok, Err, IsTrue}
 use Rattle.std.specs.List.{list_any}
 use Rattle.std.specs.String.{string_bytes}
@@ -21,7 +21,7 @@ use Rattle.mcs.specs.declared.file.Item.{Item}
 use Rattle.mcs.specs.declared.hold_item.HoldItem.{HoldItem}
 use Rattle.intake_service.specs.Carrying.{is_sysmod}
 use Rattle.smpe_package.specs.Package.{AreRecords, IsPackage, is_free, package_command, package_sources, with_source}
-use Rattle.smpe_package.specs.declared.package.Package.{Package}
+use Rattle.smpe_package.specs.declared.carried.Package.{Package}
 use Rattle.smpe_invocation.specs.declared.asked.CheckedSystem.{CheckedSystem}
 use Rattle.smpe_invocation.specs.declared.asked.CheckedSystem.TheVariants.{Empty, Copied}
 use Rattle.smpe_invocation.specs.declared.asked.CommandJob.{CommandJob}
@@ -144,9 +144,10 @@ module _ {H D M O : Type 0} (host : HostGhosts H D) (memory : disk.Ghosts M) (si
 
   -- The command file is read, if there is one, and then the shop's files, in their order; or the first that cannot be
   -- read is reported, and nothing else is done. What they come to is checked.
-  abbrev pub ServesShop : H → O → CheckedSystem → Option CommandJob → List Text → Result ℕ Fault → H → O → Type 0
+  abbrev pub ServesShop : H → O → CheckedSystem → Option CommandJob → List (Option Text) → Result ℕ Fault → H → O
+      → Type 0
   ServesShop h out system commands names r after out' =
-      let all = option_map (λ c. string_bytes c.cntl) commands ∷ map (λ name. Some name) names in
+      let all = option_map (λ c. string_bytes c.cntl) commands ∷ names in
       ((fault : Fault) × FailsToRead host h all fault after × (r ≡ Err fault) × (out' ≡ out))
       ⊎ ((m : H) × (cntl : List ℕ) × (files : List (List ℕ)) × ReadsAll host h all (Ok (cntl ∷ files)) m
       × CarriesAndChecks system commands cntl m (length files) out r after out')

@@ -1,5 +1,5 @@
 //! A shop's own files are checked: the package that they come to.
-ghost use Rattle.std.specs.Prelude.{◌≡◌, IfOk, IfErr, length, map};
+ghost use Rattle.std.specs.Prelude.{◌≡◌, Some, IfOk, IfErr, length, map};
 ghost use Rattle.std.specs.String.{string_bytes};
 ghost use Rattle.smpe_command.specs.Shop.{AsksPackage, CarriesAndChecks, ChecksItems, ChecksPackage};
 ghost use Rattle.smpe_command.specs.Shop.{IsNotCarried, ServesShop};
@@ -41,7 +41,7 @@ pub(crate) fn serve_shop<'a, H: Host, O: Sink>(
     out: &mut O,
 ) -> Result<u8, Fault<'a>>
     ensures { ServesShop H.Host ⟦<Memory as Disk>⟧ O.Sink host.old out.old system.now commands.entry.now
-        (map string_bytes names.entry.now) result host.new out.new }
+        (map (λ name. Some (string_bytes name)) names.entry.now) result host.new out.new }
 {
     let cntl = commands.as_ref().map(|commands| commands.cntl.as_str());
     let cntl = read_file(alloc, host, cntl)?;
@@ -63,8 +63,8 @@ fn carry_and_check<'a, H: Host, O: Sink>(
     ensures { CarriesAndChecks H.Host ⟦<Memory as Disk>⟧ O.Sink system.now commands.now cntl.items host.old
         (length files.items) out.old result host.new out.new }
 {
-    let package = carry_files(alloc, names, files)?;
-    check_package(alloc, host, system, commands, cntl, package, out)
+    let carried = carry_files(alloc, names, files)?;
+    check_package(alloc, host, system, commands, cntl, carried, out)
 }
 
 // The package of files with these names and bytes. Afterwards their bytes are gone.
@@ -118,27 +118,27 @@ fn check_package<'a, H: Host, O: Sink>(
     system: &CheckedSystem,
     commands: &Option<CommandJob>,
     cntl: Vec<u8>,
-    package: Package,
+    carried: Package,
     out: &mut O,
 ) -> Result<u8, Fault<'a>>
-    ensures { ChecksPackage H.Host ⟦<Memory as Disk>⟧ O.Sink system.now commands.now cntl.items host.old package
+    ensures { ChecksPackage H.Host ⟦<Memory as Disk>⟧ O.Sink system.now commands.now cntl.items host.old carried
         out.old result host.new out.new }
 {
-    let status = write_remarks(&package, out)?;
+    let status = write_remarks(&carried, out)?;
     let items = PackageItems {
-        items: package.items,
-        hold_items: package.hold_items,
+        items: carried.items,
+        hold_items: carried.hold_items,
     };
     let checked = check_items(alloc, host, system, commands, cntl, items, out)?;
     Ok(checked.max(status))
 }
 
 // Writes the remarks on the package, and returns the status that they bring.
-fn write_remarks<O: Sink>(package: &Package, out: &mut O) -> Result<u8, JobError>
-    ensures { TellsText O.Sink out.old out.new package.now.remarks.items package.now.status result }
+fn write_remarks<O: Sink>(carried: &Package, out: &mut O) -> Result<u8, JobError>
+    ensures { TellsText O.Sink out.old out.new carried.now.remarks.items carried.now.status result }
 {
-    write_all(package.remarks.as_slice(), out)?;
-    Ok(package.status)
+    write_all(carried.remarks.as_slice(), out)?;
+    Ok(carried.status)
 }
 
 // Checks the items with the commands that were given, or asks about the package. If it has no SYSMOD, nothing is asked.

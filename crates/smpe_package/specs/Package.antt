@@ -1,5 +1,5 @@
 -- The package: what a shop's files come to, and the command that asks about it.
-use Rattle.std.specs.Prelude.{◌≡◌, ◌⊎◌, ◌×◌, ◌&&◌, ◌||◌, ℕ, Bool, true, false, not, List, [], ◌∷◌, ◌++◌, length, codes}
+use Rattle.std.specs.Prelude.{◌≡◌, ◌⊎◌, ◌&&◌, ℕ, Bool, true, false, not, List, [], ◌∷◌, ◌++◌, length, codes}
 use Rattle.std.specs.List.{flat_map, list_any}
 use Rattle.std.specs.Str.{bytes_eq}
 use Rattle.terms.specs.Types.{Text, Sysmod}
@@ -17,7 +17,7 @@ use Rattle.intake_carry.specs.Unsure.{AreUnsure}
 use Rattle.intake_carry.specs.declared.unsure.Unsure.{Unsure}
 use Rattle.intake_service.specs.Carrying.{CarriesFiles, HasEachSysmod}
 use Rattle.intake_service.specs.declared.carried.Carried.{Carried}
-use Rattle.smpe_package.specs.declared.package.Package.{Package}
+use Rattle.smpe_package.specs.declared.carried.Package.{Package}
 
 -- With status 0, each SYSMOD that the files state is carried, and none of them meets one that is left out.
 pub record HasStatus (files : List WideFile) (items : List Item) (unsure : List Unsure) (status : ℕ) : Type 0 where

@@ -5,14 +5,14 @@
 //! if memory runs out.
 #![tactic(auto)]
 
+mod carried;
 mod fault;
-mod package;
 mod records;
 mod remarks;
 mod source;
 
+pub use carried::{Package, carry_package, has_sysmod};
 pub use fault::PackageFault;
 pub use intake_service::GivenFile;
-pub use package::{Package, carry_package, has_sysmod};
 pub use records::{PackageRecords, package_records};
 pub use source::{free_source, package_command, with_source};

@@ -27,7 +27,7 @@ pub fn free_source(items: &[Item], global: &GlobalZone) -> Option<Source>
 
 // The sources that are kept for checks.
 fn package_sources() -> [Source; 3]
-    ensures { result.items ≡ package_sources }
+    ensures { result ≡ package_sources }
 {
     [
         Source::read(b"CHECK$1").unwrap(),

@@ -42,9 +42,9 @@ pub fn carry_package(alloc: Global, files: &[GivenFile<'_>]) -> Result<Package, 
 
 // The package that this is, with its remarks.
 fn package_of(alloc: Global, inputs: &InputFiles, carried: Carried) -> Result<Package, AllocError>
-    ensures items { IfOk result (λ package. package.items.items ≡ carried.narrowed.items.items) }
-    ensures holds { IfOk result (λ package. package.hold_items.items ≡ carried.narrowed.hold_items.items) }
-    ensures status { IfOk result (λ package. HasStatusOf carried package.status) }
+    ensures items { IfOk result (λ made. made.items.items ≡ carried.narrowed.items.items) }
+    ensures holds { IfOk result (λ made. made.hold_items.items ≡ carried.narrowed.hold_items.items) }
+    ensures status { IfOk result (λ made. HasStatusOf carried made.status) }
 {
     let remarks = remark_lines(alloc, inputs, &carried)?;
     let status = carried.status();
