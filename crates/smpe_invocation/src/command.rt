@@ -155,7 +155,7 @@ fn check_command<'a>(alloc: Global) -> Result<Command<'a>, AllocError>
         .arg(optional_arg(
             alloc,
             "cntl",
-            "The file of commands, in place of an APPLY CHECK of all",
+            "The file of commands, in place of the APPLY CHECK",
         ))?
         .arg(optional_arg(alloc, "date", "The job's date, as YYYY-MM-DD, for --cntl"))?
         .arg(optional_arg(

@@ -1,4 +1,3 @@
-use Rattle.std.proofs.Common.{◌≡◌, ◌∙◌, ap, true}
 use Rattle.std.proofs.lemmas.Result.{IfOk-weaker}
 use Rattle.smpe_invocation.proofs.Shapes.{one_more}
 use Rattle.smpe_invocation.proofs.command.lint_command.Goals as goal
