@@ -5,6 +5,7 @@ pub mod Told
 pub mod ServiceSet
 pub mod Copied
 pub mod Shop
+pub mod Linting
 pub mod Serving
 pub mod Answering
 pub mod Careful

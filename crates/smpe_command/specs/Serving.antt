@@ -13,7 +13,7 @@ use Rattle.smpe_invocation.specs.declared.asked.CheckedSystem.{CheckedSystem}
 use Rattle.smpe_invocation.specs.declared.asked.CommandJob.{CommandJob}
 use Rattle.smpe_invocation.specs.declared.asked.Invocation.{Invocation}
 use Rattle.smpe_invocation.specs.declared.asked.Invocation.TheVariants.{Zone, Run, List as ListOf, Why, Check}
-use Rattle.smpe_invocation.specs.declared.asked.Invocation.TheVariants.{Migrate, Verify}
+use Rattle.smpe_invocation.specs.declared.asked.Invocation.TheVariants.{Lint, Migrate, Verify}
 use Rattle.smpe_invocation.specs.declared.asked.RunOptions.{RunOptions}
 use Rattle.smpe_invocation.specs.declared.asked.ServiceSet.{ServiceSet}
 use Rattle.smpe_invocation.specs.declared.asked.SetFiles.{SetFiles}
@@ -38,6 +38,7 @@ use Rattle.smpe_command.specs.Careful.{ChecksIfCareful}
 use Rattle.smpe_command.specs.Copied.{ChecksIn}
 use Rattle.smpe_command.specs.Database.{FoundOver, JobOver, MigratesOver, VerifiedOver}
 use Rattle.smpe_command.specs.Reading.{ReadsAll}
+use Rattle.smpe_command.specs.Linting.{ServesLint}
 use Rattle.smpe_command.specs.Shop.{ServesShop}
 use Rattle.smpe_command.specs.Told.{TellsFound, TellsMigrated, TellsVerified, TellsZone, job_told}
 
@@ -153,6 +154,7 @@ module _ {H D M O : Type 0} (host : HostGhosts H D) (g : Ghosts D) (memory : dis
   Serves h (ListOf db zone) out r after out' = ServesList host g sink h (string_bytes db.name) out zone r after out'
   Serves h (Why db options) out r after out' = ServesWhy host g sink h (string_bytes db.name) out options r after out'
   Serves h (Check system set) out r after out' = ServesCheck host memory sink h out system set r after out'
+  Serves h (Lint options) out r after out' = ServesLint host sink h out options r after out'
   Serves h (Migrate db) out r after out' = (told : Result ℕ JobError)
       × ServesMigrate host g sink h (string_bytes db.name) out told after out' × (r ≡ job_told told)
   Serves h (Verify db) out r after out' = (told : Result ℕ JobError)

@@ -16,6 +16,7 @@ mod database;
 mod host;
 mod job_files;
 mod jobs;
+mod lint;
 mod memory_files;
 mod program;
 mod questions;
