@@ -95,9 +95,9 @@ pub(crate) fn given_files<'a>(
         ≡ map (λ file. file.items) files.entry.now) }
 {
     let mut given: Vec<GivenFile<'a>> = Vec::new(alloc);
-    for (place, file) in files.iter().enumerate() {
+    for file in files {
+        let name = name_at(names, given.len());
         let bytes = file.as_slice();
-        let name = name_at(names, place);
         given.push(GivenFile { name, bytes })?;
     }
     Ok(given)

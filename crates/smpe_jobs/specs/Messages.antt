@@ -55,7 +55,7 @@ abbrev pub program_line : Text → Text
 program_line text = codes "smpe: " ++ (text ++ 10 ∷ [])
 
 -- The line of a fault. If `clap` refused the words, its own text takes the place of the line; files that cannot be
--- carried have lines of their own.
+-- carried have lines of their own before it.
 abbrev pub fault_text : Fault → Text
 fault_text (Job why) = program_line (job_error_text why)
 fault_text (Arg arg.Memory) = program_line (codes "out of memory")
@@ -64,7 +64,7 @@ fault_text (Arg arg.BadOperand) = program_line (codes "bad operand")
 fault_text (CannotRead name) = program_line (codes "cannot read " ++ name.now)
 fault_text NoCommand = program_line (codes "no command")
 fault_text (NoZone zone) = program_line (codes "no zone " ++ zone)
-fault_text (NotCarried lines) = lines.items
+fault_text (NotCarried lines) = lines.items ++ program_line (codes "the files cannot be carried")
 fault_text NoSource = program_line (codes "no free source")
 fault_text (CannotWrite name) = program_line (codes "cannot write " ++ name.now)
 
