@@ -1,5 +1,5 @@
 -- What a run has done in all.
-use Rattle.std.proofs.Common.{◌≡◌, ◌⊎◌, ℕ, List, [], ◌∷◌, ◌++◌, map, refl, ap, inl, inr}
+use Rattle.std.proofs.Common.{◌≡◌, ◌⊎◌, ℕ, List, [], ◌∷◌, ◌++◌, map, refl, ap, inl, inr, subst₂}
 use Rattle.std.specs.List.{All}
 use Rattle.std.specs.Prelude.{Some}
 use Rattle.std.specs.String.{string_bytes}
@@ -28,37 +28,42 @@ use Rattle.intake_command.specs.declared.surroundings.IntakeHost.{Ghosts}
 use Rattle.intake_command.proofs.Doing.{joined}
 
 module _ {H : Type 0} (host : Ghosts H) (asked : IntakeOptions) where
-  pub served_files : {a b c d : H} (files : List WideFile) (items : List Item) (outside : List HoldItem)
+  -- `put` and `put_outside` are the same items, as they were handed on to be put into the folder
+  pub served_files : {a b c d : H} (files : List WideFile) (items put : List Item) (outside put_outside : List HoldItem)
       (unsure : List Unsure) (status : ℕ) → HasDone host (AreRead (map string_bytes asked.files.items) files) a b
       → HasDone host (All IsQuiet) b c → CarriesFiles asked.decide files items outside
       → AreUnsure (run_of files) items unsure
       → (status ≡ 0) ⊎ (status ≡ 4) → (status ≡ 0 → HasEachSysmod files items) → (status ≡ 0 → unsure ≡ [])
-      → HasDone host (KeepsService (folder_of asked) asked.decide (ptfin.items items) (hold.items outside)) c d
+      → put ≡ items → put_outside ≡ outside
+      → HasDone host (KeepsService (folder_of asked) asked.decide (ptfin.items put) (hold.items put_outside)) c d
       → HasDone host (ServesFiles asked status) a d
-  served_files {a} {b} {c} {d} files items outside unsure status r m carries un is each sure k = record {
-    acts = r.acts ++ m.acts ++ k.acts;
-    lead = joined host a (r.acts ++ m.acts) k.acts c d (joined host a r.acts m.acts b c r.lead m.lead) k.lead;
-    are = record {
-      files = files;
-      reading = r.acts;
-      read = r.are;
-      more = m.acts;
-      quiet = m.are;
-      holds = carries.0;
-      held_are = carries.1;
-      items = items;
-      outside = outside;
-      become = carries.2;
-      unsure = unsure;
-      are_unsure = un;
-      status_is = is;
-      each = each;
-      sure = sure;
-      keeping = k.acts;
-      keeps = k.are;
-      acts_are = refl;
-    };
-  }
+  served_files {a} {b} {c} {d} files items put outside put_outside unsure status r m carries un is each sure e o keeps =
+      let k = subst₂ (λ i h. HasDone host (KeepsService (folder_of asked) asked.decide (ptfin.items i) (hold.items h))
+      c d) e o keeps in
+      record {
+        acts = r.acts ++ m.acts ++ k.acts;
+        lead = joined host a (r.acts ++ m.acts) k.acts c d (joined host a r.acts m.acts b c r.lead m.lead) k.lead;
+        are = record {
+          files = files;
+          reading = r.acts;
+          read = r.are;
+          more = m.acts;
+          quiet = m.are;
+          holds = carries.0;
+          held_are = carries.1;
+          items = items;
+          outside = outside;
+          become = carries.2;
+          unsure = unsure;
+          are_unsure = un;
+          status_is = is;
+          each = each;
+          sure = sure;
+          keeping = k.acts;
+          keeps = k.are;
+          acts_are = refl;
+        };
+      }
 
   pub served_commands : {a b c d : H} (name : Text) (bytes : List ℕ) (commands : List WideCommand)
       (known : KnownSysmods) (said : List terms.Command) → host.does a (Gives name bytes) b

@@ -1,5 +1,5 @@
 //! What is carried of files, and whether something is left out.
-ghost use Rattle.std.specs.Prelude.{◌≡◌, ◌⊎◌, [], IsTrue, filter, length};
+ghost use Rattle.std.specs.Prelude.{◌≡◌, ◌⊎◌, [], IfSome, IsTrue, filter, length};
 ghost use Rattle.intake_sysmod.specs.Users.{run_of};
 ghost use Rattle.intake_service.specs.Carrying.{HasEachSysmod, is_sysmod};
 
@@ -51,14 +51,21 @@ fn has_remark_that_matters(remarks: &RemarkList) -> bool {
 fn has_each_sysmod(files: &[WideFile], items: &[Item]) -> bool
     ensures { IsTrue result → HasEachSysmod files.now items.now }
 {
-    count_carried(items) == count_stated(files)
+    let Some(stated) = count_stated(files) else {
+        return false;
+    };
+    count_carried(items) == stated
 }
 
-// How many SYSMODs the files state.
-fn count_stated(files: &[WideFile]) -> usize
-    ensures { result ≡ length (run_of files.now) }
+// How many SYSMODs the files state, or `None` if a `usize` cannot say it.
+fn count_stated(files: &[WideFile]) -> Option<usize>
+    ensures { IfSome result (λ count. count ≡ length (run_of files.now)) }
 {
-    files.iter().flat_map(|file| file.sysmods.iter()).count()
+    let mut count = 0usize;
+    for file in files {
+        count = count.checked_add(file.sysmods.len())?;
+    }
+    Some(count)
 }
 
 // How many of the items are SYSMODs.

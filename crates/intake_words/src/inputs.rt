@@ -100,7 +100,13 @@ impl InputFiles {
         bytes: &[u8],
         options: CardOptions,
     ) -> Result<Vec<Card>, IntakeFault> {
-        let read = match read_cards(alloc, self.next_number(), bytes, options.layout, options.code) {
+        let read = match read_cards(
+            alloc,
+            self.next_number(),
+            bytes,
+            options.layout,
+            options.code,
+        ) {
             Ok(read) => read,
             Err(error) => return Err(IntakeFault::of_cards(alloc, name, error)),
         };

@@ -1,3 +1,4 @@
+pub mod AllKept
 pub mod ById
 pub mod Bypassed
 pub mod Deciding

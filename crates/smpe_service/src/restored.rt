@@ -1,7 +1,8 @@
 //! The zone's change and the lines of a RESTORE.
-ghost use Rattle.std.specs.Prelude.{◌≡◌, ◌↔◌, ◌++◌, List, Contains, IfOk, map};
+ghost use Rattle.std.specs.Prelude.{◌≡◌, ◌↔◌, ◌++◌, [], List, Contains, IfOk, map};
 ghost use Rattle.std.specs.Ordering.{nat_cmp};
 ghost use Rattle.std.specs.Cmp.Lexicographic.{slice_cmp};
+ghost use Rattle.terms.specs.Lookups.{IsRising};
 ghost use Rattle.terms.specs.Rising.{Rises};
 ghost use Rattle.terms.specs.Types.{Id as AnId, Zone as AZone};
 ghost use Rattle.terms.specs.Restore.{restore_candidates};
@@ -15,12 +16,12 @@ ghost use Rattle.smpe_service.specs.RestoreDecided.{IsRestoreDecided};
 
 use crate::restored_lines::restore_lines;
 use crate::solving::decide;
-use fields::{IdList, RestoreList};
+use fields::{Attest, IdList, RestoreList};
 use judge_system::Decided;
 use report::ReportLine;
 use std::alloc::{AllocError, Global};
 use sysmods::GlobalZone;
-use undo::{restore_candidates, restore_system};
+use undo::{restore_candidates, restore_system, takes_all};
 use zones::{Candidates, Zone, ZoneDelta};
 
 /// What a RESTORE changes, and its lines by id.
@@ -66,8 +67,23 @@ fn decide_candidates(
         → IsRestoreDecided (restoring_from global.now zone.now accepted.now) list candidates.now.ids d.kept
         d.failed.items) }
 {
+    if takes_all(alloc, global, zone, accepted, candidates)? {
+        return keep_all(alloc, candidates);
+    }
     let judged = restore_system(alloc, global, zone, accepted, candidates)?;
     decide(alloc, &judged)
+}
+
+// The decision that keeps all candidates.
+fn keep_all(alloc: Global, candidates: &Candidates) -> Result<Decided, AllocError>
+    ensures all { IfOk result (λ d. (d.kept ≡ candidates.now.ids) × (d.failed.items ≡ [])) }
+    ensures rising { IsRising candidates.now.ids }
+{
+    candidates.ids.attest();
+    Ok(Decided {
+        kept: candidates.ids.try_clone(alloc)?,
+        failed: Vec::new(alloc),
+    })
 }
 
 // The lines of the ids of the list, by id.

@@ -9,3 +9,4 @@ pub mod Needing
 pub mod AllNeeds
 pub mod RestoreJudged
 pub mod Testing
+pub mod GoingWhole

@@ -1,10 +1,10 @@
 -- Which SYSMODs change which element.
-use Rattle.std.specs.Prelude.{◌≡◌, List, Contains, map}
+use Rattle.std.specs.Prelude.{◌≡◌, Bool, not, List, Contains, map}
 use Rattle.std.specs.List.{flat_map}
 use Rattle.sorted.specs.ElementKeys.{Key, key_cmp}
 use Rattle.sorted.specs.MultiMap.{MultiMap, listed, Holds, OneOf}
-use Rattle.terms.specs.Types.{Id, Global}
-use Rattle.terms.specs.Lookups.{change_key, changes_of}
+use Rattle.terms.specs.Types.{Id, Change, Global}
+use Rattle.terms.specs.Lookups.{change_key, changes_of, is_nil}
 
 -- the elements that a SYSMOD changes
 abbrev pub changed_keys : Global → Id → List Key
@@ -29,3 +29,7 @@ sharers g all x = flat_map (λ h. listed key_cmp all (change_key h)) (changes_of
 -- x with each of those
 abbrev pub beside : Global → Changers → Id → List (Id × Id)
 beside g all x = map (λ y. (x, y)) (sharers g all x)
+
+-- whether one of them changes the element of the statement
+abbrev pub is_changed_by : Changers → Change → Bool
+is_changed_by all h = not (is_nil (listed key_cmp all (change_key h)))

@@ -9,3 +9,4 @@ pub mod RestoreTests
 pub mod Pairs
 pub mod Needed
 pub mod Assessed
+pub mod Whole

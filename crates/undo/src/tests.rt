@@ -67,8 +67,8 @@ fn any_at_other_level(scope: &RestoreScope<'_, '_>, changes: &[ElemChange]) -> b
         .any(|change| is_at_other_level(scope, change))
 }
 
-// The tests that a candidate fails.
-fn failed_tests(scope: &RestoreScope<'_, '_>, id: Id) -> TestSet
+/// The tests that a candidate fails.
+pub(crate) fn failed_tests(scope: &RestoreScope<'_, '_>, id: Id) -> TestSet
     ensures { result ≡ failed_tests (restoring_of scope.now) id }
 {
     TestSet {

@@ -1,9 +1,6 @@
-use Rattle.std.proofs.Common.{subst, subst₂}
-use Rattle.mcs.specs.Files as ptfin
-use Rattle.mcs.specs.HoldItems as hold
+use Rattle.std.proofs.Common.{subst}
 use Rattle.intake_service.specs.Carrying.{HasEachSysmod}
-use Rattle.intake_command.specs.Done.{HasDone}
-use Rattle.intake_command.specs.Serving.{folder_of, KeepsService}
+use Rattle.intake_command.specs.Serving.{folder_of}
 use Rattle.intake_command.proofs.Doing.{on_err}
 use Rattle.intake_command.proofs.Served.{served_files}
 use Rattle.intake_command.proofs.Harmless.{harmless, quiet_harmless, reading_harmless}
@@ -40,13 +37,12 @@ returns-in_err-keep_files-clause-err g c =
 
 pub returns-clause-ok : goal.returns-clause-ok
 returns-clause-ok g c =
-    let asked = c.args.asked.now in
-    let made = c.in_ok-carried.carried.narrowed in
-    served_files g.H.IntakeHost asked c.in_ok-stated.stated made.items.items made.hold_items.items made.unsure.items
-    c.status.result c.in_ok-stated.ensures.ok c.in_ok-members.ensures c.in_ok-carried.ensures.carries
-    c.in_ok-carried.ensures.unsure c.status.ensures.status
-    (λ zero. subst (λ files. HasEachSysmod files made.items.items) c.in_ok-carried.ensures.files
-    (c.status.ensures.each zero))
-    c.status.ensures.sure
-    (subst₂ (λ items outside. HasDone g.H.IntakeHost (KeepsService (folder_of asked) asked.decide (ptfin.items items)
-    (hold.items outside)) _ _) c.in_ok-made.ensures.items c.in_ok-made.ensures.holds c.in_ok-keep_files.ensures.ok)
+    let carried = c.in_ok-carried.carried.narrowed in
+    let made = c.in_ok-made.made in
+    served_files g.H.IntakeHost c.args.asked.now c.in_ok-stated.stated carried.items.items made.items.items
+    carried.hold_items.items made.hold_items.items carried.unsure.items c.status-status.result
+    c.in_ok-stated.ensures.ok c.in_ok-members.ensures c.in_ok-carried.ensures.carries c.in_ok-carried.ensures.unsure
+    c.status-status.ensures.status
+    (λ zero. subst (λ files. HasEachSysmod files carried.items.items) c.in_ok-carried.ensures.files
+    (c.status-status.ensures.each zero))
+    c.status-status.ensures.sure c.in_ok-made.ensures.items c.in_ok-made.ensures.holds c.in_ok-keep_files.ensures.ok

@@ -1,0 +1,16 @@
+use Rattle.std.proofs.Common.{subst}
+use Rattle.intake_carry.specs.Carried.{FilesBecome}
+use Rattle.intake_service.specs.Carrying.{CarriesFiles}
+use Rattle.intake_service.proofs.stated.StatedFiles.carry.Goals as goal
+
+pub returns-in-Ok-clause-carries : goal.returns-in-Ok-clause-carries
+returns-in-Ok-clause-carries c =
+    let decide = c.args.options.decide in
+    let made = c.in-Ok.narrowed in
+    let held = c.self.invariant in
+    subst (λ files. CarriesFiles decide files made.items.items made.hold_items.items) c.self.view_is (
+      held.0,
+      held.1,
+      subst (λ files. FilesBecome decide files held.0 made.items.items made.hold_items.items)
+          c.deref-2.ensures.value (c.in-Ok.ensures.items held.0 held.2),
+    )
