@@ -44,10 +44,12 @@ module _ {H D : Type 0} (host : Ghosts H D) where
       (so_far : ReadsAll host h (map f (take i names)) (Ok files) m) where
     pub reads_more : (bytes : List ℕ) → Reads host m (f name) (Ok bytes) after
         → ReadsAll host h (map f (take (i + 1) names)) (Ok (files ++ bytes ∷ [])) after
-    reads_more bytes read = subst (λ l. ReadsAll host h l (Ok (files ++ bytes ∷ [])) after) (sym (
-      ap (map f) (take_more names i name below ∙ ap (λ u. take i names ++ u ∷ []) (sym at))
-          ∙ map-append f (take i names) (name ∷ []),
-    )) (reads_next h m after (map f (take i names)) files (f name) bytes so_far read)
+    reads_more bytes read =
+        let next : map f (take (i + 1) names) ≡ map f (take i names) ++ f name ∷ [] =
+        ap (map f) (take_more names i name below ∙ ap (λ u. take i names ++ u ∷ []) (sym at))
+        ∙ map-append f (take i names) (name ∷ []) in
+        subst (λ l. ReadsAll host h l (Ok (files ++ bytes ∷ [])) after) (sym next)
+        (reads_next h m after (map f (take i names)) files (f name) bytes so_far read)
 
     pub fails_here : (fault : Fault) → Reads host m (f name) (Err fault) after
         → FailsToRead host h (map f names) fault after

@@ -85,16 +85,16 @@ module _ {M : Type 0} (memory : disk.Ghosts M) where
       ⊎ ((conn : Held (FileStore M memory)) × IsCopy db log conn × LoadsFrom over_files conn r)
 
   module _ {O : Type 0} (sink : SinkGhosts O) (copy : SystemCopy) (items : List Item) (holds : List HoldItem) (out : O)
-      where
-    -- The package is asked about in a copy of files with these bytes, by a source that its global zone does not have.
-    -- Or that was not loaded.
-    abbrev pub AsksBytes : List ℕ → List ℕ → Result ℕ Fault → O → Type 0
-    AsksBytes db log r out' =
-        ((why : StoreError) × LoadsGlobal db log (Err why) × (r ≡ Err (Job (job_error why))) × (out' ≡ out))
-        ⊎ ((g : Global) × LoadsGlobal db log (Ok g)
-        × RunsPackage holds out (find (λ x. is_free x items g.sysmods) package_sources) items
-        (λ x files status out'. (date : Text) × TriesBytes memory sink copy.zone copy.ids.items db log
-        (copy_jobs date (package_commands copy.zone x) files) out status out') r out')
+    where
+      -- The package is asked about in a copy of files with these bytes, by a source that its global zone does not have.
+      -- Or that was not loaded.
+      abbrev pub AsksBytes : List ℕ → List ℕ → Result ℕ Fault → O → Type 0
+      AsksBytes db log r out' =
+          ((why : StoreError) × LoadsGlobal db log (Err why) × (r ≡ Err (Job (job_error why))) × (out' ≡ out))
+          ⊎ ((g : Global) × LoadsGlobal db log (Ok g)
+          × RunsPackage holds out (find (λ x. is_free x items g.sysmods) package_sources) items
+          (λ x files status out'. (date : Text) × TriesBytes memory sink copy.zone copy.ids.items db log
+          (copy_jobs date (package_commands copy.zone x) files) out status out') r out')
 
 module _ {H D M O : Type 0} (host : HostGhosts H D) (memory : disk.Ghosts M) (sink : SinkGhosts O) where
   module _ (h : H) (out : O) (items : List Item) (holds : List HoldItem) where
@@ -118,7 +118,7 @@ module _ {H D M O : Type 0} (host : HostGhosts H D) (memory : disk.Ghosts M) (si
     -- The items are checked with the commands that were given, as records. Without commands, the package is asked
     -- about.
     abbrev pub ChecksItems : CheckedSystem → Option CommandJob → List ℕ → Result ℕ Fault → H → O → Type 0
-    ChecksItems system (Some commands) cntl r after out' = RunsItems holds (h, out) items
+    ChecksItems system (Some commands) cntl r after out' = RunsItems {W = H × O} holds (h, out) items
         (λ files status w. ChecksIn host memory sink system h out (Some commands) cntl files status w.0 w.1) r
         (after, out')
     ChecksItems system None cntl r after out' = AsksIfAny (list_any is_sysmod items) system r after out'

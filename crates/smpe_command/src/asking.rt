@@ -21,9 +21,7 @@ use fields::{Source, Srel, ZoneName};
 use report::Sink;
 use smpe::{Fault, JobError, commands_in_zone, two_commands};
 use smpe_invocation::SystemCopy;
-use smpe_package::{
-    PackageFault, free_source, package_command, package_records, with_source,
-};
+use smpe_package::{PackageFault, free_source, package_command, package_records, with_source};
 use sqlite::{Alter, Connection};
 use sqlite_disk::{Disk, Memory};
 use std::alloc::{AllocError, Global};

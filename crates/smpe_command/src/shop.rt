@@ -170,11 +170,7 @@ fn check_items<'a, H: Host, O: Sink>(
 
 // The files of a job with these commands that receives these items. Returns `NotCarried` if the records are not read
 // back as the items.
-fn item_files<'a>(
-    alloc: Global,
-    cntl: Vec<u8>,
-    items: &PackageItems,
-) -> Result<JobFiles, Fault<'a>>
+fn item_files<'a>(alloc: Global, cntl: Vec<u8>, items: &PackageItems) -> Result<JobFiles, Fault<'a>>
     ensures cntl { IfOk result (λ files. files.cntl ≡ cntl) }
     ensures records { IfOk result (λ files. AreRecords items.now.items.items items.now.hold_items.items
         files.ptfin.items files.hold.items) }

@@ -85,11 +85,7 @@ fn is_known(source: Source, global: &GlobalZone) -> bool
 }
 
 /// The items, and after them an `++ASSIGN` of the source to each SYSMOD among them.
-pub fn with_source(
-    alloc: Global,
-    items: Vec<Item>,
-    source: Source,
-) -> Result<Vec<Item>, AllocError>
+pub fn with_source(alloc: Global, items: Vec<Item>, source: Source) -> Result<Vec<Item>, AllocError>
     ensures { IfOk result (λ all. all.items ≡ with_source source items.items) }
 {
     let mut assigns = assignments(alloc, items.as_slice(), source)?;

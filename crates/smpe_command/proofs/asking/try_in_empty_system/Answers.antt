@@ -10,8 +10,7 @@ use Rattle.smpe_command.proofs.asking.try_in_empty_system.Goals as goal
 pub returns-in_err-answers : goal.returns-in_err-answers
 returns-in_err-answers g c =
     let error = c.in_err-answers.field-0.0 in
-    let p = err_from_is_err_and c.from_residual.result c.from_residual.ensures.1 in
-    (
+    let p = err_from_is_err_and c.from_residual.result c.from_residual.ensures.1 in (
       c.args.rehearsal.now.date,
       Err error,
       memory_as (λ v. map answer_of v.items) (λ all. all) g.O.Sink c.args.out.now c.run_in_empty_system.new.out
@@ -24,8 +23,7 @@ returns-in_err-answers g c =
 pub returns : goal.returns
 returns g c =
     let answers = c.in_ok-answers.answers in
-    let all : List machine.Answer = map answer_of answers.items in
-    (
+    let all : List machine.Answer = map answer_of answers.items in (
       c.args.rehearsal.now.date,
       Ok all,
       memory_as (λ v. map answer_of v.items) (λ all. all) g.O.Sink c.args.out.now c.run_in_empty_system.new.out

@@ -8,8 +8,7 @@ pub returns-in-Records : goal.returns-in-Records
 returns-in-Records g c = rw c.in-Records.is c.serve_records.ensures
 
 pub returns-in-AsTheyCome : goal.returns-in-AsTheyCome
-returns-in-AsTheyCome g c = rw c.in-AsTheyCome.is (
-  subst (λ names. ServesShop g.H.Host memory_disk g.O.Sink c.args.host.now c.args.out.now c.args.system.now
-      c.args.commands.now (map (λ name. Some (string_bytes name)) names) c.serve_shop.result c.serve_shop.new.host c.serve_shop.new.out)
-      c.as_slice.ensures.value c.serve_shop.ensures,
-)
+returns-in-AsTheyCome g c =
+    rw c.in-AsTheyCome.is (subst (λ names. ServesShop g.H.Host memory_disk g.O.Sink c.args.host.now c.args.out.now
+    c.args.system.now c.args.commands.now (map (λ name. Some (string_bytes name)) names) c.serve_shop.result
+    c.serve_shop.new.host c.serve_shop.new.out) c.as_slice.ensures.value c.serve_shop.ensures)

@@ -5,8 +5,7 @@ use Rattle.smpe_command.proofs.shop.check_package.Goals as goal
 
 pub returns-in_err-status : goal.returns-in_err-status
 returns-in_err-status g c =
-    let p = err_from_is_err_and c.from_residual.result c.from_residual.ensures.1 in
-    (
+    let p = err_from_is_err_and c.from_residual.result c.from_residual.ensures.1 in (
       c.write_remarks.new.out,
       c.write_remarks.result,
       c.write_remarks.ensures,
@@ -16,8 +15,7 @@ returns-in_err-status g c =
 pub returns-in_err-checked : goal.returns-in_err-checked
 returns-in_err-checked g c =
     let r = c.from_residual-in_err-checked in
-    let p = err_from_is_err_and r.result r.ensures.1 in
-    (
+    let p = err_from_is_err_and r.result r.ensures.1 in (
       c.write_remarks.new.out,
       c.write_remarks.result,
       c.write_remarks.ensures,
