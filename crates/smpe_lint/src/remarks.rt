@@ -1,0 +1,90 @@
+//! Remarks on a stream in words.
+use crate::finding::{Finding, Rule};
+use crate::inputs::{Inputs, shown};
+use fields::spelling::{as_str, hold_text};
+use fields::{Id, Srel};
+use std::alloc::{AllocError, Global};
+use stream::{Findings, Remark};
+use terms::NeedKind;
+
+// The operand that states a requisite.
+fn operand_of(kind: NeedKind) -> &'static str {
+    match kind {
+        NeedKind::Pre => "PRE",
+        NeedKind::Req => "REQ",
+        _ => "++IF REQ",
+    }
+}
+
+// A finding about a SYSMOD, with its place.
+fn about_one(alloc: Global, inputs: &Inputs, rule: Rule, id: Id, words: String) -> Finding {
+    let mut finding = Finding::new(alloc, rule, words);
+    finding.sysmod = Some(id);
+    finding.place = inputs.place_of(id);
+    finding
+}
+
+// A remark as a finding.
+fn remark_finding(
+    alloc: Global,
+    inputs: &Inputs,
+    srel: Srel,
+    remark: &Remark,
+) -> Result<Finding, AllocError> {
+    match remark {
+        Remark::Empty => {
+            let level = shown(alloc, srel.as_bytes())?;
+            let words = format!(in alloc; "no SYSMOD has a ++VER for {level}")?;
+            Ok(Finding::new(alloc, Rule::Empty, words))
+        }
+        Remark::SeveralVers { id } => {
+            let level = shown(alloc, srel.as_bytes())?;
+            let words = format!(in alloc;
+                "{id} has several ++VERs for {level}: only the first is looked at"
+            )?;
+            Ok(about_one(alloc, inputs, Rule::Vers, *id, words))
+        }
+        Remark::Absent {
+            id,
+            kind,
+            requisite,
+        } => {
+            let operand = operand_of(*kind);
+            let words = format!(in alloc; "{id} {operand} {requisite}: it is not in the stream")?;
+            let mut finding = about_one(alloc, inputs, Rule::Absent, *id, words);
+            finding.operand = operand;
+            finding.id = Some(*requisite);
+            Ok(finding)
+        }
+        Remark::HoldNotCarried {
+            superseding,
+            superseded,
+            kind,
+            reason,
+        } => {
+            let kind = as_str(hold_text(*kind));
+            let reason = shown(alloc, reason.as_bytes())?;
+            let words = format!(in alloc;
+                "{superseding} SUP {superseded}: {kind} hold {reason} of {superseded} is not on {superseding}"
+            )?;
+            let mut finding = about_one(alloc, inputs, Rule::Hold, *superseding, words);
+            finding.other = Some(*superseded);
+            finding.other_place = inputs.place_of(*superseded);
+            Ok(finding)
+        }
+    }
+}
+
+/// Appends a finding for each remark.
+pub(crate) fn append_remarks(
+    alloc: Global,
+    inputs: &Inputs,
+    srel: Srel,
+    findings: &Findings,
+    told: &mut Vec<Finding>,
+) -> Result<(), AllocError> {
+    for remark in findings.remarks.iter() {
+        told.push(remark_finding(alloc, inputs, srel, remark)?)?;
+    }
+    Ok(())
+}

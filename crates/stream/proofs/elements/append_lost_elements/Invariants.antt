@@ -1,0 +1,10 @@
+use Rattle.std.proofs.Common.{take}
+use Rattle.sysmods.specs.Choices.{choice}
+use Rattle.stream.specs.Gaining.{Gains, OneOf}
+use Rattle.stream.specs.Lost.{IsLossOf}
+use Rattle.stream.proofs.elements.append_lost_elements.Given as goal
+
+abbrev pub invariant-loop-other : goal.invariant-loop-other
+invariant-loop-other l =
+    Gains (OneOf (take l.other-index l.superseded) (IsLossOf l.vers.global.now (choice l.vers) l.id))
+    l.initial.found.items l.found.items

@@ -1,0 +1,10 @@
+use Rattle.std.proofs.Common.{[], take}
+use Rattle.terms.specs.Choice.{sup_of}
+use Rattle.sysmods.specs.Choices.{choice}
+use Rattle.stream.specs.Gaining.{Gains, OneOf}
+use Rattle.stream.specs.Lost.{IsLackOf}
+use Rattle.stream.proofs.linting.lost_requisites.Given as goal
+
+abbrev pub invariant-loop-id : goal.invariant-loop-id
+invariant-loop-id l = Gains (OneOf (take l.id-index l.ids)
+    (λ x. OneOf (sup_of (choice l.vers) x) (IsLackOf (choice l.vers) x))) [] l.found.items

@@ -1,0 +1,6 @@
+pub mod Gaining
+pub mod Breaches
+pub mod Lost
+pub mod Ordering
+pub mod Comparing
+pub mod Lints
