@@ -1,6 +1,6 @@
 -- What is done for a request: the status, or the fault, and what was printed.
-use Rattle.std.specs.Prelude.{◌≡◌, ◌⊎◌, ℕ, Bool, true, false, List, [], ◌∷◌, Option, Some, None, is_some, map}
-use Rattle.std.specs.Prelude.{option_map, Result, Ok, Err}
+use Rattle.std.specs.Prelude.{◌≡◌, ◌⊎◌, ℕ, Bool, List, [], ◌∷◌, Option, Some, None, map, option_map}
+use Rattle.std.specs.Prelude.{Result, Ok, Err}
 use Rattle.std.specs.String.{string_bytes}
 use Rattle.sqlite.specs.Store.{Ghosts}
 use Rattle.sqlite_disk.specs.declared.Disk as disk
@@ -141,13 +141,8 @@ module _ {H D M O : Type 0} (host : HostGhosts H D) (memory : disk.Ghosts M)
       ServesShop host memory sink h out system commands (map (λ name. Some (string_bytes name)) names.items) r after
       out'
 
-  -- A certificate is not made yet: to ask for one is a bad operand, and nothing is done.
-  abbrev pub ServesUnless : Bool → H → O → CheckedSystem → ServiceSet → Result ℕ Fault → H → O → Type 0
-  ServesUnless true h out system set r after out' = (r ≡ Err (Arg BadOperand)) × (after ≡ h) × (out' ≡ out)
-  ServesUnless false h out system set r after out' = ServesSet h out system set.commands set.files r after out'
-
   abbrev pub ServesCheck : H → O → CheckedSystem → ServiceSet → Result ℕ Fault → H → O → Type 0
-  ServesCheck h out system set r after out' = ServesUnless (is_some set.certificate) h out system set r after out'
+  ServesCheck h out system set r after out' = ServesSet h out system set.commands set.files r after out'
 
 module _ {H D M O : Type 0} (host : HostGhosts H D) (g : Ghosts D) (memory : disk.Ghosts M)
     (sink : SinkGhosts O) where

@@ -2,7 +2,7 @@
 ghost use Rattle.std.specs.Prelude.{option_map};
 ghost use Rattle.std.specs.String.{string_bytes};
 ghost use Rattle.smpe_command.specs.Copied.{ChecksIn};
-ghost use Rattle.smpe_command.specs.Serving.{ServesCheck, ServesRecords, ServesSet};
+ghost use Rattle.smpe_command.specs.Serving.{ServesCheck, ServesRecords};
 
 use crate::copied::rehearse_in_copy;
 use crate::host::Host;
@@ -11,14 +11,14 @@ use crate::jobs::status_or_fault;
 use crate::service_set::{greatest_status, rehearse_in_empty_system};
 use crate::shop::serve_shop;
 use report::Sink;
-use smpe::{ArgFault, CommandJob, Fault, JobError};
+use smpe::{CommandJob, Fault, JobError};
 use smpe_invocation::{CheckedSystem, ServiceSet, SetFiles};
 use sqlite_disk::{Disk, Memory};
 use std::alloc::Global;
 
 /// Checks the set, and returns the status. Its files are read before anything is made or copied. Returns `CannotRead`
 /// if one of them cannot be read, `Job` for a fault of the jobs or of the database, and for a shop's own files also
-/// `NotCarried` and `NoSource`. A certificate is not made yet: a set that asks for one is a bad operand.
+/// `NotCarried` and `NoSource`.
 pub(crate) fn serve_check<'a, H: Host, O: Sink>(
     alloc: Global,
     host: &mut H,
@@ -29,30 +29,12 @@ pub(crate) fn serve_check<'a, H: Host, O: Sink>(
     ensures { ServesCheck H.Host ⟦<Memory as Disk>⟧ O.Sink host.old out.old system.now set.entry.now result host.new
         out.new }
 {
-    match &set.certificate {
-        Some(_) => Err(Fault::Arg(ArgFault::BadOperand)),
-        None => serve_set(alloc, host, system, &set.commands, &set.files, out),
-    }
-}
-
-// Checks the set of these files.
-fn serve_set<'a, H: Host, O: Sink>(
-    alloc: Global,
-    host: &mut H,
-    system: &CheckedSystem,
-    commands: &'a Option<CommandJob>,
-    files: &'a SetFiles,
-    out: &mut O,
-) -> Result<u8, Fault<'a>>
-    ensures { ServesSet H.Host ⟦<Memory as Disk>⟧ O.Sink host.old out.old system.now commands.entry.now files.entry.now
-        result host.new out.new }
-{
-    match files {
+    match &set.files {
         SetFiles::Records { ptfin, hold } => {
-            serve_records(alloc, host, system, commands, ptfin, hold, out)
+            serve_records(alloc, host, system, &set.commands, ptfin, hold, out)
         }
         SetFiles::AsTheyCome(names) => {
-            serve_shop(alloc, host, system, commands, names.as_slice(), out)
+            serve_shop(alloc, host, system, &set.commands, names.as_slice(), out)
         }
     }
 }

@@ -29,12 +29,6 @@ pub trait Host {
     /// The file of this name was not read, for this error.
     ghost withholds: { Self → List ℕ → ReadError → Self → Type 0 };
 
-    /// The file of this name did not exist, and was created with these bytes.
-    ghost takes: { Self → List ℕ → List ℕ → Self → Type 0 };
-
-    /// No file of this name was created, for this error.
-    ghost declines: { Self → List ℕ → ReadError → Self → Type 0 };
-
     /// The database of this name was opened, or created, and this is the connection to it.
     ghost opens: { Self → List ℕ → Held Self.Disk → Self → Type 0 };
 
@@ -57,11 +51,6 @@ pub trait Host {
     fn read(&mut self, name: &str) -> io::Result<Vec<u8>>
         ensures ok { IfOk result (λ bytes. gives self.old name.now bytes.items self.new) }
         ensures err { IfErr result (λ error. withholds self.old name.now error self.new) };
-
-    /// Creates the file, which must not exist, and writes these bytes into it. The error says why that failed.
-    fn write_new(&mut self, name: &str, bytes: &[u8]) -> io::Result<()>
-        ensures ok { IfOk result (λ _. takes self.old name.now bytes.now self.new) }
-        ensures err { IfErr result (λ error. declines self.old name.now error self.new) };
 
     /// Opens the database, or creates it. If another program has it, this may wait for it, as long as the words say.
     /// The error says why the database cannot be used.

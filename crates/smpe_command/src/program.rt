@@ -72,7 +72,6 @@ fn report_fault<H: Host, E: Sink>(host: &mut H, fault: &Fault<'_>, err: &mut E) 
         Fault::NoZone(_) => {}
         Fault::NotCarried(_) => {}
         Fault::NoSource => {}
-        Fault::CannotWrite(_) => {}
     }
     fault_line(fault, err).unwrap_or(FAULT_STATUS)
 }
