@@ -54,7 +54,10 @@ fn has_each_sysmod(files: &[WideFile], items: &[Item]) -> bool
     let Some(stated) = count_stated(files) else {
         return false;
     };
-    count_carried(items) == stated
+    let Some(carried) = count_carried(items) else {
+        return false;
+    };
+    carried == stated
 }
 
 // How many SYSMODs the files state, or `None` if a `usize` cannot say it.
@@ -68,11 +71,18 @@ fn count_stated(files: &[WideFile]) -> Option<usize>
     Some(count)
 }
 
-// How many of the items are SYSMODs.
-fn count_carried(items: &[Item]) -> usize
-    ensures { result ≡ length (filter is_sysmod items.now) }
+// How many of the items are SYSMODs, or `None` if a `usize` cannot say it.
+fn count_carried(items: &[Item]) -> Option<usize>
+    ensures { IfSome result (λ count. count ≡ length (filter is_sysmod items.now)) }
 {
-    items.iter().filter(|item| is_sysmod(item)).count()
+    let mut count = 0usize;
+    for item in items {
+        if !is_sysmod(item) {
+            continue;
+        }
+        count = count.checked_add(1)?;
+    }
+    Some(count)
 }
 
 // Whether the item is a SYSMOD.

@@ -1,5 +1,5 @@
 -- A release changes no SYSMOD.
-use Rattle.std.proofs.Common.{◌≡◌, ◌∙◌, Option, None, Some, Bool, true, false, Result, Ok, Err, refl, sym, ap, cond, []}
+use Rattle.std.proofs.Common.{◌≡◌, Option, None, Some, Bool, true, false, Result, Ok, Err, sym, ap, cond, []}
 use Rattle.std.specs.Prelude.{OnOk, OnErr}
 use Rattle.terms.specs.declared.kinds.HoldKind.{HoldKind}
 use Rattle.terms.specs.Types.{Text, Id, Hold, Release, Global}

@@ -4,52 +4,107 @@ use crate::inputs::ShownFile;
 use crate::text::counts_of;
 use fields::Id;
 use intake_cards::CardPlace;
-use serde_json::{Value, json};
+use serde_json::{Map, Value, put};
 use std::alloc::{AllocError, Global};
 
-// A text, or null if it is empty.
-fn text_value(alloc: Global, text: &str) -> Result<Value, AllocError> {
-    if text.is_empty() {
-        return Ok(Value::Null);
-    }
-    Ok(Value::String(String::from_str(alloc, text)?))
+/// The members of an object.
+type Members = Map<String, Value>;
+
+/// The names of the members of a place.
+#[derive(Clone, Copy)]
+struct PlaceNames {
+    file: &'static str,
+    unit: &'static str,
+    number: &'static str,
 }
 
-// An id, or null.
-fn id_value(alloc: Global, id: Option<Id>) -> Result<Value, AllocError> {
-    match id {
-        Some(id) => Ok(Value::String(id_text(alloc, id)?)),
-        None => Ok(Value::Null),
-    }
-}
+/// Where the SYSMOD begins that a finding is about, and where the other one does.
+const PLACE: PlaceNames = PlaceNames {
+    file: "file",
+    unit: "unit",
+    number: "number",
+};
 
-/// A place as its three members. They are null if the place is not known.
-#[derive(Drop)]
-struct PlaceValues {
-    file: Value,
-    unit: Value,
-    number: Value,
-}
+const OTHER_PLACE: PlaceNames = PlaceNames {
+    file: "other_file",
+    unit: "other_unit",
+    number: "other_number",
+};
 
-// The file, the unit and the number of a place.
-fn place_values(
+// Puts a text, or null if it is empty.
+fn put_text(
     alloc: Global,
+    members: &mut Members,
+    name: &str,
+    text: &str,
+) -> Result<(), AllocError> {
+    if text.is_empty() {
+        return put(members, alloc, name, Value::Null);
+    }
+    let text = String::from_str(alloc, text)?;
+    put(members, alloc, name, Value::String(text))
+}
+
+// Puts an id, or null.
+fn put_id(
+    alloc: Global,
+    members: &mut Members,
+    name: &str,
+    id: Option<Id>,
+) -> Result<(), AllocError> {
+    match id {
+        Some(id) => {
+            let text = id_text(alloc, id)?;
+            put(members, alloc, name, Value::String(text))
+        }
+        None => put(members, alloc, name, Value::Null),
+    }
+}
+
+// Puts a number.
+fn put_number(
+    alloc: Global,
+    members: &mut Members,
+    name: &str,
+    number: usize,
+) -> Result<(), AllocError> {
+    put(members, alloc, name, Value::from(number))
+}
+
+// Puts the file, the unit and the number of a place, or nulls.
+fn put_place(
+    alloc: Global,
+    members: &mut Members,
+    names: PlaceNames,
     files: &[ShownFile],
     place: Option<CardPlace>,
-) -> Result<PlaceValues, AllocError> {
-    let mut values = PlaceValues {
-        file: Value::Null,
-        unit: Value::Null,
-        number: Value::Null,
+) -> Result<(), AllocError> {
+    let Some(place) = place else {
+        put(members, alloc, names.file, Value::Null)?;
+        put(members, alloc, names.unit, Value::Null)?;
+        return put(members, alloc, names.number, Value::Null);
     };
-    if let Some(place) = place {
-        if let Some(file) = files.get(place.file as usize) {
-            values.file = text_value(alloc, file.name.as_str())?;
-            values.unit = text_value(alloc, file.unit)?;
-        }
-        values.number = Value::from(place.card);
+    if let Some(file) = files.get(place.file as usize) {
+        put_text(alloc, members, names.file, file.name.as_str())?;
+        put_text(alloc, members, names.unit, file.unit)?;
     }
-    Ok(values)
+    put(members, alloc, names.number, Value::from(place.card))
+}
+
+// Puts what the finding is about.
+fn put_subject(alloc: Global, members: &mut Members, finding: &Finding) -> Result<(), AllocError> {
+    put_text(alloc, members, "rule", finding.rule.word())?;
+    put_id(alloc, members, "sysmod", finding.sysmod)?;
+    put_id(alloc, members, "other", finding.other)?;
+    put_text(alloc, members, "operand", finding.operand)?;
+    put_id(alloc, members, "id", finding.id)
+}
+
+// Puts the element of the finding, and its words.
+fn put_words(alloc: Global, members: &mut Members, finding: &Finding) -> Result<(), AllocError> {
+    put_text(alloc, members, "type", finding.element_type.as_str())?;
+    put_text(alloc, members, "name", finding.element_name.as_str())?;
+    put_text(alloc, members, "words", finding.words.as_str())
 }
 
 // The finding as an object. What it is not about is null.
@@ -58,32 +113,41 @@ fn finding_value(
     files: &[ShownFile],
     finding: &Finding,
 ) -> Result<Value, AllocError> {
-    let sysmod = id_value(alloc, finding.sysmod)?;
-    let other = id_value(alloc, finding.other)?;
-    let operand = text_value(alloc, finding.operand)?;
-    let id = id_value(alloc, finding.id)?;
-    let elem_type = text_value(alloc, finding.element_type.as_str())?;
-    let name = text_value(alloc, finding.element_name.as_str())?;
-    let words = finding.words.as_str();
-    let rule = finding.rule.word();
-    let at = place_values(alloc, files, finding.place)?;
-    let other_at = place_values(alloc, files, finding.other_place)?;
-    json!(in alloc; {
-        "rule": rule,
-        "sysmod": sysmod,
-        "other": other,
-        "operand": operand,
-        "id": id,
-        "type": elem_type,
-        "name": name,
-        "file": (at.file),
-        "unit": (at.unit),
-        "number": (at.number),
-        "other_file": (other_at.file),
-        "other_unit": (other_at.unit),
-        "other_number": (other_at.number),
-        "words": words
-    })
+    let mut members = Map::new(alloc);
+    put_subject(alloc, &mut members, finding)?;
+    put_words(alloc, &mut members, finding)?;
+    put_place(alloc, &mut members, PLACE, files, finding.place)?;
+    put_place(alloc, &mut members, OTHER_PLACE, files, finding.other_place)?;
+    Ok(Value::Object(members))
+}
+
+// The findings as a list.
+fn list_of(
+    alloc: Global,
+    files: &[ShownFile],
+    findings: &[Finding],
+) -> Result<Vec<Value>, AllocError> {
+    let mut list = Vec::new(alloc);
+    for finding in findings {
+        list.push(finding_value(alloc, files, finding)?)?;
+    }
+    Ok(list)
+}
+
+// Puts the status, and how much there is of what.
+fn put_counts(
+    alloc: Global,
+    members: &mut Members,
+    sysmods: usize,
+    status: u8,
+    findings: &[Finding],
+) -> Result<(), AllocError> {
+    let counts = counts_of(findings);
+    put(members, alloc, "status", Value::from(status))?;
+    put_number(alloc, members, "sysmods", sysmods)?;
+    put_number(alloc, members, "broken", counts.breaches)?;
+    put_number(alloc, members, "faults", counts.faults)?;
+    put_number(alloc, members, "remarks", counts.remarks)
 }
 
 /// The answer as one object on a line of its own.
@@ -94,23 +158,11 @@ pub(crate) fn object_of(
     status: u8,
     findings: &[Finding],
 ) -> Result<Vec<u8>, AllocError> {
-    let counts = counts_of(findings);
-    let mut list = Vec::new(alloc);
-    for finding in findings {
-        list.push(finding_value(alloc, files, finding)?)?;
-    }
-    let broken = counts.breaches;
-    let faults = counts.faults;
-    let remarks = counts.remarks;
-    let object = json!(in alloc; {
-        "status": status,
-        "sysmods": sysmods,
-        "broken": broken,
-        "faults": faults,
-        "remarks": remarks,
-        "findings": list
-    })?;
-    let mut text = object.to_string(alloc)?;
+    let mut members = Map::new(alloc);
+    put_counts(alloc, &mut members, sysmods, status, findings)?;
+    let list = list_of(alloc, files, findings)?;
+    put(&mut members, alloc, "findings", Value::Array(list))?;
+    let mut text = Value::Object(members).to_string(alloc)?;
     text.push_str("\n")?;
     Ok(text.into_bytes())
 }

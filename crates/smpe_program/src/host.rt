@@ -8,7 +8,6 @@ ghost use Rattle.smpe_program.specs.Wary.{IsWary};
 
 use crate::copy::{CopyFault, read_for_copy};
 use crate::left::LeftDatabase;
-use crate::new_file::write_new_file;
 use crate::place::{is_missing, is_surely_no_database};
 use crate::related_zone::query_related_zone;
 use clap::Error as WordsError;
@@ -94,7 +93,7 @@ pub(crate) struct ProgramHost<'a> {
     pub(crate) left: LeftDatabase,
     /// The files of records that were read.
     pub(crate) files: Vec<ReadFile>,
-    /// Why a file was not read, or not created.
+    /// Why a file was not read.
     pub(crate) file_fault: Option<String>,
 }
 
@@ -153,7 +152,7 @@ impl ProgramHost<'_> {
         }
     }
 
-    // Notes why a file was not read or not created, for what is said at the end.
+    // Notes why a file was not read, for what is said at the end.
     fn note_file_fault(&mut self, name: &str, error: &io::Error) {
         self.file_fault = format!(in self.rt.alloc(); "{name}: {error}").ok();
     }
@@ -230,10 +229,6 @@ impl Host for ProgramHost<'_> {
 
     ghost withholds = { λ _ _ _ _. Unit {0} };
 
-    ghost takes = { λ _ _ _ _. Unit {0} };
-
-    ghost declines = { λ _ _ _ _. Unit {0} };
-
     ghost opens = { λ _ _ conn _. IsNew conn × IsWary conn × (HasCleanDisk (file_state conn) → IsOpened conn) };
 
     ghost holds = { λ _ _ _ _ _. Unit {0} };
@@ -255,16 +250,6 @@ impl Host for ProgramHost<'_> {
                 }
                 Ok(bytes)
             }
-            Err(error) => {
-                self.note_file_fault(name, &error);
-                Err(error)
-            }
-        }
-    }
-
-    fn write_new(&mut self, name: &str, bytes: &[u8]) -> io::Result<()> {
-        match write_new_file(self.rt, name, bytes) {
-            Ok(()) => Ok(()),
             Err(error) => {
                 self.note_file_fault(name, &error);
                 Err(error)

@@ -7,7 +7,6 @@ mod command_line;
 mod copy;
 mod host;
 mod left;
-mod new_file;
 mod place;
 mod related_zone;
 mod telling;

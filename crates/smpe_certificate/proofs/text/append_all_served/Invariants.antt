@@ -1,0 +1,8 @@
+use Rattle.std.proofs.Common.{◌≡◌, ◌++◌, take}
+use Rattle.std.specs.List.{flat_map}
+use Rattle.smpe_certificate.specs.Text.{served_line}
+use Rattle.smpe_certificate.proofs.text.append_all_served.Given as goal
+
+abbrev pub invariant-loop-fact : goal.invariant-loop-fact
+invariant-loop-fact l =
+    l.text.items ≡ l.initial.text.items ++ flat_map served_line (take l.fact-index l.facts)

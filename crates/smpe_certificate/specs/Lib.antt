@@ -1,0 +1,11 @@
+pub mod Drops
+pub mod Index
+pub mod Search
+pub mod Facts
+pub mod Views
+pub mod Text
+pub mod Accepted
+pub mod Certificate
+pub mod Laws
+pub mod ByNumber
+pub mod Certified
