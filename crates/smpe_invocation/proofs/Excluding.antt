@@ -8,8 +8,8 @@ use Rattle.std.proofs.lemmas.Bool.Decides.{nat_tests}
 use Rattle.terms.specs.Types.{Text}
 use Rattle.clap.specs.Words.{Row}
 use Rattle.smpe_invocation.specs.Answers.{Excludes}
-use Rattle.smpe_invocation.specs.Values.{HasCertificate, HasCommands, HasDate, HasOptions, HasRelated, HasSetFiles}
-use Rattle.smpe_invocation.specs.Values.{HasSystem, HasText, HasValues, HasZoneName, Lacks}
+use Rattle.smpe_invocation.specs.Values.{HasCommands, HasDate, HasOptions, HasRelated, HasSetFiles, HasSystem}
+use Rattle.smpe_invocation.specs.Values.{HasText, HasValues, HasZoneName, Lacks}
 use Rattle.smpe_invocation.specs.declared.fault.ArgFault.{ArgFault}
 use Rattle.smpe_invocation.specs.declared.fault.ArgFault.TheVariants.{Memory, Clap, BadOperand}
 use Rattle.std.proofs.lemmas.Option.{none-some}
@@ -160,12 +160,6 @@ module _ (rows : List Row) where
       → (files : _) × HasSetFiles rows (AsTheyCome files)
   as_they_come_in none (Records ptfin hold, h) = absurd (none-some (string_bytes ptfin) (sym none ∙ h.0))
   as_they_come_in none (AsTheyCome files, h) = (files, h)
-
-  -- if the words have a file for the certificate, it has a name
-  pub certified_in : ¬ Lacks (codes "certificate") rows → (name : Option Text) × HasCertificate rows name
-      → (text : Text) × HasText (codes "certificate") rows text
-  certified_in some (None, h) = absurd (some h)
-  certified_in some (Some name, h) = (name, h.0)
 
   -- a service set that is checked in a copy of a database is not checked in an empty system, and the other way round
   pub empty_in : Lacks (codes "db") rows → (system : CheckedSystem) × HasSystem rows system

@@ -102,14 +102,8 @@ HasSetFiles rows (Records ptfin hold) = HasText (codes "ptfin") rows (string_byt
 HasSetFiles rows (AsTheyCome files) = HasFiles rows (map string_bytes files.items) × Lacks (codes "ptfin") rows
     × Lacks (codes "hold") rows
 
--- The file for the certificate, if the words have one; then they have no commands.
-abbrev pub HasCertificate : List Row → Option Text → Type 0
-HasCertificate rows None = Lacks (codes "certificate") rows
-HasCertificate rows (Some name) = HasText (codes "certificate") rows name × Lacks (codes "cntl") rows
-
 abbrev pub HasServiceSet : List Row → ServiceSet → Type 0
 HasServiceSet rows set = HasSetFiles rows set.files × HasCommands rows set.commands
-    × HasCertificate rows (option_map string_bytes set.certificate)
 
 -- an empty system with an SREL, or a copy of a database at a zone, and not both
 abbrev pub HasSystem : List Row → CheckedSystem → Type 0

@@ -25,13 +25,11 @@ pub enum SetFiles {
     AsTheyCome(Vec<String>),
 }
 
-/// A service set, the commands to check it with, unless all of it is installed, and the name of a new file for the
-/// certificate of the decision.
+/// A service set, and the commands to check it with, unless all of it is installed.
 #[derive(Drop)]
 pub struct ServiceSet {
     pub files: SetFiles,
     pub commands: Option<CommandJob>,
-    pub certificate: Option<String>,
 }
 
 /// A copy of a database, the zone into which a service set is tried, and the ids about which `why` is asked afterwards.

@@ -1,11 +1,8 @@
 //! The service set that is checked, and the system in which that is done.
-ghost use Rattle.std.specs.Prelude.{Option, IfOk, IfErr, codes, option_map};
-ghost use Rattle.std.specs.String.{string_bytes};
-ghost use Rattle.terms.specs.Types.{Text};
+ghost use Rattle.std.specs.Prelude.{Option, IfOk, IfErr, codes};
 ghost use Rattle.clap.specs.Words.{found_of, rows_of};
 ghost use Rattle.smpe_invocation.specs.Answers.{Excludes};
-ghost use Rattle.smpe_invocation.specs.Values.{HasCertificate, HasCommands, HasServiceSet, HasSetFiles};
-ghost use Rattle.smpe_invocation.specs.Values.{HasSystem, Lacks};
+ghost use Rattle.smpe_invocation.specs.Values.{HasCommands, HasServiceSet, HasSetFiles, HasSystem, Lacks};
 ghost use Rattle.smpe_invocation.specs.declared.asked.CheckedSystem.{CheckedSystem};
 ghost use Rattle.smpe_invocation.specs.declared.asked.CommandJob.{CommandJob};
 ghost use Rattle.smpe_invocation.specs.declared.asked.ServiceSet.{ServiceSet};
@@ -124,23 +121,7 @@ fn read_record_files(alloc: Global, found: &ArgMatches<'_>) -> Result<SetFiles, 
     Ok(SetFiles::Records { ptfin, hold })
 }
 
-// Reads the name of the certificate's file, if `--certificate` is given. Returns `BadOperand` if `--cntl` is given too.
-fn read_certificate(alloc: Global, found: &ArgMatches<'_>) -> Result<Option<String>, ArgFault>
-    ensures ok { IfOk result (λ name. HasCertificate (rows_of (found_of found.now)) (option_map string_bytes name)) }
-    ensures err { IfErr result (λ e. Excludes e ((name : Option Text)
-        × HasCertificate (rows_of (found_of found.now)) name)) }
-{
-    if lacks(found, "certificate") {
-        return Ok(None);
-    }
-    if !lacks(found, "cntl") {
-        return Err(ArgFault::BadOperand);
-    }
-    let name = copy_required_text(alloc, found, "certificate")?;
-    Ok(Some(name))
-}
-
-/// Reads the names of the service set's files, the commands to check it with, and the name of the certificate's file.
+/// Reads the names of the service set's files, and the commands to check it with.
 pub(crate) fn read_service_set(
     alloc: Global,
     found: &ArgMatches<'_>,
@@ -151,10 +132,5 @@ pub(crate) fn read_service_set(
 {
     let commands = read_command_job(alloc, found)?;
     let files = read_set_files(alloc, found)?;
-    let certificate = read_certificate(alloc, found)?;
-    Ok(ServiceSet {
-        files,
-        commands,
-        certificate,
-    })
+    Ok(ServiceSet { files, commands })
 }

@@ -158,11 +158,6 @@ fn check_command<'a>(alloc: Global) -> Result<Command<'a>, AllocError>
             "The file of commands, in place of the APPLY CHECK",
         ))?
         .arg(optional_arg(alloc, "date", "The job's date, as YYYY-MM-DD, for --cntl"))?
-        .arg(optional_arg(
-            alloc,
-            "certificate",
-            "A new file for the certificate of the decision, without --cntl",
-        ))?
         .arg(file_arg(alloc))
 }
 

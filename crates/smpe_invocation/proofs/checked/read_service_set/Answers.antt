@@ -1,5 +1,3 @@
-use Rattle.std.proofs.Common.{option_map}
-use Rattle.std.specs.String.{string_bytes}
 use Rattle.smpe_invocation.proofs.Excluding.{handed_on}
 use Rattle.smpe_invocation.proofs.checked.read_service_set.Goals as goal
 
@@ -14,9 +12,3 @@ returns-in_err-files-clause-err c =
     handed_on _ _ _ _ c.from_residual-in_err-files.ensures.1
     (λ has. (has.0.files, has.1.0))
     c.in_err-files.ensures.err
-
-pub returns-in_err-certificate-clause-err : goal.returns-in_err-certificate-clause-err
-returns-in_err-certificate-clause-err c =
-    handed_on _ _ _ _ c.from_residual-in_err-certificate.ensures.1
-    (λ has. (option_map string_bytes has.0.certificate, has.1.2))
-    c.in_err-certificate.ensures.err
