@@ -102,7 +102,7 @@ module _ {V W : Type 0} (f : V → List machine.Answer) (k : W → List machine.
     short_as : (r ≡ Err Memory) × (out' ≡ out) → (q ≡ Err Memory) × (out' ≡ out)
     short_as (is, out_is) = (failed_as over_memory sink [] out out' r q Memory same is, out_is)
 
-    memory_as : (jobs : List machine.Job) → JobsInMemory sink jobs out f r out' → JobsInMemory sink jobs out k q out'
+    pub memory_as : (jobs : List machine.Job) → JobsInMemory sink jobs out f r out' → JobsInMemory sink jobs out k q out'
     memory_as jobs (inl short) = inl (short_as short)
     memory_as jobs (inr (conn, new, empty, inl (why, unmade, is, out_is))) = inr (
       conn,

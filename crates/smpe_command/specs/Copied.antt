@@ -1,4 +1,4 @@
--- What a service set would do in a copy of a database.
+-- What a service set would do in a copy of a database, or in an empty system.
 use Rattle.std.specs.Prelude.{◌≡◌, ◌⊎◌, ℕ, false, max, List, [], ◌∷◌, ◌++◌, Option, Result, Ok, Err, IsTrue, codes}
 use Rattle.std.specs.String.{string_bytes}
 use Rattle.sqlite.specs.declared.error.Error.{Error}
@@ -21,6 +21,8 @@ use Rattle.store_schema.specs.Known.{told}
 use Rattle.store.specs.Loads.{Loads}
 use Rattle.store.specs.View.{IsFound}
 use Rattle.store.specs.Kept.{kept}
+use Rattle.smpe_invocation.specs.declared.asked.CheckedSystem.{CheckedSystem}
+use Rattle.smpe_invocation.specs.declared.asked.CheckedSystem.TheVariants.{Empty, Copied}
 use Rattle.smpe_invocation.specs.declared.asked.CommandJob.{CommandJob}
 use Rattle.smpe_invocation.specs.declared.asked.SystemCopy.{SystemCopy}
 use Rattle.smpe_jobs.specs.declared.error.JobError.{JobError}
@@ -33,7 +35,7 @@ use Rattle.smpe_why.specs.Telling.{Inquiry, IsFoundIn}
 use Rattle.smpe_why.specs.declared.found.LoadedZones.{LoadedZones}
 use Rattle.smpe_command.specs.declared.host.Host.{Ghosts as HostGhosts}
 use Rattle.smpe_command.specs.Database.{IsStoreOver}
-use Rattle.smpe_command.specs.ServiceSet.{FailsToMake, IsTriedOn, greatest, receive_records, tried_with}
+use Rattle.smpe_command.specs.ServiceSet.{ChecksSet, FailsToMake, IsTriedOn, greatest, receive_records, tried_with}
 use Rattle.smpe_command.specs.Told.{TellsFound}
 
 -- it is tried to apply all of it to the zone
@@ -120,3 +122,12 @@ module _ {H D M O : Type 0} (host : HostGhosts H D) (memory : disk.Ghosts M) (si
   TriesCopy commands cntl files r after out' = ((r ≡ Err Memory) × (after ≡ h) × (out' ≡ out))
       ⊎ ((date : Text) × IsTriedOn commands date
       × TriesCopied (copy_jobs date (tried_with (apply_to copy.zone) commands cntl) files) r after out')
+
+module _ {H D M O : Type 0} (host : HostGhosts H D) (memory : disk.Ghosts M) (sink : SinkGhosts O) where
+  -- A service set is checked in an empty system, for which nothing is asked of the surroundings, or in a copy of a
+  -- database.
+  abbrev pub ChecksIn : CheckedSystem → H → O → Option CommandJob → List ℕ → Files → Result ℕ JobError → H → O → Type 0
+  ChecksIn (Empty srel) h out commands cntl files r after out' =
+      ChecksSet sink out srel commands cntl files r out' × (after ≡ h)
+  ChecksIn (Copied copy) h out commands cntl files r after out' =
+      TriesCopy host memory sink h copy out commands cntl files r after out'

@@ -4,6 +4,8 @@ pub mod Database
 pub mod Told
 pub mod ServiceSet
 pub mod Copied
+pub mod Shop
+pub mod Linting
 pub mod Serving
 pub mod Answering
 pub mod Careful

@@ -1,5 +1,5 @@
 -- In which order the files of a job are read, and which of their faults is reported.
-use Rattle.std.specs.Prelude.{◌≡◌, ◌≢◌, ◌⊎◌, ℕ, List, [], ◌∷◌, Option, Some, None, Result, Ok, Err}
+use Rattle.std.specs.Prelude.{◌≡◌, ◌≢◌, ◌⊎◌, ℕ, List, [], ◌∷◌, ◌++◌, Option, Some, None, Result, Ok, Err}
 use Rattle.std.specs.IoError.{error_kind}
 use Rattle.std.specs.declared.io.Error.{Error}
 use Rattle.std.specs.declared.io.ErrorKind.TheVariants.{OutOfMemory}
@@ -33,3 +33,9 @@ module _ {H D : Type 0} (host : Ghosts H D) where
       (m : H) × Reads h name (Ok bytes) m × ReadsAll m more (Ok rest) after
   ReadsAll h (name ∷ more) (Err fault) after = Reads h name (Err fault) after
       ⊎ ((m : H) × (bytes : List ℕ) × Reads h name (Ok bytes) m × ReadsAll m more (Err fault) after)
+
+  -- Some file is the first that cannot be read, or memory ran out after some first ones were read.
+  abbrev pub FailsToRead : H → List (Option Text) → Fault → H → Type 0
+  FailsToRead h names fault after = ReadsAll h names (Err fault) after
+      ⊎ ((fault ≡ Job Memory) × (first rest : List (Option Text)) × (files : List (List ℕ)) × (names ≡ first ++ rest)
+      × ReadsAll h first (Ok files) after)

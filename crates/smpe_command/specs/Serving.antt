@@ -1,5 +1,6 @@
 -- What is done for a request: the status, or the fault, and what was printed.
-use Rattle.std.specs.Prelude.{◌≡◌, ◌⊎◌, ℕ, Bool, List, [], ◌∷◌, Option, Some, None, option_map, Result, Ok, Err}
+use Rattle.std.specs.Prelude.{◌≡◌, ◌⊎◌, ℕ, Bool, List, [], ◌∷◌, Option, Some, None, map, option_map}
+use Rattle.std.specs.Prelude.{Result, Ok, Err}
 use Rattle.std.specs.String.{string_bytes}
 use Rattle.sqlite.specs.Store.{Ghosts}
 use Rattle.sqlite_disk.specs.declared.Disk as disk
@@ -10,13 +11,14 @@ use Rattle.machine.specs.Machine.{Files, NewZone, RunFiles}
 use Rattle.report.specs.declared.sink.Sink.{Ghosts as SinkGhosts}
 use Rattle.smpe_jobs.specs.ZoneDefinitions.{definition}
 use Rattle.smpe_invocation.specs.declared.asked.CheckedSystem.{CheckedSystem}
-use Rattle.smpe_invocation.specs.declared.asked.CheckedSystem.TheVariants.{Empty, Copied}
 use Rattle.smpe_invocation.specs.declared.asked.CommandJob.{CommandJob}
 use Rattle.smpe_invocation.specs.declared.asked.Invocation.{Invocation}
 use Rattle.smpe_invocation.specs.declared.asked.Invocation.TheVariants.{Zone, Run, List as ListOf, Why, Check}
-use Rattle.smpe_invocation.specs.declared.asked.Invocation.TheVariants.{Migrate, Verify}
+use Rattle.smpe_invocation.specs.declared.asked.Invocation.TheVariants.{Lint, Migrate, Verify}
 use Rattle.smpe_invocation.specs.declared.asked.RunOptions.{RunOptions}
 use Rattle.smpe_invocation.specs.declared.asked.ServiceSet.{ServiceSet}
+use Rattle.smpe_invocation.specs.declared.asked.SetFiles.{SetFiles}
+use Rattle.smpe_invocation.specs.declared.asked.SetFiles.TheVariants.{Records, AsTheyCome}
 use Rattle.smpe_invocation.specs.declared.asked.WhyOptions.{WhyOptions}
 use Rattle.smpe_invocation.specs.declared.fault.ArgFault.TheVariants.{BadOperand}
 use Rattle.smpe_jobs.specs.declared.error.JobError.{JobError}
@@ -34,11 +36,12 @@ use Rattle.smpe_why.specs.declared.found.LoadedZones.{LoadedZones}
 use Rattle.smpe_verify.specs.declared.verification.Verification.{Verification}
 use Rattle.smpe_command.specs.declared.host.Host.{Ghosts as HostGhosts}
 use Rattle.smpe_command.specs.Careful.{ChecksIfCareful}
-use Rattle.smpe_command.specs.Copied.{TriesCopy}
+use Rattle.smpe_command.specs.Copied.{ChecksIn}
 use Rattle.smpe_command.specs.Database.{FoundOver, JobOver, MigratesOver, VerifiedOver}
 use Rattle.smpe_command.specs.Reading.{ReadsAll}
-use Rattle.smpe_command.specs.ServiceSet.{ChecksSet}
-use Rattle.smpe_command.specs.Told.{TellsFound, TellsMigrated, TellsVerified, TellsZone}
+use Rattle.smpe_command.specs.Linting.{ServesLint}
+use Rattle.smpe_command.specs.Shop.{ServesShop}
+use Rattle.smpe_command.specs.Told.{TellsFound, TellsMigrated, TellsVerified, TellsZone, job_told}
 
 -- the status of a job's answer is the program's, and its error the program's fault
 abbrev pub status_told : Result Answer JobError → Result ℕ Fault
@@ -61,11 +64,6 @@ inquiry options bypass = record {
   groupextend = options.group;
   bypass = bypass;
 }
-
--- the error of a job is the program's fault
-abbrev pub job_told : Result ℕ JobError → Result ℕ Fault
-job_told (Ok status) = Ok status
-job_told (Err error) = Err (Job error)
 
 module _ {H D O : Type 0} (host : HostGhosts H D) (g : Ghosts D) (sink : SinkGhosts O) (h : H) (db : Text) (out : O)
   where
@@ -124,24 +122,27 @@ ServesRun host g sink h db out options r after out' =
 
 module _ {H D M O : Type 0} (host : HostGhosts H D) (memory : disk.Ghosts M)
     (sink : SinkGhosts O) where
-  -- A service set is checked in an empty system, for which nothing is asked of the surroundings, or in a copy of a
-  -- database.
-  abbrev pub ChecksIn : CheckedSystem → H → O → Option CommandJob → List ℕ → Files → Result ℕ JobError → H → O → Type 0
-  ChecksIn (Empty srel) h out commands cntl files r after out' =
-      ChecksSet sink out srel commands cntl files r out' × (after ≡ h)
-  ChecksIn (Copied copy) h out commands cntl files r after out' =
-      TriesCopy host memory sink h copy out commands cntl files r after out'
-
-  -- The set's files are read, or the first that cannot be read is reported, and nothing else is done.
-  abbrev pub ServesCheck : H → O → CheckedSystem → ServiceSet → Result ℕ Fault → H → O → Type 0
-  ServesCheck h out system set r after out' =
-      let names = option_map (λ c. string_bytes c.cntl) set.commands ∷ Some (string_bytes set.ptfin)
-      ∷ option_map string_bytes set.hold ∷ [] in
+  -- The records of a set are read, or the first file that cannot be read is reported, and nothing else is done.
+  abbrev pub ServesRecords : H → O → CheckedSystem → Option CommandJob → Text → Option Text → Result ℕ Fault → H → O
+      → Type 0
+  ServesRecords h out system commands ptfin hold r after out' =
+      let names = option_map (λ c. string_bytes c.cntl) commands ∷ Some ptfin ∷ hold ∷ [] in
       ((fault : Fault) × ReadsAll host h names (Err fault) after × (r ≡ Err fault) × (out' ≡ out))
       ⊎ ((m : H) × (cntl sysmods holds : List ℕ) × ReadsAll host h names (Ok (cntl ∷ sysmods ∷ holds ∷ [])) m
       × (status : Result ℕ JobError)
-      × ChecksIn system m out set.commands cntl (record { ptfin = sysmods; holds = holds }) status after out'
-      × (r ≡ job_told status))
+      × ChecksIn host memory sink system m out commands cntl (record { ptfin = sysmods; holds = holds }) status after
+      out' × (r ≡ job_told status))
+
+  -- so the set of these files
+  abbrev pub ServesSet : H → O → CheckedSystem → Option CommandJob → SetFiles → Result ℕ Fault → H → O → Type 0
+  ServesSet h out system commands (Records ptfin hold) r after out' =
+      ServesRecords h out system commands (string_bytes ptfin) (option_map string_bytes hold) r after out'
+  ServesSet h out system commands (AsTheyCome names) r after out' =
+      ServesShop host memory sink h out system commands (map (λ name. Some (string_bytes name)) names.items) r after
+      out'
+
+  abbrev pub ServesCheck : H → O → CheckedSystem → ServiceSet → Result ℕ Fault → H → O → Type 0
+  ServesCheck h out system set r after out' = ServesSet h out system set.commands set.files r after out'
 
 module _ {H D M O : Type 0} (host : HostGhosts H D) (g : Ghosts D) (memory : disk.Ghosts M)
     (sink : SinkGhosts O) where
@@ -154,6 +155,7 @@ module _ {H D M O : Type 0} (host : HostGhosts H D) (g : Ghosts D) (memory : dis
   Serves h (ListOf db zone) out r after out' = ServesList host g sink h (string_bytes db.name) out zone r after out'
   Serves h (Why db options) out r after out' = ServesWhy host g sink h (string_bytes db.name) out options r after out'
   Serves h (Check system set) out r after out' = ServesCheck host memory sink h out system set r after out'
+  Serves h (Lint options) out r after out' = ServesLint host sink h out options r after out'
   Serves h (Migrate db) out r after out' = (told : Result ℕ JobError)
       × ServesMigrate host g sink h (string_bytes db.name) out told after out' × (r ≡ job_told told)
   Serves h (Verify db) out r after out' = (told : Result ℕ JobError)

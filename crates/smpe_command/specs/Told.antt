@@ -10,12 +10,19 @@ use Rattle.smpe_jobs.specs.declared.jobs.Answer.{Answer}
 use Rattle.smpe_jobs.specs.Ending.{answer_of}
 use Rattle.smpe_jobs.specs.Errors.{job_error}
 use Rattle.smpe_jobs.specs.Messages.{answer_status, migrated_text, zone_text}
+use Rattle.smpe_jobs.specs.declared.messages.Fault.{Fault}
+use Rattle.smpe_jobs.specs.declared.messages.Fault.TheVariants.{Job}
 use Rattle.smpe_why.specs.Telling.{Inquiry, IsTold}
 use Rattle.smpe_why.specs.declared.found.LoadedZones.{LoadedZones}
 use Rattle.smpe_why.specs.declared.told.WhyAnswer.{WhyAnswer}
 use Rattle.smpe_verify.specs.Telling.{IsTold as IsToldOf}
 use Rattle.smpe_verify.specs.declared.verification.Verification.{Verification}
 use Rattle.smpe_verify.specs.declared.told.VerifyAnswer.{VerifyAnswer}
+
+-- the error of a job is the program's fault
+abbrev pub job_told : Result ℕ JobError → Result ℕ Fault
+job_told (Ok status) = Ok status
+job_told (Err error) = Err (Job error)
 
 module _ {O : Type 0} (sink : SinkGhosts O) (out out' : O) where
   -- The text goes to the sink, and the status is this one, or a fault if the text did not go out whole.

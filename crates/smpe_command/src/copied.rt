@@ -78,6 +78,24 @@ fn run_in_copy<H: Host, O: Sink>(
         (record { ptfin = rehearsal.now.files.ptfin.items; holds = rehearsal.now.files.hold.items })) result host.new
         out.new }
 {
+    let bytes = read_database_bytes(host, &copy.db)?;
+    run_over_bytes(alloc, &bytes, copy, rehearsal, out)
+}
+
+/// Runs the jobs of the rehearsal in a copy of files with these bytes, and then asks about the ids.
+pub(crate) fn run_over_bytes<O: Sink>(
+    alloc: Global,
+    bytes: &DatabaseBytes,
+    copy: &SystemCopy,
+    rehearsal: &Rehearsal,
+    out: &mut O,
+) -> Result<u8, JobError>
+    requires { rehearsal.now.receive.items ≡ receive_records }
+    ensures { TriesBytes ⟦<Memory as Disk>⟧ O.Sink copy.now.zone copy.now.ids.items bytes.now.db.items
+        bytes.now.log.items (copy_jobs rehearsal.now.date rehearsal.now.files.cntl.items
+        (record { ptfin = rehearsal.now.files.ptfin.items; holds = rehearsal.now.files.hold.items })) out.old result
+        out.new }
+{
     let date = rehearsal.date;
     let receive = rehearsal.receive.as_slice();
     let cntl = rehearsal.files.cntl.as_slice();
@@ -97,12 +115,11 @@ fn run_in_copy<H: Host, O: Sink>(
             hold,
         },
     ];
-    let bytes = read_database_bytes(host, &copy.db)?;
-    rehearse_over_bytes(alloc, &bytes, &jobs, copy.zone, copy.ids.as_slice(), out)
+    rehearse_over_bytes(alloc, bytes, &jobs, copy.zone, copy.ids.as_slice(), out)
 }
 
-// Reads the bytes of the database's file and of its log. An error of the database library becomes one of the store.
-fn read_database_bytes<H: Host>(
+/// Reads the bytes of the database's file and of its log. An error of the database library becomes one of the store.
+pub(crate) fn read_database_bytes<H: Host>(
     host: &mut H,
     db: &DatabaseFile,
 ) -> Result<DatabaseBytes, StoreError>

@@ -1,6 +1,8 @@
 //! The files of a job.
-ghost use Rattle.std.specs.Prelude.{[], ◌∷◌, IfOk, IfErr, Ok, Err, option_copied};
-ghost use Rattle.smpe_command.specs.Reading.{Reads, ReadsAll};
+ghost use Rattle.std.specs.Prelude.{◌≡◌, ◌++◌, [], ◌∷◌, Some, IfOk, IfErr, Ok, Err, map, option_copied};
+ghost use Rattle.std.specs.String.{string_bytes};
+ghost use Rattle.smpe_jobs.specs.declared.error.JobError.TheVariants.{Memory};
+ghost use Rattle.smpe_command.specs.Reading.{FailsToRead, Reads, ReadsAll};
 
 use crate::host::Host;
 use smpe::{Fault, JobError};
@@ -35,8 +37,39 @@ pub(crate) fn read_files<'a, H: Host>(
     Ok(JobFiles { cntl, ptfin, hold })
 }
 
-// The bytes of the file, or none if the words name no file. The errors are those of `read_files`.
-fn read_file<'a, H: Host>(
+/// Reads the files of these names in this order. Returns `CannotRead` with the name of the first that cannot be read, or
+/// `Job` with `Memory` if memory runs out.
+pub(crate) fn read_each<'a, H: Host>(
+    alloc: Global,
+    host: &mut H,
+    names: &'a [String],
+) -> Result<Vec<Vec<u8>>, Fault<'a>>
+    ensures ok { IfOk result (λ files. ReadsAll H.Host host.old (map (λ name. Some (string_bytes name)) names.entry.now)
+        (Ok (map (λ file. file.items) files.items)) host.new) }
+    ensures err { IfErr result (λ fault. FailsToRead H.Host host.old (map (λ name. Some (string_bytes name))
+        names.entry.now) fault host.new) }
+{
+    let mut files = Vec::new(alloc);
+    for name in names {
+        let file = read_file(alloc, host, Some(name.as_str()))?;
+        push_file(&mut files, file)?;
+    }
+    Ok(files)
+}
+
+// Appends the file, or returns `Memory`.
+fn push_file(files: &mut Vec<Vec<u8>>, file: Vec<u8>) -> Result<(), JobError>
+    ensures ok { IfOk result (λ _. files.new.items ≡ files.old.items ++ file ∷ []) }
+    ensures err { IfErr result (λ error. error ≡ Memory) }
+{
+    match files.push(file) {
+        Ok(()) => Ok(()),
+        Err(_) => Err(JobError::Memory),
+    }
+}
+
+/// The bytes of the file, or none if the words name no file. The errors are those of `read_files`.
+pub(crate) fn read_file<'a, H: Host>(
     alloc: Global,
     host: &mut H,
     name: Option<&'a str>,

@@ -8,6 +8,7 @@
 
 mod any_date;
 mod asked_words;
+mod asking;
 mod careful;
 mod checks;
 mod copied;
@@ -15,10 +16,12 @@ mod database;
 mod host;
 mod job_files;
 mod jobs;
+mod lint;
 mod memory_files;
 mod program;
 mod questions;
 mod service_set;
+mod shop;
 
 pub use host::{DatabaseBytes, Host};
 pub use program::command;

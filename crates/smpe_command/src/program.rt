@@ -70,6 +70,8 @@ fn report_fault<H: Host, E: Sink>(host: &mut H, fault: &Fault<'_>, err: &mut E) 
         Fault::CannotRead(_) => {}
         Fault::NoCommand => {}
         Fault::NoZone(_) => {}
+        Fault::NotCarried(_) => {}
+        Fault::NoSource => {}
     }
     fault_line(fault, err).unwrap_or(FAULT_STATUS)
 }

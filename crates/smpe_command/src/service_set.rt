@@ -61,8 +61,8 @@ pub(crate) fn rehearse_in_empty_system<O: Sink>(
     }
 }
 
-// Defines the zones and runs the jobs of the rehearsal in an empty system.
-fn run_in_empty_system<O: Sink>(
+/// Defines the zones and runs the jobs of the rehearsal in an empty system.
+pub(crate) fn run_in_empty_system<O: Sink>(
     alloc: Global,
     srel: Srel,
     rehearsal: &Rehearsal,

@@ -12,6 +12,7 @@ use Rattle.smpe_jobs.specs.declared.error.JobError.TheVariants as job
 use Rattle.smpe_invocation.specs.declared.fault.ArgFault.TheVariants as arg
 use Rattle.smpe_jobs.specs.declared.messages.Fault.{Fault}
 use Rattle.smpe_jobs.specs.declared.messages.Fault.TheVariants.{Job, Arg, CannotRead, NoCommand, NoZone}
+use Rattle.smpe_jobs.specs.declared.messages.Fault.TheVariants.{NotCarried, NoSource}
 
 abbrev pub zone_fault_text : ZoneFault → Text
 zone_fault_text NameTaken = codes "Zn1"
@@ -53,7 +54,8 @@ job_error_text job.Write = codes "write"
 abbrev pub program_line : Text → Text
 program_line text = codes "smpe: " ++ (text ++ 10 ∷ [])
 
--- the line of a fault; if `clap` refused the words, its own text takes the place of the line
+-- The line of a fault. If `clap` refused the words, its own text takes the place of the line; files that cannot be
+-- carried have lines of their own before it.
 abbrev pub fault_text : Fault → Text
 fault_text (Job why) = program_line (job_error_text why)
 fault_text (Arg arg.Memory) = program_line (codes "out of memory")
@@ -62,6 +64,8 @@ fault_text (Arg arg.BadOperand) = program_line (codes "bad operand")
 fault_text (CannotRead name) = program_line (codes "cannot read " ++ name.now)
 fault_text NoCommand = program_line (codes "no command")
 fault_text (NoZone zone) = program_line (codes "no zone " ++ zone)
+fault_text (NotCarried lines) = lines.items ++ program_line (codes "the files cannot be carried")
+fault_text NoSource = program_line (codes "no free source")
 
 -- the status of a program that has none
 abbrev pub fault_status : ℕ

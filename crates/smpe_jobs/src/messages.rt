@@ -120,6 +120,12 @@ pub enum Fault<'a> {
     /// A SET of a careful job names this zone.
     #[error("a zone is not defined")]
     NoZone(ZoneName),
+    /// A shop's files cannot be carried. These are the lines that say why.
+    #[error("the files cannot be carried")]
+    NotCarried(Vec<u8>),
+    /// The system uses each source that is kept for checks.
+    #[error("no free source")]
+    NoSource,
 }
 
 impl From<JobError> for Fault<'_> {
@@ -177,6 +183,15 @@ fn write_unreadable_file<W: Sink>(name: &str, w: &mut W) -> Result<(), WriteFaul
     write_all(b"\n", w)
 }
 
+// Writes the lines that say why files cannot be carried, and one that says that they cannot.
+fn write_uncarried_files<W: Sink>(lines: &[u8], w: &mut W) -> Result<(), WriteFault>
+    ensures sends { Sent W.Sink w.old w.new (lines.now ++ program_line (codes "the files cannot be carried")) }
+    ensures fault { W.has_failed w.new ≡ is_err result }
+{
+    print(lines, w);
+    write_program_line(b"the files cannot be carried", w)
+}
+
 // Writes the line of a zone that a SET names and that is not defined. This text has two pieces as well.
 fn write_undefined_zone<W: Sink>(name: &ZoneName, w: &mut W) -> Result<(), WriteFault>
     ensures sends { Sent W.Sink w.old w.new (program_line (codes "no zone " ++ name.now)) }
@@ -202,6 +217,8 @@ fn write_fault<W: Sink>(fault: &Fault<'_>, w: &mut W) -> Result<(), WriteFault>
         Fault::CannotRead(name) => write_unreadable_file(name, w),
         Fault::NoCommand => write_program_line(b"no command", w),
         Fault::NoZone(name) => write_undefined_zone(name, w),
+        Fault::NotCarried(lines) => write_uncarried_files(lines.as_slice(), w),
+        Fault::NoSource => write_program_line(b"no free source", w),
     }
 }
 

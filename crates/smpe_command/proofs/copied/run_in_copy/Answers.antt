@@ -1,35 +1,10 @@
-use Rattle.std.proofs.Common.{◌∙◌, ◌∷◌, [], List, inr, subst}
-use Rattle.machine.specs.Machine as machine
-use Rattle.machine.specs.Machine.{RunFiles}
-use Rattle.sqlite_disk.specs.contracts.memory.MemoryDisk.TheImpl.{ghosts as memory_disk}
-use Rattle.smpe_command.specs.Copied.{TriesBytes, TriesCopied}
+use Rattle.std.proofs.Common.{inr}
 use Rattle.smpe_command.proofs.copied.run_in_copy.Goals as goal
 
 pub returns : goal.returns
-returns g c =
-    let jobs : List _ → List _ → List _ → List _ → List machine.Job = λ receive cntl ptfin hold.
-    RunFiles c.args.rehearsal.now.date receive (record { ptfin = ptfin; holds = hold })
-    ∷ RunFiles c.args.rehearsal.now.date cntl (record { ptfin = ptfin; holds = hold }) ∷ [] in
-    let Ran : List machine.Job → Type 0 = λ all. TriesCopied g.H.Host memory_disk g.O.Sink c.args.host.now
-    c.args.copy.now
-    c.args.out.now all c.rehearse_over_bytes.result c.read_database_bytes.new.host c.rehearse_over_bytes.new.out in
-    let receive = c.as_slice-receive in
-    let cntl = c.as_slice-cntl in
-    let ptfin = c.as_slice-ptfin in
-    let hold = c.as_slice-hold in
-    let files = c.args.rehearsal.now.files in
-    let bytes = c.in_ok-bytes.bytes in
-    let ran : Ran (jobs receive.result.now cntl.result.now ptfin.result.now hold.result.now) = inr (
-      bytes.db.items,
-      bytes.log.items,
-      c.in_ok-bytes.ensures.ok,
-      subst (λ ids. TriesBytes memory_disk g.O.Sink c.args.copy.now.zone ids bytes.db.items bytes.log.items
-          (jobs receive.result.now cntl.result.now ptfin.result.now hold.result.now) c.args.out.now
-          c.rehearse_over_bytes.result c.rehearse_over_bytes.new.out) c.as_slice.ensures.value
-          c.rehearse_over_bytes.ensures,
-    ) in
-    subst (λ t. Ran (jobs t files.cntl.items files.ptfin.items files.hold.items))
-    (receive.ensures.value ∙ c.requires)
-    (subst (λ t. Ran (jobs receive.result.now t files.ptfin.items files.hold.items)) cntl.ensures.value
-    (subst (λ t. Ran (jobs receive.result.now cntl.result.now files.ptfin.items t)) hold.ensures.value
-    (subst (λ t. Ran (jobs receive.result.now cntl.result.now t hold.result.now)) ptfin.ensures.value ran)))
+returns g c = inr (
+  c.in_ok-bytes.bytes.db.items,
+  c.in_ok-bytes.bytes.log.items,
+  c.in_ok-bytes.ensures.ok,
+  c.run_over_bytes.ensures,
+)

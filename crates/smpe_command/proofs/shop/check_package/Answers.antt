@@ -1,0 +1,39 @@
+use Rattle.std.proofs.Common.{◌∙◌, Ok, Err, Result, ap, sym, refl, subst}
+use Rattle.std.proofs.lemmas.Result.{err_from_is_err_and}
+use Rattle.smpe_command.specs.Shop.{ChecksAfter, raised_to}
+use Rattle.smpe_command.proofs.shop.check_package.Goals as goal
+
+pub returns-in_err-status : goal.returns-in_err-status
+returns-in_err-status g c =
+    let p = err_from_is_err_and c.from_residual.result c.from_residual.ensures.1 in (
+      c.write_remarks.new.out,
+      c.write_remarks.result,
+      c.write_remarks.ensures,
+      rw c.in_err-status.was (p.1 ∙ ap Err p.2, refl, refl),
+    )
+
+pub returns-in_err-checked : goal.returns-in_err-checked
+returns-in_err-checked g c =
+    let r = c.from_residual-in_err-checked in
+    let p = err_from_is_err_and r.result r.ensures.1 in (
+      c.write_remarks.new.out,
+      c.write_remarks.result,
+      c.write_remarks.ensures,
+      rw c.in_ok-status.was (
+        c.check_items.result,
+        c.check_items.ensures,
+        p.1 ∙ ap Err p.2 ∙ sym (ap (raised_to c.in_ok-status.status) c.in_err-checked.was),
+      ),
+    )
+
+pub returns : goal.returns
+returns g c = (
+  c.write_remarks.new.out,
+  c.write_remarks.result,
+  c.write_remarks.ensures,
+  rw c.in_ok-status.was (
+    c.check_items.result,
+    c.check_items.ensures,
+    ap (λ n. Ok n) c.max.ensures ∙ sym (ap (raised_to c.in_ok-status.status) c.in_ok-checked.was),
+  ),
+)
