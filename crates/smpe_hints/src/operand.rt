@@ -203,7 +203,7 @@ fn system_fault(line: CommandLine<'_>) -> Option<&'static str> {
     })
 }
 
-// The same of the words that name the files, and the date of the commands.
+// The same of the words that name the files, and of the date of the commands.
 fn set_fault(line: CommandLine<'_>) -> Option<&'static str> {
     Some(match (line.has_option("--ptfin"), line.has_file()) {
         (true, true) =>

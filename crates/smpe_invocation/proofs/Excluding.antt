@@ -8,8 +8,8 @@ use Rattle.std.proofs.lemmas.Bool.Decides.{nat_tests}
 use Rattle.terms.specs.Types.{Text}
 use Rattle.clap.specs.Words.{Row}
 use Rattle.smpe_invocation.specs.Answers.{Excludes}
-use Rattle.smpe_invocation.specs.Values.{HasCommands, HasDate, HasOptions, HasRelated, HasSetFiles}
-use Rattle.smpe_invocation.specs.Values.{HasSystem, HasText, HasValues, HasZoneName, Lacks}
+use Rattle.smpe_invocation.specs.Values.{HasCommands, HasDate, HasOptions, HasRelated, HasSetFiles, HasSystem}
+use Rattle.smpe_invocation.specs.Values.{HasText, HasValues, HasZoneName, Lacks}
 use Rattle.smpe_invocation.specs.declared.fault.ArgFault.{ArgFault}
 use Rattle.smpe_invocation.specs.declared.fault.ArgFault.TheVariants.{Memory, Clap, BadOperand}
 use Rattle.std.proofs.lemmas.Option.{none-some}

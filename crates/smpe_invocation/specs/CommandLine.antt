@@ -95,7 +95,7 @@ abbrev pub system_options : List Rule → List Rule
 system_options more = optional_arg (codes "srel") ∷ optional_arg (codes "db") ∷ optional_arg (codes "wait")
     ∷ optional_arg (codes "zone") ∷ optional_repeatable_arg (codes "why") ∷ more
 
--- `check` of a system, with `FILE..` or `--ptfin F [--hold F]`, and with `--cntl F --date YYYY-MM-DD`
+-- `check [--cntl F --date YYYY-MM-DD]` of a system, with `FILE..` or `--ptfin F [--hold F]`
 abbrev pub check_shape : Shape
 check_shape = with_options (codes "check") (system_options (optional_arg (codes "ptfin") ∷ optional_arg (codes "hold")
     ∷ optional_arg (codes "cntl") ∷ optional_arg (codes "date") ∷ file_arg ∷ []))

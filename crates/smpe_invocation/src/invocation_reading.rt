@@ -18,8 +18,8 @@ use std::alloc::Global;
 
 /// Reads the words, the first of which is the program's name. Returns `Memory` if memory runs out, `Clap` if `clap`
 /// refuses the words or has a text to show instead of them, as for `--help`, and `BadOperand` if a name, an id, an
-/// SREL, a date or a number of seconds has a bad form, if `check` is asked about no system or about two, if it gets no
-/// service set or one of both forms, or `--hold` without `--ptfin`.
+/// SREL, a date or a number of seconds has a bad form, if `check` is asked about no system or about two, or if it gets
+/// no service set or one of both forms, or `--hold` without `--ptfin`.
 pub fn invocation<'a>(alloc: Global, words: &'a [&'a str]) -> Result<Invocation, ArgFault>
     ensures ok { IfOk result (IsRead (map (λ word. word.now) words.entry.now)) }
     ensures err { IfErr result (IsRefused (map (λ word. word.now) words.entry.now)) }

@@ -94,7 +94,7 @@ pub(crate) struct ProgramHost<'a> {
     /// The files of records that were read.
     pub(crate) files: Vec<ReadFile>,
     /// Why a file was not read.
-    pub(crate) file_fault: Option<String>,
+    pub(crate) unread: Option<String>,
 }
 
 impl ProgramHost<'_> {
@@ -117,7 +117,7 @@ impl ProgramHost<'_> {
                 conn: None,
             },
             files: Vec::new(rt.alloc()),
-            file_fault: None,
+            unread: None,
         }
     }
 
@@ -135,7 +135,7 @@ impl ProgramHost<'_> {
     }
 
     // Keeps a copy of a file of records, for the hints about its records. If memory runs out, these hints are left out.
-    // If the file does not end with a whole record, it is refused by RECEIVE, and as a command file. Usually it is typed
+    // A file that does not end with a whole record is refused by RECEIVE, and as a command file. Usually it is typed
     // text, so a line on standard error says what to do.
     fn keep_records(&mut self, name: &str, bytes: &[u8]) {
         if !has_whole_records(bytes) {
@@ -153,8 +153,8 @@ impl ProgramHost<'_> {
     }
 
     // Notes why a file was not read, for what is said at the end.
-    fn note_file_fault(&mut self, name: &str, error: &io::Error) {
-        self.file_fault = format!(in self.rt.alloc(); "{name}: {error}").ok();
+    fn note_unread(&mut self, name: &str, error: &io::Error) {
+        self.unread = format!(in self.rt.alloc(); "{name}: {error}").ok();
     }
 
     // A copy of the name, or no text if memory runs out.
@@ -165,9 +165,9 @@ impl ProgramHost<'_> {
     // Notes why a database was not copied, for what is said at the end.
     fn note_copy_fault(&mut self, name: &str, fault: &CopyFault) {
         match fault {
-            CopyFault::Unread(error) => self.note_file_fault(name, error),
+            CopyFault::Unread(error) => self.note_unread(name, error),
             CopyFault::Unfit(why) => {
-                self.file_fault = format!(in self.rt.alloc(); "{name}: {why}").ok();
+                self.unread = format!(in self.rt.alloc(); "{name}: {why}").ok();
             }
             CopyFault::NoDatabase => {
                 let error = Error::SqliteFailure(ErrorCode::NotADatabase);
@@ -251,7 +251,7 @@ impl Host for ProgramHost<'_> {
                 Ok(bytes)
             }
             Err(error) => {
-                self.note_file_fault(name, &error);
+                self.note_unread(name, &error);
                 Err(error)
             }
         }

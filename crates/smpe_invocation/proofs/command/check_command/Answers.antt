@@ -12,8 +12,6 @@ returns c =
     c.optional_arg-3.ensures.rule c.optional_arg-3.ensures.global in
     let at4 = one_more _ _ _ _ _ _ at3 c.in_ok-arg-4.ensures
     c.optional_arg-4.ensures.rule c.optional_arg-4.ensures.global in
-    let at5 = one_more _ _ _ _ _ _ at4 c.in_ok-arg-5.ensures
-    c.optional_arg-5.ensures.rule c.optional_arg-5.ensures.global in
-    IfOk-weaker c.arg-6.result _ _
-    (λ new added. one_more _ _ _ _ _ _ at5 added c.file_arg.ensures.rule c.file_arg.ensures.global)
-    c.arg-6.ensures
+    IfOk-weaker c.arg-5.result _ _
+    (λ new added. one_more _ _ _ _ _ _ at4 added c.file_arg.ensures.rule c.file_arg.ensures.global)
+    c.arg-5.ensures
