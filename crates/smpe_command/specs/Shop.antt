@@ -84,17 +84,19 @@ module _ {M : Type 0} (memory : disk.Ghosts M) where
   LoadsGlobal db log r = ((error : Error) × IsTrue (is_open_error error) × (r ≡ Err (told error)))
       ⊎ ((conn : Held (FileStore M memory)) × IsCopy db log conn × LoadsFrom over_files conn r)
 
-  module _ {O : Type 0} (sink : SinkGhosts O) (copy : SystemCopy) (items : List Item) (holds : List HoldItem) (out : O)
-    where
-      -- The package is asked about in a copy of files with these bytes, by a source that its global zone does not have.
-      -- Or that was not loaded.
-      abbrev pub AsksBytes : List ℕ → List ℕ → Result ℕ Fault → O → Type 0
-      AsksBytes db log r out' =
-          ((why : StoreError) × LoadsGlobal db log (Err why) × (r ≡ Err (Job (job_error why))) × (out' ≡ out))
-          ⊎ ((g : Global) × LoadsGlobal db log (Ok g)
-          × RunsPackage holds out (find (λ x. is_free x items g.sysmods) package_sources) items
-          (λ x files status out'. (date : Text) × TriesBytes memory sink copy.zone copy.ids.items db log
-          (copy_jobs date (package_commands copy.zone x) files) out status out') r out')
+  module _ {O : Type 0} (sink : SinkGhosts O) (copy : SystemCopy) (out : O) (db log : List ℕ) where
+    -- The jobs that ask about the package of this source ran in a copy of files with these bytes.
+    abbrev pub TriesSource : Text → Files → Result ℕ JobError → O → Type 0
+    TriesSource x files r out' = (date : Text) × TriesBytes memory sink copy.zone copy.ids.items db log
+        (copy_jobs date (package_commands copy.zone x) files) out r out'
+
+    -- The package is asked about in such a copy, by a source that its global zone does not have. Or that was not
+    -- loaded.
+    abbrev pub AsksBytes : List Item → List HoldItem → Result ℕ Fault → O → Type 0
+    AsksBytes items holds r out' =
+        ((why : StoreError) × LoadsGlobal db log (Err why) × (r ≡ Err (Job (job_error why))) × (out' ≡ out))
+        ⊎ ((g : Global) × LoadsGlobal db log (Ok g)
+        × RunsPackage holds out (find (λ x. is_free x items g.sysmods) package_sources) items TriesSource r out')
 
 module _ {H D M O : Type 0} (host : HostGhosts H D) (memory : disk.Ghosts M) (sink : SinkGhosts O) where
   module _ (h : H) (out : O) (items : List Item) (holds : List HoldItem) where
@@ -108,7 +110,7 @@ module _ {H D M O : Type 0} (host : HostGhosts H D) (memory : disk.Ghosts M) (si
         ((error : Error) × host.refuses h (string_bytes copy.db.name) error after
         × (r ≡ Err (Job (job_error (told error)))) × (out' ≡ out))
         ⊎ ((db log : List ℕ) × host.holds h (string_bytes copy.db.name) db log after
-        × AsksBytes memory sink copy items holds out db log r out')
+        × AsksBytes memory sink copy out db log items holds r out')
 
     -- so if there is a SYSMOD; otherwise nothing is asked
     abbrev pub AsksIfAny : Bool → CheckedSystem → Result ℕ Fault → H → O → Type 0

@@ -1,12 +1,10 @@
 //! The question about a package: what APPLY would make of its SYSMODs, and of no others but those that GROUPEXTEND
 //! brings in. The copy of the system gives the package a source that nothing else has.
 ghost use Rattle.std.specs.Prelude.{◌≡◌, ◌∷◌, [], ◌≤◌, Ok, Err, IfOk, IfErr, codes, find, length, false};
-ghost use Rattle.terms.specs.Types.{Text};
 ghost use Rattle.smpe_invocation.specs.declared.asked.CheckedSystem.TheVariants.{Copied};
-ghost use Rattle.smpe_command.specs.Copied.{TriesBytes, copy_jobs};
 ghost use Rattle.smpe_command.specs.ServiceSet.{receive_records};
 ghost use Rattle.smpe_command.specs.Shop.{AsksBytes, AsksPackage, IsNotCarried, LoadsFrom, LoadsGlobal, RunsPackage};
-ghost use Rattle.smpe_command.specs.Shop.{TriesEmpty, package_commands};
+ghost use Rattle.smpe_command.specs.Shop.{TriesEmpty, TriesSource, package_commands};
 ghost use Rattle.smpe_package.specs.Package.{AreRecords, is_free, package_sources, with_source};
 
 use crate::any_date::any_date;
@@ -100,8 +98,8 @@ fn ask_over_bytes<'a, O: Sink>(
     items: PackageItems,
     out: &mut O,
 ) -> Result<u8, Fault<'a>>
-    ensures { AsksBytes ⟦<Memory as Disk>⟧ O.Sink copy.now items.items.items items.hold_items.items out.old
-        bytes.now.db.items bytes.now.log.items result out.new }
+    ensures { AsksBytes ⟦<Memory as Disk>⟧ O.Sink copy.now out.old bytes.now.db.items bytes.now.log.items
+        items.items.items items.hold_items.items result out.new }
 {
     match load_global_of_copy(alloc, bytes) {
         Ok(global) => ask_beside(alloc, bytes, copy, global, items, out),
@@ -120,9 +118,8 @@ fn ask_beside<'a, O: Sink>(
 ) -> Result<u8, Fault<'a>>
     ensures { RunsPackage items.hold_items.items out.old
         (find (λ x. is_free x items.items.items global.sysmods) package_sources) items.items.items
-        (λ x files status out'. (date : Text) × TriesBytes ⟦<Memory as Disk>⟧ O.Sink copy.now.zone copy.now.ids.items
-        bytes.now.db.items bytes.now.log.items (copy_jobs date (package_commands copy.now.zone x) files) out.old status
-        out') result out.new }
+        (TriesSource ⟦<Memory as Disk>⟧ O.Sink copy.now out.old bytes.now.db.items bytes.now.log.items) result
+        out.new }
 {
     let source = free_source(items.items.as_slice(), &global);
     drop(global);
