@@ -163,10 +163,9 @@ fn answer(
 }
 
 // Why nothing could be read, a text for each reason. Each text has its place.
-fn refusal_texts(alloc: Global, fault: IntakeFault) -> Result<Vec<String>, AllocError> {
+fn refusal_texts(alloc: Global, fault: &IntakeFault) -> Result<Vec<String>, AllocError> {
     let mut texts = Vec::new(alloc);
     match fault {
-        IntakeFault::Memory => return Err(AllocError),
         IntakeFault::Statements(lines) => {
             for line in lines.iter() {
                 texts.push(shown(alloc, line.as_slice())?)?;
@@ -189,9 +188,12 @@ fn refusal(
 ) -> Result<LintAnswer, AllocError>
     ensures { IfOk result (λ answer. answer.status ≡ 12) }
 {
+    if matches!(fault, IntakeFault::Memory) {
+        return Err(AllocError);
+    }
     let files = shown_files(alloc, given)?;
     let mut told = Vec::new(alloc);
-    for text in refusal_texts(alloc, fault)? {
+    for text in refusal_texts(alloc, &fault)? {
         told.push(Finding::new(alloc, Rule::Refused, text))?;
     }
     formed(alloc, &files, form, 0, REFUSED, &told)
