@@ -1,7 +1,8 @@
 //! Which candidates change an element that they may not share with another candidate.
-ghost use Rattle.std.specs.Prelude.{◌≡◌, ◌↔◌, ◌<◌, ◌⊎◌, [], ◌∷◌, ◌++◌, ℕ, List, length, IsTrue};
+ghost use Rattle.std.specs.Prelude.{◌≡◌, ◌↔◌, ◌<◌, ◌⊎◌, ◌&&◌, [], ◌∷◌, ◌++◌, ℕ, List, length, IsTrue};
 ghost use Rattle.std.specs.Prelude.{Contains, OnOk, IfOk};
 ghost use Rattle.sysmods.specs.Choices.{choice};
+ghost use Rattle.judge_faults.specs.Rows.{is_among};
 ghost use Rattle.judge_faults.specs.Sharing.{Marks, IsOfPair, IsAgainst, IsAmong, Clashes, AreMarked};
 ghost use Rattle.judge_faults.specs.Sharing.{AllMarked, AreSettled, IsRun, IsClashing};
 
@@ -117,6 +118,13 @@ fn mark_against_others(
     }
 }
 
+// Whether the others are marked, as is known, and the claim is marked too.
+fn is_marked_too(are_marked: bool, claim: &Claim, marked: &IndexSet<usize>) -> bool
+    ensures { result ≡ (are_marked && is_among marked.now.keys claim.now.place) }
+{
+    are_marked && marked.contains(&claim.place)
+}
+
 // Adds one more claim, and marks its clashes with the claims so far.
 fn add_claim(
     alloc: Global,
@@ -136,7 +144,7 @@ fn add_claim(
         mark_against(alloc, overs, claim, claimants.chain.as_slice(), marked)?;
         mark_against_others(alloc, overs, claim, claimants, marked)?;
         claimants.others.push(*claim)?;
-        claimants.are_marked = claimants.are_marked && marked.contains(&claim.place);
+        claimants.are_marked = is_marked_too(claimants.are_marked, claim, marked);
         return Ok(());
     };
     mark_against_others(alloc, overs, claim, claimants, marked)?;
