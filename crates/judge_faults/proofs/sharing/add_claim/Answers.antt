@@ -13,11 +13,11 @@ returns-in_default-clause-taken c claims before m =
     let same = c.in_ok-place.ensures.same in
     let marked = c.mark_against_others.new.marked.keys in
     left_out c.args.overs.now.global.now (choice c.args.overs.now) claims claimants.chain.items claimants.others.items
-    c.push.new.self.items claimants.are_marked c.is_marked_too.result before c.args.marked.now.keys c.mark_against.new.marked.keys
+    c.push.new.self.items claimants.are_marked c.is_marked_too-claimants.result before c.args.marked.now.keys c.mark_against.new.marked.keys
     marked c.args.claim.now c.in_ok-push.ensures.items
     (λ on.
     let place = c.args.claim.now.place in
-    let parts = and_parts claimants.are_marked (is_among marked place) (sym c.is_marked_too.ensures ∙ on) in
+    let parts = and_parts claimants.are_marked (is_among marked place) (sym c.is_marked_too-claimants.ensures ∙ on) in
     (parts.0, Contains-list_any nat_eq eqb-true marked place parts.1))
     (rw (c.as_slice-in_default.ensures.value, same) at c.in_ok-mark_against.ensures.marks)
     (rw (c.in_ok-mark_against.ensures.same ∙ same) at c.in_ok-mark_against_others.ensures.marks) m

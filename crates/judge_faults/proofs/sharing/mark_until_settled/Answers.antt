@@ -28,8 +28,8 @@ loop-other-preserved c =
           c.loop-other.invariant.marks (rw same at c.in_ok-mark_pair.ensures.marks));
     }
 
-pub returns-then-branch-clause-marks : goal.returns-then-branch-clause-marks
-returns-then-branch-clause-marks c all =
+pub returns-then-contains-clause-marks : goal.returns-then-contains-clause-marks
+returns-then-contains-clause-marks c all =
     let others = c.args.others.now in
     let front = take c.loop-other.other-index others in
     let keys = c.loop-other.marked.keys in
