@@ -9,6 +9,7 @@
 mod breaches;
 mod elements;
 mod first_vers;
+mod keeping;
 mod linting;
 mod naming;
 mod order;
