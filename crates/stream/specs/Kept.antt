@@ -2,7 +2,7 @@
 use Rattle.std.specs.Prelude.{◌≡◌, ◌++◌, ◌⊎◌, List, Some, All, Contains, IsTrue}
 use Rattle.std.specs.Ordering.{nat_cmp}
 use Rattle.std.specs.Cmp.Lexicographic.{slice_cmp}
-use Rattle.std.specs.BTreeMap.{get}
+use Rattle.std.specs.BTreeMap.{BTreeMap, get}
 use Rattle.terms.specs.declared.kinds.ElemType.{ElemType}
 use Rattle.terms.specs.Types.{Id, Name, Ver, Global}
 use Rattle.terms.specs.Choice.{Choice, sup_of}
@@ -40,7 +40,9 @@ AreKept g c x ys = (y : Id) → Contains ys y → Keeps g c x y
 abbrev pub AreKeptOf : Global → Choice → Id → List Id → Type 0
 AreKeptOf g c x ys = (y : Id) → Contains ys y → Contains (sup_of c x) y × Keeps g c x y
 
--- each list is right
+-- each list is of suspects of the SYSMOD that it stands for
+abbrev pub AreKnownIn : Global → Choice → BTreeMap Id (List Id) → Type 0
+AreKnownIn g c lists = (x : Id) (ys : List Id) → get (slice_cmp nat_cmp) lists x ≡ Some ys → AreSuspects g c x ys
+
 abbrev pub AreKnown : Suspects → Type 0
-AreKnown s = (x : Id) (ys : List Id) → get (slice_cmp nat_cmp) s.lists x ≡ Some ys
-    → AreSuspects s.vers.now.global.now (choice s.vers.now) x ys
+AreKnown s = AreKnownIn s.vers.now.global.now (choice s.vers.now) s.lists

@@ -3,7 +3,7 @@ ghost use Rattle.std.specs.Prelude.{OnOk};
 ghost use Rattle.terms.specs.Choice.{sup_of};
 ghost use Rattle.sysmods.specs.Choices.{choice};
 ghost use Rattle.stream.specs.Gaining.{Gains, OneOf};
-ghost use Rattle.stream.specs.Keeping.{AreKnown};
+ghost use Rattle.stream.specs.Kept.{AreKnown};
 ghost use Rattle.stream.specs.Lost.{IsLostStatement, IsLossOf};
 
 use crate::breaches::LostElement;
@@ -69,10 +69,9 @@ pub(crate) fn append_lost_elements(
         (IsLossOf suspects.now.vers.now.global.now (choice suspects.now.vers.now) id)) found.old.items
         found.new.items) }
 {
-    let vers = suspects.vers();
     let superseded = suspects.of(id);
     for other in superseded {
-        append_losses(vers, id, *other, found)?;
+        append_losses(suspects.vers, id, *other, found)?;
     }
     Ok(())
 }

@@ -1,13 +1,14 @@
 //! Of which SYSMODs that it supersedes a SYSMOD may lack something. What lacks nothing of another SYSMOD lacks nothing
 //! of all those of which this one lacks nothing. So each SYSMOD is compared first with the last one that it supersedes,
 //! and not at all with those that need no comparison. Where each PTF supersedes all before it, it is compared with one.
-ghost use Rattle.std.specs.Prelude.{◌≡◌, ◌++◌, ◌&&◌, filter, not, is_some, All, IsTrue, IfOk, OnOk};
+ghost use Rattle.std.specs.Prelude.{◌≡◌, ◌++◌, filter, not, All, IsTrue, IfOk, OnOk};
 ghost use Rattle.terms.specs.Lookups.{changes_of, has_change, is_in};
 ghost use Rattle.sysmods.specs.Choices.{choice};
 ghost use Rattle.sysmods.specs.Seen.{AddsAll};
-ghost use Rattle.stream.specs.Keeping.{Keeps, AreSuspects, AreKept, AreKeptOf, VerHas, AreKnown};
+ghost use Rattle.stream.specs.Kept.{Keeps, AreSuspects, AreKept, AreKeptOf, VerHas, AreKnown};
+ghost use Rattle.stream.specs.Ordering.{is_open};
 
-use crate::first_vers::is_in_stream;
+use crate::order::is_open;
 use crate::requisites::{have_one_fmid, requires_or_supersedes};
 use fields::{Id, IdList};
 use indexmap::IndexSet;
@@ -19,7 +20,7 @@ use sysmods_values::Ver;
 /// For each SYSMOD that was compared, those that it supersedes and of which it may lack something.
 #[derive(Drop)]
 pub(crate) struct Suspects<'a, 'b> {
-    vers: &'a VerChoice<'b>,
+    pub(crate) vers: &'a VerChoice<'b>,
     lists: BTreeMap<Id, IdList>,
 }
 
@@ -79,13 +80,26 @@ fn not_kept(
     ids: &[Id],
     kept: &IndexSet<Id>,
 ) -> Result<Vec<Id>, AllocError>
-    ensures { IfOk result (λ left. left.items
-        ≡ filter (λ z. not (is_in kept.now.keys z) && is_some (choice vers.now z)) ids.now) }
+    ensures { IfOk result (λ left. left.items ≡ filter (is_open (choice vers.now) kept.now.keys) ids.now) }
 {
     ids.iter()
-        .filter(|id| !kept.contains(*id) && is_in_stream(vers, **id))
+        .filter(|id| is_open(vers, kept, **id))
         .copied()
         .collect(alloc)
+}
+
+// Whether the id is in the list.
+fn is_in(list: &IdList, id: Id) -> bool
+    ensures { result ≡ is_in list.now id }
+{
+    list.contains(id)
+}
+
+// Those of the ids that the list lacks.
+fn outside(alloc: Global, ids: &[Id], list: &IdList) -> Result<Vec<Id>, AllocError>
+    ensures { IfOk result (λ left. left.items ≡ filter (λ z. not (is_in list.now z)) ids.now) }
+{
+    ids.iter().filter(|id| !is_in(list, **id)).copied().collect(alloc)
 }
 
 // These ids, those that have the last places first.
@@ -110,17 +124,8 @@ impl<'a, 'b> Suspects<'a, 'b> {
         ensures known { AreKnown result }
         ensures vers { result.vers.now ≡ vers.now }
     {
-        Suspects {
-            vers,
-            lists: BTreeMap::new(alloc),
-        }
-    }
-
-    /// The `++VER`s that count.
-    pub(crate) fn vers(&self) -> &'a VerChoice<'b>
-        ensures { result.now ≡ self.now.vers.now }
-    {
-        self.vers
+        let lists = BTreeMap::new(alloc);
+        Suspects { vers, lists }
     }
 
     /// Of these SYSMODs, which x supersedes, it may lack something. It lacks nothing of the others that it supersedes.
@@ -144,7 +149,10 @@ impl<'a, 'b> Suspects<'a, 'b> {
         let Some(ver) = self.vers.ver(x) else {
             return false;
         };
-        has_requisites_of(ver, other) && changes_all_of(self.vers.global(), x, y)
+        if !has_requisites_of(ver, other) {
+            return false;
+        }
+        changes_all_of(self.vers.global(), x, y)
     }
 
     // What y supersedes and lacks nothing of, as far as y was compared.
@@ -152,15 +160,10 @@ impl<'a, 'b> Suspects<'a, 'b> {
         requires { AreKnown self.now }
         ensures { IfOk result (λ zs. AreKeptOf self.now.vers.now.global.now (choice self.now.vers.now) y zs.items) }
     {
-        let vers = self.vers;
         let Some(suspects) = self.lists.get(&y) else {
             return Ok(Vec::new(alloc));
         };
-        let sup = vers.sup(y);
-        sup.iter()
-            .filter(|id| !suspects.contains(**id))
-            .copied()
-            .collect(alloc)
+        outside(alloc, self.vers.sup(y), suspects)
     }
 
     // Adds y, and what y lacks nothing of, if x lacks nothing of y.
@@ -180,7 +183,8 @@ impl<'a, 'b> Suspects<'a, 'b> {
         }
         let more = self.kept_of(alloc, y)?;
         kept.insert(y)?;
-        insert_all(more.as_slice(), kept)
+        insert_all(more.as_slice(), kept)?;
+        Ok(())
     }
 
     // SYSMODs of which x lacks nothing. It is compared with these ids in turn, and not with what is found before.

@@ -7,6 +7,7 @@
 #![tactic(auto)]
 
 mod breaches;
+mod circles;
 mod elements;
 mod first_vers;
 mod keeping;
@@ -18,7 +19,7 @@ mod requisites;
 mod unordered;
 
 pub use breaches::{Lack, LostElement, LostRequisite, Unordered};
-pub use fields::{Id, Name, Reason, Srel};
+pub use fields::{Id, IdList, Name, Reason, Srel};
 pub use linting::{Findings, lint};
 pub use remarks::Remark;
 pub use sysmods::GlobalZone;

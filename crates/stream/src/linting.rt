@@ -4,7 +4,7 @@ ghost use Rattle.terms.specs.Types.{Global as AGlobal};
 ghost use Rattle.terms.specs.Stream.{IsInStream, IsClean, ver_for};
 ghost use Rattle.sysmods.specs.Choices.{choice};
 ghost use Rattle.stream.specs.Breaches.{IsLostRequisite, IsLostElement};
-ghost use Rattle.stream.specs.Keeping.{AreKnown};
+ghost use Rattle.stream.specs.Kept.{AreKnown};
 ghost use Rattle.stream.specs.Lints.{AreFindings};
 ghost use Rattle.stream.specs.declared.breaches.LostRequisite.{LostRequisite as ALostRequisite};
 ghost use Rattle.stream.specs.declared.breaches.LostElement.{LostElement as ALostElement};

@@ -4,7 +4,7 @@ ghost use Rattle.terms.specs.Choice.{sup_of};
 ghost use Rattle.terms.specs.Lookups.{is_in};
 ghost use Rattle.sysmods.specs.Choices.{choice};
 ghost use Rattle.stream.specs.Gaining.{Gains, OneOf};
-ghost use Rattle.stream.specs.Keeping.{AreKnown};
+ghost use Rattle.stream.specs.Kept.{AreKnown};
 ghost use Rattle.stream.specs.Lost.{VerLacks, IsLackOf};
 ghost use Rattle.stream.specs.declared.breaches.Lack.{Lack as ALack};
 ghost use Rattle.stream.specs.declared.breaches.Lack.TheVariants.{Fmid};
@@ -121,10 +121,9 @@ pub(crate) fn append_lost_requisites(
     ensures { OnOk result (Gains (OneOf (sup_of (choice suspects.now.vers.now) id)
         (IsLackOf (choice suspects.now.vers.now) id)) found.old.items found.new.items) }
 {
-    let vers = suspects.vers();
     let superseded = suspects.of(id);
     for other in superseded {
-        append_lacks(alloc, vers, id, *other, found)?;
+        append_lacks(alloc, suspects.vers, id, *other, found)?;
     }
     Ok(())
 }
