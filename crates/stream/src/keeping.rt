@@ -49,7 +49,13 @@ fn has_sups_of(ver: &Ver, other: &Ver) -> bool
 fn has_requisites_of(ver: &Ver, other: &Ver) -> bool
     ensures { IsTrue result → VerHas ver.now other.now }
 {
-    have_one_fmid(ver, other) && has_pres_of(ver, other) && has_sups_of(ver, other)
+    if !have_one_fmid(ver, other) {
+        return false;
+    }
+    if !has_pres_of(ver, other) {
+        return false;
+    }
+    has_sups_of(ver, other)
 }
 
 // Whether x changes each element that y changes.

@@ -10,7 +10,7 @@ returns-in-Some c =
     subst (AreSuspects vers.global.now (choice vers) c.args.x) (sym c.as_slice.ensures.items)
     (c.requires c.args.x c.in-Some.list.now (sym c.in-Some.ensures.value))
 
-pub returns : goal.returns
-returns c =
+pub returns-in-None : goal.returns-in-None
+returns-in-None c =
     let vers = c.args.self.now.vers.now in
     suspects_all vers.global.now (choice vers) c.args.x c.sup.result.now c.sup.ensures
