@@ -60,6 +60,21 @@ fn add_needs(
     Ok(())
 }
 
+// Adds the edges of what the SYSMOD names in PRE and REQ.
+fn add_needs_of(
+    alloc: Global,
+    vers: &VerChoice<'_>,
+    superseded: &IndexSet<Id>,
+    id: Id,
+    needs: &mut Needs,
+) -> Result<(), AllocError> {
+    if let Some(ver) = vers.ver(id) {
+        add_needs(alloc, vers, superseded, id, ver.pre.as_slice(), needs)?;
+        add_needs(alloc, vers, superseded, id, ver.req.as_slice(), needs)?;
+    }
+    Ok(())
+}
+
 // What each SYSMOD of the stream requires that only one SYSMOD serves.
 fn all_needs(alloc: Global, vers: &VerChoice<'_>, ids: &[Id]) -> Result<Needs, AllocError> {
     let superseded = superseded_ids(alloc, vers, ids)?;
@@ -68,10 +83,7 @@ fn all_needs(alloc: Global, vers: &VerChoice<'_>, ids: &[Id]) -> Result<Needs, A
         by: IndexMap::new(alloc),
     };
     for id in ids {
-        if let Some(ver) = vers.ver(*id) {
-            add_needs(alloc, vers, &superseded, *id, ver.pre.as_slice(), &mut needs)?;
-            add_needs(alloc, vers, &superseded, *id, ver.req.as_slice(), &mut needs)?;
-        }
+        add_needs_of(alloc, vers, &superseded, *id, &mut needs)?;
     }
     Ok(needs)
 }
@@ -116,6 +128,44 @@ fn count_down(
     Ok(())
 }
 
+// The ids that have no edges left.
+fn ended_ids(alloc: Global, counts: &IndexMap<Id, usize>) -> Result<Vec<Id>, AllocError> {
+    let mut ended = Vec::new(alloc);
+    for (id, count) in counts.iter() {
+        if *count == 0 {
+            ended.push(*id)?;
+        }
+    }
+    Ok(ended)
+}
+
+// The ids that have edges left.
+fn going_ids(alloc: Global, counts: &IndexMap<Id, usize>) -> Result<IndexSet<Id>, AllocError> {
+    let mut going = IndexSet::new(alloc);
+    for (id, count) in counts.iter() {
+        if *count > 0 {
+            going.insert(*id)?;
+        }
+    }
+    Ok(going)
+}
+
+// Takes away the edges to each id that has none left, until all that are left lead on.
+fn take_ended(
+    alloc: Global,
+    back: &Ends,
+    counts: &mut IndexMap<Id, usize>,
+) -> Result<(), AllocError> {
+    let mut ended = ended_ids(alloc, counts)?;
+    for _turn in 0..counts.len() {
+        let Some(id) = ended.pop() else {
+            break;
+        };
+        count_down(ends_of(back, &id), counts, &mut ended)?;
+    }
+    Ok(())
+}
+
 // Those ids of the set from which one can go on along the edges without end. `back` has the edges turned round.
 fn without_end(
     alloc: Global,
@@ -124,25 +174,8 @@ fn without_end(
     among: &IndexSet<Id>,
 ) -> Result<IndexSet<Id>, AllocError> {
     let mut counts = counts_of(alloc, ends, among)?;
-    let mut open = Vec::new(alloc);
-    for (id, count) in counts.iter() {
-        if *count == 0 {
-            open.push(*id)?;
-        }
-    }
-    for _turn in 0..among.len() {
-        let Some(id) = open.pop() else {
-            break;
-        };
-        count_down(ends_of(back, &id), &mut counts, &mut open)?;
-    }
-    let mut left = IndexSet::new(alloc);
-    for (id, count) in counts.iter() {
-        if *count > 0 {
-            left.insert(*id)?;
-        }
-    }
-    Ok(left)
+    take_ended(alloc, back, &mut counts)?;
+    going_ids(alloc, &counts)
 }
 
 // Adds the ends of the id's edges that are in the set.
@@ -194,20 +227,20 @@ fn circle_of(
         .collect(alloc)
 }
 
-/// The circles of SYSMODs of the stream that go on only together, each once.
-pub(crate) fn all_circles(
-    alloc: Global,
-    vers: &VerChoice<'_>,
-    ids: &[Id],
-) -> Result<Vec<IdList>, AllocError> {
-    let needs = all_needs(alloc, vers, ids)?;
-    let mut all = IndexSet::new(alloc);
+// Adds the ids to the set.
+fn add_all(ids: &[Id], set: &mut IndexSet<Id>) -> Result<(), AllocError> {
     for id in ids {
-        all.insert(*id)?;
+        set.insert(*id)?;
     }
+    Ok(())
+}
+
+// Those of the ids that are in circles, or lie between two of them.
+fn among_circles(alloc: Global, needs: &Needs, ids: &[Id]) -> Result<IndexSet<Id>, AllocError> {
+    let mut all = IndexSet::new(alloc);
+    add_all(ids, &mut all)?;
     let ahead = without_end(alloc, &needs.of, &needs.by, &all)?;
-    let both = without_end(alloc, &needs.by, &needs.of, &ahead)?;
-    circles_among(alloc, &needs, &both)
+    without_end(alloc, &needs.by, &needs.of, &ahead)
 }
 
 // The circles in this set, each once.
@@ -223,12 +256,21 @@ fn circles_among(
             continue;
         }
         let circle = circle_of(alloc, needs, among, id)?;
-        for other in &circle {
-            told.insert(*other)?;
-        }
+        add_all(circle.as_slice(), &mut told)?;
         if !circle.is_empty() {
             circles.push(IdList::from_vec(circle))?;
         }
     }
     Ok(circles)
+}
+
+/// The circles of SYSMODs of the stream that go on only together, each once.
+pub(crate) fn all_circles(
+    alloc: Global,
+    vers: &VerChoice<'_>,
+    ids: &[Id],
+) -> Result<Vec<IdList>, AllocError> {
+    let needs = all_needs(alloc, vers, ids)?;
+    let among = among_circles(alloc, &needs, ids)?;
+    circles_among(alloc, &needs, &among)
 }
