@@ -109,8 +109,11 @@ fn status_of(whole: bool, clean: bool, told: &[Finding]) -> u8
     ensures clean { IsCleanStatus result → IsTrue clean }
     ensures known { IsCleanStatus result ⊎ (result ≡ 8) }
 {
+    if !whole {
+        return BROKEN;
+    }
     let counts = counts_of(told);
-    if !whole || !clean || counts.faults > 0 {
+    if !clean || counts.faults > 0 {
         BROKEN
     } else if counts.remarks > 0 {
         REMARKS
