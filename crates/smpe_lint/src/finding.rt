@@ -66,12 +66,8 @@ impl Rule {
         match self {
             Rule::Requisites | Rule::Elements | Rule::Unordered => Weight::Breach,
             Rule::Refused | Rule::Fault | Rule::Receive => Weight::Fault,
-            Rule::Records
-            | Rule::Absent
-            | Rule::Vers
-            | Rule::Hold
-            | Rule::Together
-            | Rule::Empty => Weight::Remark,
+            Rule::Records | Rule::Absent | Rule::Vers | Rule::Hold | Rule::Together | Rule::Empty =>
+                Weight::Remark,
         }
     }
 }
