@@ -125,34 +125,29 @@ fn push_if_any(line: Option<String>, lines: &mut Vec<String>) -> Result<(), Allo
 }
 
 // The line that says that the program has created the database, as it does for a misspelled name, or `None` if it has
-// not, or if memory ran out for the name.
+// not.
 fn new_database_hint(rt: &HostRuntime, database: &Database) -> Result<Option<String>, AllocError> {
     match database {
         Database::Opened {
             name,
             is_new: true,
             ..
-        } if !name.is_empty() => Ok(Some(format!(in rt.alloc();
-            "there was no database {name}, and it was made"
-        )?)),
+        } => Ok(Some(format!(in rt.alloc(); "there was no database {name}, and it was made")?)),
         _ => Ok(None),
     }
 }
 
-// Why the database failed, as far as the library or the file shows that, or `None` if the words ask for no database, or
-// if memory ran out for its name and there is none.
+// Why the database failed, as far as the library or the file shows that, or `None` if the words ask for no database.
 fn database_hint(rt: &HostRuntime, database: &Database) -> Result<Option<String>, AllocError> {
     match database {
         Database::None => Ok(None),
-        Database::Missing(name) if name.is_empty() => Ok(None),
         Database::Missing(name) => Ok(Some(format!(in rt.alloc();
             "there is no database {name}; smpe zone makes one"
         )?)),
-        Database::Refused(name, Error::SqliteFailure(ErrorCode::CannotOpen)) if !name.is_empty() =>
-            {
-                let fault = place_fault(rt, name.as_str());
-                Ok(Some(format!(in rt.alloc(); "the database can't be opened: {name}: {fault}")?))
-            }
+        Database::Refused(name, Error::SqliteFailure(ErrorCode::CannotOpen)) => {
+            let fault = place_fault(rt, name.as_str());
+            Ok(Some(format!(in rt.alloc(); "the database can't be opened: {name}: {fault}")?))
+        }
         Database::Refused(name, Error::SqliteFailure(ErrorCode::NotADatabase))
             if is_surely_no_database(rt, name.as_str()) => {
             Ok(Some(String::from_str(rt.alloc(), "the file is no database")?))
