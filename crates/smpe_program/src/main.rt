@@ -7,7 +7,6 @@
 mod command_line;
 mod copy;
 mod host;
-mod input;
 mod left;
 mod place;
 mod related_zone;
