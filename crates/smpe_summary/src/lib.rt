@@ -1,0 +1,12 @@
+//! The answer to an APPLY or ACCEPT of a package that fits on a screen: what would become of each SYSMOD of the package,
+//! why those that would fail do so, and what is to be done. All of it is read off the lines of the command and the zones
+//! (`Asked`). Each SYSMOD of the package is in one group. A cause is a causer of the SYSMODs that would fail, with their
+//! number and the first of its own reasons. The law (`laws`): each id of the package has one group. Every call that
+//! allocates returns `AllocError` if memory runs out.
+#![tactic(auto)]
+
+mod asked;
+mod values;
+
+pub use asked::Asked;
+pub use values::{Cause, CauseReason, Group, Member, Summary, TakenOff, ToDo};
