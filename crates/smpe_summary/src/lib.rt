@@ -6,7 +6,25 @@
 #![tactic(auto)]
 
 mod asked;
+mod blockers;
+mod cause_text;
+mod causes;
+mod first_line;
+mod group_lines;
+mod lines;
+mod members;
+mod pieces;
+mod status;
+mod summarize;
+mod superseding;
+mod taken;
+mod text;
+mod todo;
+mod todo_text;
 mod values;
 
 pub use asked::Asked;
+pub use cause_text::append_cause_text;
+pub use summarize::summary_of;
+pub use text::append_summary;
 pub use values::{Cause, CauseReason, Group, Member, Summary, TakenOff, ToDo};

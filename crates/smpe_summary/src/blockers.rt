@@ -1,0 +1,129 @@
+//! The causers of the SYSMODs of the package that would fail.
+ghost use Rattle.std.specs.Prelude.{◌≡◌, ◌++◌, map, length, IfOk, OnOk};
+ghost use Rattle.std.specs.List.{flat_map};
+ghost use Rattle.std.specs.Ordering.{nat_cmp};
+ghost use Rattle.std.specs.Cmp.Lexicographic.{slice_cmp};
+ghost use Rattle.terms.specs.Types.{Id as AnId};
+ghost use Rattle.sorted.specs.MultiMap.{listed};
+ghost use Rattle.judge_system.specs.Views.{failure_view};
+ghost use Rattle.report.specs.Views.{line_view};
+ghost use Rattle.smpe_summary.specs.Groups.{failed_group, is_plain_failure};
+ghost use Rattle.smpe_summary.specs.Causes.{blocked_in, blocked, blocker_in, blockers};
+ghost use Rattle.smpe_summary.specs.Views.{blocker_view};
+
+use crate::asked::Asked;
+use crate::members::failed_group;
+use crate::values::Group;
+use fields::Id;
+use judge_system::Failure;
+use report::{ReportLine, Status};
+use sorted::multi_map::{MultiMap, add_to_all, listed};
+use std::alloc::{AllocError, Global};
+use std::collections::BTreeMap;
+
+/// A causer: how many SYSMODs of the package fail because of it, and why it fails.
+#[derive(Clone, Copy)]
+pub(crate) struct Blocker<'a> {
+    pub(crate) id: Id,
+    pub(crate) fails: usize,
+    pub(crate) failure: &'a Failure,
+}
+
+// Whether the SYSMOD that fails is in the group of those that would fail.
+fn is_plain_failure(
+    asked: &Asked<'_>,
+    supers: &MultiMap<Id, Id>,
+    id: Id,
+    failure: &Failure,
+) -> bool
+    ensures { result ≡ is_plain_failure (failed_group asked.now.global (listed (slice_cmp nat_cmp) supers.now id)
+        (failure_view failure.now)) }
+{
+    matches!(
+        failed_group(asked.global, listed(supers, id), failure),
+        Group::Failed
+    )
+}
+
+// If the SYSMOD of the line is of the package and would fail, lists it under each of its causers.
+fn add_blocked(
+    alloc: Global,
+    asked: &Asked<'_>,
+    supers: &MultiMap<Id, Id>,
+    line: &ReportLine,
+    blocks: &mut MultiMap<Id, Id>,
+) -> Result<(), AllocError>
+    ensures { OnOk result ((y : AnId) → listed (slice_cmp nat_cmp) blocks.new y ≡ listed (slice_cmp nat_cmp) blocks.old y
+        ++ blocked_in asked.now (listed (slice_cmp nat_cmp) supers.now) y (line_view line.now)) }
+{
+    let ReportLine::Status { id, status, .. } = line else {
+        return Ok(());
+    };
+    let Status::Failed(failure) = status else {
+        return Ok(());
+    };
+    let counts = asked.package.contains(*id) && is_plain_failure(asked, supers, *id, failure);
+    if !counts {
+        return Ok(());
+    }
+    add_to_all(alloc, blocks, failure.causers.as_slice(), *id)
+}
+
+/// For each causer the SYSMODs of the package that would fail and have it.
+pub(crate) fn blocked(
+    alloc: Global,
+    asked: &Asked<'_>,
+    supers: &MultiMap<Id, Id>,
+) -> Result<MultiMap<Id, Id>, AllocError>
+    ensures { IfOk result (λ blocks. (y : AnId) → listed (slice_cmp nat_cmp) blocks y
+        ≡ blocked asked.now (listed (slice_cmp nat_cmp) supers.now) y) }
+{
+    let mut blocks = BTreeMap::new(alloc);
+    for line in asked.lines {
+        add_blocked(alloc, asked, supers, line, &mut blocks)?;
+    }
+    Ok(blocks)
+}
+
+// Appends the SYSMOD of the line, if it fails and others fail because of it.
+fn push_blocker<'a>(
+    blocks: &MultiMap<Id, Id>,
+    line: &'a ReportLine,
+    found: &mut Vec<Blocker<'a>>,
+) -> Result<(), AllocError>
+    ensures { OnOk result (map blocker_view found.new.items ≡ map blocker_view found.old.items
+        ++ blocker_in (listed (slice_cmp nat_cmp) blocks.now) (line_view line.now)) }
+{
+    let ReportLine::Status { id, status, .. } = line else {
+        return Ok(());
+    };
+    let Status::Failed(failure) = status else {
+        return Ok(());
+    };
+    let fails = listed(blocks, *id).len();
+    if fails == 0 {
+        return Ok(());
+    }
+    found.push(Blocker {
+        id: *id,
+        fails,
+        failure,
+    })?;
+    Ok(())
+}
+
+/// The causers, in the order of their lines.
+pub(crate) fn blockers<'a>(
+    alloc: Global,
+    blocks: &MultiMap<Id, Id>,
+    lines: &'a [ReportLine],
+) -> Result<Vec<Blocker<'a>>, AllocError>
+    ensures { IfOk result (λ found. map blocker_view found.items
+        ≡ blockers (listed (slice_cmp nat_cmp) blocks.now) (map line_view lines.now)) }
+{
+    let mut found = Vec::new(alloc);
+    for line in lines {
+        push_blocker(blocks, line, &mut found)?;
+    }
+    Ok(found)
+}

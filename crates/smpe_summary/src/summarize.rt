@@ -1,0 +1,123 @@
+//! The summary of a package.
+ghost use Rattle.std.specs.Prelude.{◌≡◌, not, filter, map, IfOk};
+ghost use Rattle.report.specs.Views.{line_view};
+ghost use Rattle.std.specs.Ordering.{nat_cmp};
+ghost use Rattle.std.specs.Cmp.Lexicographic.{slice_cmp};
+ghost use Rattle.sorted.specs.MultiMap.{listed};
+ghost use Rattle.terms.specs.Lookups.{is_nil, is_in};
+ghost use Rattle.terms.specs.Choice.{counting};
+ghost use Rattle.sysmods.specs.Choices.{choice};
+ghost use Rattle.smpe_summary.specs.Asked.{is_failed, is_candidate, ids_where, IsSetOf, going_on};
+ghost use Rattle.smpe_summary.specs.Causes.{blockers, blocked};
+ghost use Rattle.smpe_summary.specs.Summary.{causers, AreRanked, IsTodo, IsSummary};
+ghost use Rattle.smpe_summary.specs.Views.{blocker_view};
+
+use crate::asked::Asked;
+use crate::blockers::{Blocker, blocked, blockers};
+use crate::causes::causes_of;
+use crate::lines::{Condition, ids_where};
+use crate::members::members_of;
+use crate::superseding::superseders;
+use crate::taken::taken_off;
+use crate::todo::todo_of;
+use crate::values::{Cause, Summary, ToDo};
+use fields::{Id, IdList};
+use report::ReportLine;
+use sorted::multi_map::MultiMap;
+use std::alloc::{AllocError, Global};
+use sysmods::VerChoice;
+use zones::counting_vers;
+
+// The causers of the SYSMODs of the package that would fail.
+fn causers_of<'a>(
+    alloc: Global,
+    asked: &Asked<'a>,
+    supers: &MultiMap<Id, Id>,
+) -> Result<Vec<Blocker<'a>>, AllocError>
+    ensures { IfOk result (λ found. map blocker_view found.items
+        ≡ causers asked.now (listed (slice_cmp nat_cmp) supers.now)) }
+{
+    let blocks = blocked(alloc, asked, supers)?;
+    blockers(alloc, &blocks, asked.lines)
+}
+
+// The causes of failures, and what is to be done.
+#[derive(Drop)]
+struct Found<'a> {
+    causes: Vec<Cause<'a>>,
+    todo: Vec<ToDo>,
+}
+
+// The causes of failures, and what is to be done.
+fn causes_and_todo<'a>(
+    alloc: Global,
+    asked: &Asked<'a>,
+    supers: &MultiMap<Id, Id>,
+) -> Result<Found<'a>, AllocError>
+    ensures causes { IfOk result (λ found. AreRanked asked.now.global
+        (causers asked.now (listed (slice_cmp nat_cmp) supers.now)) found.causes.items) }
+    ensures todo { IfOk result (λ found. IsTodo asked.now.global
+        (causers asked.now (listed (slice_cmp nat_cmp) supers.now)) found.todo.items) }
+{
+    let blockers = causers_of(alloc, asked, supers)?;
+    let causes = causes_of(alloc, asked.global, blockers.as_slice())?;
+    let todo = todo_of(alloc, asked.global, blockers.as_slice())?;
+    Ok(Found { causes, todo })
+}
+
+// The ids that are not of the package.
+fn others_among(alloc: Global, package: &IdList, ids: &[Id]) -> Result<Vec<Id>, AllocError>
+    ensures { IfOk result (λ found. found.items ≡ filter (λ x. not (is_in package.now x)) ids.now) }
+{
+    ids.iter()
+        .filter(|id| !package.contains(**id))
+        .copied()
+        .collect(alloc)
+}
+
+// Whether a line says FAILED.
+fn has_failures(alloc: Global, lines: &[ReportLine]) -> Result<bool, AllocError>
+    ensures { IfOk result (λ found. found ≡ not (is_nil (ids_where is_failed (map line_view lines.now)))) }
+{
+    Ok(!ids_where(alloc, Condition::Fails, lines)?.is_empty())
+}
+
+// The summary by the `++VER`s that count, the candidates and those that go on.
+fn summary_over<'a>(
+    alloc: Global,
+    asked: &Asked<'a>,
+    candidates: &IdList,
+    vers: &VerChoice<'_>,
+    going: &[Id],
+) -> Result<Summary<'a>, AllocError>
+    requires candidates { IsSetOf candidates.now (ids_where is_candidate asked.now.lines) }
+    requires choice { choice vers.now ≡ counting asked.now.global asked.now.zone candidates.now }
+    requires global { vers.now.global.now ≡ asked.now.global }
+    requires going { going.now ≡ going_on asked.now }
+    ensures { IfOk result (IsSummary asked.now) }
+{
+    let supers = superseders(alloc, vers, going)?;
+    let members = members_of(alloc, asked, &supers, candidates)?;
+    let Found { causes, todo } = causes_and_todo(alloc, asked, &supers)?;
+    let also = others_among(alloc, asked.package, going)?;
+    Ok(Summary {
+        kind: asked.zone.kind(),
+        members,
+        also,
+        causes,
+        todo,
+        taken_off: taken_off(alloc, vers, asked.zone, going)?,
+        has_failures: has_failures(alloc, asked.lines)?,
+    })
+}
+
+/// The summary of what the lines say of the package.
+pub fn summary_of<'a>(alloc: Global, asked: &Asked<'a>) -> Result<Summary<'a>, AllocError>
+    ensures { IfOk result (IsSummary asked.now) }
+{
+    let candidates = ids_where(alloc, Condition::IsCandidate, asked.lines)?;
+    let candidates = IdList::from_vec(candidates);
+    let vers = counting_vers(alloc, asked.global, asked.zone, &candidates)?;
+    let going = ids_where(alloc, Condition::GoesOn, asked.lines)?;
+    summary_over(alloc, asked, &candidates, &vers, going.as_slice())
+}

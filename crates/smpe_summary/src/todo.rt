@@ -1,0 +1,190 @@
+//! What is to be done.
+ghost use Rattle.std.specs.Prelude.{◌≡◌, ◌++◌, map, IfOk, OnOk};
+ghost use Rattle.std.specs.List.{flat_map};
+ghost use Rattle.terms.specs.Types.{Id as AnId};
+ghost use Rattle.terms.specs.Lookups.{holds_of};
+ghost use Rattle.terms.specs.declared.kinds.HoldKind.TheVariants.{System, User};
+ghost use Rattle.judge_system.specs.Views.{need_view};
+ghost use Rattle.smpe_summary.specs.declared.values.ToDo.TheVariants.{Order};
+ghost use Rattle.smpe_summary.specs.Asked.{IsSetOf};
+ghost use Rattle.smpe_summary.specs.Todo.{is_orderable, is_error_hold, order_of, wanted, act, ask, wait_of, acts_of};
+ghost use Rattle.smpe_summary.specs.Summary.{IsTodo};
+ghost use Rattle.smpe_summary.specs.Views.{blocker_view};
+
+use crate::blockers::Blocker;
+use crate::values::ToDo;
+use fields::{Id, IdList};
+use judge_system::OpenNeed;
+use std::alloc::{AllocError, Global};
+use sysmods::GlobalZone;
+use terms::{HoldKind, NeedKind};
+
+// Whether a SYSMOD that is received would serve needs of this kind.
+fn is_orderable(kind: NeedKind) -> bool
+    ensures { result ≡ is_orderable kind }
+{
+    matches!(
+        kind,
+        NeedKind::Fmid | NeedKind::Pre | NeedKind::Req | NeedKind::Ifreq
+    )
+}
+
+/// Whether the need is for the reason of an ERROR hold.
+pub(crate) fn is_error_hold(kind: NeedKind) -> bool
+    ensures { result ≡ is_error_hold kind }
+{
+    matches!(kind, NeedKind::HoldError)
+}
+
+// Appends the id of the open need, if it is to be ordered.
+fn push_order(
+    global: &GlobalZone,
+    need: &OpenNeed,
+    found: &mut Vec<Id>,
+) -> Result<(), AllocError>
+    ensures { OnOk result (found.new.items ≡ found.old.items ++ order_of global.now (need_view need.now)) }
+{
+    if is_orderable(need.kind) && !global.is_received(need.id) {
+        found.push(need.id)?;
+    }
+    Ok(())
+}
+
+// Appends what is to be ordered for these needs.
+fn push_orders(
+    global: &GlobalZone,
+    needs: &[OpenNeed],
+    found: &mut Vec<Id>,
+) -> Result<(), AllocError>
+    ensures { OnOk result (found.new.items
+        ≡ found.old.items ++ flat_map (order_of global.now) (map need_view needs.now)) }
+{
+    for need in needs {
+        push_order(global, need, found)?;
+    }
+    Ok(())
+}
+
+// What is to be ordered for these causers, more than once if several need it.
+fn wanted(
+    alloc: Global,
+    global: &GlobalZone,
+    blockers: &[Blocker<'_>],
+) -> Result<Vec<Id>, AllocError>
+    ensures { IfOk result (λ found. found.items ≡ wanted global.now (map blocker_view blockers.now)) }
+{
+    let mut found = Vec::new(alloc);
+    for blocker in blockers {
+        push_orders(global, blocker.failure.needs.as_slice(), &mut found)?;
+    }
+    Ok(found)
+}
+
+// Appends the SYSTEM holds on the id.
+fn push_acts(global: &GlobalZone, id: Id, todo: &mut Vec<ToDo>) -> Result<(), AllocError>
+    ensures { OnOk result (todo.new.items ≡ todo.old.items ++ map (act id) (holds_of global.now System id)) }
+{
+    for hold in global.holds_of(HoldKind::System, id) {
+        todo.push(ToDo::Act {
+            id,
+            reason: hold.reason,
+        })?;
+    }
+    Ok(())
+}
+
+// Appends the USER holds on the id.
+fn push_asks(global: &GlobalZone, id: Id, todo: &mut Vec<ToDo>) -> Result<(), AllocError>
+    ensures { OnOk result (todo.new.items ≡ todo.old.items ++ map (ask id) (holds_of global.now User id)) }
+{
+    for hold in global.holds_of(HoldKind::User, id) {
+        todo.push(ToDo::Ask {
+            id,
+            reason: hold.reason,
+        })?;
+    }
+    Ok(())
+}
+
+// Appends the open need of the id, if it is for the reason of an ERROR hold.
+fn push_wait(id: Id, need: &OpenNeed, todo: &mut Vec<ToDo>) -> Result<(), AllocError>
+    ensures { OnOk result (todo.new.items ≡ todo.old.items ++ wait_of id (need_view need.now)) }
+{
+    if is_error_hold(need.kind) {
+        todo.push(ToDo::Wait {
+            id,
+            reason: need.id,
+        })?;
+    }
+    Ok(())
+}
+
+// Appends the reasons of the ERROR holds among the open needs of the id.
+fn push_waits(id: Id, needs: &[OpenNeed], todo: &mut Vec<ToDo>) -> Result<(), AllocError>
+    ensures { OnOk result (todo.new.items ≡ todo.old.items ++ flat_map (wait_of id) (map need_view needs.now)) }
+{
+    for need in needs {
+        push_wait(id, need, todo)?;
+    }
+    Ok(())
+}
+
+// Appends the holds of the causer.
+fn push_holds(
+    global: &GlobalZone,
+    blocker: &Blocker<'_>,
+    todo: &mut Vec<ToDo>,
+) -> Result<(), AllocError>
+    ensures { OnOk result (todo.new.items ≡ todo.old.items ++ acts_of global.now (blocker_view blocker.now)) }
+{
+    push_acts(global, blocker.id, todo)?;
+    push_asks(global, blocker.id, todo)?;
+    push_waits(blocker.id, blocker.failure.needs.as_slice(), todo)
+}
+
+// Appends the holds of the causers.
+fn push_all_holds(
+    global: &GlobalZone,
+    blockers: &[Blocker<'_>],
+    todo: &mut Vec<ToDo>,
+) -> Result<(), AllocError>
+    ensures { OnOk result (todo.new.items
+        ≡ todo.old.items ++ flat_map (acts_of global.now) (map blocker_view blockers.now)) }
+{
+    for blocker in blockers {
+        push_holds(global, blocker, todo)?;
+    }
+    Ok(())
+}
+
+// What is to be ordered for these causers, rising.
+fn orders_of(
+    alloc: Global,
+    global: &GlobalZone,
+    blockers: &[Blocker<'_>],
+) -> Result<IdList, AllocError>
+    ensures { IfOk result (λ ids. IsSetOf ids (wanted global.now (map blocker_view blockers.now))) }
+{
+    Ok(IdList::from_vec(wanted(alloc, global, blockers)?))
+}
+
+// These ids as orders.
+fn order_all(alloc: Global, ids: &IdList) -> Result<Vec<ToDo>, AllocError>
+    ensures { IfOk result (λ todo. todo.items ≡ map Order ids.now) }
+{
+    ids.iter().map(|id| ToDo::Order(*id)).collect(alloc)
+}
+
+/// What is to be done for these causers: first what is to be ordered, and then their holds.
+pub(crate) fn todo_of(
+    alloc: Global,
+    global: &GlobalZone,
+    blockers: &[Blocker<'_>],
+) -> Result<Vec<ToDo>, AllocError>
+    ensures { IfOk result (λ todo. IsTodo global.now (map blocker_view blockers.now) todo.items) }
+{
+    let orders = orders_of(alloc, global, blockers)?;
+    let mut todo = order_all(alloc, &orders)?;
+    push_all_holds(global, blockers, &mut todo)?;
+    Ok(todo)
+}
