@@ -2,6 +2,7 @@
 ghost use Rattle.std.specs.Prelude.{◌≡◌, ◌++◌, codes, decimal, take, OnOk};
 ghost use Rattle.std.specs.List.{flat_map};
 ghost use Rattle.smpe_summary.specs.Text.{ids_text, more_text, some_ids, counted, piece_text, pieces_text};
+ghost use Rattle.smpe_summary.specs.Text.{more_line};
 
 use fields::Id;
 use itoa::Buffer;
@@ -115,4 +116,19 @@ pub(crate) fn append_pieces(pieces: &[Piece<'_>], text: &mut Vec<u8>) -> Result<
         append_piece(piece, text)?;
     }
     Ok(())
+}
+
+/// Appends how many more there are than are told.
+pub(crate) fn append_more_line(
+    most: usize,
+    number: usize,
+    text: &mut Vec<u8>,
+) -> Result<(), AllocError>
+    ensures { OnOk result (text.new.items ≡ text.old.items ++ more_line most number) }
+{
+    if number <= most {
+        return Ok(());
+    }
+    let more = Piece::Number(number - most);
+    append_pieces(&[Piece::Text(b"     and "), more, Piece::Text(b" more\n")], text)
 }

@@ -1,14 +1,14 @@
 //! The text of a summary.
 ghost use Rattle.std.specs.Prelude.{◌≡◌, ◌++◌, map, OnOk};
 ghost use Rattle.std.specs.List.{flat_map};
-ghost use Rattle.smpe_summary.specs.Text.{more_line, causes_text, usermods_text, taken_line, taken_text, besides};
+ghost use Rattle.smpe_summary.specs.Text.{causes_text, usermods_text, taken_line, taken_text, besides};
 ghost use Rattle.smpe_summary.specs.Text.{cause_line, middle, summary_text};
 ghost use Rattle.smpe_summary.specs.Views.{cause_view, taken_view};
 
 use crate::cause_text::append_cause;
 use crate::first_line::append_first_line;
 use crate::group_lines::{append_group_lines, append_ids_line};
-use crate::pieces::{Piece, append_pieces, first_of};
+use crate::pieces::{Piece, append_more_line, append_pieces, first_of};
 use crate::todo_text::append_todo;
 use crate::values::{Cause, Summary, TakenOff};
 use fields::Id;
@@ -19,21 +19,6 @@ const MOST_CAUSES: usize = 20;
 
 // How many SYSMODs that take others off are told.
 const MOST_TAKEN: usize = 3;
-
-/// Appends how many more there are than are told.
-pub(crate) fn append_more_line(
-    most: usize,
-    number: usize,
-    text: &mut Vec<u8>,
-) -> Result<(), AllocError>
-    ensures { OnOk result (text.new.items ≡ text.old.items ++ more_line most number) }
-{
-    if number <= most {
-        return Ok(());
-    }
-    let more = Piece::Number(number - most);
-    append_pieces(&[Piece::Text(b"     and "), more, Piece::Text(b" more\n")], text)
-}
 
 // Appends the lines of these causes.
 fn append_cause_lines(causes: &[Cause<'_>], text: &mut Vec<u8>) -> Result<(), AllocError>

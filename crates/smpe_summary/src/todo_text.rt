@@ -5,8 +5,7 @@ ghost use Rattle.smpe_summary.specs.Text.{command_text, bypass_line, wait_line, 
 ghost use Rattle.smpe_summary.specs.Text.{acts_text, lists_text, todo_text};
 
 use crate::first_line::orders_of;
-use crate::pieces::{Piece, append_pieces, first_of};
-use crate::text::append_more_line;
+use crate::pieces::{Piece, append_more_line, append_pieces, first_of};
 use crate::values::ToDo;
 use fields::{Id, Reason};
 use std::alloc::{AllocError, Global};
