@@ -1,8 +1,7 @@
 -- What is asked about, and what the lines of an APPLY or ACCEPT say.
-use Rattle.std.specs.Prelude.{◌↔◌, Bool, true, false, List, [], ◌∷◌, Contains, if◌then◌else◌}
+use Rattle.std.specs.Prelude.{Bool, true, false, List, [], ◌∷◌, if◌then◌else◌}
 use Rattle.std.specs.List.{flat_map}
 use Rattle.terms.specs.Types.{Id, Global, Zone}
-use Rattle.terms.specs.Lookups.{IsRising}
 use Rattle.machine.specs.Outcome.{Status, Applied, Accepted, Superseded, Failed, Line, StatusLine}
 use Rattle.smpe_summary.specs.declared.lines.Condition.{Condition}
 use Rattle.smpe_summary.specs.declared.lines.Condition.TheVariants as condition
@@ -46,11 +45,6 @@ id_where P _ = []
 
 abbrev pub ids_where : (Status → Bool) → List Line → List Id
 ids_where P lines = flat_map (id_where P) lines
-
--- these ids, rising, each once
-pub record IsSetOf (ids xs : List Id) : Type 0 where
-  pub rising : IsRising ids
-  pub members : (x : Id) → Contains ids x ↔ Contains xs x
 
 -- the ids that go on
 abbrev pub going_on : Asked → List Id

@@ -1,48 +1,19 @@
--- The causers of the SYSMODs of the package that would fail, and why each of them fails itself.
-use Rattle.std.specs.Prelude.{◌&&◌, Bool, not, ℕ, List, [], ◌∷◌, Option, None, Some, find, length, slice_get}
-use Rattle.std.specs.Prelude.{if◌then◌else◌}
-use Rattle.std.specs.List.{flat_map}
+-- Why the causers of failures fail themselves.
+use Rattle.std.specs.Prelude.{Bool, not, ℕ, List, [], ◌∷◌, Option, None, Some, find, slice_get}
 use Rattle.std.specs.Option.{option_or}
-use Rattle.std.specs.Ordering.{nat_cmp}
-use Rattle.std.specs.Cmp.Lexicographic.{slice_cmp}
 use Rattle.terms.specs.declared.kinds.HoldKind.TheVariants.{System, User}
 use Rattle.terms.specs.declared.codes.NeedKind.{NeedKind}
 use Rattle.terms.specs.declared.codes.Test.{Test}
 use Rattle.terms.specs.declared.codes.Test.TheVariants as test
 use Rattle.terms.specs.Types.{Id, Hold, Global}
-use Rattle.terms.specs.Lookups.{is_nil, is_in, is_received, holds_of}
-use Rattle.sorted.specs.MultiMap.{once_each}
-use Rattle.machine.specs.Outcome.{OpenNeed, Failure, Failed, Line, StatusLine}
-use Rattle.smpe_summary.specs.Asked.{Asked}
-use Rattle.smpe_summary.specs.Groups.{failed_group, is_plain_failure}
-
--- ---- what fails because of a causer
-
--- the id of the line, if it is of the package, would fail, and y is among its causers
-abbrev pub blocked_in : Asked → (Id → List Id) → Id → Line → List Id
-blocked_in a supers y (StatusLine x place (Failed f)) =
-    if is_in a.members x && is_plain_failure (failed_group a.global (supers x) f)
-    then once_each (slice_cmp nat_cmp) f.causers x y else []
-blocked_in a supers y _ = []
-
--- the SYSMODs of the package that would fail and have the causer y
-abbrev pub blocked : Asked → (Id → List Id) → Id → List Id
-blocked a supers y = flat_map (blocked_in a supers y) a.lines
+use Rattle.terms.specs.Lookups.{is_received, holds_of}
+use Rattle.machine.specs.Outcome.{OpenNeed, Failure}
 
 -- a causer: how many it makes fail, and why it fails itself
 pub record Blocker : Type 0 where
   pub id : Id
   pub fails : ℕ
   pub failure : Failure
-
--- `blocks` are those that fail because of an id
-abbrev pub blocker_in : (Id → List Id) → Line → List Blocker
-blocker_in blocks (StatusLine y place (Failed f)) =
-    if is_nil (blocks y) then [] else record { id = y; fails = length (blocks y); failure = f } ∷ []
-blocker_in blocks _ = []
-
-abbrev pub blockers : (Id → List Id) → List Line → List Blocker
-blockers blocks lines = flat_map (blocker_in blocks) lines
 
 -- ---- why a causer fails
 

@@ -1,12 +1,10 @@
 -- In which group a SYSMOD of the package is.
-use Rattle.std.specs.Prelude.{◌≡◌, ◌&&◌, Bool, true, false, not, ℕ, List, [], ◌∷◌, ◌++◌, Option, None, Some}
+use Rattle.std.specs.Prelude.{◌&&◌, Bool, true, false, not, List, [], ◌∷◌, ◌++◌, Option, None, Some}
 use Rattle.std.specs.Prelude.{find, map, is_some, if◌then◌else◌}
 use Rattle.std.specs.List.{flat_map}
 use Rattle.terms.specs.declared.codes.NeedKind.{NeedKind}
 use Rattle.terms.specs.declared.codes.NeedKind.TheVariants as need
 use Rattle.terms.specs.Types.{Id, Global}
-use Rattle.terms.specs.Choice.{Choice}
-use Rattle.terms.specs.Over.{Supersedes}
 use Rattle.terms.specs.Lookups.{at_most_one, is_in, is_received, is_supplied, delby_of}
 use Rattle.machine.specs.Outcome.{OpenNeed, Failure, Status, Applied, Accepted, Superseded, Failed, Line, StatusLine}
 use Rattle.smpe_summary.specs.declared.values.Group.{Group}
@@ -16,10 +14,6 @@ use Rattle.smpe_summary.specs.Asked.{Asked}
 
 abbrev pub a_member : Id → Group → Member
 a_member x group = record { id = x; group = group }
-
--- y supersedes x, and the value is y (as lists by id have it)
-abbrev pub SupersedesBy : Choice → Id → Id → Id → Type 0
-SupersedesBy c y x value = Supersedes c y x × (value ≡ y)
 
 abbrev pub is_fmid : NeedKind → Bool
 is_fmid need.Fmid = true
@@ -70,19 +64,6 @@ other_member a cands x = if is_in cands x then [] else a_member x (zone_group a 
 -- the SYSMODs of the package: those that the command took up, and the others
 abbrev pub members_of : Asked → (Id → List Id) → List Id → List Member
 members_of a supers cands = flat_map (line_member a supers) a.lines ++ flat_map (other_member a cands) a.members
-
--- the places of the groups in the text
-abbrev pub group_number : Group → ℕ
-group_number group.Applied = 0
-group_number group.Superseded = 1
-group_number (group.SupersededBy y) = 2
-group_number group.Failed = 3
-group_number group.NotDecided = 4
-group_number (group.NoFunction f) = 5
-group_number group.AlreadyOn = 6
-group_number group.Deleted = 7
-group_number group.NotReceived = 8
-group_number group.NoVer = 9
 
 abbrev pub is_plain_failure : Group → Bool
 is_plain_failure group.Failed = true

@@ -1,7 +1,11 @@
-pub mod Asked
-pub mod Groups
+pub mod Sets
+pub mod Superseding
 pub mod Causes
 pub mod Todo
 pub mod Views
-pub mod Summary
+pub mod Told
 pub mod Text
+pub mod Asked
+pub mod Groups
+pub mod Blocked
+pub mod Summary

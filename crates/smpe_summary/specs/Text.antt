@@ -20,7 +20,6 @@ use Rattle.smpe_summary.specs.declared.values.ToDo.TheVariants as todo
 use Rattle.smpe_summary.specs.declared.values.Summary.{Summary}
 use Rattle.smpe_summary.specs.declared.pieces.Piece.{Piece}
 use Rattle.smpe_summary.specs.declared.pieces.Piece.TheVariants as piece
-use Rattle.smpe_summary.specs.Groups.{group_number}
 use Rattle.smpe_summary.specs.Causes.{Why, HoldWhy, NeedWhy, TestWhy, UnknownWhy, Cause}
 use Rattle.smpe_summary.specs.Todo.{is_error_hold, TakenOff}
 use Rattle.smpe_summary.specs.Views.{cause_view, taken_view}
@@ -97,6 +96,19 @@ cause_text (TestWhy t) = test_words t ++ codes " (" ++ test_text t ++ codes ")"
 cause_text UnknownWhy = codes "see its report"
 
 -- ---- the first line
+
+-- the places of the groups in the text
+abbrev pub group_number : Group → ℕ
+group_number group.Applied = 0
+group_number group.Superseded = 1
+group_number (group.SupersededBy y) = 2
+group_number group.Failed = 3
+group_number group.NotDecided = 4
+group_number (group.NoFunction f) = 5
+group_number group.AlreadyOn = 6
+group_number group.Deleted = 7
+group_number group.NotReceived = 8
+group_number group.NoVer = 9
 
 abbrev pub would_text : ZoneKind → Text
 would_text Target = codes "would be applied"

@@ -35,8 +35,11 @@ abbrev pub order_of : Global → OpenNeed → List Id
 order_of g n = if is_orderable n.kind && not (is_received g n.id) then n.id ∷ [] else []
 
 -- what the causers need and is not received
+abbrev pub wants : Global → Blocker → List Id
+wants g b = flat_map (order_of g) b.failure.needs
+
 abbrev pub wanted : Global → List Blocker → List Id
-wanted g bs = flat_map (λ b. flat_map (order_of g) b.failure.needs) bs
+wanted g bs = flat_map (wants g) bs
 
 abbrev pub act : Id → Hold → ToDo
 act y h = todo.Act y h.reason

@@ -3,7 +3,7 @@ use Rattle.std.specs.Prelude.{Bool}
 use Rattle.std.specs.Ordering.{nat_cmp, is_lt, ordering_then}
 use Rattle.std.specs.Cmp.Lexicographic.{slice_cmp}
 use Rattle.judge_system.specs.Views.{failure_view}
-use Rattle.smpe_summary.specs.declared.blockers.Blocker.{Blocker as StoredBlocker}
+use Rattle.smpe_summary.specs.declared.blocker.Blocker.{Blocker as StoredBlocker}
 use Rattle.smpe_summary.specs.declared.values.CauseReason.{CauseReason}
 use Rattle.smpe_summary.specs.declared.values.CauseReason.TheVariants as reason
 use Rattle.smpe_summary.specs.declared.values.Cause.{Cause as StoredCause}

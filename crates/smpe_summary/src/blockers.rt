@@ -8,10 +8,11 @@ ghost use Rattle.sorted.specs.MultiMap.{listed};
 ghost use Rattle.judge_system.specs.Views.{failure_view};
 ghost use Rattle.report.specs.Views.{line_view};
 ghost use Rattle.smpe_summary.specs.Groups.{failed_group, is_plain_failure};
-ghost use Rattle.smpe_summary.specs.Causes.{blocked_in, blocked, blocker_in, blockers};
+ghost use Rattle.smpe_summary.specs.Blocked.{blocked_in, blocked, blocker_in, blockers};
 ghost use Rattle.smpe_summary.specs.Views.{blocker_view};
 
 use crate::asked::Asked;
+use crate::blocker::Blocker;
 use crate::members::failed_group;
 use crate::values::Group;
 use fields::Id;
@@ -20,14 +21,6 @@ use report::{ReportLine, Status};
 use sorted::multi_map::{MultiMap, add_to_all, listed};
 use std::alloc::{AllocError, Global};
 use std::collections::BTreeMap;
-
-/// A causer: how many SYSMODs of the package fail because of it, and why it fails.
-#[derive(Clone, Copy)]
-pub(crate) struct Blocker<'a> {
-    pub(crate) id: Id,
-    pub(crate) fails: usize,
-    pub(crate) failure: &'a Failure,
-}
 
 // Whether the SYSMOD that fails is in the group of those that would fail.
 fn is_plain_failure(

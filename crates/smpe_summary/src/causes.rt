@@ -8,10 +8,10 @@ ghost use Rattle.judge_system.specs.Views.{need_view, failure_view};
 ghost use Rattle.smpe_summary.specs.declared.values.Cause.{Cause as ACause};
 ghost use Rattle.smpe_summary.specs.Causes.{hold_why, test_why, is_unreceived, need_why, needs_why, why_by, cause_of};
 ghost use Rattle.smpe_summary.specs.Causes.{first_need};
-ghost use Rattle.smpe_summary.specs.Summary.{AreRanked};
+ghost use Rattle.smpe_summary.specs.Told.{AreRanked};
 ghost use Rattle.smpe_summary.specs.Views.{blocker_view, reason_view, cause_view};
 
-use crate::blockers::Blocker;
+use crate::blocker::Blocker;
 use crate::values::{Cause, CauseReason};
 use fields::Id;
 use judge_system::{Failure, OpenNeed};

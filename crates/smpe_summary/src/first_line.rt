@@ -1,7 +1,6 @@
 //! The first line of a summary.
 ghost use Rattle.std.specs.Prelude.{◌≡◌, ◌++◌, filter, length, IfOk, OnOk};
-ghost use Rattle.smpe_summary.specs.Groups.{group_number};
-ghost use Rattle.smpe_summary.specs.Text.{would_text, ids_in, part, failed_parts, open_parts, other_parts, is_act};
+ghost use Rattle.smpe_summary.specs.Text.{group_number, would_text, ids_in, part, failed_parts, open_parts, other_parts, is_act};
 ghost use Rattle.smpe_summary.specs.Text.{ordered, orders_of, acts_part, before_orders, orders_part, todo_parts};
 ghost use Rattle.smpe_summary.specs.Text.{line_start, parts, first_line};
 

@@ -6,6 +6,7 @@
 #![tactic(auto)]
 
 mod asked;
+mod blocker;
 mod blockers;
 mod cause_text;
 mod causes;

@@ -7,20 +7,24 @@ ghost use Rattle.sorted.specs.MultiMap.{listed};
 ghost use Rattle.terms.specs.Lookups.{is_nil, is_in};
 ghost use Rattle.terms.specs.Choice.{counting};
 ghost use Rattle.sysmods.specs.Choices.{choice};
-ghost use Rattle.smpe_summary.specs.Asked.{is_failed, is_candidate, ids_where, IsSetOf, going_on};
-ghost use Rattle.smpe_summary.specs.Causes.{blockers, blocked};
-ghost use Rattle.smpe_summary.specs.Summary.{causers, AreRanked, IsTodo, IsSummary};
-ghost use Rattle.smpe_summary.specs.Views.{blocker_view};
+ghost use Rattle.smpe_summary.specs.Asked.{is_failed, is_candidate, ids_where, going_on};
+ghost use Rattle.smpe_summary.specs.Sets.{IsSetOf};
+ghost use Rattle.smpe_summary.specs.Blocked.{causers};
+ghost use Rattle.smpe_summary.specs.Told.{AreRanked, IsTodo};
+ghost use Rattle.smpe_summary.specs.Summary.{IsSummary};
+ghost use Rattle.smpe_summary.specs.Todo.{taken_off};
+ghost use Rattle.smpe_summary.specs.Views.{blocker_view, taken_view};
 
 use crate::asked::Asked;
-use crate::blockers::{Blocker, blocked, blockers};
+use crate::blocker::Blocker;
+use crate::blockers::{blocked, blockers};
 use crate::causes::causes_of;
 use crate::lines::{Condition, ids_where};
 use crate::members::members_of;
 use crate::superseding::superseders;
-use crate::taken::taken_off;
+use crate::taken::{applied_ids, taken_off};
 use crate::todo::todo_of;
-use crate::values::{Cause, Summary, ToDo};
+use crate::values::{Cause, Summary, TakenOff, ToDo};
 use fields::{Id, IdList};
 use report::ReportLine;
 use sorted::multi_map::MultiMap;
@@ -66,11 +70,11 @@ fn causes_and_todo<'a>(
 }
 
 // The ids that are not of the package.
-fn others_among(alloc: Global, package: &IdList, ids: &[Id]) -> Result<Vec<Id>, AllocError>
-    ensures { IfOk result (λ found. found.items ≡ filter (λ x. not (is_in package.now x)) ids.now) }
+fn others_among(alloc: Global, known: &IdList, ids: &[Id]) -> Result<Vec<Id>, AllocError>
+    ensures { IfOk result (λ found. found.items ≡ filter (λ x. not (is_in known.now x)) ids.now) }
 {
     ids.iter()
-        .filter(|id| !package.contains(**id))
+        .filter(|id| !known.contains(**id))
         .copied()
         .collect(alloc)
 }
@@ -80,6 +84,20 @@ fn has_failures(alloc: Global, lines: &[ReportLine]) -> Result<bool, AllocError>
     ensures { IfOk result (λ found. found ≡ not (is_nil (ids_where is_failed (map line_view lines.now)))) }
 {
     Ok(!ids_where(alloc, Condition::Fails, lines)?.is_empty())
+}
+
+// What the DELETEs of those that go on take off.
+fn taken_off_by(
+    alloc: Global,
+    asked: &Asked<'_>,
+    vers: &VerChoice<'_>,
+    going: &[Id],
+) -> Result<Vec<TakenOff>, AllocError>
+    ensures { IfOk result (λ found. map taken_view found.items
+        ≡ taken_off vers.now.global.now (choice vers.now) asked.now.zone going.now) }
+{
+    let applied = applied_ids(alloc, asked.zone)?;
+    taken_off(alloc, vers, asked.zone, applied.as_slice(), going)
 }
 
 // The summary by the `++VER`s that count, the candidates and those that go on.
@@ -106,7 +124,7 @@ fn summary_over<'a>(
         also,
         causes,
         todo,
-        taken_off: taken_off(alloc, vers, asked.zone, going)?,
+        taken_off: taken_off_by(alloc, asked, vers, going)?,
         has_failures: has_failures(alloc, asked.lines)?,
     })
 }

@@ -4,7 +4,7 @@ ghost use Rattle.std.specs.Ordering.{nat_cmp};
 ghost use Rattle.std.specs.Cmp.Lexicographic.{slice_cmp};
 ghost use Rattle.sorted.specs.MultiMap.{Gains, Holds, OneOf};
 ghost use Rattle.sysmods.specs.Choices.{choice};
-ghost use Rattle.smpe_summary.specs.Groups.{SupersedesBy};
+ghost use Rattle.smpe_summary.specs.Superseding.{SupersedesBy};
 
 use fields::Id;
 use sorted::multi_map::{MultiMap, add_to_all};

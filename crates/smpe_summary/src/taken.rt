@@ -1,5 +1,5 @@
 //! What the DELETEs of the SYSMODs that go on take off.
-ghost use Rattle.std.specs.Prelude.{◌≡◌, ◌++◌, map, filter, IfOk, OnOk};
+ghost use Rattle.std.specs.Prelude.{◌≡◌, ◌++◌, ◌∷◌, [], map, filter, is_some, IfOk, OnOk};
 ghost use Rattle.std.specs.List.{flat_map};
 ghost use Rattle.terms.specs.Lookups.{applied_ids};
 ghost use Rattle.sysmods.specs.Choices.{choice};
@@ -12,8 +12,29 @@ use fields::Id;
 use std::alloc::{AllocError, Global};
 use sysmods::{GlobalZone, VerChoice};
 use terms::Kind;
-use undo::applied_ids;
-use zones::{TakesOut, Zone, ZoneLess};
+use zones::{Entry, TakesOut, Zone, ZoneLess};
+
+// Appends the id of the entry, if its SYSMOD is applied.
+fn push_if_applied(entry: &Entry, found: &mut Vec<Id>) -> Result<(), AllocError>
+    ensures { OnOk result (found.new.items
+        ≡ found.old.items ++ map (λ e. e.id) (filter (λ e. is_some e.applied) (entry.now ∷ []))) }
+{
+    if entry.applied.is_some() {
+        found.push(entry.id)?;
+    }
+    Ok(())
+}
+
+/// The ids of the SYSMODs that the zone has applied.
+pub(crate) fn applied_ids(alloc: Global, zone: &Zone) -> Result<Vec<Id>, AllocError>
+    ensures { IfOk result (λ found. found.items ≡ applied_ids zone.now) }
+{
+    let mut found = Vec::new(alloc);
+    for entry in zone.entries() {
+        push_if_applied(entry, &mut found)?;
+    }
+    Ok(found)
+}
 
 // Whether the SYSMOD is received and a USERMOD.
 fn is_usermod(global: &GlobalZone, id: Id) -> bool
@@ -49,6 +70,23 @@ fn gone_among(alloc: Global, less: &ZoneLess<'_, '_>, ids: &[Id]) -> Result<Vec<
         .collect(alloc)
 }
 
+// The applied ids that the DELETE of the SYSMOD takes out of the zone.
+fn taken_ids(
+    alloc: Global,
+    vers: &VerChoice<'_>,
+    zone: &Zone,
+    applied: &[Id],
+    id: Id,
+) -> Result<Vec<Id>, AllocError>
+    requires { applied.now ≡ applied_ids zone.now }
+    ensures { IfOk result (λ taken. taken.items
+        ≡ taken_ids vers.now.global.now (choice vers.now) zone.now id) }
+{
+    let dels = vers.del(id);
+    let less = ZoneLess { vers, dels, zone };
+    gone_among(alloc, &less, applied)
+}
+
 // Appends what the DELETE of the SYSMOD takes off, if it takes off anything.
 fn push_taken(
     alloc: Global,
@@ -68,23 +106,22 @@ fn push_taken(
     Ok(())
 }
 
-/// What the DELETEs of these SYSMODs take off the zone.
+/// What the DELETEs of these SYSMODs take off the zone, in which these ids are applied.
 pub(crate) fn taken_off(
     alloc: Global,
     vers: &VerChoice<'_>,
     zone: &Zone,
+    applied: &[Id],
     ids: &[Id],
 ) -> Result<Vec<TakenOff>, AllocError>
+    requires { applied.now ≡ applied_ids zone.now }
     ensures { IfOk result (λ found. map taken_view found.items
         ≡ taken_off vers.now.global.now (choice vers.now) zone.now ids.now) }
 {
-    let applied = applied_ids(alloc, zone)?;
     let mut found = Vec::new(alloc);
     for id in ids {
-        let dels = vers.del(*id);
-        let less = ZoneLess { vers, dels, zone };
-        let gone = gone_among(alloc, &less, applied.as_slice())?;
-        push_taken(alloc, vers.global(), *id, gone, &mut found)?;
+        let taken = taken_ids(alloc, vers, zone, applied, *id)?;
+        push_taken(alloc, vers.global(), *id, taken, &mut found)?;
     }
     Ok(found)
 }

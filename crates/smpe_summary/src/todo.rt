@@ -6,12 +6,12 @@ ghost use Rattle.terms.specs.Lookups.{holds_of};
 ghost use Rattle.terms.specs.declared.kinds.HoldKind.TheVariants.{System, User};
 ghost use Rattle.judge_system.specs.Views.{need_view};
 ghost use Rattle.smpe_summary.specs.declared.values.ToDo.TheVariants.{Order};
-ghost use Rattle.smpe_summary.specs.Asked.{IsSetOf};
+ghost use Rattle.smpe_summary.specs.Sets.{IsSetOf};
 ghost use Rattle.smpe_summary.specs.Todo.{is_orderable, is_error_hold, order_of, wanted, act, ask, wait_of, acts_of};
-ghost use Rattle.smpe_summary.specs.Summary.{IsTodo};
+ghost use Rattle.smpe_summary.specs.Told.{IsTodo};
 ghost use Rattle.smpe_summary.specs.Views.{blocker_view};
 
-use crate::blockers::Blocker;
+use crate::blocker::Blocker;
 use crate::values::ToDo;
 use fields::{Id, IdList};
 use judge_system::OpenNeed;
