@@ -1,15 +1,14 @@
--- The causers of the SYSMODs of the package that would fail.
-use Rattle.std.specs.Prelude.{◌&&◌, List, [], ◌∷◌, length, if◌then◌else◌}
+-- Which SYSMODs of the package fail because of a causer.
+use Rattle.std.specs.Prelude.{◌&&◌, List, [], if◌then◌else◌}
 use Rattle.std.specs.List.{flat_map}
 use Rattle.std.specs.Ordering.{nat_cmp}
 use Rattle.std.specs.Cmp.Lexicographic.{slice_cmp}
 use Rattle.terms.specs.Types.{Id}
-use Rattle.terms.specs.Lookups.{is_nil, is_in}
+use Rattle.terms.specs.Lookups.{is_in}
 use Rattle.sorted.specs.MultiMap.{once_each}
 use Rattle.machine.specs.Outcome.{Failed, Line, StatusLine}
 use Rattle.smpe_summary.specs.Asked.{Asked}
 use Rattle.smpe_summary.specs.Groups.{failed_group, is_plain_failure}
-use Rattle.smpe_summary.specs.Causes.{Blocker}
 
 -- the id of the line, if it is of the package, would fail, and y is among its causers
 abbrev pub blocked_in : Asked → (Id → List Id) → Id → Line → List Id
@@ -21,16 +20,3 @@ blocked_in a supers y _ = []
 -- the SYSMODs of the package that would fail and have the causer y
 abbrev pub blocked : Asked → (Id → List Id) → Id → List Id
 blocked a supers y = flat_map (blocked_in a supers y) a.lines
-
--- `blocks` are those that fail because of an id
-abbrev pub blocker_in : (Id → List Id) → Line → List Blocker
-blocker_in blocks (StatusLine y place (Failed f)) =
-    if is_nil (blocks y) then [] else record { id = y; fails = length (blocks y); failure = f } ∷ []
-blocker_in blocks _ = []
-
-abbrev pub blockers : (Id → List Id) → List Line → List Blocker
-blockers blocks lines = flat_map (blocker_in blocks) lines
-
--- the causers of the SYSMODs of the package that would fail, in the order of their lines
-abbrev pub causers : Asked → (Id → List Id) → List Blocker
-causers a supers = blockers (blocked a supers) a.lines

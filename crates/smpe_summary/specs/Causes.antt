@@ -1,25 +1,19 @@
 -- Why the causers of failures fail themselves.
-use Rattle.std.specs.Prelude.{Bool, not, ℕ, List, [], ◌∷◌, Option, None, Some, find, slice_get}
+use Rattle.std.specs.Prelude.{◌==◌, Bool, not, ℕ, List, [], ◌∷◌, Option, None, Some, find, length, slice_get}
+use Rattle.std.specs.Prelude.{if◌then◌else◌}
 use Rattle.std.specs.Option.{option_or}
+use Rattle.terms.specs.declared.kinds.HoldKind.{HoldKind}
 use Rattle.terms.specs.declared.kinds.HoldKind.TheVariants.{System, User}
 use Rattle.terms.specs.declared.codes.NeedKind.{NeedKind}
 use Rattle.terms.specs.declared.codes.Test.{Test}
 use Rattle.terms.specs.declared.codes.Test.TheVariants as test
-use Rattle.terms.specs.Types.{Id, Hold, Global}
+use Rattle.terms.specs.Types.{Text, Id, Reason, Hold, Global}
 use Rattle.terms.specs.Lookups.{is_received, holds_of}
-use Rattle.machine.specs.Outcome.{OpenNeed, Failure}
-
--- a causer: how many it makes fail, and why it fails itself
-pub record Blocker : Type 0 where
-  pub id : Id
-  pub fails : ℕ
-  pub failure : Failure
-
--- ---- why a causer fails
+use Rattle.machine.specs.Outcome.{OpenNeed, Failure, Failed, Line, StatusLine}
 
 -- a hold; an open need, and whether its id is received; a test; or nothing that its line says
 pub data Why : Type 0 where
-  HoldWhy : Hold → Why
+  HoldWhy : HoldKind → Reason → Option Text → Why
   NeedWhy : NeedKind → Id → Bool → Why
   TestWhy : Test → Why
   UnknownWhy : Why
@@ -27,7 +21,7 @@ pub data Why : Type 0 where
 -- the first of these holds, or the test
 abbrev pub hold_why : Test → List Hold → Why
 hold_why t [] = TestWhy t
-hold_why t (h ∷ hs) = HoldWhy h
+hold_why t (h ∷ hs) = HoldWhy h.kind h.reason h.comment
 
 abbrev pub test_why : Global → Id → Test → Why
 test_why g y test.HeldBySystem = hold_why test.HeldBySystem (holds_of g System y)
@@ -53,10 +47,19 @@ abbrev pub why_by : Global → Id → List Test → List OpenNeed → Why
 why_by g y (t ∷ ts) needs = test_why g y t
 why_by g y [] needs = needs_why g needs
 
+abbrev pub why_of : Global → Id → Failure → Why
+why_of g y f = why_by g y f.tests f.needs
+
+-- a causer: how many SYSMODs of the package it makes fail, and why it fails itself
 pub record Cause : Type 0 where
   pub id : Id
   pub fails : ℕ
   pub why : Why
 
-abbrev pub cause_of : Global → Blocker → Cause
-cause_of g b = record { id = b.id; fails = b.fails; why = why_by g b.id b.failure.tests b.failure.needs }
+-- the cause that the SYSMOD of the line is, if it fails, and others because of it (`blocks` are those that fail because
+-- of an id)
+abbrev pub cause_in : Global → (Id → List Id) → Line → List Cause
+cause_in g blocks (StatusLine y place (Failed f)) =
+    if length (blocks y) == 0 then []
+    else record { id = y; fails = length (blocks y); why = why_of g y f } ∷ []
+cause_in g blocks _ = []

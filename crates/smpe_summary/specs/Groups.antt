@@ -13,7 +13,7 @@ use Rattle.smpe_summary.specs.declared.values.Member.{Member}
 use Rattle.smpe_summary.specs.Asked.{Asked}
 
 abbrev pub a_member : Id → Group → Member
-a_member x group = record { id = x; group = group }
+a_member x which = record { id = x; group = which }
 
 abbrev pub is_fmid : NeedKind → Bool
 is_fmid need.Fmid = true
@@ -33,7 +33,7 @@ failed_group g (y ∷ ys) f = group.SupersededBy y
 failed_group g [] f = by_function (find (lacks_function g) f.needs)
 
 abbrev pub sure_group : List Id → Id → Group → Group
-sure_group unsure x group = if is_in unsure x then group.NotDecided else group
+sure_group unsure x certain = if is_in unsure x then group.NotDecided else certain
 
 -- The group by the status of its line, if the command took it up. `supers` are those that go on and supersede an id.
 abbrev pub status_group : Asked → (Id → List Id) → Id → Status → Option Group

@@ -8,7 +8,7 @@ use Rattle.smpe_summary.specs.Asked.{Asked, is_failed, is_candidate, ids_where, 
 use Rattle.smpe_summary.specs.Sets.{IsSetOf}
 use Rattle.smpe_summary.specs.Superseding.{AreSuperseders}
 use Rattle.smpe_summary.specs.Groups.{members_of}
-use Rattle.smpe_summary.specs.Blocked.{causers}
+use Rattle.smpe_summary.specs.Blocked.{blocked}
 use Rattle.smpe_summary.specs.Todo.{taken_off}
 use Rattle.smpe_summary.specs.Told.{AreRanked, IsTodo}
 use Rattle.smpe_summary.specs.Views.{taken_view}
@@ -21,8 +21,8 @@ pub record IsSummary (a : Asked) (s : Summary) : Type 0 where
   pub kind : s.kind ≡ a.zone.kind
   pub members : s.members.items ≡ members_of a supers cands
   pub also : s.also.items ≡ filter (λ x. not (is_in a.members x)) (going_on a)
-  pub causes : AreRanked a.global (causers a supers) s.causes.items
-  pub todo : IsTodo a.global (causers a supers) s.todo.items
+  pub causes : AreRanked a.global (blocked a supers) a.lines s.causes.items
+  pub todo : IsTodo a.global (blocked a supers) a.lines s.todo.items
   pub taken_off : map taken_view s.taken_off.items
       ≡ taken_off a.global (counting a.global a.zone cands) a.zone (going_on a)
   pub has_failures : s.has_failures ≡ not (is_nil (ids_where is_failed a.lines))

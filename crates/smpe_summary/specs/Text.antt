@@ -3,13 +3,14 @@ use Rattle.std.specs.Prelude.{◌-◌, ◌==◌, ◌||◌, Bool, true, false, no
 use Rattle.std.specs.Prelude.{codes, count_by, decimal, filter, length, map, take, option_map, if◌then◌else◌}
 use Rattle.std.specs.List.{concat, flat_map, list_all, list_any}
 use Rattle.std.specs.Str.{bytes_eq}
+use Rattle.terms.specs.declared.kinds.HoldKind.{HoldKind}
 use Rattle.terms.specs.declared.kinds.ZoneKind.{ZoneKind}
 use Rattle.terms.specs.declared.kinds.ZoneKind.TheVariants.{Target, Distribution}
 use Rattle.terms.specs.declared.codes.NeedKind.{NeedKind}
 use Rattle.terms.specs.declared.codes.NeedKind.TheVariants as need
 use Rattle.terms.specs.declared.codes.Test.{Test}
 use Rattle.terms.specs.declared.codes.Test.TheVariants as test
-use Rattle.terms.specs.Types.{Text, Id, Hold}
+use Rattle.terms.specs.Types.{Text, Id, Reason}
 use Rattle.terms.specs.Lookups.{is_nil}
 use Rattle.terms.specs.Spelling.{hold_text, need_text, test_text}
 use Rattle.smpe_summary.specs.declared.values.Group.{Group}
@@ -58,8 +59,8 @@ abbrev pub comment_text : Option Text → Text
 comment_text None = []
 comment_text (Some comment) = codes ": " ++ comment
 
-abbrev pub hold_words : Hold → Text
-hold_words h = hold_text h.kind ++ codes " hold " ++ h.reason ++ comment_text h.comment
+abbrev pub hold_words : HoldKind → Reason → Option Text → Text
+hold_words kind reason comment = hold_text kind ++ codes " hold " ++ reason ++ comment_text comment
 
 abbrev pub is_orphan : NeedKind → Bool
 is_orphan need.Orphan = true
@@ -90,7 +91,7 @@ test_words test.OtherLevel = codes "the distribution zone has another level of a
 test_words test.SeveralFit = codes "several of its ++VERs fit"
 
 abbrev pub cause_text : Why → Text
-cause_text (HoldWhy h) = hold_words h
+cause_text (HoldWhy kind reason comment) = hold_words kind reason comment
 cause_text (NeedWhy kind z received) = need_words kind z received
 cause_text (TestWhy t) = test_words t ++ codes " (" ++ test_text t ++ codes ")"
 cause_text UnknownWhy = codes "see its report"

@@ -11,10 +11,9 @@ use Rattle.terms.specs.Types.{Id, Hold, Global, Zone}
 use Rattle.terms.specs.Lookups.{is_nil, sysmod_of, is_received, holds_of, applied_ids}
 use Rattle.terms.specs.Choice.{Choice, del_of}
 use Rattle.terms.specs.Deleted.{is_taken_out}
-use Rattle.machine.specs.Outcome.{OpenNeed}
+use Rattle.machine.specs.Outcome.{OpenNeed, Failure, Failed, Line, StatusLine}
 use Rattle.smpe_summary.specs.declared.values.ToDo.{ToDo}
 use Rattle.smpe_summary.specs.declared.values.ToDo.TheVariants as todo
-use Rattle.smpe_summary.specs.Causes.{Blocker}
 
 -- ---- what is to be done
 
@@ -34,12 +33,13 @@ is_error_hold _ = false
 abbrev pub order_of : Global → OpenNeed → List Id
 order_of g n = if is_orderable n.kind && not (is_received g n.id) then n.id ∷ [] else []
 
--- what the causers need and is not received
-abbrev pub wants : Global → Blocker → List Id
-wants g b = flat_map (order_of g) b.failure.needs
+-- what the SYSMOD of the line needs and is not received, if it fails, and others because of it
+abbrev pub wants_in : Global → (Id → List Id) → Line → List Id
+wants_in g blocks (StatusLine y place (Failed f)) = if is_nil (blocks y) then [] else flat_map (order_of g) f.needs
+wants_in g blocks _ = []
 
-abbrev pub wanted : Global → List Blocker → List Id
-wanted g bs = flat_map (wants g) bs
+abbrev pub wanted : Global → (Id → List Id) → List Line → List Id
+wanted g blocks lines = flat_map (wants_in g blocks) lines
 
 abbrev pub act : Id → Hold → ToDo
 act y h = todo.Act y h.reason
@@ -51,10 +51,13 @@ abbrev pub wait_of : Id → OpenNeed → List ToDo
 wait_of y n = if is_error_hold n.kind then todo.Wait y n.id ∷ [] else []
 
 -- the holds of a causer
-abbrev pub acts_of : Global → Blocker → List ToDo
-acts_of g b =
-    map (act b.id) (holds_of g System b.id) ++ map (ask b.id) (holds_of g User b.id)
-    ++ flat_map (wait_of b.id) b.failure.needs
+abbrev pub acts_of : Global → Id → Failure → List ToDo
+acts_of g y f =
+    map (act y) (holds_of g System y) ++ map (ask y) (holds_of g User y) ++ flat_map (wait_of y) f.needs
+
+abbrev pub acts_in : Global → (Id → List Id) → Line → List ToDo
+acts_in g blocks (StatusLine y place (Failed f)) = if is_nil (blocks y) then [] else acts_of g y f
+acts_in g blocks _ = []
 
 -- ---- what is taken off
 

@@ -1,24 +1,20 @@
 -- The parts of a summary apart from where they are in memory.
-use Rattle.std.specs.Prelude.{Bool}
+use Rattle.std.specs.Prelude.{Bool, option_map}
 use Rattle.std.specs.Ordering.{nat_cmp, is_lt, ordering_then}
 use Rattle.std.specs.Cmp.Lexicographic.{slice_cmp}
-use Rattle.judge_system.specs.Views.{failure_view}
-use Rattle.smpe_summary.specs.declared.blocker.Blocker.{Blocker as StoredBlocker}
+use Rattle.std.specs.String.{string_bytes}
 use Rattle.smpe_summary.specs.declared.values.CauseReason.{CauseReason}
-use Rattle.smpe_summary.specs.declared.values.CauseReason.TheVariants as reason
+use Rattle.smpe_summary.specs.declared.values.CauseReason.TheVariants as stored
 use Rattle.smpe_summary.specs.declared.values.Cause.{Cause as StoredCause}
 use Rattle.smpe_summary.specs.declared.values.TakenOff.{TakenOff as StoredTakenOff}
-use Rattle.smpe_summary.specs.Causes.{Blocker, Why, HoldWhy, NeedWhy, TestWhy, UnknownWhy, Cause}
+use Rattle.smpe_summary.specs.Causes.{Why, HoldWhy, NeedWhy, TestWhy, UnknownWhy, Cause}
 use Rattle.smpe_summary.specs.Todo.{TakenOff}
 
-abbrev pub blocker_view : StoredBlocker → Blocker
-blocker_view b = record { id = b.id; fails = b.fails; failure = failure_view b.failure.now }
-
 abbrev pub reason_view : CauseReason → Why
-reason_view (reason.Hold hold) = HoldWhy hold.now
-reason_view (reason.Need kind id received) = NeedWhy kind id received
-reason_view (reason.Test test) = TestWhy test
-reason_view reason.Unknown = UnknownWhy
+reason_view (stored.Hold kind reason comment) = HoldWhy kind reason (option_map string_bytes comment)
+reason_view (stored.Need kind id received) = NeedWhy kind id received
+reason_view (stored.Test test) = TestWhy test
+reason_view stored.Unknown = UnknownWhy
 
 abbrev pub cause_view : StoredCause → Cause
 cause_view c = record { id = c.id; fails = c.fails; why = reason_view c.why }

@@ -1,6 +1,5 @@
 //! The causers of the SYSMODs of the package that would fail.
-ghost use Rattle.std.specs.Prelude.{◌≡◌, ◌++◌, map, length, IfOk, OnOk};
-ghost use Rattle.std.specs.List.{flat_map};
+ghost use Rattle.std.specs.Prelude.{◌≡◌, ◌++◌, IfOk, OnOk};
 ghost use Rattle.std.specs.Ordering.{nat_cmp};
 ghost use Rattle.std.specs.Cmp.Lexicographic.{slice_cmp};
 ghost use Rattle.terms.specs.Types.{Id as AnId};
@@ -8,11 +7,9 @@ ghost use Rattle.sorted.specs.MultiMap.{listed};
 ghost use Rattle.judge_system.specs.Views.{failure_view};
 ghost use Rattle.report.specs.Views.{line_view};
 ghost use Rattle.smpe_summary.specs.Groups.{failed_group, is_plain_failure};
-ghost use Rattle.smpe_summary.specs.Blocked.{blocked_in, blocked, blocker_in, blockers};
-ghost use Rattle.smpe_summary.specs.Views.{blocker_view};
+ghost use Rattle.smpe_summary.specs.Blocked.{blocked_in, blocked};
 
 use crate::asked::Asked;
-use crate::blocker::Blocker;
 use crate::members::failed_group;
 use crate::values::Group;
 use fields::Id;
@@ -76,47 +73,4 @@ pub(crate) fn blocked(
         add_blocked(alloc, asked, supers, line, &mut blocks)?;
     }
     Ok(blocks)
-}
-
-// Appends the SYSMOD of the line, if it fails and others fail because of it.
-fn push_blocker<'a>(
-    blocks: &MultiMap<Id, Id>,
-    line: &'a ReportLine,
-    found: &mut Vec<Blocker<'a>>,
-) -> Result<(), AllocError>
-    ensures { OnOk result (map blocker_view found.new.items ≡ map blocker_view found.old.items
-        ++ blocker_in (listed (slice_cmp nat_cmp) blocks.now) (line_view line.now)) }
-{
-    let ReportLine::Status { id, status, .. } = line else {
-        return Ok(());
-    };
-    let Status::Failed(failure) = status else {
-        return Ok(());
-    };
-    let fails = listed(blocks, *id).len();
-    if fails == 0 {
-        return Ok(());
-    }
-    found.push(Blocker {
-        id: *id,
-        fails,
-        failure,
-    })?;
-    Ok(())
-}
-
-/// The causers, in the order of their lines.
-pub(crate) fn blockers<'a>(
-    alloc: Global,
-    blocks: &MultiMap<Id, Id>,
-    lines: &'a [ReportLine],
-) -> Result<Vec<Blocker<'a>>, AllocError>
-    ensures { IfOk result (λ found. map blocker_view found.items
-        ≡ blockers (listed (slice_cmp nat_cmp) blocks.now) (map line_view lines.now)) }
-{
-    let mut found = Vec::new(alloc);
-    for line in lines {
-        push_blocker(blocks, line, &mut found)?;
-    }
-    Ok(found)
 }

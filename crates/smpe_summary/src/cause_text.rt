@@ -9,11 +9,10 @@ ghost use Rattle.smpe_summary.specs.Views.{reason_view, cause_view};
 use crate::pieces::{Piece, append_pieces};
 use crate::todo::is_error_hold;
 use crate::values::{Cause, CauseReason};
-use fields::Id;
+use fields::{Id, Reason};
 use fields::spelling::{hold_text, need_text, test_text};
 use std::alloc::AllocError;
-use sysmods_values::Hold;
-use terms::{NeedKind, Test};
+use terms::{HoldKind, NeedKind, Test};
 
 // Appends the comment of a hold, if it has one.
 fn append_comment(comment: &Option<String>, text: &mut Vec<u8>) -> Result<(), AllocError>
@@ -29,16 +28,22 @@ fn append_comment(comment: &Option<String>, text: &mut Vec<u8>) -> Result<(), Al
 }
 
 // Appends the hold: its kind, its reason and its comment.
-fn append_hold(hold: &Hold, text: &mut Vec<u8>) -> Result<(), AllocError>
-    ensures { OnOk result (text.new.items ≡ text.old.items ++ hold_words hold.now) }
+fn append_hold<'a>(
+    kind: HoldKind,
+    reason: &'a Reason,
+    comment: &Option<String>,
+    text: &mut Vec<u8>,
+) -> Result<(), AllocError>
+    ensures { OnOk result (text.new.items
+        ≡ text.old.items ++ hold_words kind reason.now (option_map string_bytes comment.now)) }
 {
     let pieces = [
-        Piece::Text(hold_text(hold.kind)),
+        Piece::Text(hold_text(kind)),
         Piece::Text(b" hold "),
-        Piece::Text(hold.reason.as_bytes()),
+        Piece::Text(reason.as_bytes()),
     ];
     append_pieces(&pieces, text)?;
-    append_comment(&hold.comment, text)
+    append_comment(comment, text)
 }
 
 // Whether the need is for what a DELETE would take off.
@@ -118,11 +123,15 @@ fn append_test(test: Test, text: &mut Vec<u8>) -> Result<(), AllocError>
 
 /// Appends why a causer fails, in a few words without a newline: the hold with its comment, the open need, or the test
 /// with its code.
-pub fn append_cause_text(why: &CauseReason<'_>, text: &mut Vec<u8>) -> Result<(), AllocError>
+pub fn append_cause_text(why: &CauseReason, text: &mut Vec<u8>) -> Result<(), AllocError>
     ensures { OnOk result (text.new.items ≡ text.old.items ++ cause_text (reason_view why.now)) }
 {
     match why {
-        CauseReason::Hold(hold) => append_hold(hold, text),
+        CauseReason::Hold {
+            kind,
+            reason,
+            comment,
+        } => append_hold(*kind, reason, comment, text),
         CauseReason::Need { kind, id, received } => append_need(*kind, id, *received, text),
         CauseReason::Test(test) => append_test(*test, text),
         CauseReason::Unknown => append_pieces(&[Piece::Text(b"see its report")], text),
@@ -130,7 +139,7 @@ pub fn append_cause_text(why: &CauseReason<'_>, text: &mut Vec<u8>) -> Result<()
 }
 
 /// Appends the line of a cause.
-pub(crate) fn append_cause(cause: &Cause<'_>, text: &mut Vec<u8>) -> Result<(), AllocError>
+pub(crate) fn append_cause(cause: &Cause, text: &mut Vec<u8>) -> Result<(), AllocError>
     ensures { OnOk result (text.new.items ≡ text.old.items ++ cause_line (cause_view cause.now)) }
 {
     let pieces = [

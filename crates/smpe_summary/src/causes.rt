@@ -1,48 +1,53 @@
 //! Why causers fail themselves.
-ghost use Rattle.std.specs.Prelude.{◌≡◌, find, option_copied, option_map, slice_get, map, IfOk, IsPermutation, IsSortedBy};
-ghost use Rattle.std.specs.Option.{option_or};
-ghost use Rattle.terms.specs.Types.{Global as AGlobal};
-ghost use Rattle.terms.specs.Lookups.{at_most_one, holds_of};
-ghost use Rattle.judge_system.specs.TestSets.{tests_of};
+ghost use Rattle.std.specs.Prelude.{◌≡◌, ◌++◌, find, option_copied, option_map, map, IfOk, OnOk};
+ghost use Rattle.std.specs.List.{flat_map};
+ghost use Rattle.std.specs.Ordering.{nat_cmp};
+ghost use Rattle.std.specs.Cmp.Lexicographic.{slice_cmp};
+ghost use Rattle.sorted.specs.MultiMap.{listed};
+ghost use Rattle.terms.specs.Lookups.{holds_of};
 ghost use Rattle.judge_system.specs.Views.{need_view, failure_view};
-ghost use Rattle.smpe_summary.specs.declared.values.Cause.{Cause as ACause};
-ghost use Rattle.smpe_summary.specs.Causes.{hold_why, test_why, is_unreceived, need_why, needs_why, why_by, cause_of};
-ghost use Rattle.smpe_summary.specs.Causes.{first_need};
+ghost use Rattle.report.specs.Views.{line_view};
+ghost use Rattle.smpe_summary.specs.Causes.{hold_why, test_why, is_unreceived, first_need, needs_why, why_of, cause_in};
 ghost use Rattle.smpe_summary.specs.Told.{AreRanked};
-ghost use Rattle.smpe_summary.specs.Views.{blocker_view, reason_view, cause_view};
+ghost use Rattle.smpe_summary.specs.Views.{reason_view, cause_view};
 
-use crate::blocker::Blocker;
 use crate::values::{Cause, CauseReason};
 use fields::Id;
 use judge_system::{Failure, OpenNeed};
+use report::{ReportLine, Status};
+use sorted::multi_map::{MultiMap, listed};
 use std::alloc::{AllocError, Global};
 use std::cmp::Reverse;
 use sysmods::GlobalZone;
 use terms::{HoldKind, Test};
 
 // The first hold of this kind on the SYSMOD, or the test if there is none.
-fn hold_reason<'a>(
-    global: &'a GlobalZone,
+fn hold_reason(
+    global: &GlobalZone,
     id: Id,
     kind: HoldKind,
     test: Test,
-) -> CauseReason<'a>
-    ensures { reason_view result ≡ hold_why test (holds_of global.now kind id) }
+) -> Result<CauseReason, AllocError>
+    ensures { IfOk result (λ why. reason_view why ≡ hold_why test (holds_of global.now kind id)) }
 {
     match global.holds_of(kind, id).next() {
-        Some(hold) => CauseReason::Hold(hold),
-        None => CauseReason::Test(test),
+        Some(hold) => Ok(CauseReason::Hold {
+            kind: hold.kind,
+            reason: hold.reason,
+            comment: hold.comment.clone()?,
+        }),
+        None => Ok(CauseReason::Test(test)),
     }
 }
 
 // Why the SYSMOD fails this test.
-fn test_reason<'a>(global: &'a GlobalZone, id: Id, test: Test) -> CauseReason<'a>
-    ensures { reason_view result ≡ test_why global.now id test }
+fn test_reason(global: &GlobalZone, id: Id, test: Test) -> Result<CauseReason, AllocError>
+    ensures { IfOk result (λ why. reason_view why ≡ test_why global.now id test) }
 {
     match test {
         Test::HeldBySystem => hold_reason(global, id, HoldKind::System, test),
         Test::HeldByUser => hold_reason(global, id, HoldKind::User, test),
-        _ => CauseReason::Test(test),
+        _ => Ok(CauseReason::Test(test)),
     }
 }
 
@@ -71,7 +76,7 @@ fn first_need<'f>(global: &GlobalZone, needs: &'f [OpenNeed]) -> Option<&'f Open
 }
 
 // Why the SYSMOD with these open needs fails, if it passes all tests.
-fn needs_reason<'a>(global: &'a GlobalZone, needs: &[OpenNeed]) -> CauseReason<'a>
+fn needs_reason(global: &GlobalZone, needs: &[OpenNeed]) -> CauseReason
     ensures { reason_view result ≡ needs_why global.now (map need_view needs.now) }
 {
     match first_need(global, needs) {
@@ -85,52 +90,69 @@ fn needs_reason<'a>(global: &'a GlobalZone, needs: &[OpenNeed]) -> CauseReason<'
 }
 
 // Why the SYSMOD fails by itself.
-fn reason_of<'a>(global: &'a GlobalZone, id: Id, failure: &Failure) -> CauseReason<'a>
-    ensures { reason_view result
-        ≡ why_by global.now id (failure_view failure.now).tests (failure_view failure.now).needs }
+fn reason_of(global: &GlobalZone, id: Id, failure: &Failure) -> Result<CauseReason, AllocError>
+    ensures { IfOk result (λ why. reason_view why ≡ why_of global.now id (failure_view failure.now)) }
 {
     match failure.tests.iter().next() {
         Some(test) => test_reason(global, id, test),
-        None => needs_reason(global, failure.needs.as_slice()),
+        None => Ok(needs_reason(global, failure.needs.as_slice())),
     }
 }
 
-// The cause that the causer is.
-fn cause_of<'a>(global: &'a GlobalZone, blocker: &Blocker<'_>) -> Cause<'a>
-    ensures { cause_view result ≡ cause_of global.now (blocker_view blocker.now) }
+// Appends the cause that the SYSMOD of the line is, if it fails and others fail because of it.
+fn push_cause(
+    global: &GlobalZone,
+    blocks: &MultiMap<Id, Id>,
+    line: &ReportLine,
+    causes: &mut Vec<Cause>,
+) -> Result<(), AllocError>
+    ensures { OnOk result (map cause_view causes.new.items ≡ map cause_view causes.old.items
+        ++ cause_in global.now (listed (slice_cmp nat_cmp) blocks.now) (line_view line.now)) }
 {
-    Cause {
-        id: blocker.id,
-        fails: blocker.fails,
-        why: reason_of(global, blocker.id, blocker.failure),
+    let ReportLine::Status { id, status, .. } = line else {
+        return Ok(());
+    };
+    let Status::Failed(failure) = status else {
+        return Ok(());
+    };
+    let id = *id;
+    let fails = listed(blocks, id).len();
+    if fails == 0 {
+        return Ok(());
     }
+    let why = reason_of(global, id, failure)?;
+    causes.push(Cause { id, fails, why })?;
+    Ok(())
 }
 
-// The causes that the causers are, in the same order.
-fn causes_by_line<'a>(
+// The causes, in the order of their lines.
+fn causes_by_line(
     alloc: Global,
-    global: &'a GlobalZone,
-    blockers: &[Blocker<'_>],
-) -> Result<Vec<Cause<'a>>, AllocError>
+    global: &GlobalZone,
+    blocks: &MultiMap<Id, Id>,
+    lines: &[ReportLine],
+) -> Result<Vec<Cause>, AllocError>
     ensures { IfOk result (λ causes. map cause_view causes.items
-        ≡ map (cause_of global.now) (map blocker_view blockers.now)) }
+        ≡ flat_map (cause_in global.now (listed (slice_cmp nat_cmp) blocks.now)) (map line_view lines.now)) }
 {
     let mut causes = Vec::new(alloc);
-    for blocker in blockers {
-        causes.push(cause_of(global, blocker))?;
+    for line in lines {
+        push_cause(global, blocks, line, &mut causes)?;
     }
     Ok(causes)
 }
 
-/// The causes that the causers are, the worst first.
-pub(crate) fn causes_of<'a>(
+/// The causes, the worst first.
+pub(crate) fn causes_of(
     alloc: Global,
-    global: &'a GlobalZone,
-    blockers: &[Blocker<'_>],
-) -> Result<Vec<Cause<'a>>, AllocError>
-    ensures { IfOk result (λ causes. AreRanked global.now (map blocker_view blockers.now) causes.items) }
+    global: &GlobalZone,
+    blocks: &MultiMap<Id, Id>,
+    lines: &[ReportLine],
+) -> Result<Vec<Cause>, AllocError>
+    ensures { IfOk result (λ causes. AreRanked global.now (listed (slice_cmp nat_cmp) blocks.now)
+        (map line_view lines.now) causes.items) }
 {
-    let mut causes = causes_by_line(alloc, global, blockers)?;
+    let mut causes = causes_by_line(alloc, global, blocks, lines)?;
     causes.sort_unstable_by_key(|cause| (Reverse(cause.fails), cause.id));
     Ok(causes)
 }

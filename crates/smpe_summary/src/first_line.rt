@@ -191,7 +191,7 @@ fn would_text(kind: ZoneKind) -> &'static [u8]
 }
 
 // Appends how many SYSMODs there are, and how many go on.
-fn append_start(alloc: Global, summary: &Summary<'_>, text: &mut Vec<u8>) -> Result<(), AllocError>
+fn append_start(alloc: Global, summary: &Summary, text: &mut Vec<u8>) -> Result<(), AllocError>
     ensures { OnOk result (text.new.items ≡ text.old.items ++ line_start summary.now) }
 {
     let members = summary.members.as_slice();
@@ -218,7 +218,7 @@ fn append_parts(alloc: Global, members: &[Member], text: &mut Vec<u8>) -> Result
 /// Appends the first line: how many SYSMODs the groups have, and how much there is to be done.
 pub(crate) fn append_first_line(
     alloc: Global,
-    summary: &Summary<'_>,
+    summary: &Summary,
     text: &mut Vec<u8>,
 ) -> Result<(), AllocError>
     ensures { OnOk result (text.new.items ≡ text.old.items ++ first_line summary.now) }

@@ -6,7 +6,6 @@
 #![tactic(auto)]
 
 mod asked;
-mod blocker;
 mod blockers;
 mod cause_text;
 mod causes;

@@ -54,7 +54,7 @@ fn any_taken(members: &[Member]) -> bool
     members.iter().any(|member| is_taken(member.group))
 }
 
-impl<'a> Summary<'a> {
+impl Summary {
     /// 12 if no SYSMOD of the package was received, 8 if a SYSMOD fails or was not received, 4 if one is not decided,
     /// was deleted or has no `++VER` for the SREL, or if the command takes none, and otherwise 0.
     pub fn status(&self) -> u8

@@ -9,15 +9,14 @@ ghost use Rattle.terms.specs.Choice.{counting};
 ghost use Rattle.sysmods.specs.Choices.{choice};
 ghost use Rattle.smpe_summary.specs.Asked.{is_failed, is_candidate, ids_where, going_on};
 ghost use Rattle.smpe_summary.specs.Sets.{IsSetOf};
-ghost use Rattle.smpe_summary.specs.Blocked.{causers};
+ghost use Rattle.smpe_summary.specs.Blocked.{blocked};
 ghost use Rattle.smpe_summary.specs.Told.{AreRanked, IsTodo};
 ghost use Rattle.smpe_summary.specs.Summary.{IsSummary};
 ghost use Rattle.smpe_summary.specs.Todo.{taken_off};
-ghost use Rattle.smpe_summary.specs.Views.{blocker_view, taken_view};
+ghost use Rattle.smpe_summary.specs.Views.{taken_view};
 
 use crate::asked::Asked;
-use crate::blocker::Blocker;
-use crate::blockers::{blocked, blockers};
+use crate::blockers::blocked;
 use crate::causes::causes_of;
 use crate::lines::{Condition, ids_where};
 use crate::members::members_of;
@@ -32,40 +31,27 @@ use std::alloc::{AllocError, Global};
 use sysmods::VerChoice;
 use zones::counting_vers;
 
-// The causers of the SYSMODs of the package that would fail.
-fn causers_of<'a>(
-    alloc: Global,
-    asked: &Asked<'a>,
-    supers: &MultiMap<Id, Id>,
-) -> Result<Vec<Blocker<'a>>, AllocError>
-    ensures { IfOk result (λ found. map blocker_view found.items
-        ≡ causers asked.now (listed (slice_cmp nat_cmp) supers.now)) }
-{
-    let blocks = blocked(alloc, asked, supers)?;
-    blockers(alloc, &blocks, asked.lines)
-}
-
 // The causes of failures, and what is to be done.
 #[derive(Drop)]
-struct Found<'a> {
-    causes: Vec<Cause<'a>>,
+struct Found {
+    causes: Vec<Cause>,
     todo: Vec<ToDo>,
 }
 
 // The causes of failures, and what is to be done.
-fn causes_and_todo<'a>(
+fn causes_and_todo(
     alloc: Global,
-    asked: &Asked<'a>,
+    asked: &Asked<'_>,
     supers: &MultiMap<Id, Id>,
-) -> Result<Found<'a>, AllocError>
+) -> Result<Found, AllocError>
     ensures causes { IfOk result (λ found. AreRanked asked.now.global
-        (causers asked.now (listed (slice_cmp nat_cmp) supers.now)) found.causes.items) }
+        (blocked asked.now (listed (slice_cmp nat_cmp) supers.now)) asked.now.lines found.causes.items) }
     ensures todo { IfOk result (λ found. IsTodo asked.now.global
-        (causers asked.now (listed (slice_cmp nat_cmp) supers.now)) found.todo.items) }
+        (blocked asked.now (listed (slice_cmp nat_cmp) supers.now)) asked.now.lines found.todo.items) }
 {
-    let blockers = causers_of(alloc, asked, supers)?;
-    let causes = causes_of(alloc, asked.global, blockers.as_slice())?;
-    let todo = todo_of(alloc, asked.global, blockers.as_slice())?;
+    let blocks = blocked(alloc, asked, supers)?;
+    let causes = causes_of(alloc, asked.global, &blocks, asked.lines)?;
+    let todo = todo_of(alloc, asked.global, &blocks, asked.lines)?;
     Ok(Found { causes, todo })
 }
 
@@ -101,13 +87,13 @@ fn taken_off_by(
 }
 
 // The summary by the `++VER`s that count, the candidates and those that go on.
-fn summary_over<'a>(
+fn summary_over(
     alloc: Global,
-    asked: &Asked<'a>,
+    asked: &Asked<'_>,
     candidates: &IdList,
     vers: &VerChoice<'_>,
     going: &[Id],
-) -> Result<Summary<'a>, AllocError>
+) -> Result<Summary, AllocError>
     requires candidates { IsSetOf candidates.now (ids_where is_candidate asked.now.lines) }
     requires choice { choice vers.now ≡ counting asked.now.global asked.now.zone candidates.now }
     requires global { vers.now.global.now ≡ asked.now.global }
@@ -130,7 +116,7 @@ fn summary_over<'a>(
 }
 
 /// The summary of what the lines say of the package.
-pub fn summary_of<'a>(alloc: Global, asked: &Asked<'a>) -> Result<Summary<'a>, AllocError>
+pub fn summary_of(alloc: Global, asked: &Asked<'_>) -> Result<Summary, AllocError>
     ensures { IfOk result (IsSummary asked.now) }
 {
     let candidates = ids_where(alloc, Condition::IsCandidate, asked.lines)?;

@@ -21,7 +21,7 @@ const MOST_CAUSES: usize = 20;
 const MOST_TAKEN: usize = 3;
 
 // Appends the lines of these causes.
-fn append_cause_lines(causes: &[Cause<'_>], text: &mut Vec<u8>) -> Result<(), AllocError>
+fn append_cause_lines(causes: &[Cause], text: &mut Vec<u8>) -> Result<(), AllocError>
     ensures { OnOk result (text.new.items ≡ text.old.items ++ flat_map cause_line (map cause_view causes.now)) }
 {
     for cause in causes {
@@ -31,7 +31,7 @@ fn append_cause_lines(causes: &[Cause<'_>], text: &mut Vec<u8>) -> Result<(), Al
 }
 
 // Appends the first causes, and how many more there are.
-fn append_causes(causes: &[Cause<'_>], text: &mut Vec<u8>) -> Result<(), AllocError>
+fn append_causes(causes: &[Cause], text: &mut Vec<u8>) -> Result<(), AllocError>
     ensures { OnOk result (text.new.items ≡ text.old.items ++ causes_text (map cause_view causes.now)) }
 {
     append_cause_lines(first_of(causes, MOST_CAUSES), text)?;
@@ -82,7 +82,7 @@ fn append_taken_off(taken_off: &[TakenOff], text: &mut Vec<u8>) -> Result<(), Al
 }
 
 // Appends what goes on and what goes off besides the package.
-fn append_besides(summary: &Summary<'_>, text: &mut Vec<u8>) -> Result<(), AllocError>
+fn append_besides(summary: &Summary, text: &mut Vec<u8>) -> Result<(), AllocError>
     ensures { OnOk result (text.new.items ≡ text.old.items ++ besides summary.now) }
 {
     append_ids_line(
@@ -96,7 +96,7 @@ fn append_besides(summary: &Summary<'_>, text: &mut Vec<u8>) -> Result<(), Alloc
 // Appends the lines of groups, of causes, and of what goes on and off besides.
 fn append_middle(
     alloc: Global,
-    summary: &Summary<'_>,
+    summary: &Summary,
     text: &mut Vec<u8>,
 ) -> Result<(), AllocError>
     ensures { OnOk result (text.new.items ≡ text.old.items ++ middle summary.now) }
@@ -110,7 +110,7 @@ fn append_middle(
 /// besides, and what is to be done.
 pub fn append_summary(
     alloc: Global,
-    summary: &Summary<'_>,
+    summary: &Summary,
     text: &mut Vec<u8>,
 ) -> Result<(), AllocError>
     ensures { OnOk result (text.new.items ≡ text.old.items ++ summary_text summary.now) }

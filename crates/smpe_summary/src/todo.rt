@@ -1,20 +1,23 @@
 //! What is to be done.
 ghost use Rattle.std.specs.Prelude.{◌≡◌, ◌++◌, map, IfOk, OnOk};
 ghost use Rattle.std.specs.List.{flat_map};
-ghost use Rattle.terms.specs.Types.{Id as AnId};
+ghost use Rattle.std.specs.Ordering.{nat_cmp};
+ghost use Rattle.std.specs.Cmp.Lexicographic.{slice_cmp};
 ghost use Rattle.terms.specs.Lookups.{holds_of};
 ghost use Rattle.terms.specs.declared.kinds.HoldKind.TheVariants.{System, User};
-ghost use Rattle.judge_system.specs.Views.{need_view};
+ghost use Rattle.sorted.specs.MultiMap.{listed};
+ghost use Rattle.judge_system.specs.Views.{need_view, failure_view};
+ghost use Rattle.report.specs.Views.{line_view};
 ghost use Rattle.smpe_summary.specs.declared.values.ToDo.TheVariants.{Order};
-ghost use Rattle.smpe_summary.specs.Sets.{IsSetOf};
-ghost use Rattle.smpe_summary.specs.Todo.{is_orderable, is_error_hold, order_of, wanted, act, ask, wait_of, acts_of};
+ghost use Rattle.smpe_summary.specs.Todo.{is_orderable, is_error_hold, order_of, wants_in, wanted, act, ask, wait_of};
+ghost use Rattle.smpe_summary.specs.Todo.{acts_of, acts_in};
 ghost use Rattle.smpe_summary.specs.Told.{IsTodo};
-ghost use Rattle.smpe_summary.specs.Views.{blocker_view};
 
-use crate::blocker::Blocker;
 use crate::values::ToDo;
 use fields::{Id, IdList};
-use judge_system::OpenNeed;
+use judge_system::{Failure, OpenNeed};
+use report::{ReportLine, Status};
+use sorted::multi_map::{MultiMap, listed};
 use std::alloc::{AllocError, Global};
 use sysmods::GlobalZone;
 use terms::{HoldKind, NeedKind};
@@ -65,17 +68,41 @@ fn push_orders(
     Ok(())
 }
 
-// What is to be ordered for these causers, more than once if several need it.
+// Appends what is to be ordered for the SYSMOD of the line, if it fails and others fail because of it.
+fn push_line_orders(
+    global: &GlobalZone,
+    blocks: &MultiMap<Id, Id>,
+    line: &ReportLine,
+    found: &mut Vec<Id>,
+) -> Result<(), AllocError>
+    ensures { OnOk result (found.new.items ≡ found.old.items
+        ++ wants_in global.now (listed (slice_cmp nat_cmp) blocks.now) (line_view line.now)) }
+{
+    let ReportLine::Status { id, status, .. } = line else {
+        return Ok(());
+    };
+    let Status::Failed(failure) = status else {
+        return Ok(());
+    };
+    if listed(blocks, *id).is_empty() {
+        return Ok(());
+    }
+    push_orders(global, failure.needs.as_slice(), found)
+}
+
+// What is to be ordered for the causers, more than once if several need it.
 fn wanted(
     alloc: Global,
     global: &GlobalZone,
-    blockers: &[Blocker<'_>],
+    blocks: &MultiMap<Id, Id>,
+    lines: &[ReportLine],
 ) -> Result<Vec<Id>, AllocError>
-    ensures { IfOk result (λ found. found.items ≡ wanted global.now (map blocker_view blockers.now)) }
+    ensures { IfOk result (λ found. found.items
+        ≡ wanted global.now (listed (slice_cmp nat_cmp) blocks.now) (map line_view lines.now)) }
 {
     let mut found = Vec::new(alloc);
-    for blocker in blockers {
-        push_orders(global, blocker.failure.needs.as_slice(), &mut found)?;
+    for line in lines {
+        push_line_orders(global, blocks, line, &mut found)?;
     }
     Ok(found)
 }
@@ -129,43 +156,56 @@ fn push_waits(id: Id, needs: &[OpenNeed], todo: &mut Vec<ToDo>) -> Result<(), Al
     Ok(())
 }
 
-// Appends the holds of the causer.
+// Appends the holds of a causer with this failure.
 fn push_holds(
     global: &GlobalZone,
-    blocker: &Blocker<'_>,
+    id: Id,
+    failure: &Failure,
     todo: &mut Vec<ToDo>,
 ) -> Result<(), AllocError>
-    ensures { OnOk result (todo.new.items ≡ todo.old.items ++ acts_of global.now (blocker_view blocker.now)) }
+    ensures { OnOk result (todo.new.items ≡ todo.old.items ++ acts_of global.now id (failure_view failure.now)) }
 {
-    push_acts(global, blocker.id, todo)?;
-    push_asks(global, blocker.id, todo)?;
-    push_waits(blocker.id, blocker.failure.needs.as_slice(), todo)
+    push_acts(global, id, todo)?;
+    push_asks(global, id, todo)?;
+    push_waits(id, failure.needs.as_slice(), todo)
+}
+
+// Appends the holds of the SYSMOD of the line, if it fails and others fail because of it.
+fn push_line_holds(
+    global: &GlobalZone,
+    blocks: &MultiMap<Id, Id>,
+    line: &ReportLine,
+    todo: &mut Vec<ToDo>,
+) -> Result<(), AllocError>
+    ensures { OnOk result (todo.new.items ≡ todo.old.items
+        ++ acts_in global.now (listed (slice_cmp nat_cmp) blocks.now) (line_view line.now)) }
+{
+    let ReportLine::Status { id, status, .. } = line else {
+        return Ok(());
+    };
+    let Status::Failed(failure) = status else {
+        return Ok(());
+    };
+    if listed(blocks, *id).is_empty() {
+        return Ok(());
+    }
+    push_holds(global, *id, failure, todo)
 }
 
 // Appends the holds of the causers.
 fn push_all_holds(
     global: &GlobalZone,
-    blockers: &[Blocker<'_>],
+    blocks: &MultiMap<Id, Id>,
+    lines: &[ReportLine],
     todo: &mut Vec<ToDo>,
 ) -> Result<(), AllocError>
-    ensures { OnOk result (todo.new.items
-        ≡ todo.old.items ++ flat_map (acts_of global.now) (map blocker_view blockers.now)) }
+    ensures { OnOk result (todo.new.items ≡ todo.old.items
+        ++ flat_map (acts_in global.now (listed (slice_cmp nat_cmp) blocks.now)) (map line_view lines.now)) }
 {
-    for blocker in blockers {
-        push_holds(global, blocker, todo)?;
+    for line in lines {
+        push_line_holds(global, blocks, line, todo)?;
     }
     Ok(())
-}
-
-// What is to be ordered for these causers, rising.
-fn orders_of(
-    alloc: Global,
-    global: &GlobalZone,
-    blockers: &[Blocker<'_>],
-) -> Result<IdList, AllocError>
-    ensures { IfOk result (λ ids. IsSetOf ids (wanted global.now (map blocker_view blockers.now))) }
-{
-    Ok(IdList::from_vec(wanted(alloc, global, blockers)?))
 }
 
 // These ids as orders.
@@ -175,16 +215,18 @@ fn order_all(alloc: Global, ids: &IdList) -> Result<Vec<ToDo>, AllocError>
     ids.iter().map(|id| ToDo::Order(*id)).collect(alloc)
 }
 
-/// What is to be done for these causers: first what is to be ordered, and then their holds.
+/// What is to be done for the causers: first what is to be ordered, and then their holds.
 pub(crate) fn todo_of(
     alloc: Global,
     global: &GlobalZone,
-    blockers: &[Blocker<'_>],
+    blocks: &MultiMap<Id, Id>,
+    lines: &[ReportLine],
 ) -> Result<Vec<ToDo>, AllocError>
-    ensures { IfOk result (λ todo. IsTodo global.now (map blocker_view blockers.now) todo.items) }
+    ensures { IfOk result (λ todo. IsTodo global.now (listed (slice_cmp nat_cmp) blocks.now) (map line_view lines.now)
+        todo.items) }
 {
-    let orders = orders_of(alloc, global, blockers)?;
+    let orders = IdList::from_vec(wanted(alloc, global, blocks, lines)?);
     let mut todo = order_all(alloc, &orders)?;
-    push_all_holds(global, blockers, &mut todo)?;
+    push_all_holds(global, blocks, lines, &mut todo)?;
     Ok(todo)
 }

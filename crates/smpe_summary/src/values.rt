@@ -1,10 +1,9 @@
 //! The parts of a summary.
 use fields::{Id, Reason};
-use sysmods_values::Hold;
-use terms::{NeedKind, Test, ZoneKind};
+use terms::{HoldKind, NeedKind, Test, ZoneKind};
 
 /// What would become of a SYSMOD of the package. In a distribution zone `Applied` means accepted.
-#[derive(Clone, Copy, Debug, PartialEq, Eq)]
+#[derive(Clone, Copy)]
 pub enum Group {
     Applied,
     Superseded,
@@ -25,16 +24,20 @@ pub enum Group {
 }
 
 /// A SYSMOD of the package.
-#[derive(Clone, Copy, Debug)]
+#[derive(Clone, Copy)]
 pub struct Member {
     pub id: Id,
     pub group: Group,
 }
 
 /// Why a SYSMOD fails by itself.
-#[derive(Clone, Copy)]
-pub enum CauseReason<'a> {
-    Hold(&'a Hold),
+#[derive(Drop)]
+pub enum CauseReason {
+    Hold {
+        kind: HoldKind,
+        reason: Reason,
+        comment: Option<String>,
+    },
     /// An open need, and whether the id that it needs is received.
     Need {
         kind: NeedKind,
@@ -47,15 +50,15 @@ pub enum CauseReason<'a> {
 }
 
 /// A SYSMOD because of which so many of the package fail, and the first reason for which it fails itself.
-#[derive(Clone, Copy)]
-pub struct Cause<'a> {
+#[derive(Drop)]
+pub struct Cause {
     pub id: Id,
     pub fails: usize,
-    pub why: CauseReason<'a>,
+    pub why: CauseReason,
 }
 
 /// What has to be done so that fewer fail.
-#[derive(Clone, Copy, Debug)]
+#[derive(Clone, Copy)]
 pub enum ToDo {
     /// It is needed, and not received.
     Order(Id),
@@ -77,7 +80,7 @@ pub struct TakenOff {
 
 /// What is told of a package.
 #[derive(Drop)]
-pub struct Summary<'a> {
+pub struct Summary {
     /// The kind of the zone, which says whether SYSMODs are applied or accepted.
     pub kind: ZoneKind,
     /// The SYSMODs of the package: first those that have a line, in the order of the lines, then the others by id.
@@ -85,7 +88,7 @@ pub struct Summary<'a> {
     /// What GROUPEXTEND brings in from earlier service and goes on.
     pub also: Vec<Id>,
     /// The worst first, those with equal numbers by id.
-    pub causes: Vec<Cause<'a>>,
+    pub causes: Vec<Cause>,
     /// First what is to be ordered.
     pub todo: Vec<ToDo>,
     pub taken_off: Vec<TakenOff>,
