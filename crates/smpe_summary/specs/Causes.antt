@@ -1,20 +1,19 @@
 -- Why the causers of failures fail themselves.
-use Rattle.std.specs.Prelude.{◌==◌, Bool, not, ℕ, List, [], ◌∷◌, Option, None, Some, find, length, slice_get}
+use Rattle.std.specs.Prelude.{Bool, not, ℕ, List, [], ◌∷◌, Option, None, Some, find, length}
 use Rattle.std.specs.Prelude.{if◌then◌else◌}
-use Rattle.std.specs.Option.{option_or}
 use Rattle.terms.specs.declared.kinds.HoldKind.{HoldKind}
 use Rattle.terms.specs.declared.kinds.HoldKind.TheVariants.{System, User}
 use Rattle.terms.specs.declared.codes.NeedKind.{NeedKind}
 use Rattle.terms.specs.declared.codes.Test.{Test}
 use Rattle.terms.specs.declared.codes.Test.TheVariants as test
 use Rattle.terms.specs.Types.{Text, Id, Reason, Hold, Global}
-use Rattle.terms.specs.Lookups.{is_received, holds_of}
+use Rattle.terms.specs.Lookups.{is_nil, is_received, holds_of}
 use Rattle.machine.specs.Outcome.{OpenNeed, Failure, Failed, Line, StatusLine}
 
--- a hold; an open need, and whether its id is received; a test; or nothing that its line says
+-- a hold; an open need for an id that is not received; a test; or a need for one that is received
 pub data Why : Type 0 where
   HoldWhy : HoldKind → Reason → Option Text → Why
-  NeedWhy : NeedKind → Id → Bool → Why
+  NeedWhy : NeedKind → Id → Why
   TestWhy : Test → Why
   UnknownWhy : Why
 
@@ -31,16 +30,13 @@ test_why g y t = TestWhy t
 abbrev pub is_unreceived : Global → OpenNeed → Bool
 is_unreceived g n = not (is_received g n.id)
 
-abbrev pub need_why : Global → Option OpenNeed → Why
-need_why g None = UnknownWhy
-need_why g (Some n) = NeedWhy n.kind n.id (is_received g n.id)
+abbrev pub need_why : Option OpenNeed → Why
+need_why None = UnknownWhy
+need_why (Some n) = NeedWhy n.kind n.id
 
--- the first open need whose id is not received, otherwise the first open need
-abbrev pub first_need : Global → List OpenNeed → Option OpenNeed
-first_need g needs = option_or (find (is_unreceived g) needs) (slice_get needs 0)
-
+-- the first open need whose id is not received
 abbrev pub needs_why : Global → List OpenNeed → Why
-needs_why g needs = need_why g (first_need g needs)
+needs_why g needs = need_why (find (is_unreceived g) needs)
 
 -- the first failed test, otherwise an open need
 abbrev pub why_by : Global → Id → List Test → List OpenNeed → Why
@@ -56,10 +52,12 @@ pub record Cause : Type 0 where
   pub fails : ℕ
   pub why : Why
 
--- the cause that the SYSMOD of the line is, if it fails, and others because of it (`blocks` are those that fail because
--- of an id)
+-- The cause that the SYSMOD y is, if others fail because of it. (`blocks` are those that fail because of an id.)
+abbrev pub cause_by : Global → (Id → List Id) → Id → Failure → List Cause
+cause_by g blocks y f =
+    if is_nil (blocks y) then [] else record { id = y; fails = length (blocks y); why = why_of g y f } ∷ []
+
+-- the cause that the SYSMOD of the line is
 abbrev pub cause_in : Global → (Id → List Id) → Line → List Cause
-cause_in g blocks (StatusLine y place (Failed f)) =
-    if length (blocks y) == 0 then []
-    else record { id = y; fails = length (blocks y); why = why_of g y f } ∷ []
+cause_in g blocks (StatusLine y place (Failed f)) = cause_by g blocks y f
 cause_in g blocks _ = []

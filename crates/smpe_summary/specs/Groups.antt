@@ -51,10 +51,14 @@ zone_group a x =
     else if is_received a.global x then group.NoVer
     else group.NotReceived
 
--- the member of a line, if it is of the package and the command took it up
-abbrev pub line_member : Asked → (Id → List Id) → Line → List Member
-line_member a supers (StatusLine x place status) =
+-- the member with this status, if it is of the package and the command took it up
+abbrev pub known_member : Asked → (Id → List Id) → Id → Status → List Member
+known_member a supers x status =
     if is_in a.members x then map (a_member x) (at_most_one (status_group a supers x status)) else []
+
+-- the same of a line
+abbrev pub line_member : Asked → (Id → List Id) → Line → List Member
+line_member a supers (StatusLine x place status) = known_member a supers x status
 line_member a supers _ = []
 
 -- the member, if it is not among the candidates

@@ -9,3 +9,4 @@ pub mod Asked
 pub mod Groups
 pub mod Blocked
 pub mod Summary
+pub mod Laws

@@ -1,8 +1,7 @@
 -- The text of a summary.
 use Rattle.std.specs.Prelude.{◌-◌, ◌==◌, ◌||◌, Bool, true, false, not, ℕ, nat_le, List, [], ◌∷◌, ◌++◌, Option, None, Some}
-use Rattle.std.specs.Prelude.{codes, count_by, decimal, filter, length, map, take, option_map, if◌then◌else◌}
+use Rattle.std.specs.Prelude.{codes, decimal, filter, length, map, take, option_map, if◌then◌else◌}
 use Rattle.std.specs.List.{concat, flat_map, list_all, list_any}
-use Rattle.std.specs.Str.{bytes_eq}
 use Rattle.terms.specs.declared.kinds.HoldKind.{HoldKind}
 use Rattle.terms.specs.declared.kinds.ZoneKind.{ZoneKind}
 use Rattle.terms.specs.declared.kinds.ZoneKind.TheVariants.{Target, Distribution}
@@ -62,18 +61,14 @@ comment_text (Some comment) = codes ": " ++ comment
 abbrev pub hold_words : HoldKind → Reason → Option Text → Text
 hold_words kind reason comment = hold_text kind ++ codes " hold " ++ reason ++ comment_text comment
 
-abbrev pub is_orphan : NeedKind → Bool
-is_orphan need.Orphan = true
-is_orphan _ = false
+abbrev pub error_words : Id → Text
+error_words z = codes "ERROR hold " ++ z ++ codes ": nothing that resolves it goes on"
 
-abbrev pub state_words : Bool → Text
-state_words received = if received then codes " does not go on" else codes " is not received"
+abbrev pub open_words : NeedKind → Id → Text
+open_words kind z = need_text kind ++ codes " " ++ z ++ codes " is not received"
 
-abbrev pub need_words : NeedKind → Id → Bool → Text
-need_words kind z received =
-    if is_error_hold kind then codes "ERROR hold " ++ z ++ codes ": nothing that resolves it goes on"
-    else if is_orphan kind then codes "its DELETE takes off " ++ z ++ codes ", which others require"
-    else need_text kind ++ codes " " ++ z ++ state_words received
+abbrev pub need_words : NeedKind → Id → Text
+need_words kind z = if is_error_hold kind then error_words z else open_words kind z
 
 abbrev pub test_words : Test → Text
 test_words test.HeldBySystem = codes "SYSTEM hold"
@@ -92,9 +87,9 @@ test_words test.SeveralFit = codes "several of its ++VERs fit"
 
 abbrev pub cause_text : Why → Text
 cause_text (HoldWhy kind reason comment) = hold_words kind reason comment
-cause_text (NeedWhy kind z received) = need_words kind z received
+cause_text (NeedWhy kind z) = need_words kind z
 cause_text (TestWhy t) = test_words t ++ codes " (" ++ test_text t ++ codes ")"
-cause_text UnknownWhy = codes "see its report"
+cause_text UnknownWhy = codes "what it needs does not go on"
 
 -- ---- the first line
 
@@ -190,21 +185,15 @@ function_of _ = []
 abbrev pub functions_of : List Member → List Id
 functions_of ms = flat_map (λ m. function_of m.group) ms
 
--- so many of all lack this function
+-- so many of all lack a function, as this one
 abbrev pub function_line : ℕ → ℕ → Id → Text
 function_line n all f =
-    codes "  " ++ decimal n ++ codes " of " ++ decimal all ++ codes ": function " ++ f
-    ++ codes " is not installed and not in the files\n"
+    codes "  " ++ decimal n ++ codes " of " ++ decimal all
+    ++ codes " need a function that is not installed and not in the files, as " ++ f ++ codes "\n"
 
-abbrev pub others_line : ℕ → Text
-others_line n = if n == 0 then [] else codes "  " ++ decimal n ++ codes " more lack other functions\n"
-
--- the first function that is lacking, how many lack it, and how many lack others
 abbrev pub functions_text : ℕ → List Id → Text
 functions_text all [] = []
-functions_text all (f ∷ fs) =
-    function_line (count_by (bytes_eq f) (f ∷ fs)) all f
-    ++ others_line (length (f ∷ fs) - count_by (bytes_eq f) (f ∷ fs))
+functions_text all (f ∷ fs) = function_line (length (f ∷ fs)) all f
 
 abbrev pub early_groups : List Member → Text
 early_groups ms =
@@ -242,13 +231,16 @@ taken_text ts = flat_map taken_line (take 3 ts) ++ more_line 3 (length ts)
 
 -- ---- what is to be done
 
-abbrev pub command_text : ZoneKind → Text
-command_text Target = codes ", then APPLY .. BYPASS(HOLD"
-command_text Distribution = codes ", then ACCEPT .. BYPASS(HOLD"
+abbrev pub act_command : ZoneKind → Text
+act_command Target = codes ", then APPLY .. BYPASS(HOLDSYSTEM("
+act_command Distribution = codes ", then ACCEPT .. BYPASS(HOLDSYSTEM("
 
-abbrev pub bypass_line : ZoneKind → Text → Text → Id → Text → Text
-bypass_line zone verb class x reason =
-    verb ++ x ++ codes " " ++ reason ++ command_text zone ++ class ++ codes "(" ++ reason ++ codes "))\n"
+abbrev pub ask_command : ZoneKind → Text
+ask_command Target = codes ", then APPLY .. BYPASS(HOLDUSER("
+ask_command Distribution = codes ", then ACCEPT .. BYPASS(HOLDUSER("
+
+abbrev pub bypass_line : Text → Text → Id → Text → Text
+bypass_line verb command x reason = verb ++ x ++ codes " " ++ reason ++ command ++ reason ++ codes "))\n"
 
 abbrev pub wait_line : Id → Id → Text
 wait_line x reason =
@@ -256,8 +248,8 @@ wait_line x reason =
 
 abbrev pub todo_line : ZoneKind → ToDo → Text
 todo_line zone (todo.Order x) = []
-todo_line zone (todo.Act x reason) = bypass_line zone (codes "  act on   ") (codes "SYSTEM") x reason
-todo_line zone (todo.Ask x reason) = bypass_line zone (codes "  ask      ") (codes "USER") x reason
+todo_line zone (todo.Act x reason) = bypass_line (codes "  act on   ") (act_command zone) x reason
+todo_line zone (todo.Ask x reason) = bypass_line (codes "  ask      ") (ask_command zone) x reason
 todo_line zone (todo.Wait x reason) = wait_line x reason
 
 abbrev pub is_other : ToDo → Bool

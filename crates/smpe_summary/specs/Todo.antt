@@ -33,9 +33,13 @@ is_error_hold _ = false
 abbrev pub order_of : Global → OpenNeed → List Id
 order_of g n = if is_orderable n.kind && not (is_received g n.id) then n.id ∷ [] else []
 
--- what the SYSMOD of the line needs and is not received, if it fails, and others because of it
+-- what the SYSMOD y needs and is not received, if others fail because of it
+abbrev pub wants_by : Global → (Id → List Id) → Id → Failure → List Id
+wants_by g blocks y f = if is_nil (blocks y) then [] else flat_map (order_of g) f.needs
+
+-- the same of the SYSMOD of the line
 abbrev pub wants_in : Global → (Id → List Id) → Line → List Id
-wants_in g blocks (StatusLine y place (Failed f)) = if is_nil (blocks y) then [] else flat_map (order_of g) f.needs
+wants_in g blocks (StatusLine y place (Failed f)) = wants_by g blocks y f
 wants_in g blocks _ = []
 
 abbrev pub wanted : Global → (Id → List Id) → List Line → List Id
@@ -55,8 +59,11 @@ abbrev pub acts_of : Global → Id → Failure → List ToDo
 acts_of g y f =
     map (act y) (holds_of g System y) ++ map (ask y) (holds_of g User y) ++ flat_map (wait_of y) f.needs
 
+abbrev pub acts_by : Global → (Id → List Id) → Id → Failure → List ToDo
+acts_by g blocks y f = if is_nil (blocks y) then [] else acts_of g y f
+
 abbrev pub acts_in : Global → (Id → List Id) → Line → List ToDo
-acts_in g blocks (StatusLine y place (Failed f)) = if is_nil (blocks y) then [] else acts_of g y f
+acts_in g blocks (StatusLine y place (Failed f)) = acts_by g blocks y f
 acts_in g blocks _ = []
 
 -- ---- what is taken off

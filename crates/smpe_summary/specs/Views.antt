@@ -12,7 +12,7 @@ use Rattle.smpe_summary.specs.Todo.{TakenOff}
 
 abbrev pub reason_view : CauseReason → Why
 reason_view (stored.Hold kind reason comment) = HoldWhy kind reason (option_map string_bytes comment)
-reason_view (stored.Need kind id received) = NeedWhy kind id received
+reason_view (stored.Need kind id) = NeedWhy kind id
 reason_view (stored.Test test) = TestWhy test
 reason_view stored.Unknown = UnknownWhy
 

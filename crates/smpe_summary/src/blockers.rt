@@ -7,7 +7,7 @@ ghost use Rattle.sorted.specs.MultiMap.{listed};
 ghost use Rattle.judge_system.specs.Views.{failure_view};
 ghost use Rattle.report.specs.Views.{line_view};
 ghost use Rattle.smpe_summary.specs.Groups.{failed_group, is_plain_failure};
-ghost use Rattle.smpe_summary.specs.Blocked.{blocked_in, blocked};
+ghost use Rattle.smpe_summary.specs.Blocked.{blocked_by, blocked_in, blocked};
 
 use crate::asked::Asked;
 use crate::members::failed_group;
@@ -35,6 +35,25 @@ fn is_plain_failure(
     )
 }
 
+// If the SYSMOD is of the package and would fail, lists it under each of its causers.
+fn add_failed(
+    alloc: Global,
+    asked: &Asked<'_>,
+    supers: &MultiMap<Id, Id>,
+    id: Id,
+    failure: &Failure,
+    blocks: &mut MultiMap<Id, Id>,
+) -> Result<(), AllocError>
+    ensures { OnOk result ((y : AnId) → listed (slice_cmp nat_cmp) blocks.new y ≡ listed (slice_cmp nat_cmp) blocks.old y
+        ++ blocked_by asked.now (listed (slice_cmp nat_cmp) supers.now) y id (failure_view failure.now)) }
+{
+    let counts = asked.package.contains(id) && is_plain_failure(asked, supers, id, failure);
+    if !counts {
+        return Ok(());
+    }
+    add_to_all(alloc, blocks, failure.causers.as_slice(), id)
+}
+
 // If the SYSMOD of the line is of the package and would fail, lists it under each of its causers.
 fn add_blocked(
     alloc: Global,
@@ -46,17 +65,13 @@ fn add_blocked(
     ensures { OnOk result ((y : AnId) → listed (slice_cmp nat_cmp) blocks.new y ≡ listed (slice_cmp nat_cmp) blocks.old y
         ++ blocked_in asked.now (listed (slice_cmp nat_cmp) supers.now) y (line_view line.now)) }
 {
-    let ReportLine::Status { id, status, .. } = line else {
-        return Ok(());
-    };
-    let Status::Failed(failure) = status else {
-        return Ok(());
-    };
-    let counts = asked.package.contains(*id) && is_plain_failure(asked, supers, *id, failure);
-    if !counts {
-        return Ok(());
+    match line {
+        ReportLine::Status { id, status, .. } => match status {
+            Status::Failed(failure) => add_failed(alloc, asked, supers, *id, failure, blocks),
+            _ => Ok(()),
+        },
+        ReportLine::Nothing | ReportLine::Errsysmod { .. } => Ok(()),
     }
-    add_to_all(alloc, blocks, failure.causers.as_slice(), *id)
 }
 
 /// For each causer the SYSMODs of the package that would fail and have it.

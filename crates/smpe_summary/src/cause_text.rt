@@ -1,8 +1,8 @@
 //! The text of a cause.
 ghost use Rattle.std.specs.Prelude.{◌≡◌, ◌++◌, option_map, OnOk};
 ghost use Rattle.std.specs.String.{string_bytes};
-ghost use Rattle.smpe_summary.specs.Causes.{TestWhy};
-ghost use Rattle.smpe_summary.specs.Text.{comment_text, hold_words, is_orphan, state_words, need_words, test_words};
+ghost use Rattle.smpe_summary.specs.Text.{comment_text, hold_words, error_words, open_words, need_words, test_words};
+ghost use Rattle.smpe_summary.specs.Causes.{TestWhy, UnknownWhy};
 ghost use Rattle.smpe_summary.specs.Text.{cause_text, cause_line};
 ghost use Rattle.smpe_summary.specs.Views.{reason_view, cause_view};
 
@@ -46,45 +46,33 @@ fn append_hold<'a>(
     append_comment(comment, text)
 }
 
-// Whether the need is for what a DELETE would take off.
-fn is_orphan(kind: NeedKind) -> bool
-    ensures { result ≡ is_orphan kind }
+// Appends the reason of an ERROR hold.
+fn append_error<'a>(id: &'a Id, text: &mut Vec<u8>) -> Result<(), AllocError>
+    ensures { OnOk result (text.new.items ≡ text.old.items ++ error_words id.now) }
 {
-    matches!(kind, NeedKind::Orphan)
+    let id_bytes = id.as_bytes();
+    let start = Piece::Text(b"ERROR hold ");
+    let end = Piece::Text(b": nothing that resolves it goes on");
+    append_pieces(&[start, Piece::Text(id_bytes), end], text)
 }
 
-// What becomes of the id of an open need.
-fn state_words(received: bool) -> &'static [u8]
-    ensures { result.now ≡ state_words received }
+// Appends the open need for an id that is not received.
+fn append_open<'a>(kind: NeedKind, id: &'a Id, text: &mut Vec<u8>) -> Result<(), AllocError>
+    ensures { OnOk result (text.new.items ≡ text.old.items ++ open_words kind id.now) }
 {
-    if received {
-        b" does not go on"
-    } else {
-        b" is not received"
-    }
+    let kind = Piece::Text(need_text(kind));
+    let id = Piece::Text(id.as_bytes());
+    append_pieces(&[kind, Piece::Text(b" "), id, Piece::Text(b" is not received")], text)
 }
 
 // Appends the open need.
-fn append_need<'a>(
-    kind: NeedKind,
-    id: &'a Id,
-    received: bool,
-    text: &mut Vec<u8>,
-) -> Result<(), AllocError>
-    ensures { OnOk result (text.new.items ≡ text.old.items ++ need_words kind id.now received) }
+fn append_need<'a>(kind: NeedKind, id: &'a Id, text: &mut Vec<u8>) -> Result<(), AllocError>
+    ensures { OnOk result (text.new.items ≡ text.old.items ++ need_words kind id.now) }
 {
-    let id = Piece::Text(id.as_bytes());
     if is_error_hold(kind) {
-        let end = Piece::Text(b": nothing that resolves it goes on");
-        return append_pieces(&[Piece::Text(b"ERROR hold "), id, end], text);
+        return append_error(id, text);
     }
-    if is_orphan(kind) {
-        let start = Piece::Text(b"its DELETE takes off ");
-        return append_pieces(&[start, id, Piece::Text(b", which others require")], text);
-    }
-    let kind = Piece::Text(need_text(kind));
-    let state = Piece::Text(state_words(received));
-    append_pieces(&[kind, Piece::Text(b" "), id, state], text)
+    append_open(kind, id, text)
 }
 
 // What a failed test says.
@@ -121,6 +109,13 @@ fn append_test(test: Test, text: &mut Vec<u8>) -> Result<(), AllocError>
     append_pieces(&pieces, text)
 }
 
+// Appends that what is needed does not go on.
+fn append_unknown(text: &mut Vec<u8>) -> Result<(), AllocError>
+    ensures { OnOk result (text.new.items ≡ text.old.items ++ cause_text UnknownWhy) }
+{
+    text.extend_from_slice(b"what it needs does not go on")
+}
+
 /// Appends why a causer fails, in a few words without a newline: the hold with its comment, the open need, or the test
 /// with its code.
 pub fn append_cause_text(why: &CauseReason, text: &mut Vec<u8>) -> Result<(), AllocError>
@@ -132,9 +127,9 @@ pub fn append_cause_text(why: &CauseReason, text: &mut Vec<u8>) -> Result<(), Al
             reason,
             comment,
         } => append_hold(*kind, reason, comment, text),
-        CauseReason::Need { kind, id, received } => append_need(*kind, id, *received, text),
+        CauseReason::Need { kind, id } => append_need(*kind, id, text),
         CauseReason::Test(test) => append_test(*test, text),
-        CauseReason::Unknown => append_pieces(&[Piece::Text(b"see its report")], text),
+        CauseReason::Unknown => append_unknown(text),
     }
 }
 

@@ -1,13 +1,14 @@
 //! Why causers fail themselves.
-ghost use Rattle.std.specs.Prelude.{◌≡◌, ◌++◌, find, option_copied, option_map, map, IfOk, OnOk};
+ghost use Rattle.std.specs.Prelude.{◌≡◌, ◌++◌, not, find, option_copied, map, IfOk, OnOk};
 ghost use Rattle.std.specs.List.{flat_map};
 ghost use Rattle.std.specs.Ordering.{nat_cmp};
 ghost use Rattle.std.specs.Cmp.Lexicographic.{slice_cmp};
 ghost use Rattle.sorted.specs.MultiMap.{listed};
-ghost use Rattle.terms.specs.Lookups.{holds_of};
+ghost use Rattle.terms.specs.Lookups.{is_nil, holds_of};
 ghost use Rattle.judge_system.specs.Views.{need_view, failure_view};
 ghost use Rattle.report.specs.Views.{line_view};
-ghost use Rattle.smpe_summary.specs.Causes.{hold_why, test_why, is_unreceived, first_need, needs_why, why_of, cause_in};
+ghost use Rattle.smpe_summary.specs.Causes.{hold_why, test_why, is_unreceived, needs_why, why_of};
+ghost use Rattle.smpe_summary.specs.Causes.{cause_by, cause_in};
 ghost use Rattle.smpe_summary.specs.Told.{AreRanked};
 ghost use Rattle.smpe_summary.specs.Views.{reason_view, cause_view};
 
@@ -65,25 +66,14 @@ fn first_unreceived<'f>(global: &GlobalZone, needs: &'f [OpenNeed]) -> Option<&'
     needs.iter().find(|need| is_unreceived(global, need))
 }
 
-// The first open need whose id is not received, otherwise the first open need.
-fn first_need<'f>(global: &GlobalZone, needs: &'f [OpenNeed]) -> Option<&'f OpenNeed>
-    ensures { option_map (λ n. need_view n.now) result ≡ first_need global.now (map need_view needs.now) }
-{
-    match first_unreceived(global, needs) {
-        Some(need) => Some(need),
-        None => needs.first(),
-    }
-}
-
 // Why the SYSMOD with these open needs fails, if it passes all tests.
 fn needs_reason(global: &GlobalZone, needs: &[OpenNeed]) -> CauseReason
     ensures { reason_view result ≡ needs_why global.now (map need_view needs.now) }
 {
-    match first_need(global, needs) {
+    match first_unreceived(global, needs) {
         Some(need) => CauseReason::Need {
             kind: need.kind,
             id: need.id,
-            received: global.is_received(need.id),
         },
         None => CauseReason::Unknown,
     }
@@ -99,7 +89,34 @@ fn reason_of(global: &GlobalZone, id: Id, failure: &Failure) -> Result<CauseReas
     }
 }
 
-// Appends the cause that the SYSMOD of the line is, if it fails and others fail because of it.
+/// Whether SYSMODs of the package fail because of this one.
+pub(crate) fn is_causer(blocks: &MultiMap<Id, Id>, id: Id) -> bool
+    ensures { result ≡ not (is_nil (listed (slice_cmp nat_cmp) blocks.now id)) }
+{
+    !listed(blocks, id).is_empty()
+}
+
+// Appends the cause that the SYSMOD is, if others fail because of it.
+fn push_cause_by(
+    global: &GlobalZone,
+    blocks: &MultiMap<Id, Id>,
+    id: Id,
+    failure: &Failure,
+    causes: &mut Vec<Cause>,
+) -> Result<(), AllocError>
+    ensures { OnOk result (map cause_view causes.new.items ≡ map cause_view causes.old.items
+        ++ cause_by global.now (listed (slice_cmp nat_cmp) blocks.now) id (failure_view failure.now)) }
+{
+    if !is_causer(blocks, id) {
+        return Ok(());
+    }
+    let fails = listed(blocks, id).len();
+    let why = reason_of(global, id, failure)?;
+    causes.push(Cause { id, fails, why })?;
+    Ok(())
+}
+
+// Appends the cause that the SYSMOD of the line is, if it fails, and others because of it.
 fn push_cause(
     global: &GlobalZone,
     blocks: &MultiMap<Id, Id>,
@@ -109,20 +126,13 @@ fn push_cause(
     ensures { OnOk result (map cause_view causes.new.items ≡ map cause_view causes.old.items
         ++ cause_in global.now (listed (slice_cmp nat_cmp) blocks.now) (line_view line.now)) }
 {
-    let ReportLine::Status { id, status, .. } = line else {
-        return Ok(());
-    };
-    let Status::Failed(failure) = status else {
-        return Ok(());
-    };
-    let id = *id;
-    let fails = listed(blocks, id).len();
-    if fails == 0 {
-        return Ok(());
+    match line {
+        ReportLine::Status { id, status, .. } => match status {
+            Status::Failed(failure) => push_cause_by(global, blocks, *id, failure, causes),
+            _ => Ok(()),
+        },
+        ReportLine::Nothing | ReportLine::Errsysmod { .. } => Ok(()),
     }
-    let why = reason_of(global, id, failure)?;
-    causes.push(Cause { id, fails, why })?;
-    Ok(())
 }
 
 // The causes, in the order of their lines.

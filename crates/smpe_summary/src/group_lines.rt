@@ -1,7 +1,6 @@
 //! The lines of groups.
-ghost use Rattle.std.specs.Prelude.{◌≡◌, ◌++◌, count_by, IfOk, OnOk};
-ghost use Rattle.std.specs.Str.{bytes_eq};
-ghost use Rattle.smpe_summary.specs.Text.{ids_line, group_line, function_of, functions_of, function_line, others_line};
+ghost use Rattle.std.specs.Prelude.{◌≡◌, ◌++◌, IfOk, OnOk};
+ghost use Rattle.smpe_summary.specs.Text.{ids_line, group_line, function_of, functions_of, function_line};
 ghost use Rattle.smpe_summary.specs.Text.{functions_text, early_groups, late_groups, group_lines};
 
 use crate::first_line::ids_in;
@@ -68,14 +67,7 @@ fn functions_of(alloc: Global, members: &[Member]) -> Result<Vec<Id>, AllocError
     Ok(functions)
 }
 
-// How many of the ids are this one.
-fn count_of(ids: &[Id], id: Id) -> usize
-    ensures { result ≡ count_by (bytes_eq id) ids.now }
-{
-    ids.iter().filter(|other| id == **other).count()
-}
-
-// Appends how many of all SYSMODs lack the function.
+// Appends how many of all SYSMODs lack a function, as this one.
 fn append_function<'a>(
     count: usize,
     all: usize,
@@ -84,39 +76,27 @@ fn append_function<'a>(
 ) -> Result<(), AllocError>
     ensures { OnOk result (text.new.items ≡ text.old.items ++ function_line count all function.now) }
 {
+    let bytes = function.as_bytes();
     let pieces = [
         Piece::Text(b"  "),
         Piece::Number(count),
         Piece::Text(b" of "),
         Piece::Number(all),
-        Piece::Text(b": function "),
-        Piece::Text(function.as_bytes()),
-        Piece::Text(b" is not installed and not in the files\n"),
+        Piece::Text(b" need a function that is not installed and not in the files, as "),
+        Piece::Text(bytes),
+        Piece::Text(b"\n"),
     ];
     append_pieces(&pieces, text)
 }
 
-// Appends how many SYSMODs lack other functions, if any do.
-fn append_others(count: usize, text: &mut Vec<u8>) -> Result<(), AllocError>
-    ensures { OnOk result (text.new.items ≡ text.old.items ++ others_line count) }
-{
-    if count == 0 {
-        return Ok(());
-    }
-    let count = Piece::Number(count);
-    append_pieces(&[Piece::Text(b"  "), count, Piece::Text(b" more lack other functions\n")], text)
-}
-
-// Appends the first function that is lacking, how many of all SYSMODs lack it, and how many lack others.
+// Appends how many of all SYSMODs lack a function, if any do.
 fn append_functions(all: usize, functions: &[Id], text: &mut Vec<u8>) -> Result<(), AllocError>
     ensures { OnOk result (text.new.items ≡ text.old.items ++ functions_text all functions.now) }
 {
-    let Some(function) = functions.first() else {
+    let Some((function, _)) = functions.split_first() else {
         return Ok(());
     };
-    let count = count_of(functions, *function);
-    append_function(count, all, function, text)?;
-    append_others(functions.len().saturating_sub(count), text)
+    append_function(functions.len(), all, function, text)
 }
 
 // Appends the groups of those that the command took up, except those that go on or would fail.

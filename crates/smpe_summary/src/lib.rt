@@ -11,6 +11,7 @@ mod cause_text;
 mod causes;
 mod first_line;
 mod group_lines;
+pub mod laws;
 mod lines;
 mod members;
 mod pieces;

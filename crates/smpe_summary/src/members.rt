@@ -3,11 +3,12 @@ ghost use Rattle.std.specs.Prelude.{◌≡◌, ◌++◌, ◌&&◌, ◌∷◌, []
 ghost use Rattle.std.specs.Ordering.{nat_cmp};
 ghost use Rattle.std.specs.Cmp.Lexicographic.{slice_cmp};
 ghost use Rattle.sorted.specs.MultiMap.{listed};
-ghost use Rattle.terms.specs.Lookups.{is_in};
+ghost use Rattle.terms.specs.Lookups.{is_in, at_most_one};
 ghost use Rattle.judge_system.specs.Views.{need_view, failure_view};
 ghost use Rattle.report.specs.Views.{status_view, line_view};
 ghost use Rattle.smpe_summary.specs.Groups.{is_fmid, lacks_function, by_function, failed_group, sure_group, status_group};
-ghost use Rattle.smpe_summary.specs.Groups.{zone_group, line_member, other_member, members_of};
+ghost use Rattle.smpe_summary.specs.Groups.{a_member, known_member, zone_group, line_member, other_member};
+ghost use Rattle.smpe_summary.specs.Groups.{members_of};
 
 use crate::asked::Asked;
 use crate::values::{Group, Member};
@@ -90,6 +91,37 @@ fn status_group(
     }
 }
 
+// Appends the member, if it has a group.
+fn push_if_grouped(
+    id: Id,
+    group: Option<Group>,
+    members: &mut Vec<Member>,
+) -> Result<(), AllocError>
+    ensures { OnOk result (members.new.items ≡ members.old.items ++ map (a_member id) (at_most_one group)) }
+{
+    if let Some(group) = group {
+        members.push(Member { id, group })?;
+    }
+    Ok(())
+}
+
+// Appends the member with this status, if it is of the package and the command took it up.
+fn push_known_member(
+    asked: &Asked<'_>,
+    supers: &MultiMap<Id, Id>,
+    id: Id,
+    status: &Status,
+    members: &mut Vec<Member>,
+) -> Result<(), AllocError>
+    ensures { OnOk result (members.new.items ≡ members.old.items
+        ++ known_member asked.now (listed (slice_cmp nat_cmp) supers.now) id (status_view status.now)) }
+{
+    if !asked.package.contains(id) {
+        return Ok(());
+    }
+    push_if_grouped(id, status_group(asked, supers, id, status), members)
+}
+
 // Appends the member of the line, if it is of the package and the command took it up.
 fn push_line_member(
     asked: &Asked<'_>,
@@ -100,16 +132,12 @@ fn push_line_member(
     ensures { OnOk result (members.new.items ≡ members.old.items
         ++ line_member asked.now (listed (slice_cmp nat_cmp) supers.now) (line_view line.now)) }
 {
-    let ReportLine::Status { id, status, .. } = line else {
-        return Ok(());
-    };
-    if !asked.package.contains(*id) {
-        return Ok(());
+    match line {
+        ReportLine::Status { id, status, .. } => {
+            push_known_member(asked, supers, *id, status, members)
+        }
+        ReportLine::Nothing | ReportLine::Errsysmod { .. } => Ok(()),
     }
-    if let Some(group) = status_group(asked, supers, *id, status) {
-        members.push(Member { id: *id, group })?;
-    }
-    Ok(())
 }
 
 // The group by the zones, of one that the command did not take up.

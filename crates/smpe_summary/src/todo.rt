@@ -9,15 +9,16 @@ ghost use Rattle.sorted.specs.MultiMap.{listed};
 ghost use Rattle.judge_system.specs.Views.{need_view, failure_view};
 ghost use Rattle.report.specs.Views.{line_view};
 ghost use Rattle.smpe_summary.specs.declared.values.ToDo.TheVariants.{Order};
-ghost use Rattle.smpe_summary.specs.Todo.{is_orderable, is_error_hold, order_of, wants_in, wanted, act, ask, wait_of};
-ghost use Rattle.smpe_summary.specs.Todo.{acts_of, acts_in};
+ghost use Rattle.smpe_summary.specs.Todo.{is_orderable, is_error_hold, order_of, wants_by, wants_in, wanted, act, ask};
+ghost use Rattle.smpe_summary.specs.Todo.{wait_of, acts_of, acts_by, acts_in};
 ghost use Rattle.smpe_summary.specs.Told.{IsTodo};
 
+use crate::causes::is_causer;
 use crate::values::ToDo;
 use fields::{Id, IdList};
 use judge_system::{Failure, OpenNeed};
 use report::{ReportLine, Status};
-use sorted::multi_map::{MultiMap, listed};
+use sorted::multi_map::MultiMap;
 use std::alloc::{AllocError, Global};
 use sysmods::GlobalZone;
 use terms::{HoldKind, NeedKind};
@@ -68,7 +69,24 @@ fn push_orders(
     Ok(())
 }
 
-// Appends what is to be ordered for the SYSMOD of the line, if it fails and others fail because of it.
+// Appends what is to be ordered for the SYSMOD, if others fail because of it.
+fn push_orders_by(
+    global: &GlobalZone,
+    blocks: &MultiMap<Id, Id>,
+    id: Id,
+    failure: &Failure,
+    found: &mut Vec<Id>,
+) -> Result<(), AllocError>
+    ensures { OnOk result (found.new.items ≡ found.old.items
+        ++ wants_by global.now (listed (slice_cmp nat_cmp) blocks.now) id (failure_view failure.now)) }
+{
+    if !is_causer(blocks, id) {
+        return Ok(());
+    }
+    push_orders(global, failure.needs.as_slice(), found)
+}
+
+// Appends what is to be ordered for the SYSMOD of the line, if it fails, and others because of it.
 fn push_line_orders(
     global: &GlobalZone,
     blocks: &MultiMap<Id, Id>,
@@ -78,16 +96,13 @@ fn push_line_orders(
     ensures { OnOk result (found.new.items ≡ found.old.items
         ++ wants_in global.now (listed (slice_cmp nat_cmp) blocks.now) (line_view line.now)) }
 {
-    let ReportLine::Status { id, status, .. } = line else {
-        return Ok(());
-    };
-    let Status::Failed(failure) = status else {
-        return Ok(());
-    };
-    if listed(blocks, *id).is_empty() {
-        return Ok(());
+    match line {
+        ReportLine::Status { id, status, .. } => match status {
+            Status::Failed(failure) => push_orders_by(global, blocks, *id, failure, found),
+            _ => Ok(()),
+        },
+        ReportLine::Nothing | ReportLine::Errsysmod { .. } => Ok(()),
     }
-    push_orders(global, failure.needs.as_slice(), found)
 }
 
 // What is to be ordered for the causers, more than once if several need it.
@@ -170,7 +185,24 @@ fn push_holds(
     push_waits(id, failure.needs.as_slice(), todo)
 }
 
-// Appends the holds of the SYSMOD of the line, if it fails and others fail because of it.
+// Appends the holds of the SYSMOD, if others fail because of it.
+fn push_holds_by(
+    global: &GlobalZone,
+    blocks: &MultiMap<Id, Id>,
+    id: Id,
+    failure: &Failure,
+    todo: &mut Vec<ToDo>,
+) -> Result<(), AllocError>
+    ensures { OnOk result (todo.new.items ≡ todo.old.items
+        ++ acts_by global.now (listed (slice_cmp nat_cmp) blocks.now) id (failure_view failure.now)) }
+{
+    if !is_causer(blocks, id) {
+        return Ok(());
+    }
+    push_holds(global, id, failure, todo)
+}
+
+// Appends the holds of the SYSMOD of the line, if it fails, and others because of it.
 fn push_line_holds(
     global: &GlobalZone,
     blocks: &MultiMap<Id, Id>,
@@ -180,16 +212,13 @@ fn push_line_holds(
     ensures { OnOk result (todo.new.items ≡ todo.old.items
         ++ acts_in global.now (listed (slice_cmp nat_cmp) blocks.now) (line_view line.now)) }
 {
-    let ReportLine::Status { id, status, .. } = line else {
-        return Ok(());
-    };
-    let Status::Failed(failure) = status else {
-        return Ok(());
-    };
-    if listed(blocks, *id).is_empty() {
-        return Ok(());
+    match line {
+        ReportLine::Status { id, status, .. } => match status {
+            Status::Failed(failure) => push_holds_by(global, blocks, *id, failure, todo),
+            _ => Ok(()),
+        },
+        ReportLine::Nothing | ReportLine::Errsysmod { .. } => Ok(()),
     }
-    push_holds(global, *id, failure, todo)
 }
 
 // Appends the holds of the causers.

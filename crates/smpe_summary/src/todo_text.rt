@@ -1,7 +1,8 @@
 //! The text of what is to be done.
 ghost use Rattle.std.specs.Prelude.{◌≡◌, ◌++◌, filter, IfOk, OnOk};
 ghost use Rattle.std.specs.List.{flat_map};
-ghost use Rattle.smpe_summary.specs.Text.{command_text, bypass_line, wait_line, todo_line, is_other, order_line};
+ghost use Rattle.terms.specs.Lookups.{is_nil};
+ghost use Rattle.smpe_summary.specs.Text.{act_command, ask_command, bypass_line, wait_line, todo_line, is_other, order_line};
 ghost use Rattle.smpe_summary.specs.Text.{acts_text, lists_text, todo_text};
 
 use crate::first_line::orders_of;
@@ -14,37 +15,46 @@ use terms::ZoneKind;
 // How many holds are told.
 const MOST_ACTS: usize = 10;
 
-// The command that would take up what was acted on.
-fn command_text(kind: ZoneKind) -> &'static [u8]
-    ensures { result.now ≡ command_text kind }
+// The command that would take up a SYSMOD whose SYSTEM hold was acted on.
+fn act_command(kind: ZoneKind) -> &'static [u8]
+    ensures { result.now ≡ act_command kind }
 {
     match kind {
-        ZoneKind::Target => b", then APPLY .. BYPASS(HOLD",
-        ZoneKind::Distribution => b", then ACCEPT .. BYPASS(HOLD",
+        ZoneKind::Target => b", then APPLY .. BYPASS(HOLDSYSTEM(",
+        ZoneKind::Distribution => b", then ACCEPT .. BYPASS(HOLDSYSTEM(",
+    }
+}
+
+// The command that would take up a SYSMOD whose USER hold may be passed over.
+fn ask_command(kind: ZoneKind) -> &'static [u8]
+    ensures { result.now ≡ ask_command kind }
+{
+    match kind {
+        ZoneKind::Target => b", then APPLY .. BYPASS(HOLDUSER(",
+        ZoneKind::Distribution => b", then ACCEPT .. BYPASS(HOLDUSER(",
     }
 }
 
 // Appends the line of a hold that BYPASS covers.
 fn append_bypass<'a>(
-    kind: ZoneKind,
     verb: &'static [u8],
-    class: &'static [u8],
+    command: &'static [u8],
     id: &'a Id,
     reason: &'a Reason,
     text: &mut Vec<u8>,
 ) -> Result<(), AllocError>
     ensures { OnOk result (text.new.items
-        ≡ text.old.items ++ bypass_line kind verb.now class.now id.now reason.now) }
+        ≡ text.old.items ++ bypass_line verb.now command.now id.now reason.now) }
 {
+    let id_bytes = id.as_bytes();
+    let reason_bytes = reason.as_bytes();
     let pieces = [
         Piece::Text(verb),
-        Piece::Text(id.as_bytes()),
+        Piece::Text(id_bytes),
         Piece::Text(b" "),
-        Piece::Text(reason.as_bytes()),
-        Piece::Text(command_text(kind)),
-        Piece::Text(class),
-        Piece::Text(b"("),
-        Piece::Text(reason.as_bytes()),
+        Piece::Text(reason_bytes),
+        Piece::Text(command),
+        Piece::Text(reason_bytes),
         Piece::Text(b"))\n"),
     ];
     append_pieces(&pieces, text)
@@ -54,11 +64,13 @@ fn append_bypass<'a>(
 fn append_wait<'a>(id: &'a Id, reason: &'a Id, text: &mut Vec<u8>) -> Result<(), AllocError>
     ensures { OnOk result (text.new.items ≡ text.old.items ++ wait_line id.now reason.now) }
 {
+    let id_bytes = id.as_bytes();
+    let reason_bytes = reason.as_bytes();
     let pieces = [
         Piece::Text(b"  wait     "),
-        Piece::Text(id.as_bytes()),
+        Piece::Text(id_bytes),
         Piece::Text(b" ERROR "),
-        Piece::Text(reason.as_bytes()),
+        Piece::Text(reason_bytes),
         Piece::Text(b", until a SYSMOD that resolves it is received\n"),
     ];
     append_pieces(&pieces, text)
@@ -71,10 +83,10 @@ fn append_item(kind: ZoneKind, item: &ToDo, text: &mut Vec<u8>) -> Result<(), Al
     match item {
         ToDo::Order(_) => Ok(()),
         ToDo::Act { id, reason } => {
-            append_bypass(kind, b"  act on   ", b"SYSTEM", id, reason, text)
+            append_bypass(b"  act on   ", act_command(kind), id, reason, text)
         }
         ToDo::Ask { id, reason } => {
-            append_bypass(kind, b"  ask      ", b"USER", id, reason, text)
+            append_bypass(b"  ask      ", ask_command(kind), id, reason, text)
         }
         ToDo::Wait { id, reason } => append_wait(id, reason, text),
     }
@@ -126,6 +138,13 @@ fn append_acts(kind: ZoneKind, items: &[ToDo], text: &mut Vec<u8>) -> Result<(),
     append_more_line(MOST_ACTS, items.len(), text)
 }
 
+// Whether there is nothing to be done.
+fn is_nothing(todo: &[ToDo]) -> bool
+    ensures { result ≡ is_nil todo.now }
+{
+    todo.is_empty()
+}
+
 /// Appends what is to be done, if there is anything.
 pub(crate) fn append_todo(
     alloc: Global,
@@ -135,7 +154,7 @@ pub(crate) fn append_todo(
 ) -> Result<(), AllocError>
     ensures { OnOk result (text.new.items ≡ text.old.items ++ todo_text kind todo.now) }
 {
-    if todo.is_empty() {
+    if is_nothing(todo) {
         return Ok(());
     }
     let orders = orders_of(alloc, todo)?;

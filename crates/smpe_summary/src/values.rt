@@ -38,14 +38,13 @@ pub enum CauseReason {
         reason: Reason,
         comment: Option<String>,
     },
-    /// An open need, and whether the id that it needs is received.
+    /// An open need for an id that is not received.
     Need {
         kind: NeedKind,
         id: Id,
-        received: bool,
     },
     Test(Test),
-    /// Its line says no more.
+    /// What it needs is received, and does not go on.
     Unknown,
 }
 
