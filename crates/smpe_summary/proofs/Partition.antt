@@ -198,15 +198,21 @@ module _ (a : Asked) (supers : Id → List Id) where
           by : (b : Bool) → is_in cands x ≡ b → (m : Member) × Contains (members_of a supers cands) m × (m.id ≡ x)
           by true e =
               let line = candidate_line a.lines x ((are.members x).0 (Contains_from_is_in cands x e)) in
-              let g = group_of x line.0 line.2 in
-              (a_member x g.0, Contains-append_left (flat_map (line_member a supers) a.lines)
-              (flat_map (other_member a cands) a.members) (a_member x g.0)
-              (in_flat (line_member a supers) a.lines (StatusLine x line.1.0 line.0) (a_member x g.0) line.1.1
-              (into_line x line.1.0 line.0 g.0 known g.1)), refl)
-          by false e =
-              (a_member x (zone_group a x), Contains-append_right (flat_map (line_member a supers) a.lines)
-              (flat_map (other_member a cands) a.members) (a_member x (zone_group a x))
-              (in_flat (other_member a cands) a.members x (a_member x (zone_group a x)) known (into_other x e)), refl)
+              let g = group_of x line.0 line.2 in (
+                a_member x g.0,
+                Contains-append_left (flat_map (line_member a supers) a.lines)
+                    (flat_map (other_member a cands) a.members) (a_member x g.0)
+                    (in_flat (line_member a supers) a.lines (StatusLine x line.1.0 line.0) (a_member x g.0) line.1.1
+                    (into_line x line.1.0 line.0 g.0 known g.1)),
+                refl,
+              )
+          by false e = (
+            a_member x (zone_group a x),
+            Contains-append_right (flat_map (line_member a supers) a.lines)
+                (flat_map (other_member a cands) a.members) (a_member x (zone_group a x))
+                (in_flat (other_member a cands) a.members x (a_member x (zone_group a x)) known (into_other x e)),
+            refl,
+          )
 
       is_known : (m : Member) → Contains (members_of a supers cands) m → Contains a.members m.id
       is_known m h = elim (of_member m h) [ inl of ↦ of.2 | inr other ↦ other.0 ]

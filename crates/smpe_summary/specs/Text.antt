@@ -308,5 +308,5 @@ status_of s =
     if list_all (λ m. is_refused m.group) s.members.items then 12
     else if s.has_failures || list_any (λ m. is_refused m.group) s.members.items then 8
     else if list_any (λ m. is_doubtful m.group) s.members.items
-        || not (list_any (λ m. is_taken m.group) s.members.items) then 4
+    || not (list_any (λ m. is_taken m.group) s.members.items) then 4
     else 0

@@ -21,12 +21,7 @@ use std::alloc::{AllocError, Global};
 use std::collections::BTreeMap;
 
 // Whether the SYSMOD that fails is in the group of those that would fail.
-fn is_plain_failure(
-    asked: &Asked<'_>,
-    supers: &MultiMap<Id, Id>,
-    id: Id,
-    failure: &Failure,
-) -> bool
+fn is_plain_failure(asked: &Asked<'_>, supers: &MultiMap<Id, Id>, id: Id, failure: &Failure) -> bool
     ensures { result ≡ is_plain_failure (failed_group asked.now.global (listed (slice_cmp nat_cmp) supers.now id)
         (failure_view failure.now)) }
 {

@@ -4,7 +4,6 @@ use Rattle.std.specs.Ordering.{nat_cmp}
 use Rattle.std.specs.Cmp.Lexicographic.{slice_cmp}
 use Rattle.sorted.specs.MultiMap.{listed}
 use Rattle.report.specs.Views.{line_view}
-use Rattle.smpe_summary.specs.declared.values.ToDo.TheVariants.{Order}
 use Rattle.smpe_summary.specs.Todo.{acts_in}
 use Rattle.smpe_summary.proofs.todo.todo_of.Goals as goal
 
@@ -19,5 +18,5 @@ returns c =
         members = rw c.in_ok-wanted.ensures at c.from_vec-orders.ensures.members;
       };
       todo = c.in_ok-push_all_holds.ensures
-          ∙ ap (λ l. l ++ acts) (c.in_ok-todo.ensures ∙ ap (λ ids. map Order ids) c.orders.view_is);
+          ∙ ap (λ l. l ++ acts) c.in_ok-todo.ensures;
     }
