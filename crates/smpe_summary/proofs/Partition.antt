@@ -1,5 +1,5 @@
 -- Each id of the package has one group.
-use Rattle.std.proofs.Common.{◌≡◌, ◌∙◌, ◌⊎◌, inl, inr, Bool, true, false, List, [], ◌∷◌, ◌++◌, Option, None, Some}
+use Rattle.std.proofs.Common.{◌≡◌, ◌∙◌, ◌⊎◌, inl, inr, Bool, true, false, List, [], ◌∷◌, Option, None, Some}
 use Rattle.std.proofs.Common.{Contains, map, refl, sym, ap, subst, true≢false}
 use Rattle.std.specs.Prelude.{IsTrue, if◌then◌else◌}
 use Rattle.std.specs.List.{flat_map}
@@ -19,7 +19,7 @@ use Rattle.smpe_summary.specs.declared.values.Member.{Member}
 use Rattle.smpe_summary.specs.Asked.{Asked, is_candidate, id_where, ids_where}
 use Rattle.smpe_summary.specs.Sets.{IsSetOf}
 use Rattle.smpe_summary.specs.Groups.{a_member, status_group, line_member, zone_group, other_member, members_of}
-use Rattle.smpe_summary.specs.Laws.{IsPartition, EachHasOneGroup}
+use Rattle.smpe_summary.specs.Laws.{EachHasOneGroup}
 
 -- ---- lines
 

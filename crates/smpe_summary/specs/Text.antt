@@ -1,12 +1,11 @@
 -- The text of a summary.
 use Rattle.std.specs.Prelude.{◌-◌, ◌==◌, ◌||◌, Bool, true, false, not, ℕ, nat_le, List, [], ◌∷◌, ◌++◌, Option, None, Some}
-use Rattle.std.specs.Prelude.{codes, decimal, filter, length, map, take, option_map, if◌then◌else◌}
+use Rattle.std.specs.Prelude.{codes, decimal, filter, length, map, take, if◌then◌else◌}
 use Rattle.std.specs.List.{concat, flat_map, list_all, list_any}
 use Rattle.terms.specs.declared.kinds.HoldKind.{HoldKind}
 use Rattle.terms.specs.declared.kinds.ZoneKind.{ZoneKind}
 use Rattle.terms.specs.declared.kinds.ZoneKind.TheVariants.{Target, Distribution}
 use Rattle.terms.specs.declared.codes.NeedKind.{NeedKind}
-use Rattle.terms.specs.declared.codes.NeedKind.TheVariants as need
 use Rattle.terms.specs.declared.codes.Test.{Test}
 use Rattle.terms.specs.declared.codes.Test.TheVariants as test
 use Rattle.terms.specs.Types.{Text, Id, Reason}
