@@ -1,7 +1,8 @@
 -- The text of a summary.
 use Rattle.std.specs.Prelude.{◌-◌, ◌==◌, ◌||◌, Bool, true, false, not, ℕ, nat_le, List, [], ◌∷◌, ◌++◌, Option, None, Some}
-use Rattle.std.specs.Prelude.{codes, decimal, filter, length, map, take, if◌then◌else◌}
+use Rattle.std.specs.Prelude.{codes, count_by, decimal, filter, length, map, take, if◌then◌else◌}
 use Rattle.std.specs.List.{concat, flat_map, list_all, list_any}
+use Rattle.std.specs.Str.{bytes_eq}
 use Rattle.terms.specs.declared.kinds.HoldKind.{HoldKind}
 use Rattle.terms.specs.declared.kinds.ZoneKind.{ZoneKind}
 use Rattle.terms.specs.declared.kinds.ZoneKind.TheVariants.{Target, Distribution}
@@ -184,15 +185,23 @@ function_of _ = []
 abbrev pub functions_of : List Member → List Id
 functions_of ms = flat_map (λ m. function_of m.group) ms
 
--- so many of all lack a function, as this one
+-- so many of all lack this function
 abbrev pub function_line : ℕ → ℕ → Id → Text
 function_line n all f =
-    concat (codes "  " ∷ decimal n ∷ codes " of " ∷ decimal all
-    ∷ codes " need a function that is not installed and not in the files, as " ∷ f ∷ codes "\n" ∷ [])
+    concat (codes "  " ∷ decimal n ∷ codes " of " ∷ decimal all ∷ codes ": function " ∷ f
+    ∷ codes " is not installed and not in the files\n" ∷ [])
+
+abbrev pub others_line : ℕ → Text
+others_line n = if n == 0 then [] else codes "  " ++ decimal n ++ codes " more lack other functions\n"
+
+-- how many lack the function f, and how many lack others
+unfoldable pub function_lines : ℕ → List Id → Id → Text
+function_lines all fs f =
+    function_line (count_by (bytes_eq f) fs) all f ++ others_line (length fs - count_by (bytes_eq f) fs)
 
 abbrev pub functions_text : ℕ → List Id → Text
 functions_text all [] = []
-functions_text all (f ∷ fs) = function_line (length (f ∷ fs)) all f
+functions_text all (f ∷ fs) = function_lines all (f ∷ fs) f
 
 abbrev pub early_groups : List Member → Text
 early_groups ms =
