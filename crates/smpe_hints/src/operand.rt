@@ -203,7 +203,7 @@ fn system_fault(line: CommandLine<'_>) -> Option<&'static str> {
     })
 }
 
-// The same of the words that name the files, and of the date of the commands.
+// The same of the words that name the files, the date of the commands, and the certificate.
 fn set_fault(line: CommandLine<'_>) -> Option<&'static str> {
     Some(match (line.has_option("--ptfin"), line.has_file()) {
         (true, true) =>
@@ -214,6 +214,8 @@ fn set_fault(line: CommandLine<'_>) -> Option<&'static str> {
             "--hold goes with --ptfin: name a file of holds without an option, as the other files",
         _ if line.has_option("--cntl") && !line.has_option("--date") =>
             "--date is missing: with --cntl, check needs the date of the job, as 2024-05-17",
+        _ if line.has_option("--cntl") && line.has_option("--certificate") =>
+            "--cntl and --certificate: a certificate is of the check's own APPLY, not of commands from a file",
         _ => return None,
     })
 }

@@ -51,32 +51,36 @@ const ASKED: &[(&str, &str)] = &[
         "why --db F --zone TGT1 --bypass HOLDSYSTEM(ACTION),PRE --group --id UA00001",
         "F:0 TGT1 UA00001 - group HOLDSYSTEM(ACTION),PRE",
     ),
-    ("check --srel Z038 --ptfin P", "Z038 ptfin P - - -"),
+    ("check --srel Z038 --ptfin P", "Z038 ptfin P - - - -"),
     (
         "check --db F --zone TGT1 --ptfin P",
-        "F:0 TGT1 - ptfin P - - -",
+        "F:0 TGT1 - ptfin P - - - -",
     ),
     (
         "check --why UA00001 --db F --wait 5 --zone TGT1 --ptfin P --why UA00002 --hold H",
-        "F:5 TGT1 UA00001,UA00002 ptfin P H - -",
+        "F:5 TGT1 UA00001,UA00002 ptfin P H - - -",
     ),
     (
         "check --db F --zone TGT1 --ptfin P --cntl C --date 2024-05-17",
-        "F:0 TGT1 - ptfin P - C 24.138",
+        "F:0 TGT1 - ptfin P - C 24.138 -",
     ),
     (
         "check --ptfin P --hold H --srel Z038 --cntl C --date 2024-05-17",
-        "Z038 ptfin P H C 24.138",
+        "Z038 ptfin P H C 24.138 -",
     ),
-    ("check --srel Z038 A", "Z038 A - -"),
-    ("check A --srel Z038 B C", "Z038 A,B,C - -"),
     (
-        "check --why UA00001 A --db F --zone TGT1 B",
-        "F:0 TGT1 UA00001 A,B - -",
+        "check --ptfin P --srel Z038 --certificate D",
+        "Z038 ptfin P - - - D",
+    ),
+    ("check --srel Z038 A", "Z038 A - - -"),
+    ("check A --srel Z038 B C", "Z038 A,B,C - - -"),
+    (
+        "check --why UA00001 A --db F --zone TGT1 --certificate=D B",
+        "F:0 TGT1 UA00001 A,B - - D",
     ),
     (
         "check --srel Z038 --cntl C --date 2024-05-17 -- A --hold",
-        "Z038 A,--hold C 24.138",
+        "Z038 A,--hold C 24.138 -",
     ),
     ("lint --srel Z038 A", "Z038 text A"),
     ("lint A --form=json B --srel Z038", "Z038 json A,B"),
@@ -88,6 +92,7 @@ const ASKED: &[(&str, &str)] = &[
 /// Words that `clap` refuses, or to which it responds itself.
 const CLAP: &[&str] = &[
     "check --db F --db G --zone TGT1 --ptfin P",
+    "check --srel Z038 --certificate C --certificate D A",
     "check --srel Z038 -A",
     "lint --srel Z038",
     "lint A",
@@ -133,6 +138,7 @@ const BAD: &[&str] = &[
     "check --srel Z038 --hold H",
     "check --srel Z038 --hold H A",
     "check --srel Z038 --cntl C A",
+    "check --srel Z038 --cntl C --date 2024-05-17 --certificate D A",
     "check --srel Z038 --zone TGT1 A",
     "lint --srel z038 A",
     "check --db F --ptfin P",
@@ -242,9 +248,10 @@ fn system_text(alloc: Global, system: &CheckedSystem) -> Result<String, Fail> {
     }
 }
 
-// The files of a service set, and its commands with their date.
+// The files of a service set, its commands with their date, and the certificate's file.
 fn service_set_text(alloc: Global, set: &ServiceSet) -> Result<String, Fail> {
     let files = set_files_text(alloc, &set.files)?;
+    let certificate = set.certificate.as_ref().map_or("-", |text| text.as_str());
     let (cntl, date) = match &set.commands {
         Some(commands) => (
             commands.cntl.as_str(),
@@ -252,7 +259,7 @@ fn service_set_text(alloc: Global, set: &ServiceSet) -> Result<String, Fail> {
         ),
         None => ("-", "-"),
     };
-    Ok(format!(in alloc; "{files} {cntl} {date}")?)
+    Ok(format!(in alloc; "{files} {cntl} {date} {certificate}")?)
 }
 
 // The names of a service set's files.

@@ -8,6 +8,7 @@ ghost use Rattle.smpe_program.specs.Wary.{IsWary};
 
 use crate::copy::{CopyFault, read_for_copy};
 use crate::left::LeftDatabase;
+use crate::new_file::write_new_file;
 use crate::place::{is_missing, is_surely_no_database};
 use crate::related_zone::query_related_zone;
 use clap::Error as WordsError;
@@ -93,8 +94,8 @@ pub(crate) struct ProgramHost<'a> {
     pub(crate) left: LeftDatabase,
     /// The files of records that were read.
     pub(crate) files: Vec<ReadFile>,
-    /// Why a file was not read.
-    pub(crate) unread: Option<String>,
+    /// Why a file was not read, or not created.
+    pub(crate) file_fault: Option<String>,
 }
 
 impl ProgramHost<'_> {
@@ -117,7 +118,7 @@ impl ProgramHost<'_> {
                 conn: None,
             },
             files: Vec::new(rt.alloc()),
-            unread: None,
+            file_fault: None,
         }
     }
 
@@ -135,7 +136,7 @@ impl ProgramHost<'_> {
     }
 
     // Keeps a copy of a file of records, for the hints about its records. If memory runs out, these hints are left out.
-    // A file that does not end with a whole record is refused by RECEIVE, and as a command file. Usually it is typed
+    // If the file does not end with a whole record, it is refused by RECEIVE, and as a command file. Usually it is typed
     // text, so a line on standard error says what to do.
     fn keep_records(&mut self, name: &str, bytes: &[u8]) {
         if !has_whole_records(bytes) {
@@ -152,9 +153,9 @@ impl ProgramHost<'_> {
         }
     }
 
-    // Notes why a file was not read, for what is said at the end.
-    fn note_unread(&mut self, name: &str, error: &io::Error) {
-        self.unread = format!(in self.rt.alloc(); "{name}: {error}").ok();
+    // Notes why a file was not read or not created, for what is said at the end.
+    fn note_file_fault(&mut self, name: &str, error: &io::Error) {
+        self.file_fault = format!(in self.rt.alloc(); "{name}: {error}").ok();
     }
 
     // A copy of the name, or no text if memory runs out.
@@ -165,9 +166,9 @@ impl ProgramHost<'_> {
     // Notes why a database was not copied, for what is said at the end.
     fn note_copy_fault(&mut self, name: &str, fault: &CopyFault) {
         match fault {
-            CopyFault::Unread(error) => self.note_unread(name, error),
+            CopyFault::Unread(error) => self.note_file_fault(name, error),
             CopyFault::Unfit(why) => {
-                self.unread = format!(in self.rt.alloc(); "{name}: {why}").ok();
+                self.file_fault = format!(in self.rt.alloc(); "{name}: {why}").ok();
             }
             CopyFault::NoDatabase => {
                 let error = Error::SqliteFailure(ErrorCode::NotADatabase);
@@ -229,6 +230,10 @@ impl Host for ProgramHost<'_> {
 
     ghost withholds = { λ _ _ _ _. Unit {0} };
 
+    ghost takes = { λ _ _ _ _. Unit {0} };
+
+    ghost declines = { λ _ _ _ _. Unit {0} };
+
     ghost opens = { λ _ _ conn _. IsNew conn × IsWary conn × (HasCleanDisk (file_state conn) → IsOpened conn) };
 
     ghost holds = { λ _ _ _ _ _. Unit {0} };
@@ -251,7 +256,17 @@ impl Host for ProgramHost<'_> {
                 Ok(bytes)
             }
             Err(error) => {
-                self.note_unread(name, &error);
+                self.note_file_fault(name, &error);
+                Err(error)
+            }
+        }
+    }
+
+    fn write_new(&mut self, name: &str, bytes: &[u8]) -> io::Result<()> {
+        match write_new_file(self.rt, name, bytes) {
+            Ok(()) => Ok(()),
+            Err(error) => {
+                self.note_file_fault(name, &error);
                 Err(error)
             }
         }

@@ -73,7 +73,7 @@ pub(crate) fn write_hints(
     }
 }
 
-// The lines about the report, the fault, a file that was not read, and a database that was made. Here and below, an
+// The lines about the report, the fault, a file that was not read or not created, and a database that was made. Here and below, an
 // error means that memory runs out.
 fn hint_lines(
     rt: &HostRuntime,
@@ -91,8 +91,8 @@ fn hint_lines(
         fault => fault_hint(rt, words, host, fault)?,
     };
     push_if_any(hint, &mut lines)?;
-    if let Some(unread) = &host.unread {
-        lines.push(String::from_str(rt.alloc(), unread.as_str())?)?;
+    if let Some(fault) = &host.file_fault {
+        lines.push(String::from_str(rt.alloc(), fault.as_str())?)?;
     }
     push_if_any(new_database_hint(rt, &host.database)?, &mut lines)?;
     Ok(lines)
