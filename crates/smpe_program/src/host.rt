@@ -9,7 +9,7 @@ ghost use Rattle.smpe_program.specs.Wary.{IsWary};
 use crate::copy::{CopyFault, read_for_copy};
 use crate::left::LeftDatabase;
 use crate::new_file::write_new_file;
-use crate::place::{is_missing, is_surely_no_database};
+use crate::place::{belongs_to_database, is_missing, is_surely_no_database};
 use crate::related_zone::query_related_zone;
 use clap::Error as WordsError;
 use smpe_command::{DatabaseBytes, DatabaseFile, Host};
@@ -17,7 +17,7 @@ use smpe_hints::{CommandLine, has_whole_records};
 use smpe_warnings::{ReadFile, RelatedZone};
 use sqlite::{Connection, Error, ErrorCode, FileFrom, FileStore, Wary};
 use sqlite_disk::Tally;
-use std::io::IsTerminal;
+use std::io::{ErrorKind, IsTerminal};
 use std::time::Duration;
 use std::{fs, io, thread};
 
@@ -27,6 +27,9 @@ pub(crate) type DatabaseFiles = FileStore<FileFrom<Wary>>;
 // A database that the program creates has no checksums on its pages, because a sqlite3 without the extension for
 // checksums would spoil them.
 const NEW_HAS_CHECKSUMS: bool = false;
+
+// What is said of a new file that is not made because a database would take it for its own.
+const NAME_OF_DATABASE: &str = "the database beside it has this name for its log or journal";
 
 /// The database that the words ask for.
 #[derive(Drop)]
@@ -281,6 +284,10 @@ impl Host for ProgramHost<'_> {
     }
 
     fn write_new(&mut self, name: &str, bytes: &[u8]) -> io::Result<()> {
+        if belongs_to_database(self.rt, name) {
+            self.file_fault = format!(in self.rt.alloc(); "{name}: {NAME_OF_DATABASE}").ok();
+            return Err(io::Error::from(ErrorKind::InvalidInput));
+        }
         let written = write_new_file(self.rt, name, bytes);
         if let Err(error) = &written {
             self.note_file_fault(name, error);

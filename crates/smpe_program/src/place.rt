@@ -18,6 +18,21 @@ const HEAD: &[u8] = b"SQLite format 3\0";
 // The length of `HEAD`.
 const HEAD_BYTES: usize = 16;
 
+// The ends of the names of the files that a database has beside it.
+const ENDS_BESIDE_DATABASE: [&str; 3] = ["-wal", "-shm", "-journal"];
+
+/// Whether a database that exists would take a file of this name for its own log or journal.
+pub(crate) fn belongs_to_database(rt: &HostRuntime, name: &str) -> bool {
+    for end in ENDS_BESIDE_DATABASE {
+        if let Some(database) = name.strip_suffix(end)
+            && !is_missing(rt, database)
+        {
+            return true;
+        }
+    }
+    false
+}
+
 /// Whether no file has this name. The answer is false if the system does not tell.
 pub(crate) fn is_missing(rt: &HostRuntime, name: &str) -> bool {
     matches!(fs::exists(rt, name), Ok(false))
