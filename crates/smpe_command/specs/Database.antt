@@ -34,14 +34,6 @@ use Rattle.smpe_jobs.specs.Ending.{EndsJobs, StaysClosed, answer_of, is_write}
 use Rattle.smpe.specs.Going.{GoesJobs}
 use Rattle.smpe_command.specs.declared.host.Host.{Ghosts as HostGhosts}
 
--- The connection became this store. The store's tables, created if there were none, stand for what was found. A
--- database that was not blank is as it was, whatever its tables hold.
-pub record IsStoreOver {S : Type 0} (g : Ghosts S) (conn store : Held S) : Type 0 where
-  pub stands : (i : Inventory) → IsFound g conn i → Stands (Tables g store) (Leaves g store) i
-  pub ours : HasCleanDisk (state g store) → HasOwnTables (state g store).now
-  pub same : HasCleanDisk (state g store) → ¬ IsBlank (state g conn).now → IsUnchanged (state g conn) (state g store)
-  pub crash : Survives (state g conn) (state g store) (IsSetUp (state g conn).now)
-
 module _ {H D : Type 0} (host : HostGhosts H D) (g : Ghosts D) where
   -- The database could not be made the store's, for this reason, and was closed. It was left in this way: what was last
   -- committed is as before, and a crash leaves that, or the tables that were created in a database that had none.

@@ -19,17 +19,7 @@ use Rattle.smpe_verify.specs.Telling.{IsTold as IsToldOf}
 use Rattle.smpe_verify.specs.declared.verification.Verification.{Verification}
 use Rattle.smpe_verify.specs.declared.told.VerifyAnswer.{VerifyAnswer}
 
--- the error of a job is the program's fault
-abbrev pub job_told : Result ℕ JobError → Result ℕ Fault
-job_told (Ok status) = Ok status
-job_told (Err error) = Err (Job error)
-
 module _ {O : Type 0} (sink : SinkGhosts O) (out out' : O) where
-  -- The text goes to the sink, and the status is this one, or a fault if the text did not go out whole.
-  abbrev pub TellsText : List ℕ → ℕ → Result ℕ JobError → Type 0
-  TellsText text status r = Sent sink out out' text × (0 < length text → sink.has_failed out' ≡ is_err r)
-      × MatchResult r (λ told. told ≡ status) (λ error. error ≡ Write)
-
   -- so the line of a zone that was to be defined, with the status of the answer
   abbrev pub TellsZone : Text → Result Answer JobError → Result ℕ JobError → Type 0
   TellsZone name (Ok answer) r = TellsText (zone_text name (answer_of answer)) (answer_status (answer_of answer)) r
@@ -39,13 +29,6 @@ module _ {O : Type 0} (sink : SinkGhosts O) (out out' : O) where
   abbrev pub TellsMigrated : Result (Unit {0}) StoreError → Result ℕ JobError → Type 0
   TellsMigrated (Ok done) r = TellsText migrated_text 0 r
   TellsMigrated (Err why) r = (r ≡ Err (job_error why)) × (out' ≡ out)
-
-  -- so what is told of the ids of a question, given what was found. Or memory ran out for it, and nothing went out.
-  abbrev pub TellsFound : Inquiry → Result LoadedZones StoreError → Result ℕ JobError → Type 0
-  TellsFound q (Ok found) r = ((r ≡ Err Memory) × (out' ≡ out))
-      ⊎ ((told : WhyAnswer) × IsTold found.global found.zone found.related q told
-      × TellsText told.text.items told.status r)
-  TellsFound q (Err why) r = (r ≡ Err (job_error why)) × (out' ≡ out)
 
   -- so what is told of the zones, given whether they are closed
   abbrev pub TellsVerified : Result Verification StoreError → Result ℕ JobError → Type 0

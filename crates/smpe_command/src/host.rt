@@ -10,13 +10,6 @@ use smpe::DatabaseFile;
 use sqlite::{Alter, Connection};
 use std::io;
 
-/// The bytes of a database's file and of its log.
-#[derive(Drop)]
-pub struct DatabaseBytes {
-    pub db: Vec<u8>,
-    pub log: Vec<u8>,
-}
-
 /// The surroundings of the program. Each ghost member relates them before a call, what was asked and answered, and them
 /// after it.
 pub trait Host {

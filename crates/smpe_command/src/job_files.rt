@@ -9,14 +9,6 @@ use smpe::{Fault, JobError};
 use std::alloc::Global;
 use std::io::ErrorKind;
 
-/// The bytes of the files of a job.
-#[derive(Drop)]
-pub(crate) struct JobFiles {
-    pub(crate) cntl: Vec<u8>,
-    pub(crate) ptfin: Vec<u8>,
-    pub(crate) hold: Vec<u8>,
-}
-
 /// Reads the files of a job in this order. A file that the words do not name has no bytes. Returns `CannotRead` with
 /// the name of the first that cannot be read, or `Job` with `Memory` if memory runs out.
 pub(crate) fn read_files<'a, H: Host>(

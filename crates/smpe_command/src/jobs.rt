@@ -53,13 +53,6 @@ pub(crate) fn serve<'a, H: Host, O: Sink>(
     }
 }
 
-/// The status, or the error of the job as a fault of the program.
-pub(crate) fn status_or_fault<'a>(status: Result<u8, JobError>) -> Result<u8, Fault<'a>>
-    ensures { result ≡ job_told status }
-{
-    Ok(status?)
-}
-
 // Defines a zone, writes how that ended, and returns the status.
 fn serve_zone<H: Host, O: Sink>(
     alloc: Global,

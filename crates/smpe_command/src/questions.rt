@@ -66,18 +66,3 @@ fn answer_why<H: Host, O: Sink>(
     let zones = load_zones_of_database(alloc, host, db, options.zone)?;
     answer_and_write(alloc, &zones, &question, out)
 }
-
-/// Answers the question by the zones that were loaded, writes the answer, and returns its status. The whole answer is
-/// made before any of it is written. Returns `Memory` if memory runs out, and `Write` if the answer cannot be written.
-pub(crate) fn answer_and_write<O: Sink>(
-    alloc: Global,
-    zones: &LoadedZones,
-    question: &Question<'_>,
-    out: &mut O,
-) -> Result<u8, JobError>
-    ensures { TellsFound O.Sink out.old out.new question.now (Ok zones.now) result }
-{
-    let answer = answer_question(alloc, zones, question)?;
-    write_all(answer.text.as_slice(), out)?;
-    Ok(answer.status)
-}

@@ -22,13 +22,6 @@ use std::alloc::{AllocError, Global};
 /// The status of a package that has no SYSMOD.
 const NOTHING_CARRIED_STATUS: u8 = 12;
 
-/// The items of a package.
-#[derive(Drop)]
-pub(crate) struct PackageItems {
-    pub(crate) items: Vec<Item>,
-    pub(crate) hold_items: Vec<HoldItem>,
-}
-
 /// Checks the package of the files of these names, and returns the status. All files are read before anything is made
 /// or copied. Returns `CannotRead` if one of them cannot be read, `NotCarried` if they cannot be carried, `NoSource` if
 /// the system uses each source that is kept for checks, and `Job` for a fault of the jobs, of the database or of memory.

@@ -1,0 +1,4 @@
+mod Copying
+mod Greatest
+mod Receiving
+pub mod OneJob
