@@ -1,4 +1,24 @@
-HEAD
+-- What a service set would do in a copy of a database, or in an empty system.
+use Rattle.std.specs.Prelude.{◌≡◌, ◌⊎◌, ℕ, List, Option, Result, Ok, Err}
+use Rattle.std.specs.String.{string_bytes}
+use Rattle.sqlite.specs.declared.error.Error.{Error}
+use Rattle.sqlite_disk.specs.declared.Disk as disk
+use Rattle.terms.specs.Types.{Text}
+use Rattle.machine.specs.Machine as machine
+use Rattle.machine.specs.Machine.{Files}
+use Rattle.report.specs.declared.sink.Sink.{Ghosts as SinkGhosts}
+use Rattle.store_schema.specs.Known.{told}
+use Rattle.smpe_invocation.specs.declared.asked.CheckedSystem.{CheckedSystem}
+use Rattle.smpe_invocation.specs.declared.asked.CheckedSystem.TheVariants.{Empty, Copied}
+use Rattle.smpe_invocation.specs.declared.asked.CommandJob.{CommandJob}
+use Rattle.smpe_invocation.specs.declared.asked.SystemCopy.{SystemCopy}
+use Rattle.smpe_jobs.specs.declared.error.JobError.{JobError}
+use Rattle.smpe_jobs.specs.declared.error.JobError.TheVariants.{Memory}
+use Rattle.smpe_jobs.specs.Errors.{job_error}
+use Rattle.smpe_rehearsal.specs.Copied.{TriesBytes, apply_to, copy_jobs}
+use Rattle.smpe_rehearsal.specs.ServiceSet.{ChecksSet, IsTriedOn, tried_with}
+use Rattle.smpe_command.specs.declared.host.Host.{Ghosts as HostGhosts}
+
 module _ {H D M O : Type 0} (host : HostGhosts H D) (memory : disk.Ghosts M) (sink : SinkGhosts O) (h : H)
     (copy : SystemCopy) (out : O) where
   -- The files of the database were read, and the jobs were tried over a copy; or they were not read. Nothing else is

@@ -32,6 +32,7 @@ use Rattle.smpe_jobs.specs.declared.jobs.Answer.{Answer}
 use Rattle.smpe_jobs.specs.Errors.{job_error}
 use Rattle.smpe_jobs.specs.Ending.{EndsJobs, StaysClosed, answer_of, is_write}
 use Rattle.smpe.specs.Going.{GoesJobs}
+use Rattle.smpe_rehearsal.specs.Opened.{IsStoreOver}
 use Rattle.smpe_command.specs.declared.host.Host.{Ghosts as HostGhosts}
 
 module _ {H D : Type 0} (host : HostGhosts H D) (g : Ghosts D) where

@@ -15,23 +15,24 @@ use Rattle.smpe_jobs.specs.declared.messages.Fault.TheVariants.{Job}
 use Rattle.smpe_why.specs.Telling.{Inquiry, IsTold}
 use Rattle.smpe_why.specs.declared.found.LoadedZones.{LoadedZones}
 use Rattle.smpe_why.specs.declared.told.WhyAnswer.{WhyAnswer}
+use Rattle.smpe_rehearsal.specs.Told.{TellsText}
 use Rattle.smpe_verify.specs.Telling.{IsTold as IsToldOf}
 use Rattle.smpe_verify.specs.declared.verification.Verification.{Verification}
 use Rattle.smpe_verify.specs.declared.told.VerifyAnswer.{VerifyAnswer}
 
 module _ {O : Type 0} (sink : SinkGhosts O) (out out' : O) where
-  -- so the line of a zone that was to be defined, with the status of the answer
+  -- The line of a zone that was to be defined goes out, with the status of the answer
   abbrev pub TellsZone : Text → Result Answer JobError → Result ℕ JobError → Type 0
-  TellsZone name (Ok answer) r = TellsText (zone_text name (answer_of answer)) (answer_status (answer_of answer)) r
+  TellsZone name (Ok answer) r = TellsText sink out out' (zone_text name (answer_of answer)) (answer_status (answer_of answer)) r
   TellsZone name (Err error) r = (r ≡ Err error) × (out' ≡ out)
 
   -- so the line of a migrated database, with the status 0
   abbrev pub TellsMigrated : Result (Unit {0}) StoreError → Result ℕ JobError → Type 0
-  TellsMigrated (Ok done) r = TellsText migrated_text 0 r
+  TellsMigrated (Ok done) r = TellsText sink out out' migrated_text 0 r
   TellsMigrated (Err why) r = (r ≡ Err (job_error why)) × (out' ≡ out)
 
   -- so what is told of the zones, given whether they are closed
   abbrev pub TellsVerified : Result Verification StoreError → Result ℕ JobError → Type 0
   TellsVerified (Ok found) r = ((r ≡ Err Memory) × (out' ≡ out))
-      ⊎ ((told : VerifyAnswer) × IsToldOf found told × TellsText told.text.items told.status r)
+      ⊎ ((told : VerifyAnswer) × IsToldOf found told × TellsText sink out out' told.text.items told.status r)
   TellsVerified (Err why) r = (r ≡ Err (job_error why)) × (out' ≡ out)

@@ -1,4 +1,21 @@
-HEAD
+//! What a service set would do in a copy of a database.
+ghost use Rattle.std.specs.Prelude.{◌≡◌, IfOk, IfErr};
+ghost use Rattle.std.specs.String.{string_bytes};
+ghost use Rattle.sqlite.specs.declared.error.Error.{Error};
+ghost use Rattle.store_schema.specs.Known.{told};
+ghost use Rattle.smpe_rehearsal.specs.Copied.{copy_jobs};
+ghost use Rattle.smpe_rehearsal.specs.ServiceSet.{receive_records};
+ghost use Rattle.smpe_command.specs.Copied.{TriesCopied, TriesCopy};
+
+use crate::host::Host;
+use report::Sink;
+use smpe::{CommandJob, DatabaseFile, JobError, commands_in_zone, two_commands};
+use smpe_invocation::SystemCopy;
+use smpe_rehearsal::{DatabaseBytes, JobFiles, Rehearsal, any_date, run_over_bytes};
+use sqlite_disk::{Disk, Memory};
+use std::alloc::Global;
+use store::StoreError;
+
 /// Rehearses the set in the copy with its commands, or with those that apply all of it to the zone, and then asks about
 /// the ids. Returns the greatest status of the jobs and the answer.
 pub(crate) fn rehearse_in_copy<H: Host, O: Sink>(
@@ -52,7 +69,7 @@ fn run_in_copy<H: Host, O: Sink>(
         out.new }
 {
     let bytes = read_database_bytes(host, &copy.db)?;
-    run_over_bytes(alloc, &bytes, copy, rehearsal, out)
+    run_over_bytes(alloc, &bytes, copy.zone, copy.ids.as_slice(), rehearsal, out)
 }
 
 /// Reads the bytes of the database's file and of its log. An error of the database library becomes one of the store.

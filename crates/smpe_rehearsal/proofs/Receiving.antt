@@ -1,26 +1,21 @@
 -- Jobs whose report nobody reads, and the zones that were loaded after them.
-use Rattle.std.proofs.Common.{◌≡◌, ◌∙◌, List, Option, None, Some, Result, ap, sym}
-use Rattle.std.specs.Option.{option_and_then}
+use Rattle.std.proofs.Common.{List, None, Result}
 use Rattle.sqlite.specs.Store.{Ghosts}
 use Rattle.sqlite.specs.Held.{Held, state}
 use Rattle.sqlite.specs.State.{HasCleanDisk}
-use Rattle.terms.specs.Types.{Text, Zone}
+use Rattle.terms.specs.Types.{Text}
 use Rattle.machine.specs.State.{State}
 use Rattle.machine.specs.Machine as machine
-use Rattle.store_schema.specs.Inventory.{Inventory}
-use Rattle.store_zones.specs.Found.{zone_in}
 use Rattle.store.specs.Kept.{kept, Keeps}
 use Rattle.smpe_jobs.specs.declared.error.JobError.{JobError}
 use Rattle.smpe_jobs.specs.Ending.{EndsJobs}
 use Rattle.smpe.specs.Going.{GoesJobs}
 use Rattle.smpe_jobs.proofs.Early.{jobs_since}
-use Rattle.smpe_why.specs.Telling.{IsFoundIn}
-use Rattle.smpe_why.specs.declared.found.LoadedZones.{LoadedZones}
 use Rattle.smpe_rehearsal.specs.declared.receiving.Rehearsed.{Rehearsed}
 use Rattle.smpe_rehearsal.specs.declared.no_report.NoReport.{NoReport}
 use Rattle.smpe_rehearsal.specs.contracts.no_report.NoReportSink.TheImpl.{ghosts as no_report}
 use Rattle.smpe_rehearsal.specs.Opened.{IsStoreOver}
-use Rattle.smpe_rehearsal.specs.Rehearsed.{AreZonesOf, LoadsAfter, RehearsedOver, accepted_in}
+use Rattle.smpe_rehearsal.specs.Rehearsed.{LoadsAfter, RehearsedOver}
 use Rattle.smpe_rehearsal.proofs.OneJob.{Alike, ends_as, goes_as}
 
 module _ {S : Type 0} (g : Ghosts S) (zone : Text) where
@@ -41,21 +36,3 @@ module _ {S : Type 0} (g : Ghosts S) (zone : Text) where
     goes = goes_as f (λ all. all) g no_report jobs a b begun store r q same went;
     loads = loads;
   }
-
-module _ (i : Inventory) (name : Text) (zones : LoadedZones) (found : IsFoundIn name i zones) where
-  related_is : (related : Option Text) → option_and_then (λ (z : Zone). z.related) zones.zone ≡ related
-      → option_and_then (zone_in i) related ≡ accepted_in i name
-  related_is related is = ap (option_and_then (zone_in i))
-      (sym is ∙ ap (option_and_then (λ (z : Zone). z.related)) found.zone)
-
-  -- no zone is related
-  pub none_related : None ≡ option_and_then (λ (z : Zone). z.related) zones.zone
-      → AreZonesOf name i (record { zones = zones; accepted = None })
-  none_related is = record { zones = found; accepted = related_is None (sym is) }
-
-  -- the related zone was loaded
-  pub some_related : (accepted : Option Zone) (related : Text)
-      → option_and_then (λ (z : Zone). z.related) zones.zone ≡ Some related → accepted ≡ zone_in i related
-      → AreZonesOf name i (record { zones = zones; accepted = accepted })
-  some_related accepted related is loaded =
-      record { zones = found; accepted = loaded ∙ related_is (Some related) is }

@@ -1,6 +1,5 @@
 -- The zones of a system after RECEIVE of a package.
-use Rattle.std.specs.Prelude.{◌≡◌, ◌⊎◌, ℕ, List, [], ◌∷◌, Option, None, Some, Result, Ok, Err, IsTrue, codes}
-use Rattle.std.specs.Option.{option_and_then}
+use Rattle.std.specs.Prelude.{◌≡◌, ◌⊎◌, ℕ, List, [], ◌∷◌, None, Some, Result, Ok, Err, IsTrue, codes}
 use Rattle.sqlite.specs.declared.error.Error.{Error}
 use Rattle.sqlite.specs.Store.{Ghosts}
 use Rattle.sqlite.specs.Files.{over_files}
@@ -12,14 +11,12 @@ use Rattle.sqlite_disk.specs.declared.Disk as disk
 use Rattle.sqlite_store.specs.declared.store.FileStore.{FileStore}
 use Rattle.sqlite_trees.specs.declared.memory.MemStore.{MemStore}
 use Rattle.terms.specs.declared.kinds.ZoneKind.TheVariants.{Target, Distribution}
-use Rattle.terms.specs.Types.{Text, Zone}
+use Rattle.terms.specs.Types.{Text}
 use Rattle.machine.specs.State.{State}
 use Rattle.machine.specs.Machine as machine
 use Rattle.machine.specs.Machine.{Files, NewZone, RunFiles}
 use Rattle.store_schema.specs.declared.error.StoreError.{StoreError}
-use Rattle.store_schema.specs.Inventory.{Inventory}
 use Rattle.store_schema.specs.Known.{told}
-use Rattle.store_zones.specs.Found.{zone_in}
 use Rattle.store.specs.Loads.{Loads}
 use Rattle.store.specs.View.{IsFound}
 use Rattle.store.specs.Kept.{kept}
@@ -30,6 +27,7 @@ use Rattle.smpe_jobs.specs.Ending.{EndsJobs}
 use Rattle.smpe_jobs.specs.ZoneDefinitions.{definition}
 use Rattle.smpe.specs.Going.{GoesJobs}
 use Rattle.smpe_why.specs.Telling.{IsFoundIn}
+use Rattle.smpe_why.specs.declared.found.LoadedZones.{LoadedZones}
 use Rattle.smpe_rehearsal.specs.declared.values.Prepared.{Prepared}
 use Rattle.smpe_rehearsal.specs.declared.values.System.{System}
 use Rattle.smpe_rehearsal.specs.declared.values.System.TheVariants.{Empty, Copied}
@@ -37,21 +35,12 @@ use Rattle.smpe_rehearsal.specs.declared.receiving.Rehearsed.{Rehearsed}
 use Rattle.smpe_rehearsal.specs.Asking.{files_of}
 use Rattle.smpe_rehearsal.specs.Copied.{IsCopy}
 use Rattle.smpe_rehearsal.specs.Opened.{IsStoreOver}
-use Rattle.smpe_rehearsal.specs.ServiceSet.{Unmade, receive_records}
+use Rattle.smpe_rehearsal.specs.ServiceSet.{Unmade, greatest, receive_records}
 
--- the zone that the zone of this name names as its related one, if there is one: of a target zone its distribution zone
-abbrev pub accepted_in : Inventory → Text → Option Zone
-accepted_in i name = option_and_then (zone_in i) (option_and_then (λ z. z.related) (zone_in i name))
-
--- What an install into the zone of this name looks at, and the zone to which RESTORE would go back.
-pub record AreZonesOf (name : Text) (i : Inventory) (found : Rehearsed) : Type 0 where
-  pub zones : IsFoundIn name i found.zones
-  pub accepted : found.accepted ≡ accepted_in i name
-
--- an error of the store is one of the job
-abbrev pub job_found : Result Rehearsed StoreError → Result Rehearsed JobError
-job_found (Ok found) = Ok found
-job_found (Err why) = Err (job_error why)
+-- the zones that were loaded, with the status of RECEIVE, or the error of the store as one of the job
+abbrev pub rehearsed : ℕ → Result LoadedZones StoreError → Result Rehearsed JobError
+rehearsed status (Ok zones) = Ok (record { zones = zones; status = status })
+rehearsed status (Err why) = Err (job_error why)
 
 -- The package is received; in an empty system after two zones of the SREL are defined.
 abbrev pub receive_job : Text → Files → machine.Job
@@ -66,8 +55,8 @@ module _ {S : Type 0} (g : Ghosts S) (name : Text) where
   -- After jobs that ended with these answers, the zones were loaded. If the jobs failed, nothing was.
   abbrev pub LoadsAfter : Result (List machine.Answer) JobError → Held S → Result Rehearsed JobError → Type 0
   LoadsAfter (Err error) store r = r ≡ Err error
-  LoadsAfter (Ok answers) store r = (found : Result Rehearsed StoreError) × (left : Held S)
-      × Loads g store left (AreZonesOf name) found × (r ≡ job_found found)
+  LoadsAfter (Ok answers) store r = (found : Result LoadedZones StoreError) × (left : Held S)
+      × Loads g store left (IsFoundIn name) found × (r ≡ rehearsed (greatest answers) found)
 
   -- The jobs ran over a store that began in this way, and their report went nowhere. If the connection found a state,
   -- they ran over that. Then the zones were loaded.

@@ -1,16 +1,15 @@
 //! A package is received in a system, and the zones are loaded that an install then looks at.
 ghost use Rattle.std.specs.Prelude.{◌≡◌, map, false};
-ghost use Rattle.std.specs.Option.{option_and_then};
 ghost use Rattle.sqlite.specs.Held.{Held};
-ghost use Rattle.store.specs.Loads.{Loads};
 ghost use Rattle.smpe_jobs.specs.Ending.{job_of};
 ghost use Rattle.smpe_rehearsal.specs.Opened.{IsStoreOver};
-ghost use Rattle.smpe_rehearsal.specs.Rehearsed.{AreZonesOf, Rehearses, RehearsesBytes, RehearsesNew, RehearsesOver};
+ghost use Rattle.smpe_rehearsal.specs.Rehearsed.{Rehearses, RehearsesBytes, RehearsesNew, RehearsesOver};
 ghost use Rattle.smpe_rehearsal.specs.Rehearsed.{RehearsedOver, new_jobs, receive_job};
 ghost use Rattle.smpe_rehearsal.specs.ServiceSet.{receive_records};
 
 use crate::memory_files::connect_in_memory;
 use crate::no_report::NoReport;
+use crate::service_set::greatest_status;
 use crate::values::{DatabaseBytes, Prepared, Rehearsal, System};
 use fields::{Srel, ZoneName};
 use smpe::{Job, JobError, run_jobs};
@@ -18,18 +17,15 @@ use smpe_why::{LoadedZones, load_zones};
 use sqlite::{Alter, Connection};
 use sqlite_disk::{Disk, Memory};
 use std::alloc::Global;
-use store::{Store, StoreError};
+use store::Store;
 use terms::ZoneKind;
-use zones::Zone;
 
-/// The zones of a system after RECEIVE of a package.
+/// A system after RECEIVE of a package.
 #[derive(Drop)]
 pub struct Rehearsed {
-    /// The global zone, the zone in question, if there is one, and the zone at which an ACCEPT there also looks.
     pub zones: LoadedZones,
-    /// The zone that the zone in question names as its related one: of a target zone the distribution zone, to which
-    /// RESTORE goes back.
-    pub accepted: Option<Zone>,
+    /// The status with which it was received.
+    pub status: u8,
 }
 
 /// Receives the package in the system, and loads the zones. The report of RECEIVE goes nowhere.
@@ -143,31 +139,8 @@ fn run_and_load<S: Alter>(
         → RehearsedOver S.Store zone (map job_of jobs.now) conn store.old result }
 {
     let mut report = NoReport;
-    run_jobs(alloc, store, jobs, &mut report)?;
-    Ok(load_rehearsed(store, zone)?)
-}
-
-// Loads the zones.
-fn load_rehearsed<S: Alter>(store: &mut Store<S>, name: ZoneName) -> Result<Rehearsed, StoreError>
-    ensures { Loads S.Store store.old store.new (AreZonesOf name) result }
-{
-    let zones = load_zones(store, name)?;
-    let Some(related) = related_name(&zones.zone) else {
-        return Ok(Rehearsed {
-            zones,
-            accepted: None,
-        });
-    };
-    let accepted = store.load_zone(related)?;
-    Ok(Rehearsed { zones, accepted })
-}
-
-// The name of the zone that this zone names as its related one.
-fn related_name(zone: &Option<Zone>) -> Option<ZoneName>
-    ensures { result ≡ option_and_then (λ z. z.related) zone.now }
-{
-    match zone {
-        Some(zone) => zone.related(),
-        None => None,
-    }
+    let answers = run_jobs(alloc, store, jobs, &mut report)?;
+    let status = greatest_status(answers.as_slice());
+    let zones = load_zones(store, zone)?;
+    Ok(Rehearsed { zones, status })
 }

@@ -1,0 +1,15 @@
+//! What is told of a package that was received: what an APPLY (in a distribution zone, an ACCEPT) of its SYSMODs would
+//! make of them, together with what GROUPEXTEND brings in. The summary, the document and the certificate are made from
+//! the same zones, without a store and without the surroundings of the program. Every call that allocates returns
+//! `AllocError` if memory runs out; no contract says when.
+#![tactic(auto)]
+
+mod certified;
+mod lines;
+mod received;
+mod selection;
+mod summarized;
+
+pub use certified::certificate_text;
+pub use received::{PackageIds, Received};
+pub use summarized::{Answer, summary_answer};

@@ -1,0 +1,1 @@
+//! The summary of a package, as it is told.
