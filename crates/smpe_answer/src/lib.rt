@@ -4,12 +4,15 @@
 //! `AllocError` if memory runs out; no contract says when.
 #![tactic(auto)]
 
+mod asked_ids;
 mod certified;
+mod facts;
 mod lines;
-mod received;
 mod selection;
 mod summarized;
 
-pub use certified::certificate_text;
-pub use received::{PackageIds, Received};
-pub use summarized::{Answer, summary_answer};
+pub use asked_ids::Answer;
+pub use certified::package_certificate;
+pub use facts::PackageFacts;
+pub use smpe_certificate::Digest;
+pub use summarized::summary_answer;

@@ -1,6 +1,6 @@
 //! What chooses a package.
 ghost use Rattle.std.specs.Prelude.{◌≡◌, ◌∷◌, [], IfOk};
-ghost use Rattle.smpe_answer.specs.Received.{package_selection};
+ghost use Rattle.smpe_answer.specs.Asked.{package_selection};
 
 use fields::{IdList, Selection, Source, SourceList};
 use std::alloc::{AllocError, Global};

@@ -6,6 +6,7 @@ ghost use Rattle.smpe_command.specs.Reading.{FailsToRead, Reads, ReadsAll};
 
 use crate::host::Host;
 use smpe::{Fault, JobError};
+use smpe_rehearsal::JobFiles;
 use std::alloc::Global;
 use std::io::ErrorKind;
 
