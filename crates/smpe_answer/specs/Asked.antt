@@ -9,9 +9,10 @@ use Rattle.smpe_certificate.specs.Certified.{IsCertified}
 use Rattle.smpe_certificate.specs.Facts.{Input}
 use Rattle.smpe_why.specs.declared.found.LoadedZones.{LoadedZones}
 
--- a package: the source of its SYSMODs, their ids, those of them of which it is not sure that they can be installed, and
+-- a package: the name of the zone in question, the source of its SYSMODs, their ids, those of them of which it is not sure that they can be installed, and
 -- its remarks, with the status that they bring
 pub record PackageFacts : Type 0 where
+  pub zone : Text
   pub source : Text
   pub ids : List Id
   pub unsure : List Id

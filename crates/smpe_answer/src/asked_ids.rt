@@ -1,11 +1,14 @@
 //! What is told of ids that are asked about besides.
-ghost use Rattle.std.specs.Prelude.{IfOk};
+ghost use Rattle.std.specs.Prelude.{◌≡◌, IfOk};
+ghost use Rattle.machine.specs.Outcome.{NoZone};
+ghost use Rattle.machine.specs.Report.{refused_text};
 ghost use Rattle.smpe_why.specs.Telling.{IsTold};
 ghost use Rattle.smpe_answer.specs.Answered.{IsJoined, plainly};
 
 use fields::{Bypass, Id};
 use smpe_why::{LoadedZones, Question, WhyAnswer, answer_question};
 use std::alloc::{AllocError, Global};
+use sysmods::GlobalZone;
 
 /// An answer, and the status that it has.
 #[derive(Drop)]
@@ -14,8 +17,8 @@ pub struct Answer {
     pub status: u8,
 }
 
-// What is told of these ids, each by itself, without BYPASS. If there is no such zone, that is told.
-fn answer_ids(alloc: Global, zones: &LoadedZones, ids: &[Id]) -> Result<WhyAnswer, AllocError>
+/// What is told of these ids, each by itself, without BYPASS. If there is no such zone, that is told.
+pub(crate) fn answer_ids(alloc: Global, zones: &LoadedZones, ids: &[Id]) -> Result<WhyAnswer, AllocError>
     ensures { IfOk result (IsTold zones.now.global zones.now.zone zones.now.related (plainly ids.now)) }
 {
     let bypass = Bypass::none(alloc);
@@ -44,4 +47,17 @@ pub(crate) fn add_ids(
         text,
         status: status.max(told.status),
     })
+}
+
+/// The refusal that SET prints if no zone has the name, with its status.
+pub(crate) fn refuse_unknown_zone(alloc: Global) -> Result<Answer, AllocError>
+    ensures { IfOk result (λ answer. (answer.text.items ≡ refused_text NoZone) × (answer.status ≡ 12)) }
+{
+    let none = LoadedZones {
+        global: GlobalZone::new(alloc),
+        zone: None,
+        related: None,
+    };
+    let WhyAnswer { text, status } = answer_ids(alloc, &none, &[])?;
+    Ok(Answer { text, status })
 }

@@ -8,11 +8,13 @@ mod asked_ids;
 mod certified;
 mod facts;
 mod lines;
+mod mended;
 mod selection;
 mod summarized;
 
 pub use asked_ids::Answer;
 pub use certified::package_certificate;
 pub use facts::PackageFacts;
+pub use mended::mend_answer;
 pub use smpe_certificate::Digest;
 pub use summarized::summary_answer;

@@ -19,12 +19,12 @@ const NOTHING_CARRIED_STATUS: u8 = 12;
 pub fn summary_answer(
     alloc: Global,
     zones: &LoadedZones,
-    package: &PackageFacts<'_>,
+    facts: &PackageFacts<'_>,
     ids: &[Id],
 ) -> Result<Answer, AllocError>
-    ensures { IfOk result (IsSummaryAnswer zones.now package.now ids.now) }
+    ensures { IfOk result (IsSummaryAnswer zones.now facts.now ids.now) }
 {
-    let part = summary_part(alloc, zones, package)?;
+    let part = summary_part(alloc, zones, facts)?;
     add_ids(alloc, zones, ids, part)
 }
 
@@ -32,9 +32,9 @@ pub fn summary_answer(
 fn summary_part(
     alloc: Global,
     zones: &LoadedZones,
-    package: &PackageFacts<'_>,
+    facts: &PackageFacts<'_>,
 ) -> Result<Answer, AllocError>
-    ensures { IfOk result (IsSummaryPart zones.now package.now zones.now.zone) }
+    ensures { IfOk result (IsSummaryPart zones.now facts.now zones.now.zone) }
 {
     let Some(zone) = &zones.zone else {
         return Ok(Answer {
@@ -43,25 +43,25 @@ fn summary_part(
         });
     };
     let related = zones.related.as_ref();
-    let lines = package_lines(alloc, &zones.global, zone, related, package.source)?;
+    let lines = package_lines(alloc, &zones.global, zone, related, facts.source)?;
     let asked = Asked {
         global: &zones.global,
         zone,
         lines: lines.as_slice(),
-        package: package.ids,
-        unsure: package.unsure,
+        package: facts.ids,
+        unsure: facts.unsure,
     };
-    summarize(alloc, &asked, package_status(package))
+    summarize(alloc, &asked, package_status(facts))
 }
 
 // The status of the package itself.
-pub(crate) fn package_status(package: &PackageFacts<'_>) -> u8
-    ensures { result ≡ package_status package.now }
+pub(crate) fn package_status(facts: &PackageFacts<'_>) -> u8
+    ensures { result ≡ package_status facts.now }
 {
-    if package.ids.is_empty() {
-        return package.status.max(NOTHING_CARRIED_STATUS);
+    if facts.ids.is_empty() {
+        return facts.status.max(NOTHING_CARRIED_STATUS);
     }
-    package.status
+    facts.status
 }
 
 // The summary of what is asked, with at least this status.

@@ -1,3 +1,4 @@
+mod Inputs
 mod Looked
 mod OneJob
 mod ReadingOn

@@ -4,25 +4,23 @@ use Rattle.std.specs.Prelude.{◌≡◌, ◌⊎◌, List, [], ◌∷◌, false, 
 use Rattle.sqlite.specs.declared.error.Error.{Error}
 use Rattle.sqlite.specs.Store.{Ghosts}
 use Rattle.sqlite.specs.Held.{Held, state}
-use Rattle.sqlite.specs.State.{HasCleanDisk, IsUnchanged, Survives}
+use Rattle.sqlite.specs.State.{HasCleanDisk, Survives}
 use Rattle.terms.specs.Types.{Text}
 use Rattle.terms.specs.Closed.{AreClosed}
 use Rattle.machine.specs.State.{State}
 use Rattle.machine.specs.Machine as machine
-use Rattle.machine.specs.Runs.{Stands}
 use Rattle.report.specs.declared.sink.Sink.{Ghosts as SinkGhosts}
 use Rattle.store_schema.specs.declared.error.StoreError.{StoreError}
 use Rattle.store_schema.specs.declared.error.StoreError.TheVariants.{OtherSchema, NoState}
-use Rattle.store_schema.specs.Create.{IsBlank}
 use Rattle.store_schema.specs.Inventory.{Inventory}
-use Rattle.store_schema.specs.Known.{HasOtherNumber, HasNoState, HasOwnTables, told}
+use Rattle.store_schema.specs.Known.{HasOtherNumber, HasNoState, told}
 use Rattle.store_schema.specs.Stands.{IsSetUp}
 use Rattle.store.specs.BadRows.{TellsNoState}
 use Rattle.store.specs.Going.{LoadsAlone}
 use Rattle.store.specs.CallEnds.{EndsLoad}
 use Rattle.store.specs.Kept.{kept}
 use Rattle.store_migration.specs.Migrated.{HasRowids, Migrated, Unmigrated}
-use Rattle.store.specs.View.{Tables, Leaves, LeavesFound, IsFound}
+use Rattle.store.specs.View.{LeavesFound, IsFound}
 use Rattle.smpe_verify.specs.Verified.{verification, StandsIfClosed}
 use Rattle.smpe_verify.specs.declared.verification.Verification.{Verification}
 use Rattle.smpe_why.specs.Telling.{IsFoundIn}

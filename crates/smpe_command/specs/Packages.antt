@@ -30,11 +30,12 @@ use Rattle.smpe_rehearsal.specs.declared.receiving.Rehearsed.{Rehearsed}
 use Rattle.smpe_rehearsal.specs.declared.values.System.{System}
 use Rattle.smpe_rehearsal.specs.declared.values.System.TheVariants as system
 use Rattle.smpe_rehearsal.specs.Asking.{Asks}
-use Rattle.smpe_rehearsal.specs.Prepared.{IsNotCarried, Prepares}
+use Rattle.smpe_rehearsal.specs.Prepared.{IsNotCarried, Prepares, zone_of}
 use Rattle.smpe_rehearsal.specs.Rehearsed.{Rehearses}
 use Rattle.smpe_rehearsal.specs.Told.{TellsText, job_told}
 use Rattle.smpe_answer.specs.Asked.{HasCertificate, PackageFacts}
-use Rattle.smpe_answer.specs.Answered.{IsDocumentAnswer, IsSummaryAnswer}
+use Rattle.smpe_answer.specs.Answered.{IsSummaryAnswer}
+use Rattle.smpe_answer.specs.Documented.{IsDocumentAnswer}
 use Rattle.smpe_answer.specs.declared.asked_ids.Answer.{Answer}
 use Rattle.smpe_command.specs.declared.host.Host.{Ghosts as HostGhosts}
 use Rattle.smpe_command.specs.declared.settled.Settled.{Settled}
@@ -74,6 +75,7 @@ asked_ids (checked.Copied copy) = copy.ids.items
 -- what is known of the package, which was received with this status
 abbrev pub facts_of : Settled → ℕ → PackageFacts
 facts_of s received = record {
+  zone = zone_of s.system;
   source = s.prepared.source;
   ids = s.ids;
   unsure = s.unsure;
@@ -128,7 +130,7 @@ module _ {M O : Type 0} (memory : disk.Ghosts M) (sink : SinkGhosts O) (s : Sett
   abbrev pub TellsForm : CheckForm → Rehearsed → Result ℕ JobError → O → Type 0
   TellsForm Report z r out' = Asks memory sink out s.system s.prepared ids r out'
   TellsForm Summary z r out' = TellsAnswer sink out (IsSummaryAnswer z.zones (facts_of s z.status) ids) r out'
-  TellsForm Json z r out' = TellsAnswer sink out (IsDocumentAnswer z.zones (facts_of s z.status)) r out'
+  TellsForm Json z r out' = TellsAnswer sink out (IsDocumentAnswer z.zones (facts_of s z.status) z.zones.zone) r out'
 
 module _ {H D M O : Type 0} (host : HostGhosts H D) (memory : disk.Ghosts M) (sink : SinkGhosts O) where
   module _ (h : H) (answer : CheckAnswer) (s : Settled) (ids : List Id) (out : O) where

@@ -1,20 +1,14 @@
 -- What goes out about an answer, and the status.
-use Rattle.std.specs.Prelude.{◌≡◌, ◌⊎◌, ◌<◌, ℕ, List, length, Result, Ok, Err, is_err, MatchResult}
+use Rattle.std.specs.Prelude.{◌≡◌, ◌⊎◌, ℕ, Result, Ok, Err}
 use Rattle.terms.specs.Types.{Text}
 use Rattle.report.specs.declared.sink.Sink.{Ghosts as SinkGhosts}
-use Rattle.report.specs.Sent.{Sent}
 use Rattle.store_schema.specs.declared.error.StoreError.{StoreError}
 use Rattle.smpe_jobs.specs.declared.error.JobError.{JobError}
-use Rattle.smpe_jobs.specs.declared.error.JobError.TheVariants.{Memory, Write}
+use Rattle.smpe_jobs.specs.declared.error.JobError.TheVariants.{Memory}
 use Rattle.smpe_jobs.specs.declared.jobs.Answer.{Answer}
 use Rattle.smpe_jobs.specs.Ending.{answer_of}
 use Rattle.smpe_jobs.specs.Errors.{job_error}
 use Rattle.smpe_jobs.specs.Messages.{answer_status, migrated_text, zone_text}
-use Rattle.smpe_jobs.specs.declared.messages.Fault.{Fault}
-use Rattle.smpe_jobs.specs.declared.messages.Fault.TheVariants.{Job}
-use Rattle.smpe_why.specs.Telling.{Inquiry, IsTold}
-use Rattle.smpe_why.specs.declared.found.LoadedZones.{LoadedZones}
-use Rattle.smpe_why.specs.declared.told.WhyAnswer.{WhyAnswer}
 use Rattle.smpe_rehearsal.specs.Told.{TellsText}
 use Rattle.smpe_verify.specs.Telling.{IsTold as IsToldOf}
 use Rattle.smpe_verify.specs.declared.verification.Verification.{Verification}

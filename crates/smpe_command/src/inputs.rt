@@ -10,7 +10,7 @@ use smpe::JobError;
 use smpe_answer::Digest;
 use smpe_invocation::{CheckedSystem, SystemCopy};
 use smpe_rehearsal::System;
-use std::alloc::Global;
+use std::alloc::{AllocError, Global};
 
 /// The digests of the files of these names with these bytes.
 pub(crate) fn file_digests<'a>(
@@ -69,7 +69,7 @@ fn with_copy<'a>(
     match system {
         System::Empty(_) => Ok(digests),
         System::Copied { bytes, .. } => {
-            with_file(digests, copy.db.name.as_str(), bytes.db.as_slice())
+            Ok(with_file(digests, copy.db.name.as_str(), bytes.db.as_slice())?)
         }
     }
 }
@@ -79,10 +79,9 @@ fn with_file<'a>(
     digests: Vec<Digest<'a>>,
     name: &'a str,
     bytes: &[u8],
-) -> Result<Vec<Digest<'a>>, JobError>
-    ensures ok { IfOk result (λ all. map digest_view all.items
+) -> Result<Vec<Digest<'a>>, AllocError>
+    ensures { IfOk result (λ all. map digest_view all.items
         ≡ map digest_view digests.items ++ input_of name.entry.now bytes.now ∷ []) }
-    ensures err { IfErr result (λ error. error ≡ Memory) }
 {
     let mut all = digests;
     all.push(Digest::of(name, bytes))?;

@@ -1,6 +1,6 @@
 //! A package of a shop's own files is asked about: its answer, and its certificate.
-ghost use Rattle.std.specs.Prelude.{◌≡◌, ◌&&◌, not, false, true, map, IfOk, IfErr, option_map, length};
-ghost use Rattle.std.specs.List.{list_any};
+ghost use Rattle.std.specs.Prelude.{◌≡◌, ◌&&◌, not, false, true, map, IfOk, IfErr};
+ghost use Rattle.std.specs.List.{flat_map, list_any};
 ghost use Rattle.std.specs.String.{string_bytes};
 ghost use Rattle.intake_service.specs.Carrying.{is_sysmod};
 ghost use Rattle.smpe_certificate.specs.Views.{digest_view};
@@ -9,7 +9,11 @@ ghost use Rattle.smpe_rehearsal.specs.ServiceSet.{receive_records};
 ghost use Rattle.smpe_command.specs.Packages.{AnswersCarried, AnswersPackage, AnswersRehearsed, AnswersSettled};
 ghost use Rattle.smpe_command.specs.Packages.{Certifies, ServesPackage, Settles, TellsForm, TellsRemarks, TellsWrite};
 ghost use Rattle.smpe_command.specs.Packages.{AnswersIfAny, WritesCertificate, asked_ids, certificate_name, is_plain};
-ghost use Rattle.smpe_command.specs.Packages.{is_report};
+ghost use Rattle.smpe_command.specs.Packages.{TellsAnswer, is_report};
+ghost use Rattle.smpe_answer.specs.Answered.{IsSummaryAnswer};
+ghost use Rattle.smpe_answer.specs.Documented.{IsDocumentAnswer};
+ghost use Rattle.smpe_rehearsal.specs.Told.{TellsText};
+ghost use Rattle.smpe_package.specs.Package.{AreIds, id_of};
 
 use crate::carry::{carry_files, write_remarks};
 use crate::host::Host;
@@ -23,9 +27,7 @@ use smpe::{Fault, JobError};
 use smpe_answer::{Answer, Digest, PackageFacts, json_answer, package_certificate, summary_answer};
 use smpe_invocation::{CheckAnswer, CheckForm, CheckedSystem};
 use smpe_package::{Package, has_sysmod, package_ids};
-use smpe_rehearsal::{
-    PackageItems, Rehearsed, ask_about_package, prepare_package, rehearse_package, status_or_fault,
-};
+use smpe_rehearsal::{PackageItems, Rehearsed, ask_about_package, prepare_package, rehearse_package, status_or_fault, zone_of};
 use smpe_why::LoadedZones;
 use sqlite_disk::{Disk, Memory};
 use std::alloc::Global;
@@ -149,8 +151,9 @@ pub(crate) fn settle<'a, H: Host>(
     inputs: Vec<Digest<'a>>,
     carried: Package,
 ) -> Result<Settled<'a>, Fault<'a>>
-    ensures { Settles H.Host ⟦<Memory as Disk>⟧ host.old system.entry.now (map digest_view inputs.items) carried result
-        host.new }
+    ensures settles { Settles H.Host ⟦<Memory as Disk>⟧ host.old system.entry.now (map digest_view inputs.items) carried
+        result host.new }
+    ensures receive { IfOk result (λ settled. settled.prepared.jobs.receive.items ≡ receive_records) }
 {
     let ids = ids_of_package(alloc, &carried)?;
     let read = read_system(host, system)?;
@@ -301,6 +304,7 @@ fn tell_in_form<O: Sink>(
 {
     let ids = asked_ids(check.system);
     let facts = PackageFacts {
+        zone: zone_of(&settled.system),
         source: settled.prepared.source,
         ids: &settled.ids,
         unsure: &settled.unsure,
@@ -335,7 +339,7 @@ fn tell_document<O: Sink>(
     facts: &PackageFacts<'_>,
     out: &mut O,
 ) -> Result<u8, JobError>
-    ensures { TellsAnswer O.Sink out.old (IsDocumentAnswer zones.now facts.now) result out.new }
+    ensures { TellsAnswer O.Sink out.old (IsDocumentAnswer zones.now facts.now zones.now.zone) result out.new }
 {
     let answer = json_answer(alloc, zones, facts)?;
     write_answer(&answer, out)

@@ -22,9 +22,15 @@ mod values;
 pub use any_date::any_date;
 pub use asking::ask_about_package;
 pub use copied::run_over_bytes;
-pub use preparing::{fault_of, prepare_package};
+pub use preparing::{fault_of, prepare_package, zone_of};
 pub use questions::answer_and_write;
 pub use receiving::{Rehearsed, rehearse_package};
 pub use service_set::{greatest_status, rehearse_in_empty_system};
 pub use told::status_or_fault;
 pub use values::{DatabaseBytes, JobFiles, PackageItems, Prepared, Rehearsal, System};
+
+#[cfg(test)]
+#[test]
+fn trial() {
+    let three = 1 + 2;
+}

@@ -7,7 +7,7 @@ ghost use Rattle.store_schema.specs.Known.{told};
 ghost use Rattle.smpe_rehearsal.specs.Copied.{IsCopy};
 
 use sqlite::{Connection, Error, ErrorCode, FileStore, Files, Options};
-use sqlite_disk::Memory;
+use sqlite_disk::{Disk, Memory};
 use std::alloc::Global;
 use store::StoreError;
 

@@ -33,7 +33,8 @@ pub fn prepare_package<'a>(
     system: &System,
     items: PackageItems,
 ) -> Result<Prepared, Fault<'a>>
-    ensures { Prepares ⟦<Memory as Disk>⟧ system.now items.items.items items.hold_items.items result }
+    ensures prepares { Prepares ⟦<Memory as Disk>⟧ system.now items.items.items items.hold_items.items result }
+    ensures receive { IfOk result (λ prepared. prepared.jobs.receive.items ≡ receive_records) }
 {
     match global_of(alloc, system) {
         Ok(global) => prepare_beside(alloc, zone_of(system), global, items),
@@ -41,8 +42,8 @@ pub fn prepare_package<'a>(
     }
 }
 
-// The zone in question.
-fn zone_of(system: &System) -> ZoneName
+/// The zone in question.
+pub fn zone_of(system: &System) -> ZoneName
     ensures { result ≡ zone_of system.now }
 {
     match system {
@@ -58,7 +59,8 @@ fn prepare_beside<'a>(
     global: GlobalZone,
     items: PackageItems,
 ) -> Result<Prepared, Fault<'a>>
-    ensures { PreparesBeside global.sysmods zone items.items.items items.hold_items.items result }
+    ensures prepares { PreparesBeside global.sysmods zone items.items.items items.hold_items.items result }
+    ensures receive { IfOk result (λ prepared. prepared.jobs.receive.items ≡ receive_records) }
 {
     let source = free_source(items.items.as_slice(), &global);
     drop(global);

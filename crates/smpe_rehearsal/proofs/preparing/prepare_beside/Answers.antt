@@ -10,18 +10,18 @@ found : (c : After-free_source-source) → find (λ x. is_free x c.args.items.it
 found c = sym (c.free_source-source.ensures.first
     ∙ ap (λ (l : List Item). find (λ x. is_free x l c.args.global.sysmods) package_sources) c.as_slice.ensures.value)
 
-pub returns-in_default : goal.returns-in_default
-returns-in_default c =
-    inl (refl, found (goal.at.returns-in_default c).After-free_source-source ∙ c.in_default.is)
+pub returns-in_default-clause-prepares : goal.returns-in_default-clause-prepares
+returns-in_default-clause-prepares c =
+    inl (refl, found (goal.at.returns-in_default-clause-prepares c).After-free_source-source ∙ c.in_default.is)
 
-pub returns-in-Ok : goal.returns-in-Ok
-returns-in-Ok c =
+pub returns-in-Ok-clause-prepares : goal.returns-in-Ok-clause-prepares
+returns-in-Ok-clause-prepares c =
     let made = c.in-Ok.ensures in record {
-      source = found (goal.at.returns-in-Ok c).After-free_source-source ∙ c.in-Some.is;
+      source = found (goal.at.returns-in-Ok-clause-prepares c).After-free_source-source ∙ c.in-Some.is;
       receive = made.receive;
       cntl = made.cntl;
       records = made.records;
     }
 
-pub returns-in-Err : goal.returns-in-Err
-returns-in-Err c = inr c.fault_of.ensures
+pub returns-in-Err-clause-prepares : goal.returns-in-Err-clause-prepares
+returns-in-Err-clause-prepares c = inr c.fault_of.ensures
