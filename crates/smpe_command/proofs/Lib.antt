@@ -1,4 +1,4 @@
-mod Inputs
+mod FileNames
 mod Looked
 mod OneJob
 mod ReadingOn

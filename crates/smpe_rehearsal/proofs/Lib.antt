@@ -1,4 +1,4 @@
 mod Copying
 mod Greatest
-mod Receiving
+mod Afterwards
 pub mod OneJob

@@ -3,7 +3,7 @@ use Rattle.std.specs.String.{string_bytes}
 use Rattle.sqlite_disk.specs.contracts.memory.MemoryDisk.TheImpl.{ghosts as memory_disk}
 use Rattle.terms.specs.Types.{Text}
 use Rattle.smpe_command.specs.Shop.{ServesShop}
-use Rattle.smpe_command.proofs.Inputs.{each_named}
+use Rattle.smpe_command.proofs.FileNames.{each_named}
 use Rattle.smpe_command.proofs.checks.serve_files.Goals as goal
 
 pub returns-in-Some : goal.returns-in-Some

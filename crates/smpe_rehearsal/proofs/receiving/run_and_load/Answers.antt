@@ -6,7 +6,7 @@ use Rattle.smpe_jobs.specs.declared.jobs.Answer.{Answer}
 use Rattle.smpe_rehearsal.specs.Rehearsed.{rehearsed as rehearsed_as}
 use Rattle.smpe_rehearsal.specs.ServiceSet.{greatest}
 use Rattle.smpe_rehearsal.proofs.OneJob.{alike_ok, alike_err}
-use Rattle.smpe_rehearsal.proofs.Receiving.{rehearsed}
+use Rattle.smpe_rehearsal.proofs.Afterwards.{rehearsed}
 use Rattle.smpe_rehearsal.proofs.receiving.run_and_load.Goals as goal
 
 pub returns-in_err-answers : goal.returns-in_err-answers
