@@ -1,5 +1,6 @@
 //! The document about a package.
-ghost use Rattle.std.specs.Prelude.{◌≡◌, IfOk};
+ghost use Rattle.std.specs.Prelude.{◌≡◌, IfOk, Some};
+ghost use Rattle.report.specs.Views.{header_view};
 ghost use Rattle.smpe_answer.specs.Documented.{IsDocumentAnswer, IsDocumented, install_header};
 
 use crate::asked_ids::{Answer, refuse_unknown_zone};
@@ -48,21 +49,22 @@ fn zone_document(
         package: facts.ids,
         unsure: facts.unsure,
     };
-    document(alloc, &asked, facts)
+    let header = install_header(facts.zone, zone.kind());
+    document(alloc, &header, &asked, facts)
 }
 
 // The document of what is asked.
 fn document(
     alloc: Global,
+    header: &Header,
     asked: &Asked<'_>,
     facts: &PackageFacts<'_>,
 ) -> Result<Answer, AllocError>
-    ensures { IfOk result (IsDocumented asked.now facts.now) }
+    ensures { IfOk result (IsDocumented (header_view header.now) asked.now facts.now) }
 {
-    let header = install_header(facts.zone, asked.zone.kind());
     let summary = summary_of(alloc, asked)?;
     let status = summary.status().max(package_status(facts));
-    let text = check_document(alloc, &header, asked, &summary, facts.remarks, status)?;
+    let text = check_document(alloc, header, asked, &summary, facts.remarks, status)?;
     Ok(Answer { text, status })
 }
 

@@ -6,6 +6,7 @@
 
 mod asked_ids;
 mod certified;
+mod documented;
 mod facts;
 mod lines;
 mod mended;
@@ -14,6 +15,7 @@ mod summarized;
 
 pub use asked_ids::Answer;
 pub use certified::package_certificate;
+pub use documented::json_answer;
 pub use facts::PackageFacts;
 pub use mended::mend_answer;
 pub use smpe_certificate::Digest;
