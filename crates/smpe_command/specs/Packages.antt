@@ -1,5 +1,5 @@
 -- A package of a shop's own files is asked about: the answer, and its certificate.
-use Rattle.std.specs.Prelude.{◌≡◌, ◌≢◌, ◌⊎◌, ◌++◌, ◌&&◌, ℕ, Bool, true, false, not, max, List, [], ◌∷◌, length, map, Vec}
+use Rattle.std.specs.Prelude.{◌≡◌, ◌≢◌, ◌⊎◌, ◌++◌, ◌&&◌, ℕ, zero, suc, Bool, true, false, not, max, List, [], ◌∷◌, length, map, Vec}
 use Rattle.std.specs.Prelude.{Option, None, Some, option_map, Result, Ok, Err}
 use Rattle.std.specs.IoError.{error_kind}
 use Rattle.std.specs.declared.alloc.Global.{Global as AnyGlobal}
@@ -120,6 +120,11 @@ is_plain _ _ = false
 -- ---- the answer
 
 module _ {O : Type 0} (sink : SinkGhosts O) (out : O) where
+  -- The remarks go out first, but those of a document are in it.
+  abbrev pub TellsRemarks : Package → CheckForm → Result ℕ JobError → O → Type 0
+  TellsRemarks p Json r out' = (r ≡ Ok p.status) × (out' ≡ out)
+  TellsRemarks p _ r out' = TellsText sink out out' p.remarks.items p.status r
+
   -- An answer of this kind goes out; or memory ran out for it, and nothing does.
   abbrev pub TellsAnswer : (Answer → Type 0) → Result ℕ JobError → O → Type 0
   TellsAnswer Is r out' = ((r ≡ Err Memory) × (out' ≡ out))
@@ -131,6 +136,26 @@ module _ {M O : Type 0} (memory : disk.Ghosts M) (sink : SinkGhosts O) (s : Sett
   TellsForm Report z r out' = Asks memory sink out s.system s.prepared ids r out'
   TellsForm Summary z r out' = TellsAnswer sink out (IsSummaryAnswer z.zones (facts_of s z.status) ids) r out'
   TellsForm Json z r out' = TellsAnswer sink out (IsDocumentAnswer z.zones (facts_of s z.status) z.zones.zone) r out'
+
+module _ {H D M : Type 0} (host : HostGhosts H D) (memory : disk.Ghosts M) where
+  -- The system was read, and the jobs that rehearse the package were made for it.
+  pub record IsSettled (h : H) (system : CheckedSystem) (inputs : List Input) (p : Package) (s : Settled) (after : H)
+      : Type 0 where
+    pub reads : ReadsSystem host h system (Ok s.system) after
+    pub prepared : Prepares memory s.system p.items.items p.hold_items.items (Ok s.prepared)
+    pub ids : AreIds s.ids (flat_map id_of p.items.items)
+    pub unsure : s.unsure ≡ p.unsure
+    pub remarks : s.remarks ≡ p.remarks
+    pub status : s.status ≡ p.status
+    pub inputs_are : map digest_view s.inputs.items ≡ inputs ++ database_inputs system s.system
+
+  -- So it is, or memory ran out, or the system was not read, or the jobs were not made.
+  abbrev pub Settles : H → CheckedSystem → List Input → Package → Result Settled Fault → H → Type 0
+  Settles h system inputs p (Ok s) after = IsSettled h system inputs p s after
+  Settles h system inputs p (Err fault) after = ((fault ≡ Job Memory) × (after ≡ h))
+      ⊎ (((error : JobError) × ReadsSystem host h system (Err error) after × (fault ≡ Job error))
+      ⊎ ((read : System) × ReadsSystem host h system (Ok read) after
+      × ((fault ≡ Job Memory) ⊎ Prepares memory read p.items.items p.hold_items.items (Err fault))))
 
 module _ {H D M O : Type 0} (host : HostGhosts H D) (memory : disk.Ghosts M) (sink : SinkGhosts O) where
   module _ (h : H) (answer : CheckAnswer) (s : Settled) (ids : List Id) (out : O) where
@@ -153,42 +178,18 @@ module _ {H D M O : Type 0} (host : HostGhosts H D) (memory : disk.Ghosts M) (si
         × (out' ≡ out))
         ⊎ ((z : Rehearsed) × Rehearses memory s.system s.prepared (Ok z) × AnswersRehearsed z r after out')
 
-  -- The system was read, and the jobs that rehearse the package were made for it.
-  pub record IsSettled (h : H) (system : CheckedSystem) (inputs : List Input) (p : Package) (s : Settled) (after : H)
-      : Type 0 where
-    pub reads : ReadsSystem host h system (Ok s.system) after
-    pub prepared : Prepares memory s.system p.items.items p.hold_items.items (Ok s.prepared)
-    pub ids : AreIds s.ids (flat_map id_of p.items.items)
-    pub unsure : s.unsure ≡ p.unsure
-    pub remarks : s.remarks ≡ p.remarks
-    pub status : s.status ≡ p.status
-    pub inputs_are : map digest_view s.inputs.items ≡ inputs ++ database_inputs system s.system
-
-  -- So it is, or memory ran out, or the system was not read, or the jobs were not made.
-  abbrev pub Settles : H → CheckedSystem → List Input → Package → Result Settled Fault → H → Type 0
-  Settles h system inputs p (Ok s) after = IsSettled h system inputs p s after
-  Settles h system inputs p (Err fault) after = ((fault ≡ Job Memory) × (after ≡ h))
-      ⊎ (((error : JobError) × ReadsSystem host h system (Err error) after × (fault ≡ Job error))
-      ⊎ ((read : System) × ReadsSystem host h system (Ok read) after
-      × ((fault ≡ Job Memory) ⊎ Prepares memory read p.items.items p.hold_items.items (Err fault))))
-
   module _ (system : CheckedSystem) (answer : CheckAnswer) (h : H) (inputs : List Input) (p : Package) where
     -- The package is settled and answered for.
     abbrev pub AnswersCarried : O → Result ℕ Fault → H → O → Type 0
     AnswersCarried out r after out' =
-        ((fault : Fault) × Settles h system inputs p (Err fault) after × (r ≡ Err fault) × (out' ≡ out))
-        ⊎ ((s : Settled) × (m : H) × Settles h system inputs p (Ok s) m
+        ((fault : Fault) × Settles host memory h system inputs p (Err fault) after × (r ≡ Err fault) × (out' ≡ out))
+        ⊎ ((s : Settled) × (m : H) × Settles host memory h system inputs p (Ok s) m
         × AnswersSettled m answer s (asked_ids system) out (is_plain answer.form (certificate_name answer)) r after out')
 
     -- A report has nothing to say of a package without SYSMODs.
     abbrev pub AnswersIfAny : Bool → O → Result ℕ Fault → H → O → Type 0
     AnswersIfAny true out r after out' = (r ≡ Ok 12) × (after ≡ h) × (out' ≡ out)
     AnswersIfAny false out r after out' = AnswersCarried out r after out'
-
-    -- The remarks go out first, but those of a document are in it.
-    abbrev pub TellsRemarks : CheckForm → O → Result ℕ JobError → O → Type 0
-    TellsRemarks Json out r out' = (r ≡ Ok p.status) × (out' ≡ out)
-    TellsRemarks _ out r out' = TellsText sink out out' p.remarks.items p.status r
 
     abbrev pub AnswersAfter : Result ℕ JobError → O → Result ℕ Fault → H → O → Type 0
     AnswersAfter (Ok status) out r after out' = (answered : Result ℕ Fault)
@@ -199,7 +200,7 @@ module _ {H D M O : Type 0} (host : HostGhosts H D) (memory : disk.Ghosts M) (si
     -- The package is answered for, after its remarks.
     abbrev pub AnswersPackage : O → Result ℕ Fault → H → O → Type 0
     AnswersPackage out r after out' = (mid : O) × (status : Result ℕ JobError)
-        × TellsRemarks answer.form out status mid × AnswersAfter status mid r after out'
+        × TellsRemarks sink out p answer.form status mid × AnswersAfter status mid r after out'
 
   -- The files are read in their order, and the package that they come to is answered for. Or the first file that cannot
   -- be read is reported, or memory ran out, or they cannot be carried, and nothing else is done.

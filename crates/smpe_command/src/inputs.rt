@@ -1,5 +1,5 @@
 //! The files from which a package and a system come, as a certificate names them.
-ghost use Rattle.std.specs.Prelude.{◌≡◌, ◌++◌, [], ◌∷◌, IfOk, IfErr, map};
+ghost use Rattle.std.specs.Prelude.{◌≡◌, ◌+◌, ◌++◌, [], ◌∷◌, IfOk, IfErr, length, map};
 ghost use Rattle.std.specs.String.{string_bytes};
 ghost use Rattle.smpe_certificate.specs.Views.{digest_view};
 ghost use Rattle.smpe_jobs.specs.declared.error.JobError.TheVariants.{Memory};
@@ -18,7 +18,7 @@ pub(crate) fn file_digests<'a>(
     names: &'a [String],
     files: &[Vec<u8>],
 ) -> Result<Vec<Digest<'a>>, JobError>
-    ensures ok { IfOk result (λ digests. map digest_view digests.items
+    ensures ok { IfOk result (λ all. map digest_view all.items
         ≡ inputs_of (map string_bytes names.entry.now) (map (λ file. file.items) files.now)) }
     ensures err { IfErr result (λ error. error ≡ Memory) }
 {
@@ -47,7 +47,7 @@ pub(crate) fn with_database<'a>(
     digests: Vec<Digest<'a>>,
 ) -> Result<Vec<Digest<'a>>, JobError>
     ensures ok { IfOk result (λ all. map digest_view all.items
-        ≡ map digest_view digests.items ++ database_inputs checked.entry.now system.now) }
+        ≡ map digest_view digests.entry.items ++ database_inputs checked.entry.now system.now) }
     ensures err { IfErr result (λ error. error ≡ Memory) }
 {
     match checked {
@@ -63,7 +63,7 @@ fn with_copy<'a>(
     digests: Vec<Digest<'a>>,
 ) -> Result<Vec<Digest<'a>>, JobError>
     ensures ok { IfOk result (λ all. map digest_view all.items
-        ≡ map digest_view digests.items ++ database_inputs (Copied copy.entry.now) system.now) }
+        ≡ map digest_view digests.entry.items ++ database_inputs (Copied copy.entry.now) system.now) }
     ensures err { IfErr result (λ error. error ≡ Memory) }
 {
     match system {
@@ -80,8 +80,9 @@ fn with_file<'a>(
     name: &'a str,
     bytes: &[u8],
 ) -> Result<Vec<Digest<'a>>, AllocError>
-    ensures { IfOk result (λ all. map digest_view all.items
-        ≡ map digest_view digests.items ++ input_of name.entry.now bytes.now ∷ []) }
+    ensures all { IfOk result (λ all. map digest_view all.items
+        ≡ map digest_view digests.entry.items ++ input_of name.entry.now bytes.now ∷ []) }
+    ensures count { IfOk result (λ all. length all.items ≡ length digests.entry.items + 1) }
 {
     let mut all = digests;
     all.push(Digest::of(name, bytes))?;

@@ -4,7 +4,7 @@ ghost use Rattle.std.specs.List.{flat_map, list_any};
 ghost use Rattle.std.specs.String.{string_bytes};
 ghost use Rattle.intake_service.specs.Carrying.{is_sysmod};
 ghost use Rattle.smpe_certificate.specs.Views.{digest_view};
-ghost use Rattle.smpe_jobs.specs.declared.error.JobError.TheVariants.{Memory};
+ghost use Rattle.smpe_jobs.specs.declared.error.JobError.TheVariants.{Memory as NoMemory};
 ghost use Rattle.smpe_rehearsal.specs.ServiceSet.{receive_records};
 ghost use Rattle.smpe_command.specs.Packages.{AnswersCarried, AnswersPackage, AnswersRehearsed, AnswersSettled};
 ghost use Rattle.smpe_command.specs.Packages.{Certifies, ServesPackage, Settles, TellsForm, TellsRemarks, TellsWrite};
@@ -74,7 +74,7 @@ fn answer_package<'a, H: Host, O: Sink>(
     out: &mut O,
 ) -> Result<u8, Fault<'a>>
     ensures { AnswersPackage H.Host ⟦<Memory as Disk>⟧ O.Sink check.now.system.now check.now.answer.now host.old
-        (map digest_view inputs.items) carried out.old result host.new out.new }
+        (map digest_view inputs.entry.items) carried out.old result host.new out.new }
 {
     let status = tell_remarks(check.answer.form, &carried, out)?;
     let answered = answer_if_any(alloc, host, check, inputs, carried, out)?;
@@ -87,7 +87,7 @@ fn tell_remarks<O: Sink>(
     carried: &Package,
     out: &mut O,
 ) -> Result<u8, JobError>
-    ensures { TellsRemarks O.Sink carried.now form out.old result out.new }
+    ensures { TellsRemarks O.Sink out.old carried.now form result out.new }
 {
     match form {
         CheckForm::Json => Ok(carried.status),
@@ -106,7 +106,7 @@ fn answer_if_any<'a, H: Host, O: Sink>(
     out: &mut O,
 ) -> Result<u8, Fault<'a>>
     ensures { AnswersIfAny H.Host ⟦<Memory as Disk>⟧ O.Sink check.now.system.now check.now.answer.now host.old
-        (map digest_view inputs.items) carried
+        (map digest_view inputs.entry.items) carried
         (is_report check.now.answer.now.form && not (list_any is_sysmod carried.items.items)) out.old result host.new
         out.new }
 {
@@ -137,7 +137,7 @@ fn answer_carried<'a, H: Host, O: Sink>(
     out: &mut O,
 ) -> Result<u8, Fault<'a>>
     ensures { AnswersCarried H.Host ⟦<Memory as Disk>⟧ O.Sink check.now.system.now check.now.answer.now host.old
-        (map digest_view inputs.items) carried out.old result host.new out.new }
+        (map digest_view inputs.entry.items) carried out.old result host.new out.new }
 {
     let settled = settle(alloc, host, check.system, inputs, carried)?;
     answer_settled(alloc, host, check, &settled, out)
@@ -151,7 +151,7 @@ pub(crate) fn settle<'a, H: Host>(
     inputs: Vec<Digest<'a>>,
     carried: Package,
 ) -> Result<Settled<'a>, Fault<'a>>
-    ensures settles { Settles H.Host ⟦<Memory as Disk>⟧ host.old system.entry.now (map digest_view inputs.items) carried
+    ensures settles { Settles H.Host ⟦<Memory as Disk>⟧ host.old system.entry.now (map digest_view inputs.entry.items) carried
         result host.new }
     ensures receive { IfOk result (λ settled. settled.prepared.jobs.receive.items ≡ receive_records) }
 {
@@ -180,7 +180,7 @@ pub(crate) fn settle<'a, H: Host>(
 // The ids of the SYSMODs of the package. Returns `Memory` if memory runs out.
 fn ids_of_package(alloc: Global, carried: &Package) -> Result<IdList, JobError>
     ensures ok { IfOk result (λ ids. AreIds ids (flat_map id_of carried.now.items.items)) }
-    ensures err { IfErr result (λ error. error ≡ Memory) }
+    ensures err { IfErr result (λ error. error ≡ NoMemory) }
 {
     Ok(package_ids(alloc, carried.items.as_slice())?)
 }
