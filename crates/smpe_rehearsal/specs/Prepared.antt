@@ -1,5 +1,5 @@
 -- The jobs that rehearse a package.
-use Rattle.std.specs.Prelude.{◌≡◌, ◌⊎◌, ◌++◌, List, find, codes, None, Some, Result, Ok, Err, IsTrue}
+use Rattle.std.specs.Prelude.{◌≡◌, ◌⊎◌, ◌++◌, List, [], find, codes, None, Some, Result, Ok, Err, IsTrue}
 use Rattle.sqlite.specs.declared.error.Error.{Error}
 use Rattle.sqlite.specs.Store.{Ghosts}
 use Rattle.sqlite.specs.Held.{Held}
@@ -18,7 +18,6 @@ use Rattle.smpe_jobs.specs.declared.error.JobError.TheVariants.{Memory}
 use Rattle.smpe_jobs.specs.declared.messages.Fault.{Fault}
 use Rattle.smpe_jobs.specs.declared.messages.Fault.TheVariants.{Job, NotCarried, NoSource}
 use Rattle.smpe_jobs.specs.Errors.{job_error}
-use Rattle.smpe_jobs.specs.FromEmpty.{empty_system}
 use Rattle.smpe_jobs.specs.ListJob.{two_records}
 use Rattle.smpe_rehearsal.specs.declared.values.Prepared.{Prepared}
 use Rattle.smpe_rehearsal.specs.declared.values.System.{System}
@@ -68,9 +67,10 @@ module _ {M : Type 0} (memory : disk.Ghosts M) where
   LoadsGlobal db log r = ((error : Error) × IsTrue (is_open_error error) × (r ≡ Err (told error)))
       ⊎ ((conn : Held (FileStore M memory)) × IsCopy db log conn × LoadsFrom over_files conn r)
 
-  -- the global zone of the system
+  -- the global zone of the system: in an empty one nothing is received
   abbrev pub HasGlobal : System → Result Global StoreError → Type 0
-  HasGlobal (Empty srel) r = r ≡ Ok empty_system.global
+  HasGlobal (Empty srel) (Ok g) = g.sysmods ≡ []
+  HasGlobal (Empty srel) (Err why) = ⊥
   HasGlobal (Copied bytes zone) r = LoadsGlobal bytes.db.items bytes.log.items r
 
   -- The jobs are made for the system, or its global zone was not loaded.
