@@ -1,5 +1,5 @@
 -- A package of a shop's own files is asked about: the answer, and its certificate.
-use Rattle.std.specs.Prelude.{◌≡◌, ◌≢◌, ◌⊎◌, ◌++◌, ◌&&◌, ℕ, zero, suc, Bool, true, false, not, max, List, [], ◌∷◌, length, map, Vec}
+use Rattle.std.specs.Prelude.{◌≡◌, ◌≢◌, ◌⊎◌, ◌++◌, ◌&&◌, ℕ, Bool, true, false, not, max, List, [], ◌∷◌, length, map, Vec}
 use Rattle.std.specs.Prelude.{Option, None, Some, option_map, Result, Ok, Err}
 use Rattle.std.specs.IoError.{error_kind}
 use Rattle.std.specs.declared.alloc.Global.{Global as AnyGlobal}
@@ -48,13 +48,7 @@ use Rattle.smpe_command.specs.Systems.{ReadsSystem}
 abbrev pub input_of : Text → List ℕ → Input
 input_of name bytes = record { name = name; sha256 = sha256 bytes }
 
--- the name at a place, or an empty one if there is none
-abbrev pub name_in : List Text → ℕ → Text
-name_in [] place = []
-name_in (name ∷ names) zero = name
-name_in (name ∷ names) (suc place) = name_in names place
-
--- the files of these names with these bytes
+-- the files of these names with these bytes, one after the other; a name that is missing is empty
 abbrev pub inputs_of : List Text → List (List ℕ) → List Input
 inputs_of names [] = []
 inputs_of [] (bytes ∷ files) = input_of [] bytes ∷ inputs_of [] files
@@ -89,15 +83,20 @@ TellsWrite name error (Job Memory) = error_kind error ≡ OutOfMemory
 TellsWrite name error (CannotWrite told) = (error_kind error ≢ OutOfMemory) × (told.now ≡ name)
 TellsWrite name error _ = ⊥
 
+module _ {H D : Type 0} (host : HostGhosts H D) (h : H) where
+  -- a new file of this name has these bytes, or it could not be written
+  abbrev pub Writes : Text → List ℕ → Result (Unit {0}) Fault → H → Type 0
+  Writes name bytes (Ok done) after = host.writes h name bytes after
+  Writes name bytes (Err fault) after = (error : Error) × host.cannot_write h name error after
+      × TellsWrite name error fault
+
 module _ {H D : Type 0} (host : HostGhosts H D) (h : H) (zones : LoadedZones) (x : Text) (inputs : List Input) where
-  -- The certificate is in a new file of this name. If there is no such zone, nothing is certified. Or memory ran out for
-  -- the certificate, or its file could not be written.
+  -- Memory ran out for the certificate; or there is no such zone, and nothing is certified; or it is in a new file of
+  -- this name, or that could not be written.
   abbrev pub WritesCertificate : Text → Result (Unit {0}) Fault → H → Type 0
-  WritesCertificate name (Ok done) after = (HasCertificate zones x inputs None × (after ≡ h))
-      ⊎ ((text : Vec ℕ AnyGlobal) × HasCertificate zones x inputs (Some text) × host.writes h name text.items after)
-  WritesCertificate name (Err fault) after = ((fault ≡ Job Memory) × (after ≡ h))
-      ⊎ ((text : Vec ℕ AnyGlobal) × HasCertificate zones x inputs (Some text) × (error : Error)
-      × host.cannot_write h name error after × TellsWrite name error fault)
+  WritesCertificate name r after = ((r ≡ Err (Job Memory)) × (after ≡ h))
+      ⊎ ((HasCertificate zones x inputs None × (r ≡ Ok tt) × (after ≡ h))
+      ⊎ ((text : Vec ℕ AnyGlobal) × HasCertificate zones x inputs (Some text) × Writes host h name text.items r after))
 
   -- so if a certificate is asked for
   abbrev pub Certifies : Option Text → Result (Unit {0}) Fault → H → Type 0

@@ -1,10 +1,10 @@
 //! The files from which a package and a system come, as a certificate names them.
-ghost use Rattle.std.specs.Prelude.{◌≡◌, ◌+◌, ◌++◌, [], ◌∷◌, IfOk, IfErr, length, map};
+ghost use Rattle.std.specs.Prelude.{◌≡◌, ◌+◌, ◌++◌, [], ◌∷◌, IfOk, IfErr, get_or, length, map};
 ghost use Rattle.std.specs.String.{string_bytes};
 ghost use Rattle.smpe_certificate.specs.Views.{digest_view};
 ghost use Rattle.smpe_jobs.specs.declared.error.JobError.TheVariants.{Memory};
 ghost use Rattle.smpe_invocation.specs.declared.asked.CheckedSystem.TheVariants.{Copied};
-ghost use Rattle.smpe_command.specs.Packages.{database_inputs, input_of, inputs_of, name_in};
+ghost use Rattle.smpe_command.specs.Packages.{database_inputs, input_of, inputs_of};
 
 use smpe::JobError;
 use smpe_answer::Digest;
@@ -32,7 +32,7 @@ pub(crate) fn file_digests<'a>(
 
 /// The name at this place, or an empty one if there is none.
 pub(crate) fn name_at(names: &[String], place: usize) -> &str
-    ensures { result.now ≡ name_in (map string_bytes names.now) place }
+    ensures { result.now ≡ get_or (map string_bytes names.now) place [] }
 {
     match names.get(place) {
         Some(name) => name.as_str(),

@@ -9,7 +9,7 @@ ghost use Rattle.smpe_rehearsal.specs.ServiceSet.{receive_records};
 ghost use Rattle.smpe_command.specs.Packages.{AnswersCarried, AnswersPackage, AnswersRehearsed, AnswersSettled};
 ghost use Rattle.smpe_command.specs.Packages.{Certifies, ServesPackage, Settles, TellsForm, TellsRemarks, TellsWrite};
 ghost use Rattle.smpe_command.specs.Packages.{AnswersIfAny, WritesCertificate, asked_ids, certificate_name, is_plain};
-ghost use Rattle.smpe_command.specs.Packages.{TellsAnswer, is_report};
+ghost use Rattle.smpe_command.specs.Packages.{TellsAnswer, Writes, is_report};
 ghost use Rattle.smpe_answer.specs.Answered.{IsSummaryAnswer};
 ghost use Rattle.smpe_answer.specs.Documented.{IsDocumentAnswer};
 ghost use Rattle.smpe_rehearsal.specs.Told.{TellsText};
@@ -273,10 +273,17 @@ fn write_certificate<'a, H: Host>(
     match package_certificate(alloc, zones, source, settled.inputs.as_slice()) {
         Err(_) => Err(Fault::Job(JobError::Memory)),
         Ok(None) => Ok(()),
-        Ok(Some(text)) => match host.write_new(name, text.as_slice()) {
-            Ok(()) => Ok(()),
-            Err(error) => Err(write_fault(name, &error)),
-        },
+        Ok(Some(text)) => write_text(host, name, text.as_slice()),
+    }
+}
+
+// Writes the text into a new file of this name.
+fn write_text<'a, H: Host>(host: &mut H, name: &'a str, text: &[u8]) -> Result<(), Fault<'a>>
+    ensures { Writes H.Host host.old name.entry.now text.now result host.new }
+{
+    match host.write_new(name, text) {
+        Ok(()) => Ok(()),
+        Err(error) => Err(write_fault(name, &error)),
     }
 }
 
