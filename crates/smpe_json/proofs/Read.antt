@@ -1,51 +1,54 @@
 -- What is read from the values in JSON is what was told.
-use Rattle.std.proofs.Common.{◌≡◌, List, [], ◌∷◌, Option, Some, None, refl, ap, ◌∙◌, map, codes, option_map}
-use Rattle.std.specs.Prelude.{option_and_then}
+use Rattle.std.proofs.Common.{◌≡◌, List, [], ◌∷◌, Option, Some, None, refl, ap, ◌∙◌, map, codes}
+use Rattle.terms.specs.declared.kinds.Kind.{Kind}
+use Rattle.terms.specs.declared.kinds.Kind.TheVariants.{Function, Ptf, Apar, Usermod}
+use Rattle.terms.specs.declared.kinds.HoldKind.{HoldKind}
+use Rattle.terms.specs.declared.kinds.HoldKind.TheVariants.{Error, System, User}
+use Rattle.terms.specs.declared.codes.CommandWord.{CommandWord}
+use Rattle.terms.specs.declared.codes.CommandWord.TheVariants as word
 use Rattle.terms.specs.declared.codes.Test.{Test}
 use Rattle.terms.specs.declared.codes.Test.TheVariants as test
 use Rattle.terms.specs.declared.codes.NeedKind.{NeedKind}
 use Rattle.terms.specs.declared.codes.NeedKind.TheVariants as need
 use Rattle.terms.specs.declared.codes.IdRefusal.{IdRefusal}
 use Rattle.terms.specs.declared.codes.IdRefusal.TheVariants as refused
-use Rattle.terms.specs.declared.kinds.Kind.{Kind}
-use Rattle.terms.specs.declared.kinds.Kind.TheVariants.{Function, Ptf, Apar, Usermod}
-use Rattle.terms.specs.declared.kinds.HoldKind.{HoldKind}
-use Rattle.terms.specs.declared.kinds.HoldKind.TheVariants.{Error, System, User}
 use Rattle.terms.specs.Types.{Text, Id}
-use Rattle.terms.specs.Spelling.{kind_text, hold_text, test_text, need_text}
+use Rattle.terms.specs.Spelling.{word_text, test_text, need_text}
 use Rattle.terms.specs.Failures.{all_tests, all_needs}
-use Rattle.machine.specs.Outcome.{Place, OfKind, OfHold, NotReceived, OpenNeed, Failure, StatusLine}
-use Rattle.machine.specs.Outcome.{Status, Received, Already, RefusedId, Assigned, Unknown, Held, Replaced, Released}
-use Rattle.machine.specs.Outcome.{Rejected, Applied, Accepted, Superseded, Failed, Deleted, Missing, NoVer, Restored}
-use Rattle.machine.specs.Outcome.{NotApplied}
+use Rattle.machine.specs.Outcome.{Place, OfKind, OfHold, NotReceived, OpenNeed, Failure, Status, Received, RefusedId}
+use Rattle.machine.specs.Outcome.{Failed, Header, StatusLine, Ran}
+use Rattle.machine.specs.Report.{place_text}
+use Rattle.report.specs.declared.outcome.ReportLine.{ReportLine}
+use Rattle.report.specs.declared.outcome.ReportLine.TheVariants as line
+use Rattle.report.specs.Views.{place_view, status_view, line_view}
 use Rattle.serde_json.specs.Data.{Data, string}
 use Rattle.serde_json.specs.Find.{as_str}
 use Rattle.serde_json.specs.View.{items_of}
-use Rattle.smpe_json.specs.Values.{each_in, spelled, object_of}
-use Rattle.smpe_json.specs.Statuses.{test_value, need_value, status_members}
-use Rattle.smpe_json.specs.Reading.{test_in, need_in, all_kinds, all_hold_kinds, line_in, failure_of, status_line}
-use Rattle.smpe_json.specs.Laws.{StatusRead}
+use Rattle.smpe_json.specs.Values.{each_in, spelled}
+use Rattle.smpe_json.specs.Lines.{test_value, need_value, line_value, zone_value, command_value}
+use Rattle.smpe_json.specs.Reading.{test_in, need_in, all_places, all_words, line_in, zone_in, command_in}
+use Rattle.smpe_json.specs.Laws.{DocumentTells}
 
 -- an array is read as the list whose values it has
-pub each_read : {X : Type 0} (value : X → Data) (read : Data → Option X) → ((x : X) → read (value x) ≡ Some x)
+each_read : {X : Type 0} (value : X → Data) (read : Data → Option X) → ((x : X) → read (value x) ≡ Some x)
     → (xs : List X) → each_in read (items_of (map value xs)) ≡ Some xs
 each_read value read back [] = refl
 each_read value read back (x ∷ xs) = rw (back x, each_read value read back xs) refl
 
-pub tests_read : (t : Test) → test_in (test_value t) ≡ Some t
-tests_read test.HeldBySystem = refl
-tests_read test.HeldByUser = refl
-tests_read test.ForbiddenByNpre = refl
-tests_read test.OwnedByAnother = refl
-tests_read test.Regression = refl
-tests_read test.NothingToUpdate = refl
-tests_read test.NotInTarget = refl
-tests_read test.ChainDeleted = refl
-tests_read test.InClash = refl
-tests_read test.AlreadyAccepted = refl
-tests_read test.HasDelete = refl
-tests_read test.OtherLevel = refl
-tests_read test.SeveralFit = refl
+test_read : (t : Test) → test_in (test_value t) ≡ Some t
+test_read test.HeldBySystem = refl
+test_read test.HeldByUser = refl
+test_read test.ForbiddenByNpre = refl
+test_read test.OwnedByAnother = refl
+test_read test.Regression = refl
+test_read test.NothingToUpdate = refl
+test_read test.NotInTarget = refl
+test_read test.ChainDeleted = refl
+test_read test.InClash = refl
+test_read test.AlreadyAccepted = refl
+test_read test.HasDelete = refl
+test_read test.OtherLevel = refl
+test_read test.SeveralFit = refl
 
 need_spelled : (kind : NeedKind) → spelled need_text all_needs (need_text kind) ≡ Some kind
 need_spelled need.Fmid = refl
@@ -57,54 +60,63 @@ need_spelled need.Orphan = refl
 need_spelled need.Elem = refl
 need_spelled need.Dep = refl
 
-pub needs_read : (n : OpenNeed) → need_in (need_value n) ≡ Some n
-needs_read n = rw (need_spelled n.kind) refl
+need_read : (n : OpenNeed) → need_in (need_value n) ≡ Some n
+need_read n = rw (need_spelled n.kind) refl
 
-pub ids_read : (id : Id) → as_str (string id) ≡ Some id
-ids_read id = refl
+id_read : (id : Id) → as_str (string id) ≡ Some id
+id_read id = refl
 
-kind_spelled : (kind : Kind) → spelled kind_text all_kinds (kind_text kind) ≡ Some kind
-kind_spelled Function = refl
-kind_spelled Ptf = refl
-kind_spelled Apar = refl
-kind_spelled Usermod = refl
+place_spelled : (place : Place) → spelled place_text all_places (place_text place) ≡ Some place
+place_spelled (OfKind Function) = refl
+place_spelled (OfKind Ptf) = refl
+place_spelled (OfKind Apar) = refl
+place_spelled (OfKind Usermod) = refl
+place_spelled (OfHold Error) = refl
+place_spelled (OfHold System) = refl
+place_spelled (OfHold User) = refl
+place_spelled NotReceived = refl
 
-hold_spelled : (kind : HoldKind) → spelled hold_text all_hold_kinds (hold_text kind) ≡ Some kind
-hold_spelled Error = refl
-hold_spelled System = refl
-hold_spelled User = refl
+word_spelled : (w : CommandWord) → spelled word_text all_words (word_text w) ≡ Some w
+word_spelled word.Set = refl
+word_spelled word.Receive = refl
+word_spelled word.Reject = refl
+word_spelled word.Apply = refl
+word_spelled word.Accept = refl
+word_spelled word.Restore = refl
+word_spelled word.List = refl
+word_spelled word.Report = refl
 
--- a failed one
-failed_read : (id : Id) (place : Place) (why : Failure)
-    → line_in (object_of ((codes "id", string id) ∷ status_members place (Failed why)))
-    ≡ Some (StatusLine id place (Failed why))
-failed_read id (OfKind kind) why =
-    rw (each_read test_value test_in tests_read why.tests, each_read need_value need_in needs_read why.needs,
-    each_read string as_str ids_read why.causers, kind_spelled kind) refl
-failed_read id (OfHold kind) why =
-    rw (each_read test_value test_in tests_read why.tests, each_read need_value need_in needs_read why.needs,
-    each_read string as_str ids_read why.causers, hold_spelled kind) refl
-failed_read id NotReceived why =
-    rw (each_read test_value test_in tests_read why.tests, each_read need_value need_in needs_read why.needs,
-    each_read string as_str ids_read why.causers) refl
-
--- a refused one
 refused_read : (id : Id) (place : Place) (why : IdRefusal)
-    → line_in (object_of ((codes "id", string id) ∷ status_members place (RefusedId why)))
-    ≡ Some (StatusLine id place (RefusedId why))
-refused_read id (OfKind kind) refused.MakesLoop = rw (kind_spelled kind) refl
-refused_read id (OfKind kind) why = rw (kind_spelled kind) refl
-refused_read id (OfHold kind) refused.MakesLoop = rw (hold_spelled kind) refl
-refused_read id (OfHold kind) why = rw (hold_spelled kind) refl
-refused_read id NotReceived refused.MakesLoop = refl
-refused_read id NotReceived why = refl
+    → line_in (line_value (StatusLine id place (RefusedId why))) ≡ Some (StatusLine id place (RefusedId why))
+refused_read id place refused.MakesLoop = rw (place_spelled place) refl
+refused_read id place why = rw (place_spelled place) refl
 
-pub status_read : StatusRead
-status_read id place (Failed why) = failed_read id place why
+status_read : (id : Id) (place : Place) (status : Status)
+    → line_in (line_value (StatusLine id place status)) ≡ Some (StatusLine id place status)
+status_read id place (Failed why) =
+    rw (each_read test_value test_in test_read why.tests, each_read need_value need_in need_read why.needs,
+    each_read string as_str id_read why.causers, place_spelled place) refl
 status_read id place (RefusedId why) = refused_read id place why
-status_read id (OfKind kind) Received = rw (kind_spelled kind) refl
-status_read id (OfKind kind) status = rw (kind_spelled kind) refl
-status_read id (OfHold kind) Received = rw (hold_spelled kind) refl
-status_read id (OfHold kind) status = rw (hold_spelled kind) refl
-status_read id NotReceived Received = refl
-status_read id NotReceived status = refl
+status_read id place Received = rw (place_spelled place) refl
+status_read id place status = rw (place_spelled place) refl
+
+line_read : (l : ReportLine) → line_in (line_value (line_view l)) ≡ Some (line_view l)
+line_read (line.Status id place status) = status_read id (place_view place) (status_view status)
+line_read line.Nothing = refl
+line_read (line.Errsysmod id reason resolvers) = rw (each_read string as_str id_read resolvers.items) refl
+
+lines_read : (ls : List ReportLine)
+    → each_in line_in (items_of (map line_value (map line_view ls))) ≡ Some (map line_view ls)
+lines_read [] = refl
+lines_read (l ∷ ls) = rw (line_read l, lines_read ls) refl
+
+zone_read : (zone : Option Text) → zone_in (zone_value zone) ≡ Some zone
+zone_read None = refl
+zone_read (Some zone) = refl
+
+command_read : (h : Header) (ls : List ReportLine)
+    → command_in (command_value h (map line_view ls)) ≡ Some (Ran h (map line_view ls))
+command_read h ls = rw (lines_read ls, word_spelled h.word, zone_read h.boundary) refl
+
+pub document_tells : DocumentTells
+document_tells h ls summary remarks status = rw (command_read h ls) refl

@@ -1,7 +1,7 @@
 -- The document about a package: the command that was tried, its summary, what is to be done, and remarks on the files.
 use Rattle.std.specs.Prelude.{◌≡◌, ◌==◌, ℕ, List, [], ◌∷◌, ◌++◌, Some, codes, filter, map, if◌then◌else◌}
 use Rattle.std.specs.Str.{bytes_eq}
-use Rattle.std.specs.Str.Lines.{lines}
+use Rattle.std.specs.Str.Lines.{lines as lines_of_text}
 use Rattle.terms.specs.Bytes.{newline}
 use Rattle.terms.specs.Types.{Text, Id}
 use Rattle.machine.specs.Outcome.{Header, Line}
@@ -99,7 +99,7 @@ printed_in_lines byte = if byte == newline then newline else printed byte
 
 -- the lines of the remarks
 abbrev pub remark_lines : Text → List Text
-remark_lines remarks = lines (map printed_in_lines remarks)
+remark_lines remarks = lines_of_text (map printed_in_lines remarks)
 
 -- ---- all
 

@@ -1,7 +1,7 @@
 //! What the definitions say about documents.
-ghost use Rattle.smpe_json.specs.Laws.{StatusRead};
+ghost use Rattle.smpe_json.specs.Laws.{DocumentTells};
 
-/// A status line is read as what it tells.
-pub fn status_is_read()
-    ensures { StatusRead }
+/// A document tells one command, with just its header and its lines.
+pub fn document_tells()
+    ensures { DocumentTells }
 {}
