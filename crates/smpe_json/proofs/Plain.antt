@@ -1,12 +1,13 @@
 -- A document has no floats, and nests a few levels deep, so its text is read as its value.
-use Rattle.std.proofs.Common.{◌≡◌, ◌≤◌, ◌<◌, ◌+◌, ℕ, suc, List, [], ◌∷◌, ◌++◌, Bool, false, Option, None, Some, refl, arith, map}
-use Rattle.std.specs.Prelude.{max}
+use Rattle.std.proofs.Common.{◌≡◌, ◌≤◌, ◌∙◌, ℕ, List, [], ◌∷◌, ◌++◌, false, Option, None, Some, refl, arith, map, ap, sym, subst}
+use Rattle.std.specs.Prelude.{filter}
 use Rattle.terms.specs.Types.{Text, Id}
 use Rattle.terms.specs.declared.codes.Test.{Test}
 use Rattle.machine.specs.Outcome.{Place, OpenNeed, Failure, Status, Received, Failed, Header, Line, StatusLine, NothingLine}
 use Rattle.machine.specs.Outcome.{ErrsysmodLine}
 use Rattle.serde_json.specs.Data.{Data, string, Items, depth, items_depth}
-use Rattle.serde_json.specs.Written.{has_float, items_have_float}
+use Rattle.serde_json.specs.Read.{read, max_depth}
+use Rattle.serde_json.specs.Written.{has_float, items_have_float, compact_text}
 use Rattle.serde_json.specs.View.{items_of}
 use Rattle.smpe_summary.specs.declared.values.Group.{Group}
 use Rattle.smpe_summary.specs.declared.values.Group.TheVariants as group
@@ -17,10 +18,10 @@ use Rattle.smpe_summary.specs.declared.values.Summary.{Summary}
 use Rattle.smpe_summary.specs.Causes.{Cause}
 use Rattle.smpe_summary.specs.Todo.{TakenOff}
 use Rattle.smpe_summary.specs.Views.{cause_view, taken_view}
-use Rattle.std.specs.Prelude.{filter}
 use Rattle.smpe_json.specs.Lines.{test_value, need_value, line_value, zone_value, command_value}
 use Rattle.smpe_json.specs.Documents.{group_names, id_in_group, member_value, is_named, group_value, cause_value}
 use Rattle.smpe_json.specs.Documents.{taken_value, summary_value, step_value, remark_lines, check_value}
+use Rattle.smpe_json.specs.Documents.{IsDocumentOf}
 
 -- it has no float, and nests at most so many levels deep
 pub record IsPlain (n : ℕ) (d : Data) : Type 0 where
@@ -135,4 +136,16 @@ check_plain h ls s remarks status =
     record {
       no_float = rw (command.no_float, summary.no_float, steps.no_float, told.no_float) refl;
       levels = omega (arith, command.levels, summary.levels, steps.levels, told.levels);
+    }
+
+-- the text that is written for the value d, and a newline
+pub document_of : (d value : Data) (s text : Text) → d ≡ value → IsPlain 7 value
+    → (has_float d ≡ false → s ≡ compact_text d) → (depth d ≤ max_depth → read s ≡ Some d) → text ≡ s ++ 10 ∷ []
+    → IsDocumentOf value text
+document_of d value s text same plain writes reads ends =
+    let written : s ≡ compact_text d = writes (ap has_float same ∙ plain.no_float) in
+    let shallow : depth d ≤ max_depth = subst (λ k. depth k ≤ max_depth) (sym same) (omega (arith, plain.levels)) in
+    record {
+      is = ends ∙ ap (λ t. t ++ 10 ∷ []) (written ∙ ap compact_text same);
+      reads = ap read (sym (written ∙ ap compact_text same)) ∙ reads shallow ∙ ap (λ k. Some k) same;
     }

@@ -1,5 +1,5 @@
 -- The document about a package: the command that was tried, its summary, what is to be done, and remarks on the files.
-use Rattle.std.specs.Prelude.{◌≡◌, ◌==◌, ℕ, List, [], ◌∷◌, ◌++◌, Some, codes, filter, map, if◌then◌else◌}
+use Rattle.std.specs.Prelude.{◌≡◌, ◌==◌, ℕ, Bool, List, [], ◌∷◌, ◌++◌, Some, codes, filter, map, if◌then◌else◌}
 use Rattle.std.specs.Str.{bytes_eq}
 use Rattle.std.specs.Str.Lines.{lines as lines_of_text}
 use Rattle.terms.specs.Bytes.{newline}

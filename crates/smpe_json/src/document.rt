@@ -53,7 +53,7 @@ fn check_value(
     alloc: Global,
     header: &Header,
     asked: &Asked<'_>,
-    summary: &Summary<'_>,
+    summary: &Summary,
     remarks: &[u8],
     status: u8,
 ) -> Result<Value, AllocError>
@@ -75,7 +75,7 @@ pub fn check_document(
     alloc: Global,
     header: &Header,
     asked: &Asked<'_>,
-    summary: &Summary<'_>,
+    summary: &Summary,
     remarks: &[u8],
     status: u8,
 ) -> Result<Vec<u8>, AllocError>

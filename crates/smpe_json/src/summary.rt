@@ -105,7 +105,7 @@ fn group_values(alloc: Global, members: &[Member]) -> Result<Vec<Value>, AllocEr
 }
 
 // A causer as an object: how many fail because of it, and why it fails.
-fn cause_value(alloc: Global, cause: &Cause<'_>) -> Result<Value, AllocError>
+fn cause_value(alloc: Global, cause: &Cause) -> Result<Value, AllocError>
     ensures { IfOk result (λ value. view value ≡ cause_value (cause_view cause.now)) }
 {
     let mut text = Vec::new(alloc);
@@ -115,7 +115,7 @@ fn cause_value(alloc: Global, cause: &Cause<'_>) -> Result<Value, AllocError>
 }
 
 // Causers as a list.
-fn cause_values(alloc: Global, causes: &[Cause<'_>]) -> Result<Vec<Value>, AllocError>
+fn cause_values(alloc: Global, causes: &[Cause]) -> Result<Vec<Value>, AllocError>
     ensures { IfOk result (λ values. map view values.items ≡ map cause_value (map cause_view causes.now)) }
 {
     let mut values = Vec::new(alloc);
@@ -146,7 +146,7 @@ fn taken_values(alloc: Global, taken_off: &[TakenOff]) -> Result<Vec<Value>, All
 }
 
 /// A summary as an object, without what is to be done.
-pub(crate) fn summary_value(alloc: Global, summary: &Summary<'_>) -> Result<Value, AllocError>
+pub(crate) fn summary_value(alloc: Global, summary: &Summary) -> Result<Value, AllocError>
     ensures { IfOk result (λ value. view value ≡ summary_value summary.now) }
 {
     let groups = group_values(alloc, summary.members.as_slice())?;

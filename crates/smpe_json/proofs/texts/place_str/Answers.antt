@@ -4,5 +4,5 @@ use Rattle.smpe_json.proofs.texts.place_str.Goals as goal
 pub text_of-requires : goal.text_of-requires
 text_of-requires c = rw c.kind_text.ensures (ascii_kind _)
 
-pub text_of-requires-2 : goal.text_of-requires-2
-text_of-requires-2 c = rw c.hold_text.ensures (ascii_hold _)
+pub text_of-requires-in-Hold : goal.text_of-requires-in-Hold
+text_of-requires-in-Hold c = rw c.hold_text.ensures (ascii_hold _)
