@@ -1,10 +1,10 @@
 -- The words of documents are ASCII.
-use Rattle.std.proofs.Common.{◌≡◌, ◌<◌, ◌≤◌, ℕ, zero, suc, List, [], ◌∷◌, Bool, true, false, All, IsTrue, length, get_or}
+use Rattle.std.proofs.Common.{◌<◌, ℕ, zero, suc, [], ◌∷◌, All, IsTrue, length, get_or}
 use Rattle.std.proofs.Common.{refl, arith, sym, subst, inl, inr}
-use Rattle.std.specs.Prelude.{nat_lt, nat_le, ◌&&◌}
+use Rattle.std.specs.Prelude.{nat_lt}
 use Rattle.std.specs.List.{list_all}
 use Rattle.std.specs.Str.{IsAscii}
-use Rattle.std.proofs.lemmas.Bool.{and_parts, ltb-true, cases_lt, cases_Bool}
+use Rattle.std.proofs.lemmas.Bool.{and_parts, ltb-true, cases_lt}
 use Rattle.std.proofs.lemmas.Bool.Decides.{nat_tests}
 use Rattle.std.proofs.lemmas.List.{get_or_past}
 use Rattle.std.proofs.lemmas.List.Elements.{All-get_or}
@@ -19,8 +19,7 @@ use Rattle.terms.specs.declared.codes.Test.TheVariants as test
 use Rattle.terms.specs.declared.codes.NeedKind.{NeedKind}
 use Rattle.terms.specs.declared.codes.NeedKind.TheVariants as need
 use Rattle.terms.specs.declared.codes.IdRefusal.{IdRefusal}
-use Rattle.terms.specs.declared.codes.IdRefusal.TheVariants.{MakesLoop, WrongRole, NoRoom, NoHold, Internal}
-use Rattle.terms.specs.declared.codes.IdRefusal.TheVariants.{AppliedSomewhere, UnknownSysmod}
+use Rattle.terms.specs.declared.codes.IdRefusal.TheVariants.{MakesLoop}
 use Rattle.terms.specs.Types.{Text}
 use Rattle.terms.specs.Forms.{is_id_byte}
 use Rattle.terms.specs.Spelling.{kind_text, hold_text, test_text, need_text, refusal_text, word_text}
@@ -41,9 +40,9 @@ small b h = grind (arith, nat_tests, h)
 -- a text of characters of ids
 pub ascii_run : (t : Text) → All (λ b. IsTrue (is_id_byte b)) t → IsAscii t
 ascii_run t each i = elim (cases_lt i (length t)) [
-    inl below ↦ small (get_or t i 0) (All-get_or (λ b. IsTrue (is_id_byte b)) t i 0 below each)
-    | inr past ↦ subst (λ b. b < 128) (sym (get_or_past t i 0 past)) (omega arith)
-  ]
+  | inl below ↦ small (get_or t i 0) (All-get_or (λ b. IsTrue (is_id_byte b)) t i 0 below each)
+  | inr past ↦ subst (λ b. b < 128) (sym (get_or_past t i 0 past)) (omega arith)
+]
 
 pub ascii_kind : (k : Kind) → IsAscii (kind_text k)
 ascii_kind Function = ascii_if (kind_text Function) refl

@@ -1,11 +1,11 @@
 -- A document has no floats, and nests a few levels deep, so its text is read as its value.
-use Rattle.std.proofs.Common.{◌≡◌, ◌≤◌, ◌∙◌, ℕ, List, [], ◌∷◌, ◌++◌, false, Option, None, Some, refl, arith, map, ap, sym, subst}
-use Rattle.std.specs.Prelude.{filter}
+use Rattle.std.proofs.Common.{◌≡◌, ◌≤◌, ◌+◌, ◌∙◌, ℕ, List, [], ◌∷◌, ◌++◌, false, Option, None, Some, refl, arith, map, ap, sym, subst}
+use Rattle.std.specs.Prelude.{filter, codes}
 use Rattle.terms.specs.Types.{Text, Id}
 use Rattle.terms.specs.declared.codes.Test.{Test}
-use Rattle.machine.specs.Outcome.{Place, OpenNeed, Failure, Status, Received, Failed, Header, Line, StatusLine, NothingLine}
+use Rattle.machine.specs.Outcome.{Place, OpenNeed, Failure, Received, Failed, Header, Line, StatusLine, NothingLine}
 use Rattle.machine.specs.Outcome.{ErrsysmodLine}
-use Rattle.serde_json.specs.Data.{Data, string, Items, depth, items_depth}
+use Rattle.serde_json.specs.Data.{Data, string, array, Items, depth, items_depth}
 use Rattle.serde_json.specs.Read.{read, max_depth}
 use Rattle.serde_json.specs.Written.{has_float, items_have_float, compact_text}
 use Rattle.serde_json.specs.View.{items_of}
@@ -18,6 +18,7 @@ use Rattle.smpe_summary.specs.declared.values.Summary.{Summary}
 use Rattle.smpe_summary.specs.Causes.{Cause}
 use Rattle.smpe_summary.specs.Todo.{TakenOff}
 use Rattle.smpe_summary.specs.Views.{cause_view, taken_view}
+use Rattle.smpe_json.specs.Values.{object_of, number_of}
 use Rattle.smpe_json.specs.Lines.{test_value, need_value, line_value, zone_value, command_value}
 use Rattle.smpe_json.specs.Documents.{group_names, id_in_group, member_value, is_named, group_value, cause_value}
 use Rattle.smpe_json.specs.Documents.{taken_value, summary_value, step_value, remark_lines, check_value}
@@ -111,32 +112,47 @@ taken_plain t =
       levels = omega (arith, ids.levels, usermods.levels);
     }
 
+array_plain : (n : ℕ) (ds : Items) → ArePlain n ds → IsPlain (n + 1) (array ds)
+array_plain n ds are = record { no_float = are.no_float; levels = omega (arith, are.levels) }
+
+summed_plain : (groups also causes taken_off : Data) → IsPlain 4 groups → IsPlain 1 also → IsPlain 2 causes
+    → IsPlain 3 taken_off
+    → IsPlain 5 (object_of ((codes "groups", groups) ∷ (codes "also", also) ∷ (codes "causes", causes)
+    ∷ (codes "taken_off", taken_off) ∷ []))
+summed_plain groups also causes taken_off g a c t = record {
+  no_float = rw (g.no_float, a.no_float, c.no_float, t.no_float) refl;
+  levels = omega (arith, g.levels, a.levels, c.levels, t.levels);
+}
+
 summary_plain : (s : Summary) → IsPlain 5 (summary_value s)
 summary_plain s =
-    let groups = each_plain 3 (group_value s.members.items) (group_plain s.members.items) group_names in
-    let also = texts_plain s.also.items in
-    let causes = each_plain 1 cause_value cause_plain (map cause_view s.causes.items) in
-    let taken_off = each_plain 2 taken_value taken_plain (map taken_view s.taken_off.items) in
-    record {
-      no_float = rw (groups.no_float, also.no_float, causes.no_float, taken_off.no_float) refl;
-      levels = omega (arith, groups.levels, also.levels, causes.levels, taken_off.levels);
-    }
+    summed_plain _ _ _ _
+    (array_plain 3 _ (each_plain 3 (group_value s.members.items) (group_plain s.members.items) group_names))
+    (array_plain 0 _ (texts_plain s.also.items))
+    (array_plain 1 _ (each_plain 1 cause_value cause_plain (map cause_view s.causes.items)))
+    (array_plain 2 _ (each_plain 2 taken_value taken_plain (map taken_view s.taken_off.items)))
 
 step_plain : (t : ToDo) → IsPlain 1 (step_value t)
 step_plain (todo.Order id) = record { no_float = refl; levels = omega arith }
 step_plain step = record { no_float = refl; levels = omega arith }
 
+document_plain : (status : ℕ) (commands summary todo remarks : Data) → IsPlain 6 commands → IsPlain 5 summary
+    → IsPlain 2 todo → IsPlain 1 remarks
+    → IsPlain 7 (object_of ((codes "rc", number_of status) ∷ (codes "commands", commands) ∷ (codes "summary", summary)
+    ∷ (codes "todo", todo) ∷ (codes "remarks", remarks) ∷ []))
+document_plain status commands summary todo remarks c s t r = record {
+  no_float = rw (c.no_float, s.no_float, t.no_float, r.no_float) refl;
+  levels = omega (arith, c.levels, s.levels, t.levels, r.levels);
+}
+
 pub check_plain : (h : Header) (ls : List Line) (s : Summary) (remarks : Text) (status : ℕ)
     → IsPlain 7 (check_value h ls s remarks status)
 check_plain h ls s remarks status =
-    let command = command_plain h ls in
-    let summary = summary_plain s in
-    let steps = each_plain 1 step_value step_plain s.todo.items in
-    let told = texts_plain (remark_lines remarks) in
-    record {
-      no_float = rw (command.no_float, summary.no_float, steps.no_float, told.no_float) refl;
-      levels = omega (arith, command.levels, summary.levels, steps.levels, told.levels);
-    }
+    document_plain status _ _ _ _
+    (array_plain 5 _ (each_plain 5 (λ k. command_value k ls) (λ k. command_plain k ls) (h ∷ [])))
+    (summary_plain s)
+    (array_plain 1 _ (each_plain 1 step_value step_plain s.todo.items))
+    (array_plain 0 _ (texts_plain (remark_lines remarks)))
 
 -- the text that is written for the value d, and a newline
 pub document_of : (d value : Data) (s text : Text) → d ≡ value → IsPlain 7 value

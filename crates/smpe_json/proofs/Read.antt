@@ -1,8 +1,6 @@
 -- What is read from the values in JSON is what was told.
-use Rattle.std.proofs.Common.{◌≡◌, List, [], ◌∷◌, Option, Some, None, refl, ap, ◌∙◌, map, codes}
-use Rattle.terms.specs.declared.kinds.Kind.{Kind}
+use Rattle.std.proofs.Common.{◌≡◌, List, [], ◌∷◌, Option, Some, None, refl, map}
 use Rattle.terms.specs.declared.kinds.Kind.TheVariants.{Function, Ptf, Apar, Usermod}
-use Rattle.terms.specs.declared.kinds.HoldKind.{HoldKind}
 use Rattle.terms.specs.declared.kinds.HoldKind.TheVariants.{Error, System, User}
 use Rattle.terms.specs.declared.codes.CommandWord.{CommandWord}
 use Rattle.terms.specs.declared.codes.CommandWord.TheVariants as word
@@ -13,9 +11,9 @@ use Rattle.terms.specs.declared.codes.NeedKind.TheVariants as need
 use Rattle.terms.specs.declared.codes.IdRefusal.{IdRefusal}
 use Rattle.terms.specs.declared.codes.IdRefusal.TheVariants as refused
 use Rattle.terms.specs.Types.{Text, Id}
-use Rattle.terms.specs.Spelling.{word_text, test_text, need_text}
-use Rattle.terms.specs.Failures.{all_tests, all_needs}
-use Rattle.machine.specs.Outcome.{Place, OfKind, OfHold, NotReceived, OpenNeed, Failure, Status, Received, RefusedId}
+use Rattle.terms.specs.Spelling.{word_text, need_text}
+use Rattle.terms.specs.Failures.{all_needs}
+use Rattle.machine.specs.Outcome.{Place, OfKind, OfHold, NotReceived, OpenNeed, Status, Received, RefusedId}
 use Rattle.machine.specs.Outcome.{Failed, Header, StatusLine, Ran}
 use Rattle.machine.specs.Report.{place_text}
 use Rattle.report.specs.declared.outcome.ReportLine.{ReportLine}
@@ -94,8 +92,12 @@ refused_read id place why = rw (place_spelled place) refl
 status_read : (id : Id) (place : Place) (status : Status)
     → line_in (line_value (StatusLine id place status)) ≡ Some (StatusLine id place status)
 status_read id place (Failed why) =
-    rw (each_read test_value test_in test_read why.tests, each_read need_value need_in need_read why.needs,
-    each_read string as_str id_read why.causers, place_spelled place) refl
+    rw (
+      each_read test_value test_in test_read why.tests,
+      each_read need_value need_in need_read why.needs,
+      each_read string as_str id_read why.causers,
+      place_spelled place,
+    ) refl
 status_read id place (RefusedId why) = refused_read id place why
 status_read id place Received = rw (place_spelled place) refl
 status_read id place status = rw (place_spelled place) refl

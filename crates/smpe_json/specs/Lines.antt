@@ -1,6 +1,6 @@
 -- The lines of a report as values.
-use Rattle.std.specs.Prelude.{List, [], ◌∷◌, ◌++◌, Option, None, Some, codes}
-use Rattle.terms.specs.Types.{Text, Id}
+use Rattle.std.specs.Prelude.{List, [], ◌∷◌, Option, None, Some, codes}
+use Rattle.terms.specs.Types.{Text}
 use Rattle.terms.specs.Spelling.{word_text, test_text, need_text, refusal_text}
 use Rattle.terms.specs.declared.codes.Test.{Test}
 use Rattle.machine.specs.Outcome.{OpenNeed, Failure, Status, RefusedId, Assigned, Held, Replaced, Released, Failed}

@@ -20,7 +20,7 @@ use Rattle.machine.specs.Outcome.{Status, Received, Already, RefusedId, Assigned
 use Rattle.machine.specs.Outcome.{Rejected, Applied, Accepted, Superseded, Failed, Deleted, Missing, NoVer, Restored}
 use Rattle.machine.specs.Outcome.{NotApplied, Header, Line, StatusLine, NothingLine, ErrsysmodLine, Outcome, Ran}
 use Rattle.machine.specs.Report.{place_text, status_word}
-use Rattle.serde_json.specs.Data.{Data, null, boolean, number, string, array, object}
+use Rattle.serde_json.specs.Data.{Data, null, string}
 use Rattle.serde_json.specs.Find.{get, as_str}
 use Rattle.smpe_json.specs.Values.{text_at, flag_at, list_at, spelled}
 

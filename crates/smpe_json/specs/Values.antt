@@ -1,9 +1,9 @@
 -- Values in JSON, and how they are read.
-use Rattle.std.specs.Prelude.{◌&&◌, ℕ, nat_le, List, [], ◌∷◌, ◌++◌, Bool, Option, None, Some, find, map}
+use Rattle.std.specs.Prelude.{◌&&◌, ℕ, nat_le, List, [], ◌∷◌, Bool, Option, Some, find, map}
 use Rattle.std.specs.Prelude.{option_map, option_and_then, if◌then◌else◌}
 use Rattle.std.specs.Str.{bytes_eq}
 use Rattle.terms.specs.Types.{Text}
-use Rattle.serde_json.specs.Data.{Data, number, unsigned, string, array, object, Items, no_items, item, Members}
+use Rattle.serde_json.specs.Data.{Data, number, unsigned, array, object, Items, no_items, item, Members}
 use Rattle.serde_json.specs.Data.{no_members, put}
 use Rattle.serde_json.specs.Find.{get, as_str, as_bool, as_number, as_u64, as_array}
 use Rattle.serde_json.specs.View.{items_of}

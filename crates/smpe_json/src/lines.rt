@@ -50,11 +50,7 @@ fn need_values(alloc: Global, needs: &[OpenNeed]) -> Result<Vec<Value>, AllocErr
 }
 
 // Puts why an id failed: the tests, the open needs and the causers.
-fn put_failure(
-    alloc: Global,
-    members: &mut Members,
-    failure: &Failure,
-) -> Result<(), AllocError>
+fn put_failure(alloc: Global, members: &mut Members, failure: &Failure) -> Result<(), AllocError>
     ensures { OnOk result (members_view members.new.entries
         ≡ with_members (failure_members (failure_view failure.now)) (members_view members.old.entries)) }
 {
@@ -83,12 +79,7 @@ fn put_detail(alloc: Global, members: &mut Members, status: &Status) -> Result<(
 }
 
 // A status line as an object.
-fn status_value(
-    alloc: Global,
-    id: &Id,
-    place: &Place,
-    status: &Status,
-) -> Result<Value, AllocError>
+fn status_value(alloc: Global, id: &Id, place: &Place, status: &Status) -> Result<Value, AllocError>
     ensures { IfOk result (λ value. view value
         ≡ line_value (StatusLine id.now (place_view place.now) (status_view status.now))) }
 {

@@ -113,11 +113,7 @@ fn printed(byte: u8) -> u8
 fn printed_in_lines(byte: u8) -> u8
     ensures { result ≡ printed_in_lines byte }
 {
-    if byte == b'\n' {
-        byte
-    } else {
-        printed(byte)
-    }
+    if byte == b'\n' { byte } else { printed(byte) }
 }
 
 /// A text from a file, with a question mark for each byte that is no printable character of ASCII.
