@@ -1,5 +1,5 @@
 -- The actions that a command asks for by what it tells of the ids that failed and of their causers.
-use Rattle.std.specs.Prelude.{◌↔◌, ◌&&◌, ◌++◌, Bool, true, false, not, List, [], ◌∷◌, map, All, Contains, IsTrue}
+use Rattle.std.specs.Prelude.{◌≡◌, ◌↔◌, ◌&&◌, ◌++◌, Bool, true, false, not, List, [], ◌∷◌, map, All, Contains, IsTrue}
 use Rattle.std.specs.Prelude.{if◌then◌else◌}
 use Rattle.std.specs.List.{flat_map}
 use Rattle.terms.specs.declared.kinds.HoldKind.{HoldKind}

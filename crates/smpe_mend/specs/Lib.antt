@@ -4,3 +4,4 @@ pub mod Asked
 pub mod Mends
 pub mod Words
 pub mod Growth
+pub mod Courses

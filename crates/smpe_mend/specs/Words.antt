@@ -2,14 +2,14 @@
 use Rattle.std.specs.Prelude.{◌++◌, ◌==◌, ℕ, Bool, true, false, List, [], ◌∷◌, Option, None, Some, length, is_some, codes, decimal}
 use Rattle.std.specs.Prelude.{if◌then◌else◌}
 use Rattle.std.specs.List.{flat_map}
-use Rattle.std.specs.Option.{option_and_then}
+use Rattle.std.specs.Option.{option_map_or}
 use Rattle.terms.specs.declared.kinds.HoldKind.{HoldKind}
 use Rattle.terms.specs.declared.kinds.HoldKind.TheVariants.{Error, System, User}
 use Rattle.terms.specs.declared.kinds.ZoneKind.{ZoneKind}
 use Rattle.terms.specs.declared.kinds.ZoneKind.TheVariants.{Target, Distribution}
 use Rattle.terms.specs.declared.codes.Test.{Test}
 use Rattle.terms.specs.Bytes.{comma}
-use Rattle.terms.specs.Types.{Text, Id, Reason, Global, Zone}
+use Rattle.terms.specs.Types.{Text, Id, Reason, Hold, Global}
 use Rattle.terms.specs.Lookups.{is_in}
 use Rattle.terms.specs.Global.{hold_of}
 use Rattle.terms.specs.Spelling.{hold_text, test_text, need_text}
@@ -59,17 +59,21 @@ act_word Error = codes "RISK"
 act_word System = codes "ACT"
 act_word User = codes "ASK"
 
--- with the COMMENT of the hold, if it has one
-abbrev pub act_line : Id → HoldKind → Reason → Option Text → Text
-act_line x kind reason None =
-    words_line (codes " " ∷ left_in 8 (act_word kind) ∷ x ∷ hold_text kind ∷ reason ∷ [])
-act_line x kind reason (Some comment) =
-    words_line (codes " " ∷ left_in 8 (act_word kind) ∷ x ∷ hold_text kind ∷ named reason ∷ comment ∷ [])
+-- the reason of a hold, with its COMMENT, if it has one
+abbrev pub reason_words : Reason → Option Text → List Text
+reason_words reason None = reason ∷ []
+reason_words reason (Some comment) = named reason ∷ comment ∷ []
+
+abbrev pub act_line : Hold → Text
+act_line h =
+    words_line (codes " " ∷ left_in 8 (act_word h.kind) ∷ h.id ∷ hold_text h.kind ∷ reason_words h.reason h.comment)
+
+abbrev pub held_line : Option Hold → Text
+held_line h = option_map_or act_line h []
 
 abbrev pub todo_line : Global → ToDo → Text
 todo_line g (todo.Order x) = words_line (codes " " ∷ left_in 8 (codes "ORDER") ∷ x ∷ [])
-todo_line g (todo.Act x kind reason) =
-    act_line x kind reason (option_and_then (λ h. h.comment) (hold_of g x kind reason))
+todo_line g (todo.Act x kind reason) = held_line (hold_of g x kind reason)
 
 -- The command.
 

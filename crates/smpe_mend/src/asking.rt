@@ -35,11 +35,7 @@ fn push_causers(status: &Status, found: &mut Vec<Id>) -> Result<(), AllocError>
 }
 
 // Appends the id of the line and its causers, if it is one of the ids and not on.
-fn push_concern(
-    ids: &IdList,
-    line: &ReportLine,
-    found: &mut Vec<Id>,
-) -> Result<(), AllocError>
+fn push_concern(ids: &IdList, line: &ReportLine, found: &mut Vec<Id>) -> Result<(), AllocError>
     ensures { OnOk result (found.new.items ≡ found.old.items ++ concern_of ids.now (line_view line.now)) }
 {
     match line {

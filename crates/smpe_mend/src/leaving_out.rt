@@ -3,6 +3,7 @@ ghost use Rattle.std.specs.Prelude.{◌≡◌, ◌≤◌, ◌<◌, ◌++◌, tak
 ghost use Rattle.machine.specs.Outcome.{Line};
 ghost use Rattle.smpe_mend.specs.Runs.{DoesNot};
 ghost use Rattle.smpe_mend.specs.Growth.{Repairs};
+ghost use Rattle.smpe_mend.specs.Courses.{IsNext};
 ghost use Rattle.smpe_mend.specs.Mends.{IsMinimal};
 
 use crate::action::Action;
@@ -21,8 +22,8 @@ fn without_range(
     from: usize,
     to: usize,
 ) -> Result<Vec<Action>, AllocError>
-    requires { from ≤ to }
-    requires { to ≤ length actions.now }
+    requires order { from ≤ to }
+    requires within { to ≤ length actions.now }
     ensures { IfOk result (λ left. left.items ≡ take from actions.now ++ drop to actions.now) }
 {
     let mut left = Vec::from_slice(alloc, &actions[..from])?;
@@ -40,8 +41,8 @@ fn try_without(
     from: usize,
     to: usize,
 ) -> Result<Option<Tried>, AllocError>
-    requires { from ≤ to }
-    requires { to ≤ length actions.now }
+    requires order { from ≤ to }
+    requires within { to ≤ length actions.now }
     ensures some { IfOk result (λ tried. IfSome tried (λ t. Repairs global.old broken.now t
         × (t.actions.items ≡ take from actions.now ++ drop to actions.now))) }
     ensures none { IfOk result (λ tried. IfNone tried ((lines : List Line)
@@ -56,12 +57,44 @@ fn try_without(
     Ok(None)
 }
 
+/// How far the actions are gone through.
+#[derive(Drop)]
+pub(crate) struct Course {
+    pub(crate) tried: Tried,
+    pub(crate) place: usize,
+}
+
+// Leaves out the actions from the place up to `end`, if they are not needed, and otherwise goes on to `end`. The global
+// zone is as before.
+fn leave_out_next(
+    alloc: Global,
+    global: &mut GlobalZone,
+    broken: &Broken<'_>,
+    course: Course,
+    end: usize,
+) -> Result<Course, AllocError>
+    requires order { course.place ≤ end }
+    requires within { end ≤ length course.tried.actions.items }
+    requires repairs { Repairs global.old broken.now course.tried }
+    ensures next { IfOk result (IsNext global.old broken.now course end) }
+    ensures back { OnOk result (global.new ≡ global.old) }
+{
+    let Course { tried, place } = course;
+    match try_without(alloc, global, broken, &tried.actions, place, end)? {
+        Some(fewer) => Ok(Course {
+            tried: fewer,
+            place,
+        }),
+        None => Ok(Course { tried, place: end }),
+    }
+}
+
 // Leaves out each group of so many actions that is not needed, one group after the other. The global zone is as before.
 fn leave_out(
     alloc: Global,
     global: &mut GlobalZone,
     broken: &Broken<'_>,
-    mut tried: Tried,
+    tried: Tried,
     size: usize,
 ) -> Result<Tried, AllocError>
     requires some { 0 < size }
@@ -72,15 +105,13 @@ fn leave_out(
         → IsMinimal global.old broken.now left.actions.items) }
     ensures back { OnOk result (global.new ≡ global.old) }
 {
-    let mut place = 0;
-    while place < tried.actions.len() {
-        let end = place + size.min(tried.actions.len() - place);
-        match try_without(alloc, global, broken, &tried.actions, place, end)? {
-            Some(fewer) => tried = fewer,
-            None => place = end,
-        }
+    let mut course = Course { tried, place: 0 };
+    while course.place < course.tried.actions.len() {
+        let rest = course.tried.actions.len() - course.place;
+        let end = course.place + size.min(rest);
+        course = leave_out_next(alloc, global, broken, course, end)?;
     }
-    Ok(tried)
+    Ok(course.tried)
 }
 
 // Leaves out single actions until none can be left out. The global zone is as before.

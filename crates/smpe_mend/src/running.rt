@@ -10,7 +10,7 @@ ghost use Rattle.smpe_mend.specs.Runs.{AreOrdered, AreReasons, IsBypassOf, Runs,
 use crate::action::{Action, orders, reasons};
 use crate::broken::Broken;
 use crate::stand_in::receive_stand_in;
-use fields::{Attest, Bypass, Id, IdList, Reasons, ReasonList, Selection, YyDdd};
+use fields::{Attest, Bypass, Id, IdList, ReasonList, Reasons, Selection, YyDdd};
 use report::ReportLine;
 use smpe_service::{InstallChange, apply};
 use std::alloc::{AllocError, Global};

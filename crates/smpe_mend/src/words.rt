@@ -1,16 +1,15 @@
 //! The words of an answer.
-ghost use Rattle.std.specs.Prelude.{◌≡◌, ◌++◌, ◌∷◌, map, codes, length, option_map, OnOk, IfOk, []};
+ghost use Rattle.std.specs.Prelude.{◌≡◌, ◌++◌, ◌∷◌, map, codes, OnOk, IfOk, []};
 ghost use Rattle.std.specs.List.{flat_map};
 ghost use Rattle.terms.specs.Bytes.{comma};
-ghost use Rattle.std.specs.Option.{option_and_then};
 ghost use Rattle.terms.specs.Global.{hold_of};
 ghost use Rattle.machine.specs.Report.{words_line, status_word};
 ghost use Rattle.judge_system.specs.TestSets.{tests_of};
 ghost use Rattle.judge_system.specs.Views.{need_view};
 ghost use Rattle.report.specs.Views.{line_view, status_view};
-ghost use Rattle.smpe_mend.specs.Words.{joined, act_word, act_line, todo_line, with_comma, with_member, members};
-ghost use Rattle.smpe_mend.specs.Words.{bypass_text, install_word, command_line, plan_head, plan_text, test_line};
-ghost use Rattle.smpe_mend.specs.Words.{need_line, why_lines, remaining, refusal_text, is_missing, missing_id};
+ghost use Rattle.smpe_mend.specs.Words.{joined, act_word, act_line, held_line, todo_line, with_comma, with_member};
+ghost use Rattle.smpe_mend.specs.Words.{members, bypass_text, install_word, command_line, plan_head, plan_text};
+ghost use Rattle.smpe_mend.specs.Words.{test_line, need_line, why_lines, remaining, refusal_text, is_missing, missing_id};
 ghost use Rattle.smpe_mend.specs.Words.{missing_ids, missing_text};
 
 use crate::action::{Action, reasons};
@@ -22,6 +21,7 @@ use fields::{Id, IdList, Reason};
 use report::{LineWord, OpenNeed, ReportLine, Status, TestSet, append_words, status_word};
 use std::alloc::{AllocError, Global};
 use sysmods::GlobalZone;
+use sysmods_values::Hold;
 use terms::{HoldKind, ZoneKind};
 
 // The width of the word for something to do.
@@ -84,26 +84,23 @@ fn act_word(kind: HoldKind) -> &'static [u8]
     }
 }
 
-// Appends what to do for a hold, with its COMMENT, if it has one.
-fn append_act<'a>(
-    id: &'a Id,
-    kind: HoldKind,
-    reason: &'a Reason,
-    comment: Option<&'a [u8]>,
-    text: &mut Vec<u8>,
-) -> Result<(), AllocError>
-    ensures { OnOk result (text.new.items ≡ text.old.items
-        ++ act_line id.now kind reason.now (option_map (λ t. t.now) comment)) }
+// Appends what to do for the hold, with its COMMENT, if it has one.
+fn append_act<'a>(hold: &'a Hold, text: &mut Vec<u8>) -> Result<(), AllocError>
+    ensures { OnOk result (text.new.items ≡ text.old.items ++ act_line hold.now) }
 {
-    let act = LineWord::Left(ACT_WIDTH, act_word(kind));
-    let id = LineWord::Text(id.as_bytes());
-    let kind = LineWord::Text(hold_text(kind));
-    match comment {
+    let act = LineWord::Left(ACT_WIDTH, act_word(hold.kind));
+    let id = LineWord::Text(hold.id.as_bytes());
+    let kind = LineWord::Text(hold_text(hold.kind));
+    match &hold.comment {
         Some(comment) => {
-            let reason = LineWord::WithColon(reason.as_bytes());
-            append_words(b" ", &[act, id, kind, reason, LineWord::Text(comment)], text)
+            let reason = LineWord::WithColon(hold.reason.as_bytes());
+            let comment = LineWord::Text(comment.as_bytes());
+            append_words(b" ", &[act, id, kind, reason, comment], text)
         }
-        None => append_words(b" ", &[act, id, kind, LineWord::Text(reason.as_bytes())], text),
+        None => {
+            let reason = LineWord::Text(hold.reason.as_bytes());
+            append_words(b" ", &[act, id, kind, reason], text)
+        }
     }
 }
 
@@ -120,7 +117,7 @@ fn append_todo(global: &GlobalZone, todo: ToDo, text: &mut Vec<u8>) -> Result<()
     }
 }
 
-// Appends what to do for the hold of this key.
+// Appends what to do for the hold of this key, if there is one.
 fn append_held(
     global: &GlobalZone,
     id: Id,
@@ -128,24 +125,16 @@ fn append_held(
     reason: Reason,
     text: &mut Vec<u8>,
 ) -> Result<(), AllocError>
-    ensures { OnOk result (text.new.items ≡ text.old.items ++ act_line id kind reason
-        (option_and_then (λ h. h.comment) (hold_of global.now id kind reason))) }
+    ensures { OnOk result (text.new.items ≡ text.old.items ++ held_line (hold_of global.now id kind reason)) }
 {
-    let Some(hold) = global.hold_of(id, kind, reason) else {
-        return append_act(&id, kind, &reason, None, text);
-    };
-    match &hold.comment {
-        Some(comment) => append_act(&id, kind, &reason, Some(comment.as_str().as_bytes()), text),
-        None => append_act(&id, kind, &reason, None, text),
+    match global.hold_of(id, kind, reason) {
+        Some(hold) => append_act(hold, text),
+        None => Ok(()),
     }
 }
 
 // Appends the lines of what to do.
-fn append_todos(
-    global: &GlobalZone,
-    todos: &[ToDo],
-    text: &mut Vec<u8>,
-) -> Result<(), AllocError>
+fn append_todos(global: &GlobalZone, todos: &[ToDo], text: &mut Vec<u8>) -> Result<(), AllocError>
     ensures { OnOk result (text.new.items ≡ text.old.items ++ flat_map (todo_line global.now) todos.now) }
 {
     for todo in todos {
@@ -190,9 +179,21 @@ fn members(alloc: Global, actions: &[Action]) -> Result<Vec<u8>, AllocError>
     ensures { IfOk result (λ text. text.items ≡ members actions.now) }
 {
     let mut text = Vec::new(alloc);
-    append_member(HoldKind::Error, &reasons(alloc, HoldKind::Error, actions)?, &mut text)?;
-    append_member(HoldKind::System, &reasons(alloc, HoldKind::System, actions)?, &mut text)?;
-    append_member(HoldKind::User, &reasons(alloc, HoldKind::User, actions)?, &mut text)?;
+    append_member(
+        HoldKind::Error,
+        &reasons(alloc, HoldKind::Error, actions)?,
+        &mut text,
+    )?;
+    append_member(
+        HoldKind::System,
+        &reasons(alloc, HoldKind::System, actions)?,
+        &mut text,
+    )?;
+    append_member(
+        HoldKind::User,
+        &reasons(alloc, HoldKind::User, actions)?,
+        &mut text,
+    )?;
     Ok(text)
 }
 
@@ -330,11 +331,7 @@ fn append_why(status: &Status, text: &mut Vec<u8>) -> Result<(), AllocError>
 }
 
 // Appends what remains of the id of the line, if it is one of these.
-fn append_remaining(
-    ids: &IdList,
-    line: &ReportLine,
-    text: &mut Vec<u8>,
-) -> Result<(), AllocError>
+fn append_remaining(ids: &IdList, line: &ReportLine, text: &mut Vec<u8>) -> Result<(), AllocError>
     ensures { OnOk result (text.new.items ≡ text.old.items ++ remaining ids.now (line_view line.now)) }
 {
     match line {
@@ -350,11 +347,7 @@ fn append_remaining(
 }
 
 // Appends the id and the word of its status.
-fn append_status<'a>(
-    id: &'a Id,
-    status: &'a Status,
-    text: &mut Vec<u8>,
-) -> Result<(), AllocError>
+fn append_status<'a>(id: &'a Id, status: &'a Status, text: &mut Vec<u8>) -> Result<(), AllocError>
     ensures { OnOk result (text.new.items ≡ text.old.items
         ++ words_line (codes " " ∷ id.now ∷ status_word (status_view status.now) ∷ [])) }
 {
@@ -391,7 +384,11 @@ pub(crate) fn refusal_text(
 {
     let joined = joined_ids(alloc, ids.as_slice())?;
     let mut text = Vec::new(alloc);
-    append_words(b"MEND", &[LineWord::Text(&joined), LineWord::Text(b"-")], &mut text)?;
+    append_words(
+        b"MEND",
+        &[LineWord::Text(&joined), LineWord::Text(b"-")],
+        &mut text,
+    )?;
     append_all_remaining(concerned, lines, &mut text)?;
     Ok(text)
 }
