@@ -1,6 +1,6 @@
 -- What lacks nothing of a SYSMOD lacks nothing of those of which this one lacks nothing.
 use Rattle.std.proofs.Common.{◌≡◌, ◌∙◌, ◌⊎◌, inl, inr, Bool, true, false, not, ◌&&◌, List, [], ◌∷◌, ◌++◌, filter, cond}
-use Rattle.std.proofs.Common.{Option, None, Some, is_some, All, Contains, IsTrue, refl, sym, ap, subst, subst₂}
+use Rattle.std.proofs.Common.{None, Some, is_some, All, Contains, IsTrue, refl, sym, ap, subst, subst₂}
 use Rattle.std.proofs.Common.{true≢false}
 use Rattle.std.specs.Prelude.{◌↔◌}
 use Rattle.std.specs.Option.{option_map_or, option_and_then}
@@ -19,7 +19,7 @@ use Rattle.terms.proofs.Loops.{sup_named}
 use Rattle.terms.proofs.Orderings.{Equal_from_is_eq}
 use Rattle.terms.specs.declared.kinds.ElemType.{ElemType}
 use Rattle.terms.specs.Types.{Text, Id, Ver, Change, Global}
-use Rattle.terms.specs.Choice.{Choice, fmid_of, pre_of, sup_of}
+use Rattle.terms.specs.Choice.{Choice, pre_of, sup_of}
 use Rattle.terms.specs.Lookups.{is_in, changes_of, has_change}
 use Rattle.terms.specs.Stream.{IsInStream, HasRequisitesOf}
 use Rattle.sysmods.specs.declared.ver_choice.VerChoice.{VerChoice}
@@ -31,7 +31,7 @@ use Rattle.stream.specs.declared.breaches.LostRequisite.{LostRequisite}
 use Rattle.stream.specs.declared.breaches.LostElement.{LostElement}
 use Rattle.stream.specs.Breaches.{Lacks}
 use Rattle.stream.specs.Gaining.{OneOf}
-use Rattle.stream.specs.Kept.{HasAllOf, Keeps, VerHas, AreSuspects, AreKept, AreKeptOf, AreKnownIn}
+use Rattle.stream.specs.Kept.{Keeps, VerHas, AreSuspects, AreKept, AreKeptOf, AreKnownIn}
 use Rattle.stream.specs.Lost.{IsLackOf, IsLossOf}
 use Rattle.stream.specs.Ordering.{is_open}
 use Rattle.stream.proofs.FirstVers.{names_in_stream}

@@ -104,7 +104,10 @@ fn counts_of(
 ) -> Result<IndexMap<Id, usize>, AllocError> {
     let mut counts = IndexMap::new(alloc);
     for id in among.as_slice() {
-        let count = ends_of(ends, id).iter().filter(|end| among.contains(*end)).count();
+        let count = ends_of(ends, id)
+            .iter()
+            .filter(|end| among.contains(*end))
+            .count();
         counts.insert(*id, count)?;
     }
     Ok(counts)

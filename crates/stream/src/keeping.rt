@@ -63,10 +63,7 @@ fn changes_all_of(global: &GlobalZone, x: Id, y: Id) -> bool
     ensures { IsTrue result
         → All (λ h. IsTrue (has_change global.now x h.elem_type h.name)) (changes_of global.now y) }
 {
-    global
-        .changes_of(y)
-        .iter()
-        .all(|change| global.has_change(x, change.elem_type, change.name))
+    global.changes_of(y).iter().all(|change| global.has_change(x, change.elem_type, change.name))
 }
 
 // Inserts the ids that the set lacks.
@@ -105,15 +102,14 @@ fn is_in(list: &IdList, id: Id) -> bool
 fn outside(alloc: Global, ids: &[Id], list: &IdList) -> Result<Vec<Id>, AllocError>
     ensures { IfOk result (λ left. left.items ≡ filter (λ z. not (is_in list.now z)) ids.now) }
 {
-    ids.iter().filter(|id| !is_in(list, **id)).copied().collect(alloc)
+    ids.iter()
+        .filter(|id| !is_in(list, **id))
+        .copied()
+        .collect(alloc)
 }
 
 // These ids, those that have the last places first.
-fn newest_first(
-    alloc: Global,
-    placed: &IndexSet<Id>,
-    ids: &[Id],
-) -> Result<Vec<Id>, AllocError> {
+fn newest_first(alloc: Global, placed: &IndexSet<Id>, ids: &[Id]) -> Result<Vec<Id>, AllocError> {
     let mut places = Vec::new(alloc);
     for id in ids {
         if let Some(place) = placed.get_index_of(id) {

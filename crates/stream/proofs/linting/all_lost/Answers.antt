@@ -1,4 +1,4 @@
-use Rattle.std.proofs.Common.{List, Contains, sym, subst}
+use Rattle.std.proofs.Common.{Contains, sym, subst}
 use Rattle.std.specs.Prelude.{◌↔◌}
 use Rattle.terms.specs.Types.{Id}
 use Rattle.terms.specs.Stream.{IsInStream}

@@ -1,4 +1,4 @@
-use Rattle.std.proofs.Common.{◌⊎◌, Contains, subst, subst₂, sym}
+use Rattle.std.proofs.Common.{◌⊎◌, get_or, Contains, subst, subst₂, sym}
 use Rattle.std.specs.Prelude.{◌↔◌}
 use Rattle.std.proofs.lemmas.List.Elements.{All-contains, Contains-get_or}
 use Rattle.terms.specs.Types.{Id}
@@ -12,8 +12,10 @@ use Rattle.stream.proofs.Clean.{ordered_from}
 use Rattle.stream.proofs.linting.lint.Goals as goal
 
 pub in_order-requires : goal.in_order-requires
-in_order-requires c = λ i d below. (c.in_ok-ids.ensures _).0
-    (subst (λ l. Contains l _) c.as_slice.ensures.value (Contains-get_or c.as_slice.result.now i d below))
+in_order-requires c = λ i d below.
+    let ids = c.as_slice.result.now in
+    let x = get_or ids i d in
+    (c.in_ok-ids.ensures x).0 (subst (λ l. Contains l x) c.as_slice.ensures.value (Contains-get_or ids i d below))
 
 pub all_lost-requires : goal.all_lost-requires
 all_lost-requires c =

@@ -2,7 +2,7 @@ use Rattle.std.proofs.Common.{◌≡◌, true, All, subst, sym}
 use Rattle.terms.specs.Types.{Change, Global}
 use Rattle.terms.specs.Lookups.{changes_of, has_change}
 use Rattle.sysmods.specs.Choices.{choice}
-use Rattle.stream.proofs.Kept.{has_from, elements_from, keeps_absent}
+use Rattle.stream.proofs.Kept.{has_from, elements_from}
 use Rattle.stream.proofs.keeping.Suspects.keeps.Goals as goal
 
 pub returns : goal.returns

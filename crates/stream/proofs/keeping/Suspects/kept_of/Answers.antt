@@ -1,6 +1,5 @@
-use Rattle.std.proofs.Common.{sym, subst}
+use Rattle.std.proofs.Common.{sym}
 use Rattle.std.proofs.lemmas.Result.{IfOk-weaker}
-use Rattle.terms.proofs.ListMembers.{none_in}
 use Rattle.sysmods.specs.Choices.{choice}
 use Rattle.stream.proofs.Kept.{kept_outside}
 use Rattle.stream.proofs.keeping.Suspects.kept_of.Goals as goal
