@@ -1,12 +1,11 @@
 -- The text of a summary.
 use Rattle.std.specs.Prelude.{◌-◌, ◌==◌, ◌||◌, Bool, true, false, not, ℕ, nat_le, List, [], ◌∷◌, ◌++◌, Option, None, Some}
-use Rattle.std.specs.Prelude.{codes, decimal, filter, length, map, take, option_map, if◌then◌else◌}
+use Rattle.std.specs.Prelude.{codes, decimal, filter, length, map, take, if◌then◌else◌}
 use Rattle.std.specs.List.{concat, flat_map, list_all, list_any}
 use Rattle.terms.specs.declared.kinds.HoldKind.{HoldKind}
 use Rattle.terms.specs.declared.kinds.ZoneKind.{ZoneKind}
 use Rattle.terms.specs.declared.kinds.ZoneKind.TheVariants.{Target, Distribution}
 use Rattle.terms.specs.declared.codes.NeedKind.{NeedKind}
-use Rattle.terms.specs.declared.codes.NeedKind.TheVariants as need
 use Rattle.terms.specs.declared.codes.Test.{Test}
 use Rattle.terms.specs.declared.codes.Test.TheVariants as test
 use Rattle.terms.specs.Types.{Text, Id, Reason}
@@ -62,10 +61,10 @@ abbrev pub hold_words : HoldKind → Reason → Option Text → Text
 hold_words kind reason comment = hold_text kind ++ codes " hold " ++ reason ++ comment_text comment
 
 abbrev pub error_words : Id → Text
-error_words z = codes "ERROR hold " ++ z ++ codes ": nothing that resolves it goes on"
+error_words z = concat (codes "ERROR hold " ∷ z ∷ codes ": nothing that resolves it goes on" ∷ [])
 
 abbrev pub open_words : NeedKind → Id → Text
-open_words kind z = need_text kind ++ codes " " ++ z ++ codes " is not received"
+open_words kind z = concat (need_text kind ∷ codes " " ∷ z ∷ codes " is not received" ∷ [])
 
 abbrev pub need_words : NeedKind → Id → Text
 need_words kind z = if is_error_hold kind then error_words z else open_words kind z
@@ -188,8 +187,8 @@ functions_of ms = flat_map (λ m. function_of m.group) ms
 -- so many of all lack a function, as this one
 abbrev pub function_line : ℕ → ℕ → Id → Text
 function_line n all f =
-    codes "  " ++ decimal n ++ codes " of " ++ decimal all
-    ++ codes " need a function that is not installed and not in the files, as " ++ f ++ codes "\n"
+    concat (codes "  " ∷ decimal n ∷ codes " of " ∷ decimal all
+    ∷ codes " need a function that is not installed and not in the files, as " ∷ f ∷ codes "\n" ∷ [])
 
 abbrev pub functions_text : ℕ → List Id → Text
 functions_text all [] = []
@@ -240,11 +239,13 @@ ask_command Target = codes ", then APPLY .. BYPASS(HOLDUSER("
 ask_command Distribution = codes ", then ACCEPT .. BYPASS(HOLDUSER("
 
 abbrev pub bypass_line : Text → Text → Id → Text → Text
-bypass_line verb command x reason = verb ++ x ++ codes " " ++ reason ++ command ++ reason ++ codes "))\n"
+bypass_line verb command x reason =
+    concat (verb ∷ x ∷ codes " " ∷ reason ∷ command ∷ reason ∷ codes "))\n" ∷ [])
 
 abbrev pub wait_line : Id → Id → Text
 wait_line x reason =
-    codes "  wait     " ++ x ++ codes " ERROR " ++ reason ++ codes ", until a SYSMOD that resolves it is received\n"
+    concat (codes "  wait     " ∷ x ∷ codes " ERROR " ∷ reason
+    ∷ codes ", until a SYSMOD that resolves it is received\n" ∷ [])
 
 abbrev pub todo_line : ZoneKind → ToDo → Text
 todo_line zone (todo.Order x) = []
@@ -306,5 +307,5 @@ status_of s =
     if list_all (λ m. is_refused m.group) s.members.items then 12
     else if s.has_failures || list_any (λ m. is_refused m.group) s.members.items then 8
     else if list_any (λ m. is_doubtful m.group) s.members.items
-        || not (list_any (λ m. is_taken m.group) s.members.items) then 4
+    || not (list_any (λ m. is_taken m.group) s.members.items) then 4
     else 0

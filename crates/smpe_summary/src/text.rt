@@ -94,11 +94,7 @@ fn append_besides(summary: &Summary, text: &mut Vec<u8>) -> Result<(), AllocErro
 }
 
 // Appends the lines of groups, of causes, and of what goes on and off besides.
-fn append_middle(
-    alloc: Global,
-    summary: &Summary,
-    text: &mut Vec<u8>,
-) -> Result<(), AllocError>
+fn append_middle(alloc: Global, summary: &Summary, text: &mut Vec<u8>) -> Result<(), AllocError>
     ensures { OnOk result (text.new.items ≡ text.old.items ++ middle summary.now) }
 {
     append_group_lines(alloc, summary.members.as_slice(), text)?;

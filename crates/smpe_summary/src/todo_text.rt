@@ -117,7 +117,10 @@ fn append_order(ids: &[Id], text: &mut Vec<u8>) -> Result<(), AllocError>
         return Ok(());
     }
     let ids = Piece::Ids(ids);
-    append_pieces(&[Piece::Text(b"  order    "), ids, Piece::Text(b"\n")], text)
+    append_pieces(
+        &[Piece::Text(b"  order    "), ids, Piece::Text(b"\n")],
+        text,
+    )
 }
 
 // Appends the lines of these.
