@@ -97,6 +97,23 @@ pub struct LintOptions {
     pub files: Vec<String>,
 }
 
+/// The form in which `check` answers.
+#[derive(Clone, Copy)]
+pub enum CheckForm {
+    /// What becomes of each SYSMOD of the set, and what keeps the others out.
+    Summary,
+    /// The reports of the commands.
+    Report,
+    Json,
+}
+
+/// The form of the answer of `check`, and the name of a new file for the certificate of its decision.
+#[derive(Drop)]
+pub struct CheckAnswer {
+    pub form: CheckForm,
+    pub certificate: Option<String>,
+}
+
 /// What `smpe` is asked to do. The texts are the names of files.
 #[derive(Drop)]
 pub enum Invocation {
@@ -124,6 +141,7 @@ pub enum Invocation {
     Check {
         system: CheckedSystem,
         set: ServiceSet,
+        answer: CheckAnswer,
     },
     /// Tell what keeps a service stream from being clean, by its files alone.
     Lint {

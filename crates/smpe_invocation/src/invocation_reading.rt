@@ -5,6 +5,7 @@ ghost use Rattle.smpe_invocation.specs.Answers.{Excludes, IsMet, IsRead, IsRefus
 ghost use Rattle.smpe_invocation.specs.Values.{HasValues};
 ghost use Rattle.smpe_invocation.specs.declared.asked.Invocation.{Invocation};
 
+use crate::answer_form::read_check_answer;
 use crate::asked::{Invocation, LintOptions, RunOptions, WhyOptions, ZoneDefinition};
 use crate::checked::{read_checked_system, read_service_set};
 use crate::command::command_line;
@@ -18,8 +19,9 @@ use std::alloc::Global;
 
 /// Reads the words, the first of which is the program's name. Returns `Memory` if memory runs out, `Clap` if `clap`
 /// refuses the words or has a text to show instead of them, as for `--help`, and `BadOperand` if a name, an id, an
-/// SREL, a date or a number of seconds has a bad form, if `check` is asked about no system or about two, or if it gets
-/// no service set or one of both forms, or `--hold` without `--ptfin`.
+/// SREL, a date or a number of seconds has a bad form, if `check` is asked about no system or about two, if it gets no
+/// service set or one of both forms, or `--hold` without `--ptfin`, if `--json` or `--certificate` is given with
+/// `--ptfin` or `--cntl`, or `--json` with `--report` or `--why`.
 pub fn invocation<'a>(alloc: Global, words: &'a [&'a str]) -> Result<Invocation, ArgFault>
     ensures ok { IfOk result (IsRead (map (λ word. word.now) words.entry.now)) }
     ensures err { IfErr result (IsRefused (map (λ word. word.now) words.entry.now)) }
@@ -138,7 +140,12 @@ fn read_check_options(alloc: Global, found: &ArgMatches<'_>) -> Result<Invocatio
 {
     let system = read_checked_system(alloc, found)?;
     let set = read_service_set(alloc, found)?;
-    Ok(Invocation::Check { system, set })
+    let answer = read_check_answer(alloc, found)?;
+    Ok(Invocation::Check {
+        system,
+        set,
+        answer,
+    })
 }
 
 fn read_lint_options(alloc: Global, found: &ArgMatches<'_>) -> Result<Invocation, ArgFault>
