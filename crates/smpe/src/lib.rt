@@ -18,7 +18,7 @@ pub use job::run_job;
 pub use jobs::run_jobs;
 pub use smpe_invocation::{
     ArgFault, CheckAnswer, CheckForm, CheckedSystem, CommandJob, DatabaseFile, Invocation,
-    LintForm, LintOptions, MendOptions, RunOptions, ServiceSet, SetFiles, SystemCopy, WhyOptions,
+    LintForm, LintOptions, RunOptions, ServiceSet, SetFiles, SystemCopy, WhyOptions,
     ZoneDefinition, invocation,
 };
 pub use smpe_jobs::{

@@ -1,4 +1,3 @@
 pub mod Asked
 pub mod Answered
 pub mod Documented
-pub mod Mended

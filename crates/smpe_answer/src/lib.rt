@@ -9,7 +9,6 @@ mod certified;
 mod documented;
 mod facts;
 mod lines;
-mod mended;
 mod selection;
 mod summarized;
 
@@ -17,6 +16,5 @@ pub use asked_ids::Answer;
 pub use certified::package_certificate;
 pub use documented::json_answer;
 pub use facts::PackageFacts;
-pub use mended::mend_answer;
 pub use smpe_certificate::Digest;
 pub use summarized::summary_answer;

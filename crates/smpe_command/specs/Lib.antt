@@ -6,7 +6,6 @@ pub mod Copied
 pub mod Systems
 pub mod Shop
 pub mod Packages
-pub mod Mending
 pub mod Linting
 pub mod Serving
 pub mod Answering

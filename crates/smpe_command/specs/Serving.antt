@@ -1,5 +1,5 @@
 -- What is done for a request: the status, or the fault, and what was printed.
-use Rattle.std.specs.Prelude.{◌≡◌, ◌⊎◌, ℕ, Bool, List, [], ◌∷◌, Option, Some, None, map, option_map}
+use Rattle.std.specs.Prelude.{◌≡◌, ◌⊎◌, ℕ, Bool, List, [], ◌∷◌, Option, Some, None, option_map}
 use Rattle.std.specs.Prelude.{Result, Ok, Err}
 use Rattle.std.specs.String.{string_bytes}
 use Rattle.sqlite.specs.Store.{Ghosts}
@@ -15,7 +15,7 @@ use Rattle.smpe_invocation.specs.declared.asked.CheckedSystem.{CheckedSystem}
 use Rattle.smpe_invocation.specs.declared.asked.CommandJob.{CommandJob}
 use Rattle.smpe_invocation.specs.declared.asked.Invocation.{Invocation}
 use Rattle.smpe_invocation.specs.declared.asked.Invocation.TheVariants.{Zone, Run, List as ListOf, Why, Check}
-use Rattle.smpe_invocation.specs.declared.asked.Invocation.TheVariants.{Lint, Mend, Migrate, Verify}
+use Rattle.smpe_invocation.specs.declared.asked.Invocation.TheVariants.{Lint, Migrate, Verify}
 use Rattle.smpe_invocation.specs.declared.asked.RunOptions.{RunOptions}
 use Rattle.smpe_invocation.specs.declared.asked.ServiceSet.{ServiceSet}
 use Rattle.smpe_invocation.specs.declared.asked.SetFiles.{SetFiles}
@@ -42,7 +42,6 @@ use Rattle.smpe_command.specs.Database.{FoundOver, JobOver, MigratesOver, Verifi
 use Rattle.smpe_command.specs.Reading.{ReadsAll}
 use Rattle.smpe_command.specs.Linting.{ServesLint}
 use Rattle.smpe_command.specs.Shop.{ServesShop}
-use Rattle.smpe_command.specs.Mending.{ServesMend}
 use Rattle.smpe_command.specs.Packages.{ServesPackage}
 use Rattle.smpe_command.specs.Told.{TellsMigrated, TellsVerified, TellsZone}
 use Rattle.smpe_rehearsal.specs.Told.{TellsFound, job_told}
@@ -168,8 +167,6 @@ module _ {H D M O : Type 0} (host : HostGhosts H D) (g : Ghosts D) (memory : dis
   Serves h (Why db options) out r after out' = ServesWhy host g sink h (string_bytes db.name) out options r after out'
   Serves h (Check system set answer) out r after out' =
       ServesCheck host memory sink h out system set answer r after out'
-  Serves h (Mend system options) out r after out' = ServesMend host memory sink h out system options.ids.items
-      (map (λ name. Some (string_bytes name)) options.files.items) r after out'
   Serves h (Lint options) out r after out' = ServesLint host sink h out options r after out'
   Serves h (Migrate db) out r after out' = (told : Result ℕ JobError)
       × ServesMigrate host g sink h (string_bytes db.name) out told after out' × (r ≡ job_told told)

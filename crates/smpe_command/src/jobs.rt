@@ -1,4 +1,4 @@
-//! The subcommands, except for `why` (in `questions`), `check` (in `checks`), `mend` (in `mending`) and `lint` (in `lint`).
+//! The subcommands, except for `why` (in `questions`), `check` (in `checks`) and `lint` (in `lint`).
 ghost use Rattle.std.specs.Prelude.{◌≡◌, Result};
 ghost use Rattle.std.specs.String.{string_bytes};
 ghost use Rattle.machine.specs.Machine.{RunFiles};
@@ -16,7 +16,6 @@ use crate::database::{migrate_database, run_job_in_database, verify_database};
 use crate::host::Host;
 use crate::job_files::read_files;
 use crate::lint::serve_lint;
-use crate::mending::serve_mend;
 use crate::questions::serve_why;
 use fields::{YyDdd, ZoneName};
 use report::{Sink, write_all};
@@ -49,7 +48,6 @@ pub(crate) fn serve<'a, H: Host, O: Sink>(
             set,
             answer,
         } => serve_check(alloc, host, system, set, answer, out),
-        Invocation::Mend { system, options } => serve_mend(alloc, host, system, options, out),
         Invocation::Lint { options } => serve_lint(alloc, host, options, out),
         Invocation::Migrate { db } => status_or_fault(serve_migrate(alloc, host, db, out)),
         Invocation::Verify { db } => status_or_fault(serve_verify(alloc, host, db, out)),

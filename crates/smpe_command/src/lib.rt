@@ -17,7 +17,6 @@ mod inputs;
 mod job_files;
 mod jobs;
 mod lint;
-mod mending;
 mod packages;
 mod program;
 mod questions;

@@ -175,7 +175,6 @@ pub fn operand_hint(alloc: Global, words: &[Vec<u8>]) -> Result<Option<String>, 
     }
     match line.subcommand() {
         Some("check") => check_hint(alloc, line),
-        Some("mend") => system_hint(alloc, line, "mend"),
         Some("why") => bypass_hint(alloc, line),
         _ => Ok(None),
     }
@@ -183,7 +182,7 @@ pub fn operand_hint(alloc: Global, words: &[Vec<u8>]) -> Result<Option<String>, 
 
 // What is wrong with the words of `check` taken together; `None` if that does not show here.
 fn check_hint(alloc: Global, line: CommandLine<'_>) -> Result<Option<String>, AllocError> {
-    if let Some(hint) = system_hint(alloc, line, "check")? {
+    if let Some(hint) = system_hint(alloc, line)? {
         return Ok(Some(hint));
     }
     match set_fault(line).or(answer_fault(line)) {
@@ -210,22 +209,21 @@ fn option_hint(
     }
 }
 
-// Which option that names the system `check` or `mend` needs but does not have, or which of these exclude each other;
-// `None` if neither.
-fn system_hint(
-    alloc: Global,
-    line: CommandLine<'_>,
-    subcommand: &str,
-) -> Result<Option<String>, AllocError> {
+// Which option that names the system `check` needs but does not have, or which of these exclude each other; `None` if
+// neither.
+fn system_hint(alloc: Global, line: CommandLine<'_>) -> Result<Option<String>, AllocError> {
     Ok(match (line.has_option("--db"), line.has_option("--srel")) {
-        (true, true) => Some(format!(in alloc;
-            "--srel and --db: {subcommand} takes the SREL of an empty system or a database, not both"
+        (true, true) => Some(String::from_str(
+            alloc,
+            "--srel and --db: check takes the SREL of an empty system or a database, not both",
         )?),
-        (false, false) => Some(format!(in alloc;
-            "--srel is missing, or --db: {subcommand} needs the SREL of an empty system, or a database"
+        (false, false) => Some(String::from_str(
+            alloc,
+            "--srel is missing, or --db: check needs the SREL of an empty system, or a database",
         )?),
-        (true, false) if !line.has_option("--zone") => Some(format!(in alloc;
-            "--zone is missing: with --db, {subcommand} needs a zone of the database, as TGT1"
+        (true, false) if !line.has_option("--zone") => Some(String::from_str(
+            alloc,
+            "--zone is missing: with --db, check needs a zone of the database, as TGT1",
         )?),
         (false, true) if has_option_of_copy(line) => Some(String::from_str(
             alloc,

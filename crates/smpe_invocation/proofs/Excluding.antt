@@ -8,7 +8,7 @@ use Rattle.std.proofs.lemmas.Bool.Decides.{nat_tests}
 use Rattle.terms.specs.Types.{Text}
 use Rattle.clap.specs.Words.{Row}
 use Rattle.smpe_invocation.specs.Answers.{Excludes}
-use Rattle.smpe_invocation.specs.Values.{HasCertificate, HasCheckForm, HasCommands, HasCopy, HasDate, HasMendedSystem}
+use Rattle.smpe_invocation.specs.Values.{HasCertificate, HasCheckForm, HasCommands, HasCopy, HasDate}
 use Rattle.smpe_invocation.specs.Values.{HasOptions, HasRelated, HasSetFiles, HasSystem, HasText, HasValues}
 use Rattle.smpe_invocation.specs.Values.{HasZoneName, IsEmptySystem, IsGiven, Lacks}
 use Rattle.smpe_invocation.specs.declared.fault.ArgFault.{ArgFault}
@@ -55,7 +55,6 @@ module _ (rows : List Row) where
   zone_in (asked.List db zone, h) = two_words (codes "zone") (codes "list") refl h.0
   zone_in (asked.Why db options, h) = two_words (codes "zone") (codes "why") refl h.0
   zone_in (asked.Check system set answer, h) = two_words (codes "zone") (codes "check") refl h.0
-  zone_in (asked.Mend system options, h) = two_words (codes "zone") (codes "mend") refl h.0
   zone_in (asked.Lint options, h) = two_words (codes "zone") (codes "lint") refl h.0
   zone_in (asked.Migrate db, h) = two_words (codes "zone") (codes "migrate") refl h.0
   zone_in (asked.Verify db, h) = two_words (codes "zone") (codes "verify") refl h.0
@@ -67,7 +66,6 @@ module _ (rows : List Row) where
   run_in (asked.List db zone, h) = two_words (codes "run") (codes "list") refl h.0
   run_in (asked.Why db options, h) = two_words (codes "run") (codes "why") refl h.0
   run_in (asked.Check system set answer, h) = two_words (codes "run") (codes "check") refl h.0
-  run_in (asked.Mend system options, h) = two_words (codes "run") (codes "mend") refl h.0
   run_in (asked.Lint options, h) = two_words (codes "run") (codes "lint") refl h.0
   run_in (asked.Migrate db, h) = two_words (codes "run") (codes "migrate") refl h.0
   run_in (asked.Verify db, h) = two_words (codes "run") (codes "verify") refl h.0
@@ -79,7 +77,6 @@ module _ (rows : List Row) where
   list_in (asked.List db zone, h) = (db, zone, h.1)
   list_in (asked.Why db options, h) = two_words (codes "list") (codes "why") refl h.0
   list_in (asked.Check system set answer, h) = two_words (codes "list") (codes "check") refl h.0
-  list_in (asked.Mend system options, h) = two_words (codes "list") (codes "mend") refl h.0
   list_in (asked.Lint options, h) = two_words (codes "list") (codes "lint") refl h.0
   list_in (asked.Migrate db, h) = two_words (codes "list") (codes "migrate") refl h.0
   list_in (asked.Verify db, h) = two_words (codes "list") (codes "verify") refl h.0
@@ -91,7 +88,6 @@ module _ (rows : List Row) where
   why_in (asked.List db zone, h) = two_words (codes "why") (codes "list") refl h.0
   why_in (asked.Why db options, h) = (db, options, h.1)
   why_in (asked.Check system set answer, h) = two_words (codes "why") (codes "check") refl h.0
-  why_in (asked.Mend system options, h) = two_words (codes "why") (codes "mend") refl h.0
   why_in (asked.Lint options, h) = two_words (codes "why") (codes "lint") refl h.0
   why_in (asked.Migrate db, h) = two_words (codes "why") (codes "migrate") refl h.0
   why_in (asked.Verify db, h) = two_words (codes "why") (codes "verify") refl h.0
@@ -103,22 +99,9 @@ module _ (rows : List Row) where
   check_in (asked.List db zone, h) = two_words (codes "check") (codes "list") refl h.0
   check_in (asked.Why db options, h) = two_words (codes "check") (codes "why") refl h.0
   check_in (asked.Check system set answer, h) = (system, set, answer, h.1)
-  check_in (asked.Mend system options, h) = two_words (codes "check") (codes "mend") refl h.0
   check_in (asked.Lint options, h) = two_words (codes "check") (codes "lint") refl h.0
   check_in (asked.Migrate db, h) = two_words (codes "check") (codes "migrate") refl h.0
   check_in (asked.Verify db, h) = two_words (codes "check") (codes "verify") refl h.0
-
-  pub mend_in : (i : Invocation) × HasValues (codes "mend", rows) i
-      → (system : _) × (options : _) × HasOptions rows (asked.Mend system options)
-  mend_in (asked.Zone db definition, h) = two_words (codes "mend") (codes "zone") refl h.0
-  mend_in (asked.Run db options, h) = two_words (codes "mend") (codes "run") refl h.0
-  mend_in (asked.List db zone, h) = two_words (codes "mend") (codes "list") refl h.0
-  mend_in (asked.Why db options, h) = two_words (codes "mend") (codes "why") refl h.0
-  mend_in (asked.Check system set answer, h) = two_words (codes "mend") (codes "check") refl h.0
-  mend_in (asked.Mend system options, h) = (system, options, h.1)
-  mend_in (asked.Lint options, h) = two_words (codes "mend") (codes "lint") refl h.0
-  mend_in (asked.Migrate db, h) = two_words (codes "mend") (codes "migrate") refl h.0
-  mend_in (asked.Verify db, h) = two_words (codes "mend") (codes "verify") refl h.0
 
   pub lint_in : (i : Invocation) × HasValues (codes "lint", rows) i
       → (options : _) × HasOptions rows (asked.Lint options)
@@ -127,7 +110,6 @@ module _ (rows : List Row) where
   lint_in (asked.List db zone, h) = two_words (codes "lint") (codes "list") refl h.0
   lint_in (asked.Why db options, h) = two_words (codes "lint") (codes "why") refl h.0
   lint_in (asked.Check system set answer, h) = two_words (codes "lint") (codes "check") refl h.0
-  lint_in (asked.Mend system options, h) = two_words (codes "lint") (codes "mend") refl h.0
   lint_in (asked.Lint options, h) = (options, h.1)
   lint_in (asked.Migrate db, h) = two_words (codes "lint") (codes "migrate") refl h.0
   lint_in (asked.Verify db, h) = two_words (codes "lint") (codes "verify") refl h.0
@@ -139,7 +121,6 @@ module _ (rows : List Row) where
   migrate_in (asked.List db zone, h) = two_words (codes "migrate") (codes "list") refl h.0
   migrate_in (asked.Why db options, h) = two_words (codes "migrate") (codes "why") refl h.0
   migrate_in (asked.Check system set answer, h) = two_words (codes "migrate") (codes "check") refl h.0
-  migrate_in (asked.Mend system options, h) = two_words (codes "migrate") (codes "mend") refl h.0
   migrate_in (asked.Lint options, h) = two_words (codes "migrate") (codes "lint") refl h.0
   migrate_in (asked.Migrate db, h) = (db, h.1)
   migrate_in (asked.Verify db, h) = two_words (codes "migrate") (codes "verify") refl h.0
@@ -151,7 +132,6 @@ module _ (rows : List Row) where
   verify_in (asked.List db zone, h) = two_words (codes "verify") (codes "list") refl h.0
   verify_in (asked.Why db options, h) = two_words (codes "verify") (codes "why") refl h.0
   verify_in (asked.Check system set answer, h) = two_words (codes "verify") (codes "check") refl h.0
-  verify_in (asked.Mend system options, h) = two_words (codes "verify") (codes "mend") refl h.0
   verify_in (asked.Lint options, h) = two_words (codes "verify") (codes "lint") refl h.0
   verify_in (asked.Migrate db, h) = two_words (codes "verify") (codes "migrate") refl h.0
   verify_in (asked.Verify db, h) = (db, h.1)
@@ -200,16 +180,6 @@ module _ (rows : List Row) where
       → (copy : SystemCopy) × HasSystem rows (Copied copy)
   copied_in some (Empty srel, h) = absurd (some h.0.1)
   copied_in some (Copied copy, h) = (copy, h)
-
-  pub mended_empty_in : Lacks (codes "db") rows → (system : CheckedSystem) × HasMendedSystem rows system
-      → (srel : Text) × IsEmptySystem rows srel
-  mended_empty_in none (Empty srel, h) = (srel, h)
-  mended_empty_in none (Copied copy, h) = absurd (none-some (string_bytes copy.db.name) (sym none ∙ h.0.0.0))
-
-  pub mended_copy_in : ¬ Lacks (codes "db") rows → (system : CheckedSystem) × HasMendedSystem rows system
-      → (copy : SystemCopy) × HasCopy rows copy
-  mended_copy_in some (Empty srel, h) = absurd (some h.1)
-  mended_copy_in some (Copied copy, h) = (copy, h.0)
 
   -- there is one form of the answer
   pub json_in : IsGiven (codes "json") rows → (form : CheckForm) × HasCheckForm rows form

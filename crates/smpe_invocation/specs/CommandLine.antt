@@ -106,11 +106,6 @@ abbrev pub check_shape : Shape
 check_shape = with_options (codes "check") (set_options (flag_arg (codes "report") ∷ flag_arg (codes "json")
     ∷ optional_arg (codes "certificate") ∷ file_arg ∷ []))
 
--- `mend --id ID [--id ID].. FILE..` in a system
-abbrev pub mend_shape : Shape
-mend_shape = with_options (codes "mend")
-    (system_options (required_repeatable_arg (codes "id") ∷ required_file_arg ∷ []))
-
 -- `lint --srel S [--form text|json] FILE..`
 abbrev pub lint_shape : ValueParser → Shape
 lint_shape forms = with_options (codes "lint")
@@ -124,7 +119,7 @@ migrate_shape = with_options (codes "migrate") (database_options [])
 abbrev pub verify_shape : Shape
 verify_shape = with_options (codes "verify") (database_options [])
 
--- `smpe` with one of the nine, and `--version`
+-- `smpe` with one of the eight, and `--version`
 abbrev pub smpe : ValueParser → ValueParser → App
 smpe kinds forms = record {
   top = record (new_app (codes "smpe")).top {
@@ -133,7 +128,7 @@ smpe kinds forms = record {
     subcommand_required = true;
     disable_help_subcommand = true;
   };
-  subs = zone_shape kinds ∷ run_shape ∷ list_shape ∷ why_shape ∷ check_shape ∷ mend_shape ∷ lint_shape forms
+  subs = zone_shape kinds ∷ run_shape ∷ list_shape ∷ why_shape ∷ check_shape ∷ lint_shape forms
       ∷ migrate_shape ∷ verify_shape ∷ [];
 }
 

@@ -123,11 +123,6 @@ abbrev pub HasSystem : List Row → CheckedSystem → Type 0
 HasSystem rows (Empty srel) = IsEmptySystem rows srel × Lacks (codes "why") rows
 HasSystem rows (Copied copy) = HasCopy rows copy × AreIds (all_of (codes "why") rows) copy.ids.items
 
--- the one or the other, without ids to ask about
-abbrev pub HasMendedSystem : List Row → CheckedSystem → Type 0
-HasMendedSystem rows (Empty srel) = IsEmptySystem rows srel
-HasMendedSystem rows (Copied copy) = HasCopy rows copy × (copy.ids.items ≡ [])
-
 -- the check's own APPLY is asked for: the set is a shop's own files, and there are no commands
 abbrev pub AsksForApply : List Row → Type 0
 AsksForApply rows = Lacks (codes "ptfin") rows × Lacks (codes "cntl") rows
@@ -162,7 +157,6 @@ subcommand (asked.Run db options) = codes "run"
 subcommand (asked.List db zone) = codes "list"
 subcommand (asked.Why db options) = codes "why"
 subcommand (asked.Check system set answer) = codes "check"
-subcommand (asked.Mend system options) = codes "mend"
 subcommand (asked.Lint options) = codes "lint"
 subcommand (asked.Migrate db) = codes "migrate"
 subcommand (asked.Verify db) = codes "verify"
@@ -183,8 +177,6 @@ HasOptions rows (asked.Why db options) = HasDatabase rows db × HasZoneName (cod
     × HasFlag (codes "group") rows options.group
     × HasOptional (codes "bypass") rows (option_map string_bytes options.bypass)
 HasOptions rows (asked.Check system set answer) = HasSystem rows system × HasServiceSet rows set × HasAnswer rows answer
-HasOptions rows (asked.Mend system options) = HasMendedSystem rows system × HasIds rows options.ids.items
-    × HasFiles rows (map string_bytes options.files.items)
 HasOptions rows (asked.Lint options) = HasSrel rows options.srel × IsForm (first_of (codes "form") rows) options.form
     × HasFiles rows (map string_bytes options.files.items)
 HasOptions rows (asked.Migrate db) = HasDatabase rows db

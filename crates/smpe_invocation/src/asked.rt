@@ -114,15 +114,6 @@ pub struct CheckAnswer {
     pub certificate: Option<String>,
 }
 
-/// The SYSMODs that do not go on, and the files of the service to mend them with, by their names.
-#[derive(Drop)]
-pub struct MendOptions {
-    /// There is at least one.
-    pub ids: Vec<Id>,
-    /// There is at least one.
-    pub files: Vec<String>,
-}
-
 /// What `smpe` is asked to do. The texts are the names of files.
 #[derive(Drop)]
 pub enum Invocation {
@@ -151,11 +142,6 @@ pub enum Invocation {
         system: CheckedSystem,
         set: ServiceSet,
         answer: CheckAnswer,
-    },
-    /// Tell what to do that SYSMODs go on in a system, and change no database. A copy has no ids to ask about.
-    Mend {
-        system: CheckedSystem,
-        options: MendOptions,
     },
     /// Tell what keeps a service stream from being clean, by its files alone.
     Lint {

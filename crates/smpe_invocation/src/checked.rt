@@ -3,7 +3,7 @@ ghost use Rattle.std.specs.Prelude.{◌≡◌, Option, IfOk, IfErr, codes};
 ghost use Rattle.terms.specs.Types.{Text};
 ghost use Rattle.clap.specs.Words.{found_of, rows_of};
 ghost use Rattle.smpe_invocation.specs.Answers.{Excludes};
-ghost use Rattle.smpe_invocation.specs.Values.{HasCommands, HasCopy, HasMendedSystem, HasServiceSet, HasSetFiles};
+ghost use Rattle.smpe_invocation.specs.Values.{HasCommands, HasCopy, HasServiceSet, HasSetFiles};
 ghost use Rattle.smpe_invocation.specs.Values.{HasSystem, IsEmptySystem, Lacks};
 ghost use Rattle.smpe_invocation.specs.declared.asked.CheckedSystem.{CheckedSystem};
 ghost use Rattle.smpe_invocation.specs.declared.asked.CommandJob.{CommandJob};
@@ -34,24 +34,6 @@ pub(crate) fn read_checked_system(
         read_empty_system(found)
     } else {
         read_copied_system(alloc, found)
-    }
-}
-
-/// Reads the system in which SYSMODs do not go on: the copy of a database if `--db` is given, otherwise an empty one.
-pub(crate) fn read_mended_system(
-    alloc: Global,
-    found: &ArgMatches<'_>,
-) -> Result<CheckedSystem, ArgFault>
-    ensures ok { IfOk result (HasMendedSystem (rows_of (found_of found.now))) }
-    ensures err { IfErr result (λ e. Excludes e ((system : CheckedSystem)
-        × HasMendedSystem (rows_of (found_of found.now)) system)) }
-{
-    if lacks(found, "db") {
-        let srel = read_empty_srel(found)?;
-        Ok(CheckedSystem::Empty(srel))
-    } else {
-        let copy = read_system_copy(alloc, found, Vec::new(alloc))?;
-        Ok(CheckedSystem::Copied(copy))
     }
 }
 

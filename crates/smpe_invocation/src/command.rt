@@ -4,7 +4,7 @@ ghost use Rattle.clap.specs.Words.{app_of, rule_of};
 ghost use Rattle.clap.specs.declared.builder.value_parser.ValueParser.{ValueParser};
 ghost use Rattle.smpe_invocation.specs.CommandLine.{IsCommandLine, IsFormParser, IsKindParser, IsSubcommand};
 ghost use Rattle.smpe_invocation.specs.CommandLine.{check_shape, database_options, file_arg, flag_arg, form_arg};
-ghost use Rattle.smpe_invocation.specs.CommandLine.{kind_arg, lint_shape, list_shape, mend_shape, migrate_shape};
+ghost use Rattle.smpe_invocation.specs.CommandLine.{kind_arg, lint_shape, list_shape, migrate_shape};
 ghost use Rattle.smpe_invocation.specs.CommandLine.{optional_arg, optional_repeatable_arg, required_arg};
 ghost use Rattle.smpe_invocation.specs.CommandLine.{required_file_arg, required_repeatable_arg, run_shape, set_options};
 ghost use Rattle.smpe_invocation.specs.CommandLine.{system_options, verify_shape, why_shape, with_options, zone_shape};
@@ -39,7 +39,6 @@ pub(crate) fn command_line<'a>(alloc: Global) -> Result<Command<'a>, AllocError>
     .subcommand(list_command(alloc)?)?
     .subcommand(why_command(alloc)?)?
     .subcommand(check_command(alloc)?)?
-    .subcommand(mend_command(alloc)?)?
     .subcommand(lint_command(alloc)?)?
     .subcommand(migrate_command(alloc)?)?
     .subcommand(verify_command(alloc)?)
@@ -213,23 +212,6 @@ fn system_command<'a>(
             "zone",
             "The target or distribution zone of the database",
         ))
-}
-
-fn mend_command<'a>(alloc: Global) -> Result<Command<'a>, AllocError>
-    ensures { IfOk result (IsSubcommand mend_shape) }
-{
-    system_command(
-        alloc,
-        "mend",
-        "Tells what to do that SYSMODs go on, in an empty system or in a copy of a database",
-        "Example: smpe mend --db smpe.db --zone TGT1 --id UA00001 ptfs.txt holddata.txt",
-    )?
-    .arg(required_repeatable_arg(
-        alloc,
-        "id",
-        "The id of a SYSMOD that does not go on, once or more often",
-    ))?
-    .arg(required_file_arg(alloc))
 }
 
 fn lint_command<'a>(alloc: Global) -> Result<Command<'a>, AllocError>

@@ -15,8 +15,7 @@ mod option_values;
 
 pub use asked::{
     CheckAnswer, CheckForm, CheckedSystem, CommandJob, DatabaseFile, Invocation, LintForm,
-    LintOptions, MendOptions, RunOptions, ServiceSet, SetFiles, SystemCopy, WhyOptions,
-    ZoneDefinition,
+    LintOptions, RunOptions, ServiceSet, SetFiles, SystemCopy, WhyOptions, ZoneDefinition,
 };
 pub use date::read_date;
 pub use fault::ArgFault;

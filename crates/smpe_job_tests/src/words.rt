@@ -4,8 +4,7 @@ use fields::Id;
 use scripts::compare;
 use smpe::{ArgFault, DatabaseFile, Invocation, invocation};
 use smpe_invocation::{
-    CheckAnswer, CheckForm, CheckedSystem, LintForm, LintOptions, MendOptions, ServiceSet,
-    SetFiles, WhyOptions,
+    CheckAnswer, CheckForm, CheckedSystem, LintForm, LintOptions, ServiceSet, SetFiles, WhyOptions,
 };
 use std::alloc::Global;
 use std::test::Fail;
@@ -93,11 +92,6 @@ const ASKED: &[(&str, &str)] = &[
         "check --srel Z038 --cntl C --date 2024-05-17 -- A --json",
         "Z038 A,--json C 24.138 report -",
     ),
-    ("mend --srel Z038 --id UA00001 A", "Z038 UA00001 A"),
-    (
-        "mend A --id=UA00002 --zone TGT1 --db F --id UA00001 --wait 5 B",
-        "F:5 TGT1 - UA00002,UA00001 A,B",
-    ),
     ("lint --srel Z038 A", "Z038 text A"),
     ("lint A --form=json B --srel Z038", "Z038 json A,B"),
     ("lint --form text --srel Z038 A A", "Z038 text A,A"),
@@ -111,11 +105,6 @@ const CLAP: &[&str] = &[
     "check --srel Z038 --certificate C --certificate D A",
     "check --srel Z038 --json --json A",
     "check --srel Z038 --json=yes A",
-    "mend --srel Z038 A",
-    "mend --srel Z038 --id UA00001",
-    "mend --srel Z038 --id UA00001 --why UA00002 A",
-    "mend --srel Z038 --id UA00001 --json A",
-    "mend --srel Z038 --id UA00001 --ptfin P",
     "check --srel Z038 -A",
     "lint --srel Z038",
     "lint A",
@@ -167,12 +156,6 @@ const BAD: &[&str] = &[
     "check --srel Z038 --ptfin P --json",
     "check --srel Z038 --report --json A",
     "check --db F --zone TGT1 --why UA00001 --json A",
-    "mend --id UA00001 A",
-    "mend --db F --id UA00001 A",
-    "mend --db F --zone TGT1 --srel Z038 --id UA00001 A",
-    "mend --srel Z038 --wait 5 --id UA00001 A",
-    "mend --srel Z038 --zone TGT1 --id UA00001 A",
-    "mend --srel Z038 --id UA0001 A",
     "check --srel Z038 --zone TGT1 A",
     "lint --srel z038 A",
     "check --db F --ptfin P",
@@ -256,7 +239,6 @@ fn invocation_text(alloc: Global, invocation: &Invocation) -> Result<String, Fai
             let answer = answer_text(alloc, answer)?;
             Ok(format!(in alloc; "{system} {set} {answer}")?)
         }
-        Invocation::Mend { system, options } => mend_text(alloc, system, options),
         Invocation::Lint { options } => lint_text(alloc, options),
         Invocation::Migrate { db } => database_text(alloc, db),
         Invocation::Verify { db } => database_text(alloc, db),
@@ -313,14 +295,6 @@ fn answer_text(alloc: Global, answer: &CheckAnswer) -> Result<String, Fail> {
         .as_ref()
         .map_or("-", |text| text.as_str());
     Ok(format!(in alloc; "{form} {certificate}")?)
-}
-
-// What is mended, with which files.
-fn mend_text(alloc: Global, system: &CheckedSystem, options: &MendOptions) -> Result<String, Fail> {
-    let system = system_text(alloc, system)?;
-    let ids = ids_text(alloc, options.ids.as_slice())?;
-    let files = names_text(alloc, options.files.as_slice())?;
-    Ok(format!(in alloc; "{system} {ids} {files}")?)
 }
 
 // The names of a service set's files.

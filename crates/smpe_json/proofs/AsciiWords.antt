@@ -25,8 +25,6 @@ use Rattle.terms.specs.Forms.{is_id_byte}
 use Rattle.terms.specs.Spelling.{kind_text, hold_text, test_text, need_text, refusal_text, word_text}
 use Rattle.machine.specs.Outcome.{Status, Received}
 use Rattle.machine.specs.Report.{status_word}
-use Rattle.smpe_json.specs.Values.{printed}
-use Rattle.smpe_json.specs.Documents.{printed_in_lines}
 
 -- a text whose bytes all pass
 ascii_if : (t : Text) → IsTrue (list_all (λ b. nat_lt b 128) t) → IsAscii t
@@ -74,10 +72,3 @@ ascii_refusal r = ascii_if (refusal_text r) refl
 pub ascii_status : (s : Status) → IsAscii (status_word s)
 ascii_status Received = ascii_if (status_word Received) refl
 ascii_status s = ascii_if (status_word s) refl
-
--- what is printed is ASCII
-pub small_printed : (b : ℕ) → printed b < 128
-small_printed b = grind (arith, nat_tests)
-
-pub small_printed_in_lines : (b : ℕ) → printed_in_lines b < 128
-small_printed_in_lines b = grind (arith, nat_tests)

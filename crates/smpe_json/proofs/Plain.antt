@@ -1,5 +1,6 @@
 -- A document has no floats, and nests a few levels deep, so its text is read as its value.
-use Rattle.std.proofs.Common.{◌≡◌, ◌≤◌, ◌+◌, ◌∙◌, ℕ, List, [], ◌∷◌, ◌++◌, false, Option, None, Some, refl, arith, map, ap, sym, subst}
+use Rattle.std.proofs.Common.{◌≡◌, ◌≤◌, ◌+◌, ◌∙◌, ℕ, List, [], ◌∷◌, ◌++◌, false, Option, None, Some, refl, arith}
+use Rattle.std.proofs.Common.{map, ap, sym, subst}
 use Rattle.std.specs.Prelude.{filter, codes}
 use Rattle.terms.specs.Types.{Text, Id}
 use Rattle.terms.specs.declared.codes.Test.{Test}

@@ -1,10 +1,9 @@
 //! The lines of a report as values.
-ghost use Rattle.std.specs.Prelude.{◌≡◌, map, option_map, IfOk, OnOk};
+ghost use Rattle.std.specs.Prelude.{◌≡◌, map, IfOk, OnOk};
 ghost use Rattle.machine.specs.Outcome.{StatusLine, ErrsysmodLine, lines_code};
 ghost use Rattle.judge_system.specs.TestSets.{tests_of};
 ghost use Rattle.judge_system.specs.Views.{need_view, failure_view};
 ghost use Rattle.report.specs.Views.{header_view, place_view, status_view, line_view};
-ghost use Rattle.serde_json.specs.Data.{string};
 ghost use Rattle.serde_json.specs.View.{view, members_view};
 ghost use Rattle.smpe_json.specs.Values.{with_members};
 ghost use Rattle.smpe_json.specs.Lines.{test_value, need_value, failure_members, detail_members, line_value};

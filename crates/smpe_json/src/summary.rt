@@ -2,14 +2,13 @@
 ghost use Rattle.std.specs.Prelude.{◌≡◌, filter, map, IfOk};
 ghost use Rattle.smpe_summary.specs.Views.{cause_view, taken_view};
 ghost use Rattle.serde_json.specs.View.{view};
-ghost use Rattle.smpe_json.specs.Values.{array_of};
-ghost use Rattle.smpe_json.specs.Documents.{group_name, group_names, id_with, id_in_group, member_value, is_named};
+ghost use Rattle.smpe_json.specs.Documents.{group_name, group_names, member_value, is_named};
 ghost use Rattle.smpe_json.specs.Documents.{group_value, cause_value, taken_value, summary_value, about_reason};
 ghost use Rattle.smpe_json.specs.Documents.{step_value};
 
 use crate::texts::{id_str, reason_str, shown};
 use crate::values::id_values;
-use fields::{Id, Reason};
+use fields::Id;
 use serde_json::{Value, json};
 use smpe_summary::{Cause, Group, Member, Summary, TakenOff, ToDo, append_cause_text};
 use std::alloc::{AllocError, Global};

@@ -1,7 +1,7 @@
 //! Texts as they stand in a document.
 ghost use Rattle.std.specs.Prelude.{◌≡◌, map, string_bytes, IfOk};
 ghost use Rattle.std.specs.Str.{IsAscii};
-ghost use Rattle.terms.specs.Spelling.{kind_text, hold_text, test_text, need_text, refusal_text, word_text};
+ghost use Rattle.terms.specs.Spelling.{test_text, need_text, refusal_text, word_text};
 ghost use Rattle.machine.specs.Report.{place_text, status_word};
 ghost use Rattle.report.specs.Views.{place_view, status_view};
 ghost use Rattle.smpe_json.specs.Values.{printed};

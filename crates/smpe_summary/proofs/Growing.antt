@@ -18,14 +18,14 @@ pub two : (old a b one end : List ℕ) → one ≡ old ++ a → end ≡ one ++ b
 two old a b one end first second = second ∙ ap (λ t. t ++ b) first ∙ append_assoc old a b
 
 pub three : (old a b c one next end : List ℕ) → one ≡ old ++ a → next ≡ one ++ b → end ≡ next ++ c
-    → end ≡ old ++ (a ++ (b ++ c))
+    → end ≡ old ++ ((a ++ b) ++ c)
 three old a b c one next end first second third =
-    two old a (b ++ c) one end first (two one b c next end second third)
+    two old (a ++ b) c next end (two old a b one next first second) third
 
 pub four : (old a b c d one next last end : List ℕ) → one ≡ old ++ a → next ≡ one ++ b → last ≡ next ++ c
-    → end ≡ last ++ d → end ≡ old ++ (a ++ (b ++ (c ++ d)))
+    → end ≡ last ++ d → end ≡ old ++ (((a ++ b) ++ c) ++ d)
 four old a b c d one next last end first second third fourth =
-    two old a (b ++ (c ++ d)) one end first (three one b c d next last end second third fourth)
+    two old ((a ++ b) ++ c) d last end (three old a b c one next last first second third) fourth
 
 -- what holds once a call has gone well that is the last one
 pub on_ok_from : {T E X P : Type 0} (r : Result T E) (new more old : X) → new ≡ (if is_ok r then more else old)

@@ -1,5 +1,5 @@
 -- Each id of the package has one group.
-use Rattle.std.proofs.Common.{◌≡◌, ◌∙◌, ◌⊎◌, inl, inr, Bool, true, false, List, [], ◌∷◌, ◌++◌, Option, None, Some}
+use Rattle.std.proofs.Common.{◌≡◌, ◌∙◌, ◌⊎◌, inl, inr, Bool, true, false, List, [], ◌∷◌, Option, None, Some}
 use Rattle.std.proofs.Common.{Contains, map, refl, sym, ap, subst, true≢false}
 use Rattle.std.specs.Prelude.{IsTrue, if◌then◌else◌}
 use Rattle.std.specs.List.{flat_map}
@@ -19,7 +19,7 @@ use Rattle.smpe_summary.specs.declared.values.Member.{Member}
 use Rattle.smpe_summary.specs.Asked.{Asked, is_candidate, id_where, ids_where}
 use Rattle.smpe_summary.specs.Sets.{IsSetOf}
 use Rattle.smpe_summary.specs.Groups.{a_member, status_group, line_member, zone_group, other_member, members_of}
-use Rattle.smpe_summary.specs.Laws.{IsPartition, EachHasOneGroup}
+use Rattle.smpe_summary.specs.Laws.{EachHasOneGroup}
 
 -- ---- lines
 
@@ -198,15 +198,21 @@ module _ (a : Asked) (supers : Id → List Id) where
           by : (b : Bool) → is_in cands x ≡ b → (m : Member) × Contains (members_of a supers cands) m × (m.id ≡ x)
           by true e =
               let line = candidate_line a.lines x ((are.members x).0 (Contains_from_is_in cands x e)) in
-              let g = group_of x line.0 line.2 in
-              (a_member x g.0, Contains-append_left (flat_map (line_member a supers) a.lines)
-              (flat_map (other_member a cands) a.members) (a_member x g.0)
-              (in_flat (line_member a supers) a.lines (StatusLine x line.1.0 line.0) (a_member x g.0) line.1.1
-              (into_line x line.1.0 line.0 g.0 known g.1)), refl)
-          by false e =
-              (a_member x (zone_group a x), Contains-append_right (flat_map (line_member a supers) a.lines)
-              (flat_map (other_member a cands) a.members) (a_member x (zone_group a x))
-              (in_flat (other_member a cands) a.members x (a_member x (zone_group a x)) known (into_other x e)), refl)
+              let g = group_of x line.0 line.2 in (
+                a_member x g.0,
+                Contains-append_left (flat_map (line_member a supers) a.lines)
+                    (flat_map (other_member a cands) a.members) (a_member x g.0)
+                    (in_flat (line_member a supers) a.lines (StatusLine x line.1.0 line.0) (a_member x g.0) line.1.1
+                    (into_line x line.1.0 line.0 g.0 known g.1)),
+                refl,
+              )
+          by false e = (
+            a_member x (zone_group a x),
+            Contains-append_right (flat_map (line_member a supers) a.lines)
+                (flat_map (other_member a cands) a.members) (a_member x (zone_group a x))
+                (in_flat (other_member a cands) a.members x (a_member x (zone_group a x)) known (into_other x e)),
+            refl,
+          )
 
       is_known : (m : Member) → Contains (members_of a supers cands) m → Contains a.members m.id
       is_known m h = elim (of_member m h) [ inl of ↦ of.2 | inr other ↦ other.0 ]

@@ -1,5 +1,5 @@
 -- The laws of summaries.
-use Rattle.std.specs.Prelude.{◌≡◌, List, Contains, map}
+use Rattle.std.specs.Prelude.{◌≡◌, List, Contains}
 use Rattle.terms.specs.Types.{Id, Selection}
 use Rattle.machine.specs.Installing.{Decision, AreInstallLines}
 use Rattle.smpe_summary.specs.declared.values.Member.{Member}

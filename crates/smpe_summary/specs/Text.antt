@@ -1,12 +1,12 @@
 -- The text of a summary.
 use Rattle.std.specs.Prelude.{◌-◌, ◌==◌, ◌||◌, Bool, true, false, not, ℕ, nat_le, List, [], ◌∷◌, ◌++◌, Option, None, Some}
-use Rattle.std.specs.Prelude.{codes, decimal, filter, length, map, take, option_map, if◌then◌else◌}
+use Rattle.std.specs.Prelude.{codes, count_by, decimal, filter, length, map, take, if◌then◌else◌}
 use Rattle.std.specs.List.{concat, flat_map, list_all, list_any}
+use Rattle.std.specs.Str.{bytes_eq}
 use Rattle.terms.specs.declared.kinds.HoldKind.{HoldKind}
 use Rattle.terms.specs.declared.kinds.ZoneKind.{ZoneKind}
 use Rattle.terms.specs.declared.kinds.ZoneKind.TheVariants.{Target, Distribution}
 use Rattle.terms.specs.declared.codes.NeedKind.{NeedKind}
-use Rattle.terms.specs.declared.codes.NeedKind.TheVariants as need
 use Rattle.terms.specs.declared.codes.Test.{Test}
 use Rattle.terms.specs.declared.codes.Test.TheVariants as test
 use Rattle.terms.specs.Types.{Text, Id, Reason}
@@ -62,10 +62,10 @@ abbrev pub hold_words : HoldKind → Reason → Option Text → Text
 hold_words kind reason comment = hold_text kind ++ codes " hold " ++ reason ++ comment_text comment
 
 abbrev pub error_words : Id → Text
-error_words z = codes "ERROR hold " ++ z ++ codes ": nothing that resolves it goes on"
+error_words z = concat (codes "ERROR hold " ∷ z ∷ codes ": nothing that resolves it goes on" ∷ [])
 
 abbrev pub open_words : NeedKind → Id → Text
-open_words kind z = need_text kind ++ codes " " ++ z ++ codes " is not received"
+open_words kind z = concat (need_text kind ∷ codes " " ∷ z ∷ codes " is not received" ∷ [])
 
 abbrev pub need_words : NeedKind → Id → Text
 need_words kind z = if is_error_hold kind then error_words z else open_words kind z
@@ -185,21 +185,28 @@ function_of _ = []
 abbrev pub functions_of : List Member → List Id
 functions_of ms = flat_map (λ m. function_of m.group) ms
 
--- so many of all lack a function, as this one
+-- so many of all lack this function
 abbrev pub function_line : ℕ → ℕ → Id → Text
 function_line n all f =
-    codes "  " ++ decimal n ++ codes " of " ++ decimal all
-    ++ codes " need a function that is not installed and not in the files, as " ++ f ++ codes "\n"
+    concat (codes "  " ∷ decimal n ∷ codes " of " ∷ decimal all ∷ codes ": function " ∷ f
+    ∷ codes " is not installed and not in the files\n" ∷ [])
+
+abbrev pub others_line : ℕ → Text
+others_line n = if n == 0 then [] else codes "  " ++ decimal n ++ codes " more lack other functions\n"
+
+-- how many lack the function f, and how many lack others
+unfoldable pub function_lines : ℕ → List Id → Id → Text
+function_lines all fs f =
+    function_line (count_by (bytes_eq f) fs) all f ++ others_line (length fs - count_by (bytes_eq f) fs)
 
 abbrev pub functions_text : ℕ → List Id → Text
 functions_text all [] = []
-functions_text all (f ∷ fs) = function_line (length (f ∷ fs)) all f
+functions_text all (f ∷ fs) = function_lines all (f ∷ fs) f
 
 abbrev pub early_groups : List Member → Text
 early_groups ms =
     group_line ms 4 (codes "not decided")
     ++ group_line ms 2 (codes "fail, but others that go on supersede them")
-    ++ group_line ms 1 (codes "would be superseded")
 
 abbrev pub late_groups : List Member → Text
 late_groups ms =
@@ -213,11 +220,12 @@ cause_line c =
     codes "  " ++ decimal c.fails ++ codes "  " ++ c.id ++ codes ": " ++ cause_text c.why ++ codes "\n"
 
 -- how many more lines there would be
-abbrev pub more_line : ℕ → ℕ → Text
-more_line most n = if nat_le n most then [] else codes "     and " ++ decimal (n - most) ++ codes " more\n"
+abbrev pub more_line : ℕ → ℕ → Text → Text
+more_line most n what =
+    if nat_le n most then [] else codes "     and " ++ decimal (n - most) ++ codes " more " ++ what ++ codes "\n"
 
 abbrev pub causes_text : List Cause → Text
-causes_text cs = flat_map cause_line (take 20 cs) ++ more_line 20 (length cs)
+causes_text cs = flat_map cause_line (take 20 cs) ++ more_line 20 (length cs) (codes "causes")
 
 abbrev pub usermods_text : List Id → Text
 usermods_text ids = if is_nil ids then [] else codes "; USERMODs: " ++ some_ids ids
@@ -227,7 +235,7 @@ taken_line t =
     codes "  " ++ t.by ++ codes " takes off " ++ some_ids t.ids ++ usermods_text t.usermods ++ codes "\n"
 
 abbrev pub taken_text : List TakenOff → Text
-taken_text ts = flat_map taken_line (take 3 ts) ++ more_line 3 (length ts)
+taken_text ts = flat_map taken_line (take 2 ts) ++ more_line 2 (length ts) (codes "that take SYSMODs off")
 
 -- ---- what is to be done
 
@@ -240,11 +248,13 @@ ask_command Target = codes ", then APPLY .. BYPASS(HOLDUSER("
 ask_command Distribution = codes ", then ACCEPT .. BYPASS(HOLDUSER("
 
 abbrev pub bypass_line : Text → Text → Id → Text → Text
-bypass_line verb command x reason = verb ++ x ++ codes " " ++ reason ++ command ++ reason ++ codes "))\n"
+bypass_line verb command x reason =
+    concat (verb ∷ x ∷ codes " " ∷ reason ∷ command ∷ reason ∷ codes "))\n" ∷ [])
 
 abbrev pub wait_line : Id → Id → Text
 wait_line x reason =
-    codes "  wait     " ++ x ++ codes " ERROR " ++ reason ++ codes ", until a SYSMOD that resolves it is received\n"
+    concat (codes "  wait     " ∷ x ∷ codes " ERROR " ∷ reason
+    ∷ codes ", until a SYSMOD that resolves it is received\n" ∷ [])
 
 abbrev pub todo_line : ZoneKind → ToDo → Text
 todo_line zone (todo.Order x) = []
@@ -259,7 +269,7 @@ abbrev pub order_line : List Id → Text
 order_line ids = if is_nil ids then [] else codes "  order    " ++ some_ids ids ++ codes "\n"
 
 abbrev pub acts_text : ZoneKind → List ToDo → Text
-acts_text zone ts = flat_map (todo_line zone) (take 10 ts) ++ more_line 10 (length ts)
+acts_text zone ts = flat_map (todo_line zone) (take 4 ts) ++ more_line 4 (length ts) (codes "holds")
 
 abbrev pub lists_text : ZoneKind → List Id → List ToDo → Text
 lists_text zone orders others = codes "To do\n" ++ order_line orders ++ acts_text zone others
@@ -306,5 +316,5 @@ status_of s =
     if list_all (λ m. is_refused m.group) s.members.items then 12
     else if s.has_failures || list_any (λ m. is_refused m.group) s.members.items then 8
     else if list_any (λ m. is_doubtful m.group) s.members.items
-        || not (list_any (λ m. is_taken m.group) s.members.items) then 4
+    || not (list_any (λ m. is_taken m.group) s.members.items) then 4
     else 0

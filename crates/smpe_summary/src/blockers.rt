@@ -1,5 +1,6 @@
 //! The causers of the SYSMODs of the package that would fail.
-ghost use Rattle.std.specs.Prelude.{◌≡◌, ◌++◌, IfOk, OnOk};
+ghost use Rattle.std.specs.Prelude.{◌≡◌, ◌++◌, ◌&&◌, IfOk, OnOk};
+ghost use Rattle.terms.specs.Lookups.{is_in};
 ghost use Rattle.std.specs.Ordering.{nat_cmp};
 ghost use Rattle.std.specs.Cmp.Lexicographic.{slice_cmp};
 ghost use Rattle.terms.specs.Types.{Id as AnId};
@@ -20,12 +21,7 @@ use std::alloc::{AllocError, Global};
 use std::collections::BTreeMap;
 
 // Whether the SYSMOD that fails is in the group of those that would fail.
-fn is_plain_failure(
-    asked: &Asked<'_>,
-    supers: &MultiMap<Id, Id>,
-    id: Id,
-    failure: &Failure,
-) -> bool
+fn is_plain_failure(asked: &Asked<'_>, supers: &MultiMap<Id, Id>, id: Id, failure: &Failure) -> bool
     ensures { result ≡ is_plain_failure (failed_group asked.now.global (listed (slice_cmp nat_cmp) supers.now id)
         (failure_view failure.now)) }
 {
@@ -33,6 +29,14 @@ fn is_plain_failure(
         failed_group(asked.global, listed(supers, id), failure),
         Group::Failed
     )
+}
+
+// Whether the SYSMOD that fails is of the package and in the group of those that would fail.
+fn is_counted(asked: &Asked<'_>, supers: &MultiMap<Id, Id>, id: Id, failure: &Failure) -> bool
+    ensures { result ≡ (is_in asked.now.members id && is_plain_failure
+        (failed_group asked.now.global (listed (slice_cmp nat_cmp) supers.now id) (failure_view failure.now))) }
+{
+    asked.package.contains(id) && is_plain_failure(asked, supers, id, failure)
 }
 
 // If the SYSMOD is of the package and would fail, lists it under each of its causers.
@@ -47,8 +51,7 @@ fn add_failed(
     ensures { OnOk result ((y : AnId) → listed (slice_cmp nat_cmp) blocks.new y ≡ listed (slice_cmp nat_cmp) blocks.old y
         ++ blocked_by asked.now (listed (slice_cmp nat_cmp) supers.now) y id (failure_view failure.now)) }
 {
-    let counts = asked.package.contains(id) && is_plain_failure(asked, supers, id, failure);
-    if !counts {
+    if !is_counted(asked, supers, id, failure) {
         return Ok(());
     }
     add_to_all(alloc, blocks, failure.causers.as_slice(), id)

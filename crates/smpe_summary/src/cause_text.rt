@@ -9,8 +9,8 @@ ghost use Rattle.smpe_summary.specs.Views.{reason_view, cause_view};
 use crate::pieces::{Piece, append_pieces};
 use crate::todo::is_error_hold;
 use crate::values::{Cause, CauseReason};
-use fields::{Id, Reason};
 use fields::spelling::{hold_text, need_text, test_text};
+use fields::{Id, Reason};
 use std::alloc::AllocError;
 use terms::{HoldKind, NeedKind, Test};
 
@@ -62,7 +62,15 @@ fn append_open<'a>(kind: NeedKind, id: &'a Id, text: &mut Vec<u8>) -> Result<(),
 {
     let kind = Piece::Text(need_text(kind));
     let id = Piece::Text(id.as_bytes());
-    append_pieces(&[kind, Piece::Text(b" "), id, Piece::Text(b" is not received")], text)
+    append_pieces(
+        &[
+            kind,
+            Piece::Text(b" "),
+            id,
+            Piece::Text(b" is not received"),
+        ],
+        text,
+    )
 }
 
 // Appends the open need.

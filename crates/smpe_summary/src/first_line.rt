@@ -58,7 +58,12 @@ fn append_part(
         return Ok(());
     }
     let count = Piece::Number(ids.len());
-    let pieces = [Piece::Text(b", "), count, Piece::Text(b" "), Piece::Text(words)];
+    let pieces = [
+        Piece::Text(b", "),
+        count,
+        Piece::Text(b" "),
+        Piece::Text(words),
+    ];
     append_pieces(&pieces, text)
 }
 
@@ -112,7 +117,10 @@ fn is_act(item: &ToDo) -> bool
 fn acts_among(alloc: Global, todo: &[ToDo]) -> Result<Vec<ToDo>, AllocError>
     ensures { IfOk result (λ acts. acts.items ≡ filter is_act todo.now) }
 {
-    todo.iter().filter(|item| is_act(item)).copied().collect(alloc)
+    todo.iter()
+        .filter(|item| is_act(item))
+        .copied()
+        .collect(alloc)
 }
 
 // Appends the id, if it is to be ordered.
@@ -144,7 +152,10 @@ fn append_acts(acts: usize, text: &mut Vec<u8>) -> Result<(), AllocError>
         return Ok(());
     }
     let counted = Piece::Counted(acts, b"hold");
-    append_pieces(&[Piece::Text(b"; "), counted, Piece::Text(b" to act on")], text)
+    append_pieces(
+        &[Piece::Text(b"; "), counted, Piece::Text(b" to act on")],
+        text,
+    )
 }
 
 // What stands before the number of orders.
@@ -167,11 +178,7 @@ fn append_orders(acts: usize, orders: usize, text: &mut Vec<u8>) -> Result<(), A
 }
 
 // Appends how much there is to be done.
-fn append_todo_parts(
-    alloc: Global,
-    todo: &[ToDo],
-    text: &mut Vec<u8>,
-) -> Result<(), AllocError>
+fn append_todo_parts(alloc: Global, todo: &[ToDo], text: &mut Vec<u8>) -> Result<(), AllocError>
     ensures { OnOk result (text.new.items ≡ text.old.items ++ todo_parts todo.now) }
 {
     let acts = acts_among(alloc, todo)?.len();

@@ -1,6 +1,8 @@
 //! The lines of groups.
-ghost use Rattle.std.specs.Prelude.{◌≡◌, ◌++◌, IfOk, OnOk};
-ghost use Rattle.smpe_summary.specs.Text.{ids_line, group_line, function_of, functions_of, function_line};
+ghost use Rattle.std.specs.Prelude.{◌≡◌, ◌++◌, count_by, IfOk, OnOk};
+ghost use Rattle.std.specs.Str.{bytes_eq};
+ghost use Rattle.smpe_summary.specs.Text.{ids_line, group_line, function_of, functions_of, function_line, others_line};
+ghost use Rattle.smpe_summary.specs.Text.{function_lines};
 ghost use Rattle.smpe_summary.specs.Text.{functions_text, early_groups, late_groups, group_lines};
 
 use crate::first_line::ids_in;
@@ -67,7 +69,14 @@ fn functions_of(alloc: Global, members: &[Member]) -> Result<Vec<Id>, AllocError
     Ok(functions)
 }
 
-// Appends how many of all SYSMODs lack a function, as this one.
+// How many of the ids are this one.
+fn count_of(ids: &[Id], id: Id) -> usize
+    ensures { result ≡ count_by (bytes_eq id) ids.now }
+{
+    ids.iter().filter(|other| id == **other).count()
+}
+
+// Appends how many of all SYSMODs lack the function.
 fn append_function<'a>(
     count: usize,
     all: usize,
@@ -82,24 +91,56 @@ fn append_function<'a>(
         Piece::Number(count),
         Piece::Text(b" of "),
         Piece::Number(all),
-        Piece::Text(b" need a function that is not installed and not in the files, as "),
+        Piece::Text(b": function "),
         Piece::Text(bytes),
-        Piece::Text(b"\n"),
+        Piece::Text(b" is not installed and not in the files\n"),
     ];
     append_pieces(&pieces, text)
 }
 
-// Appends how many of all SYSMODs lack a function, if any do.
+// Appends how many SYSMODs lack other functions, if any do.
+fn append_others(count: usize, text: &mut Vec<u8>) -> Result<(), AllocError>
+    ensures { OnOk result (text.new.items ≡ text.old.items ++ others_line count) }
+{
+    if count == 0 {
+        return Ok(());
+    }
+    let count = Piece::Number(count);
+    append_pieces(
+        &[
+            Piece::Text(b"  "),
+            count,
+            Piece::Text(b" more lack other functions\n"),
+        ],
+        text,
+    )
+}
+
+// Appends how many SYSMODs lack the function, and how many lack others.
+fn append_function_lines<'a>(
+    all: usize,
+    functions: &[Id],
+    function: &'a Id,
+    text: &mut Vec<u8>,
+) -> Result<(), AllocError>
+    ensures { OnOk result (text.new.items ≡ text.old.items ++ function_lines all functions.now function.now) }
+{
+    let count = count_of(functions, *function);
+    append_function(count, all, function, text)?;
+    append_others(functions.len().saturating_sub(count), text)
+}
+
+// Appends the first function that is lacking, with how many of all SYSMODs lack it, and how many lack others.
 fn append_functions(all: usize, functions: &[Id], text: &mut Vec<u8>) -> Result<(), AllocError>
     ensures { OnOk result (text.new.items ≡ text.old.items ++ functions_text all functions.now) }
 {
     let Some((function, _)) = functions.split_first() else {
         return Ok(());
     };
-    append_function(functions.len(), all, function, text)
+    append_function_lines(all, functions, function, text)
 }
 
-// Appends the groups of those that the command took up, except those that go on or would fail.
+// Appends the groups of those that the command took up, and that neither go on nor would fail.
 fn append_early_groups(
     alloc: Global,
     members: &[Member],
@@ -109,8 +150,7 @@ fn append_early_groups(
 {
     append_group(alloc, members, 4, b"not decided", text)?;
     let words = b"fail, but others that go on supersede them";
-    append_group(alloc, members, 2, words, text)?;
-    append_group(alloc, members, 1, b"would be superseded", text)
+    append_group(alloc, members, 2, words, text)
 }
 
 // Appends the groups of those that the command did not take up.

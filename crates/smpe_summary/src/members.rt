@@ -84,9 +84,7 @@ fn status_group(
         Status::Applied => Some(sure_group(asked.unsure, id, Group::Applied)),
         Status::Accepted => Some(sure_group(asked.unsure, id, Group::Applied)),
         Status::Superseded => Some(sure_group(asked.unsure, id, Group::Superseded)),
-        Status::Failed(failure) => {
-            Some(failed_group(asked.global, listed(supers, id), failure))
-        }
+        Status::Failed(failure) => { Some(failed_group(asked.global, listed(supers, id), failure)) }
         _ => None,
     }
 }

@@ -41,17 +41,17 @@ fn append_number(number: usize, text: &mut Vec<u8>) -> Result<(), AllocError>
 }
 
 // Appends the number and the noun.
-fn append_counted<'a>(
-    number: usize,
-    noun: &'a [u8],
-    text: &mut Vec<u8>,
-) -> Result<(), AllocError>
+fn append_counted<'a>(number: usize, noun: &'a [u8], text: &mut Vec<u8>) -> Result<(), AllocError>
     ensures { OnOk result (text.new.items ≡ text.old.items ++ counted number noun.now) }
 {
     append_number(number, text)?;
     text.extend_from_slice(b" ")?;
     text.extend_from_slice(noun)?;
-    text.extend_from_slice(if number == 1 { b"".as_slice() } else { b"s".as_slice() })
+    text.extend_from_slice(if number == 1 {
+        b"".as_slice()
+    } else {
+        b"s".as_slice()
+    })
 }
 
 // Appends a comma and the id.
@@ -118,17 +118,25 @@ pub(crate) fn append_pieces(pieces: &[Piece<'_>], text: &mut Vec<u8>) -> Result<
     Ok(())
 }
 
-/// Appends how many more there are than are told.
-pub(crate) fn append_more_line(
+/// Appends how many more of these there are than are told.
+pub(crate) fn append_more_line<'a>(
     most: usize,
     number: usize,
+    what: &'a [u8],
     text: &mut Vec<u8>,
 ) -> Result<(), AllocError>
-    ensures { OnOk result (text.new.items ≡ text.old.items ++ more_line most number) }
+    ensures { OnOk result (text.new.items ≡ text.old.items ++ more_line most number what.now) }
 {
     if number <= most {
         return Ok(());
     }
     let more = Piece::Number(number - most);
-    append_pieces(&[Piece::Text(b"     and "), more, Piece::Text(b" more\n")], text)
+    let pieces = [
+        Piece::Text(b"     and "),
+        more,
+        Piece::Text(b" more "),
+        Piece::Text(what),
+        Piece::Text(b"\n"),
+    ];
+    append_pieces(&pieces, text)
 }

@@ -41,11 +41,7 @@ pub(crate) fn is_error_hold(kind: NeedKind) -> bool
 }
 
 // Appends the id of the open need, if it is to be ordered.
-fn push_order(
-    global: &GlobalZone,
-    need: &OpenNeed,
-    found: &mut Vec<Id>,
-) -> Result<(), AllocError>
+fn push_order(global: &GlobalZone, need: &OpenNeed, found: &mut Vec<Id>) -> Result<(), AllocError>
     ensures { OnOk result (found.new.items ≡ found.old.items ++ order_of global.now (need_view need.now)) }
 {
     if is_orderable(need.kind) && !global.is_received(need.id) {

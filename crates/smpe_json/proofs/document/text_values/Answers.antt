@@ -6,5 +6,5 @@ use Rattle.smpe_json.proofs.document.text_values.Goals as goal
 
 pub returns : goal.returns
 returns c =
-    seen_all string (λ (x : Bor Text). x.now) c.args.texts.now c.loop-text.text-index c.loop-text.values.items c.loop-text-test.false
-    c.loop-text.invariant
+    seen_all string (λ (x : Bor Text). x.now) c.args.texts.now c.loop-text.text-index c.loop-text.values.items
+    c.loop-text-test.false c.loop-text.invariant

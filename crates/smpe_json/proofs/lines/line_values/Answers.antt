@@ -5,5 +5,5 @@ use Rattle.smpe_json.proofs.lines.line_values.Goals as goal
 
 pub returns : goal.returns
 returns c =
-    seen_all line_value line_view c.args.lines.now c.loop-line.line-index c.loop-line.values.items c.loop-line-test.false
-    c.loop-line.invariant
+    seen_all line_value line_view c.args.lines.now c.loop-line.line-index c.loop-line.values.items
+    c.loop-line-test.false c.loop-line.invariant

@@ -5,4 +5,5 @@ use Rattle.smpe_json.specs.Documents.{taken_value}
 use Rattle.smpe_json.proofs.summary.taken_values.Given as goal
 
 abbrev pub invariant-loop-taken : goal.invariant-loop-taken
-invariant-loop-taken l = map view l.values.items ≡ map (λ x. taken_value (taken_view x)) (take l.taken-index l.taken_off)
+invariant-loop-taken l =
+    map view l.values.items ≡ map (λ x. taken_value (taken_view x)) (take l.taken-index l.taken_off)

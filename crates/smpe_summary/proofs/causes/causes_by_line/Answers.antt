@@ -1,4 +1,4 @@
-use Rattle.std.proofs.Common.{◌++◌, ◌∙◌, [], ap, arith, map, sym, take_all}
+use Rattle.std.proofs.Common.{◌∙◌, [], ap, arith, map, sym, take_all}
 use Rattle.std.specs.List.{flat_map}
 use Rattle.std.proofs.lemmas.List.Folds.{flat_map-map}
 use Rattle.std.specs.Ordering.{nat_cmp}

@@ -1,6 +1,5 @@
 use Rattle.std.proofs.Common.{rules}
 use Rattle.std.proofs.lemmas.List.Sorted.{answers_always}
-use Rattle.smpe_summary.specs.Told.{AreRanked}
 use Rattle.smpe_summary.proofs.causes.causes_of.Goals as goal
 
 pub returns : goal.returns

@@ -1,5 +1,4 @@
 use Rattle.std.proofs.Common.{◌≡◌, map, take}
-use Rattle.std.specs.List.{flat_map}
 use Rattle.sysmods.specs.Choices.{choice}
 use Rattle.smpe_summary.specs.Todo.{taken_off}
 use Rattle.smpe_summary.specs.Views.{taken_view}

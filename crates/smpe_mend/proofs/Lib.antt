@@ -1,3 +1,0 @@
-pub mod TakenBack
-pub mod Leaving
-pub mod SameMembers
