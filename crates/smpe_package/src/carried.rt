@@ -68,8 +68,15 @@ fn package_of(alloc: Global, inputs: &InputFiles, carried: Carried) -> Result<Pa
 fn unsure_ids(alloc: Global, unsure: &[Unsure]) -> Result<IdList, AllocError>
     ensures { IfOk result (λ ids. AreIds ids (map (λ u. u.id) unsure.now)) }
 {
-    let ids: Vec<Id> = unsure.iter().map(|unsure| unsure.id).collect(alloc)?;
+    let ids = ids_of(alloc, unsure)?;
     Ok(IdList::from_vec(ids))
+}
+
+// The ids of these SYSMODs, in their order.
+fn ids_of(alloc: Global, unsure: &[Unsure]) -> Result<Vec<Id>, AllocError>
+    ensures { IfOk result (λ ids. ids.items ≡ map (λ u. u.id) unsure.now) }
+{
+    unsure.iter().map(|unsure| unsure.id).collect(alloc)
 }
 
 /// Whether one of the items is a SYSMOD.
@@ -83,11 +90,19 @@ pub fn has_sysmod(items: &[Item]) -> bool
 pub fn package_ids(alloc: Global, items: &[Item]) -> Result<IdList, AllocError>
     ensures { IfOk result (λ ids. AreIds ids (flat_map id_of items.now)) }
 {
+    let ids = sysmod_ids(alloc, items)?;
+    Ok(IdList::from_vec(ids))
+}
+
+// The ids of the SYSMODs among the items, in their order.
+fn sysmod_ids(alloc: Global, items: &[Item]) -> Result<Vec<Id>, AllocError>
+    ensures { IfOk result (λ ids. ids.items ≡ flat_map id_of items.now) }
+{
     let mut ids = Vec::new(alloc);
     for item in items {
         push_id(item, &mut ids)?;
     }
-    Ok(IdList::from_vec(ids))
+    Ok(ids)
 }
 
 // Appends the id of the item, if it is a SYSMOD.

@@ -28,9 +28,3 @@ pub use receiving::{Rehearsed, rehearse_package};
 pub use service_set::{greatest_status, rehearse_in_empty_system};
 pub use told::status_or_fault;
 pub use values::{DatabaseBytes, JobFiles, PackageItems, Prepared, Rehearsal, System};
-
-#[cfg(test)]
-#[test]
-fn trial() {
-    let three = 1 + 2;
-}
