@@ -18,7 +18,11 @@ pub struct Answer {
 }
 
 /// What is told of these ids, each by itself, without BYPASS. If there is no such zone, that is told.
-pub(crate) fn answer_ids(alloc: Global, zones: &LoadedZones, ids: &[Id]) -> Result<WhyAnswer, AllocError>
+pub(crate) fn answer_ids(
+    alloc: Global,
+    zones: &LoadedZones,
+    ids: &[Id],
+) -> Result<WhyAnswer, AllocError>
     ensures { IfOk result (IsTold zones.now.global zones.now.zone zones.now.related (plainly ids.now)) }
 {
     let bypass = Bypass::none(alloc);

@@ -31,8 +31,9 @@ pub(crate) fn package_lines(
     let selection = package_selection(alloc, source)?;
     let bypass = Bypass::none(alloc);
     let date = YyDdd::new(ANY_YEAR, ANY_DAY);
-    let InstallChange { delta, lines } =
-        apply(alloc, global, zone, related, &selection, &bypass, date)?;
+    let InstallChange { delta, lines } = apply(
+        alloc, global, zone, related, &selection, &bypass, date,
+    )?;
     // (the contract needs this: the edits of the delta have the form of edits, so they turn this zone into a new one)
     delta.attest();
     zone.attest();

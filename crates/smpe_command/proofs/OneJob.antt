@@ -37,4 +37,3 @@ module _ {V W S O H : Type 0} (f : V → List machine.Answer) (k : W → List ma
     },
     λ none. sound none ∙ write_as f k g sink jobs out out' r q same,
   )
-

@@ -69,7 +69,14 @@ fn run_in_copy<H: Host, O: Sink>(
         out.new }
 {
     let bytes = read_database_bytes(host, &copy.db)?;
-    run_over_bytes(alloc, &bytes, copy.zone, copy.ids.as_slice(), rehearsal, out)
+    run_over_bytes(
+        alloc,
+        &bytes,
+        copy.zone,
+        copy.ids.as_slice(),
+        rehearsal,
+        out,
+    )
 }
 
 /// Reads the bytes of the database's file and of its log. An error of the database library becomes one of the store.

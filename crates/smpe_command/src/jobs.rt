@@ -19,7 +19,10 @@ use crate::lint::serve_lint;
 use crate::questions::serve_why;
 use fields::{YyDdd, ZoneName};
 use report::{Sink, write_all};
-use smpe::{DatabaseFile, Fault, Invocation, Job, JobError, listing_commands, status_of, write_migrated_line, zone_line};
+use smpe::{
+    DatabaseFile, Fault, Invocation, Job, JobError, listing_commands, status_of,
+    write_migrated_line, zone_line,
+};
 use smpe_invocation::{RunOptions, ZoneDefinition};
 use smpe_rehearsal::{JobFiles, any_date, status_or_fault};
 use smpe_verify::describe_verification;

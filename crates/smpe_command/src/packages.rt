@@ -27,7 +27,10 @@ use smpe::{Fault, JobError};
 use smpe_answer::{Answer, Digest, PackageFacts, json_answer, package_certificate, summary_answer};
 use smpe_invocation::{CheckAnswer, CheckForm, CheckedSystem};
 use smpe_package::{Package, has_sysmod, package_ids};
-use smpe_rehearsal::{PackageItems, Rehearsed, ask_about_package, prepare_package, rehearse_package, status_or_fault, zone_of};
+use smpe_rehearsal::{
+    PackageItems, Rehearsed, ask_about_package, prepare_package, rehearse_package, status_or_fault,
+    zone_of,
+};
 use smpe_why::LoadedZones;
 use sqlite_disk::{Disk, Memory};
 use std::alloc::Global;
@@ -82,11 +85,7 @@ fn answer_package<'a, H: Host, O: Sink>(
 }
 
 // Writes the remarks, unless they are for the document, and returns the status that they bring.
-fn tell_remarks<O: Sink>(
-    form: CheckForm,
-    carried: &Package,
-    out: &mut O,
-) -> Result<u8, JobError>
+fn tell_remarks<O: Sink>(form: CheckForm, carried: &Package, out: &mut O) -> Result<u8, JobError>
     ensures { TellsRemarks O.Sink out.old carried.now form result out.new }
 {
     match form {

@@ -9,10 +9,7 @@ use smpe_rehearsal::System;
 
 /// The system for a rehearsal. For an empty one nothing is asked of the surroundings, and of a database the files are
 /// read. Returns `Store` if they cannot be read.
-pub(crate) fn read_system<H: Host>(
-    host: &mut H,
-    system: &CheckedSystem,
-) -> Result<System, JobError>
+pub(crate) fn read_system<H: Host>(host: &mut H, system: &CheckedSystem) -> Result<System, JobError>
     ensures { ReadsSystem H.Host host.old system.now result host.new }
 {
     match system {

@@ -47,5 +47,8 @@ pub enum System {
     /// An empty one, with zones of this SREL.
     Empty(Srel),
     /// A copy of a database, and the zone in question.
-    Copied { bytes: DatabaseBytes, zone: ZoneName },
+    Copied {
+        bytes: DatabaseBytes,
+        zone: ZoneName,
+    },
 }
