@@ -15,7 +15,7 @@ returns-in_err-answers g c = λ conn over.
     let error = c.in_err-answers.field-0.0 in
     let p = err_from_is_err_and c.from_residual.result c.from_residual.ensures.1 in
     rehearsed g.S.Store c.args.zone (λ v. map answer_of v.items) (map job_of c.args.jobs.now) conn c.args.store.now
-    c.run_jobs.new.store _ c.run_jobs.new.w c.run_jobs.result (Err error) c.from_residual.result
+    c.run_jobs.new.store c.run_jobs.new.w c.run_jobs.new.w c.run_jobs.result (Err error) c.from_residual.result
     (alike_err (λ v. map answer_of v.items) (λ all. all) c.run_jobs.result (Err error) error error c.in_err-answers.was
     refl refl) over went.ends went.goes (p.1 ∙ ap Err p.2)
 
@@ -27,7 +27,7 @@ returns-in_err-zones g c = λ conn over.
     let r = c.from_residual-in_err-zones in
     let p = err_from_is_err_and r.result r.ensures.1 in
     rehearsed g.S.Store c.args.zone (λ v. map answer_of v.items) (map job_of c.args.jobs.now) conn c.args.store.now
-    c.run_jobs.new.store _ c.run_jobs.new.w c.run_jobs.result (Ok all) r.result
+    c.run_jobs.new.store c.run_jobs.new.w c.run_jobs.new.w c.run_jobs.result (Ok all) r.result
     (alike_ok (λ v. map answer_of v.items) (λ all. all) c.run_jobs.result (Ok all) answers all c.in_ok-answers.was refl
     refl) over went.ends went.goes (
       c.load_zones.result,
@@ -44,7 +44,7 @@ returns g c = λ conn over.
     let status : c.greatest_status-status.result ≡ greatest all = c.greatest_status-status.ensures
     ∙ ap (λ (xs : List Answer). greatest (map answer_of xs)) c.as_slice.ensures.value in
     rehearsed g.S.Store c.args.zone (λ v. map answer_of v.items) (map job_of c.args.jobs.now) conn c.args.store.now
-    c.run_jobs.new.store _ c.run_jobs.new.w c.run_jobs.result (Ok all) (Ok (record { zones = c.in_ok-zones.zones; status = c.greatest_status-status.result }))
+    c.run_jobs.new.store c.run_jobs.new.w c.run_jobs.new.w c.run_jobs.result (Ok all) (Ok (record { zones = c.in_ok-zones.zones; status = c.greatest_status-status.result }))
     (alike_ok (λ v. map answer_of v.items) (λ all. all) c.run_jobs.result (Ok all) answers all c.in_ok-answers.was refl
     refl) over went.ends went.goes (
       c.load_zones.result,
