@@ -1,4 +1,4 @@
-use Rattle.std.proofs.Common.{◌∙◌, ◌++◌, ap, ap₂}
+use Rattle.std.proofs.Common.{◌∙◌, ◌++◌, ap}
 use Rattle.std.specs.Prelude.{max}
 use Rattle.smpe_summary.specs.Text.{summary_text}
 use Rattle.smpe_answer.proofs.summarized.summarize.Goals as goal
