@@ -5,3 +5,4 @@ pub mod Copied
 pub mod Prepared
 pub mod Asking
 pub mod Rehearsed
+pub mod Laws

@@ -2,7 +2,8 @@
 //! gone afterwards. `rehearse_in_empty_system` and `run_over_bytes` run the jobs of a set, and report them. A package of
 //! a shop's files is first given a source that nothing else in the system has (`prepare_package`). Then
 //! `ask_about_package` runs the jobs that receive it and ask about its SYSMODs, and `rehearse_package` only receives it,
-//! and loads the zones that an install then looks at. Nothing here knows the surroundings of the program: the bytes of
+//! and loads the zones that an install then looks at. The law (`laws`): those are the zones of the
+//! state to which the machine's RECEIVE leads. Nothing here knows the surroundings of the program: the bytes of
 //! a database are given. No contract says when memory runs out.
 #![tactic(auto)]
 
@@ -10,6 +11,7 @@ mod any_date;
 mod asking;
 mod copied;
 mod global_zone;
+pub mod laws;
 mod memory_files;
 mod no_report;
 mod preparing;
