@@ -1,5 +1,5 @@
 -- What a package's SYSMODs would become.
-use Rattle.std.specs.Prelude.{ℕ, List, Result}
+use Rattle.std.specs.Prelude.{◌≡◌, ℕ, List, Result}
 use Rattle.sqlite_disk.specs.declared.Disk as disk
 use Rattle.terms.specs.Types.{Text}
 use Rattle.machine.specs.Machine as machine

@@ -7,9 +7,9 @@
 //! a database are given. No contract says when memory runs out.
 #![tactic(auto)]
 
-mod any_date;
 mod asking;
 mod copied;
+mod dates;
 mod global_zone;
 pub mod laws;
 mod memory_files;
@@ -21,9 +21,9 @@ mod service_set;
 mod told;
 mod values;
 
-pub use any_date::any_date;
 pub use asking::ask_about_package;
 pub use copied::run_over_bytes;
+pub use dates::any_date;
 pub use preparing::{fault_of, prepare_package, zone_of};
 pub use questions::answer_and_write;
 pub use receiving::{Rehearsed, rehearse_package};

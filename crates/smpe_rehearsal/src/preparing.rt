@@ -5,7 +5,7 @@ ghost use Rattle.smpe_rehearsal.specs.Prepared.{IsNotCarried, Prepares, Prepares
 ghost use Rattle.smpe_rehearsal.specs.ServiceSet.{receive_records};
 ghost use Rattle.smpe_package.specs.Package.{AreRecords, with_source};
 
-use crate::any_date::any_date;
+use crate::dates::any_date;
 use crate::global_zone::global_of;
 use crate::values::{JobFiles, PackageItems, Prepared, Rehearsal, System};
 use fields::{Source, ZoneName};

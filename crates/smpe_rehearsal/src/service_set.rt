@@ -4,7 +4,7 @@ ghost use Rattle.smpe_jobs.specs.Ending.{answer_of, job_of};
 ghost use Rattle.smpe_rehearsal.specs.ServiceSet.{JobsInMemory, JobsOverNew, TriesSet, greatest, receive_records};
 ghost use Rattle.smpe_rehearsal.specs.ServiceSet.{set_jobs};
 
-use crate::any_date::any_date;
+use crate::dates::any_date;
 use crate::values::{JobFiles, Rehearsal};
 use fields::{Srel, ZoneName};
 use report::Sink;
