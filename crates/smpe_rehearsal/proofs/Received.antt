@@ -1,5 +1,5 @@
 -- What a rehearsal has loaded is what the machine's jobs leave.
-use Rattle.std.proofs.Common.{◌≡◌, List, Result, Ok, Err, None, refl}
+use Rattle.std.proofs.Common.{◌≡◌, List, Result, Ok, Err, IfOk, None, ap, refl, subst, sym}
 use Rattle.sqlite.specs.Store.{Ghosts}
 use Rattle.sqlite.specs.Held.{Held, state}
 use Rattle.sqlite.specs.State.{HasCleanDisk}
@@ -7,6 +7,7 @@ use Rattle.terms.specs.Types.{Text}
 use Rattle.machine.specs.State.{State}
 use Rattle.machine.specs.Machine as machine
 use Rattle.store_schema.specs.declared.error.StoreError.{StoreError}
+use Rattle.store.specs.Kept.{kept}
 use Rattle.store.specs.Loads.{Loads}
 use Rattle.smpe_jobs.specs.declared.error.JobError.{JobError}
 use Rattle.smpe_jobs.specs.Ending.{EndsJobs}
@@ -23,14 +24,18 @@ module _ {S : Type 0} (g : Ghosts S) (name : Text) (jobs : List machine.Job) (co
       → (left : Held S) → HasCleanDisk (state g left) → (found : Result LoadedZones StoreError)
       → Loads g store left (IsFoundIn name) found → Ok z ≡ rehearsed (greatest answers) found
       → IsReceived name jobs s z
-  loaded answers ended left clean (Ok zones) loads refl = record {
-    end = ended.0;
-    bytes = ended.1;
-    answers = answers;
-    runs = ended.2;
-    zones = loads.found clean _ ended.3.now;
-    status = refl;
-  }
+  loaded answers ended left clean (Ok zones) loads is =
+      let same : z ≡ record { zones = zones; status = greatest answers } =
+      subst (λ (r : Result Rehearsed JobError). IfOk r (λ y. z ≡ y)) is refl in
+      record {
+        end = ended.0;
+        bytes = ended.1;
+        answers = answers;
+        runs = ended.2;
+        zones = subst (IsFoundIn name (kept ended.0)) (sym (ap (λ (y : Rehearsed). y.zones) same))
+            (loads.found clean (kept ended.0) ended.3.now);
+        status = ap (λ (y : Rehearsed). y.status) same;
+      }
   loaded answers ended left clean (Err why) loads is = absurd cc
 
   after : (answers : Result (List machine.Answer) JobError) → EndsJobs g conn store s jobs None None (λ all. all) answers

@@ -1,4 +1,4 @@
-use Rattle.std.proofs.Common.{◌∙◌, Ok, Err, List, map, ap, refl, sym}
+use Rattle.std.proofs.Common.{◌≡◌, ◌∙◌, Ok, Err, List, map, ap, refl, sym}
 use Rattle.std.proofs.lemmas.Result.{err_from_is_err_and}
 use Rattle.machine.specs.Machine as machine
 use Rattle.smpe_jobs.specs.Ending.{answer_of, job_of}
@@ -44,7 +44,8 @@ returns g c = λ conn over.
     let status : c.greatest_status-status.result ≡ greatest all = c.greatest_status-status.ensures
     ∙ ap (λ (xs : List Answer). greatest (map answer_of xs)) c.as_slice.ensures.value in
     rehearsed g.S.Store c.args.zone (λ v. map answer_of v.items) (map job_of c.args.jobs.now) conn c.args.store.now
-    c.run_jobs.new.store c.run_jobs.new.w c.run_jobs.new.w c.run_jobs.result (Ok all) (Ok (record { zones = c.in_ok-zones.zones; status = c.greatest_status-status.result }))
+    c.run_jobs.new.store c.run_jobs.new.w c.run_jobs.new.w c.run_jobs.result (Ok all)
+    (Ok (record { zones = c.in_ok-zones.zones; status = c.greatest_status-status.result }))
     (alike_ok (λ v. map answer_of v.items) (λ all. all) c.run_jobs.result (Ok all) answers all c.in_ok-answers.was refl
     refl) over went.ends went.goes (
       c.load_zones.result,
