@@ -16,8 +16,8 @@ use Rattle.sysmods.proofs.Taken.{taken_out}
 use Rattle.smpe_mend.specs.Runs.{stand_in}
 
 none_found : (o : Option Sysmod) → (IsTrue (is_some o) → ⊥) → o ≡ None
-none_found None no = refl
-none_found (Some s) no = absurd (no refl)
+none_found None unknown = refl
+none_found (Some s) unknown = absurd (unknown refl)
 
 module _ (g : Global) (x : Id) (fresh : IsTrue (is_received g x) → ⊥) where
   -- no hold on it is internal, since it was not received

@@ -1,5 +1,5 @@
 -- The actions of a repair: what is ordered, and which reasons of holds are disregarded.
-use Rattle.std.specs.Prelude.{◌&&◌, ◌==◌, Bool, false, List, [], ◌∷◌, if◌then◌else◌}
+use Rattle.std.specs.Prelude.{◌&&◌, ◌==◌, ◌++◌, Bool, false, List, [], ◌∷◌, if◌then◌else◌}
 use Rattle.std.specs.List.{flat_map, list_any}
 use Rattle.std.specs.Str.{bytes_eq}
 use Rattle.terms.specs.declared.kinds.HoldKind.{HoldKind}
@@ -31,3 +31,7 @@ is_same _ _ = false
 
 abbrev pub is_among : List Action → Action → Bool
 is_among actions a = list_any (is_same a) actions
+
+-- the actions with this one, if it is not there yet
+abbrev pub with_new : List Action → Action → List Action
+with_new actions a = if is_among actions a then actions else actions ++ a ∷ []

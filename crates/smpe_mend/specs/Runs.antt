@@ -1,6 +1,6 @@
 -- The command of a repair: what it selects and bypasses, over a global zone in which what is ordered stands in.
 use Rattle.std.specs.Prelude.{◌≡◌, ◌⊎◌, ◌↔◌, Bool, true, false, List, [], ◌∷◌, Option, None, Contains, Ok, Err, IsTrue}
-use Rattle.std.specs.Prelude.{IsFalse, if◌then◌else◌}
+use Rattle.std.specs.Prelude.{IsFalse, option_copied, if◌then◌else◌}
 use Rattle.std.specs.List.{flat_map, list_all}
 use Rattle.terms.specs.declared.kinds.Kind.{Kind}
 use Rattle.terms.specs.declared.kinds.Kind.TheVariants.{Function, Ptf}
@@ -14,6 +14,7 @@ use Rattle.fields.specs.Choices.{no_selection}
 use Rattle.sysmods.specs.Namers.{function_namers}
 use Rattle.machine.specs.Installing.{InstallsSelected}
 use Rattle.machine.specs.Outcome.{Line, StatusLine, Status, Already, Applied, Accepted, Superseded}
+use Rattle.smpe_mend.specs.declared.broken.Broken.{Broken}
 use Rattle.smpe_mend.specs.declared.action.Action.{Action}
 use Rattle.smpe_mend.specs.Actions.{orders, reasons}
 
@@ -22,6 +23,9 @@ pub record Asked : Type 0 where
   pub zone : Zone
   pub related : Option Zone
   pub ids : List Id
+
+abbrev pub asked_of : Broken → Asked
+asked_of b = record { zone = b.zone.now; related = option_copied b.related; ids = b.ids.now }
 
 -- a ++VER without requisites
 abbrev pub bare_ver : Srel → Ver
@@ -76,6 +80,14 @@ pub record Runs (g : Global) (a : Asked) (actions : List Action) (lines : List L
   pub ordered : AreOrdered a.zone.srel (orders actions) g global
   pub bypass : Bypass
   pub bypasses : IsBypassOf actions bypass
+  pub date : Text
+  pub new : Zone
+  pub installs : InstallsSelected global a.zone a.related (selecting a.ids) bypass date new lines
+
+-- the same over this global zone, with this BYPASS and these ids ordered
+pub record RunsWith (g : Global) (a : Asked) (ordered : List Id) (bypass : Bypass) (lines : List Line) : Type 0 where
+  pub global : Global
+  pub are_ordered : AreOrdered a.zone.srel ordered g global
   pub date : Text
   pub new : Zone
   pub installs : InstallsSelected global a.zone a.related (selecting a.ids) bypass date new lines

@@ -114,12 +114,13 @@ plan_head ids n =
     words_line (codes "MEND" ∷ named (joined ids) ∷ decimal n ∷ (if n == 1 then codes "action" else codes "actions")
     ∷ [])
 
+abbrev pub plan_of : Global → Asked → List Action → List ToDo → Text
+plan_of g a actions todos =
+    plan_head a.ids (length todos) ++ flat_map (todo_line g) todos ++ command_line a actions
+
 -- what to do, and then the command
 abbrev pub plan_text : Global → Asked → List Action → List Line → Text
-plan_text g a actions lines =
-    plan_head a.ids (length (todos g actions lines))
-    ++ flat_map (todo_line g) (todos g actions lines)
-    ++ command_line a actions
+plan_text g a actions lines = plan_of g a actions (todos g actions lines)
 
 abbrev pub test_line : Test → Text
 test_line t = words_line (codes "   " ∷ codes "TEST" ∷ test_text t ∷ [])

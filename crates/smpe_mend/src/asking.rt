@@ -1,5 +1,6 @@
 //! What the lines of a command ask for.
-ghost use Rattle.std.specs.Prelude.{◌≡◌, ◌↔◌, ◌++◌, Contains, map, OnOk, IfOk};
+ghost use Rattle.std.specs.Prelude.{◌≡◌, ◌↔◌, ◌++◌, ◌∷◌, ◌&&◌, [], not, Contains, map, OnOk, IfOk};
+ghost use Rattle.std.specs.Prelude.{if◌then◌else◌};
 ghost use Rattle.std.specs.List.{flat_map};
 ghost use Rattle.terms.specs.Types.{Id as AnId};
 ghost use Rattle.judge_system.specs.Views.{failure_view, need_view};
@@ -34,18 +35,34 @@ fn push_causers(status: &Status, found: &mut Vec<Id>) -> Result<(), AllocError>
     }
 }
 
+// Appends the id with its causers, if it is one of the ids and not on.
+fn push_if_concerned(
+    named: bool,
+    on: bool,
+    id: Id,
+    status: &Status,
+    found: &mut Vec<Id>,
+) -> Result<(), AllocError>
+    ensures { OnOk result (found.new.items ≡ found.old.items
+        ++ (if named && not on then id ∷ causers_of (status_view status.now) else [])) }
+{
+    if !named {
+        return Ok(());
+    }
+    if on {
+        return Ok(());
+    }
+    found.push(id)?;
+    push_causers(status, found)
+}
+
 // Appends the id of the line and its causers, if it is one of the ids and not on.
 fn push_concern(ids: &IdList, line: &ReportLine, found: &mut Vec<Id>) -> Result<(), AllocError>
     ensures { OnOk result (found.new.items ≡ found.old.items ++ concern_of ids.now (line_view line.now)) }
 {
     match line {
         ReportLine::Status { id, status, .. } => {
-            let concerns = ids.contains(*id) && !is_on(status);
-            if !concerns {
-                return Ok(());
-            }
-            found.push(*id)?;
-            push_causers(status, found)
+            push_if_concerned(ids.contains(*id), is_on(status), *id, status, found)
         }
         ReportLine::Nothing | ReportLine::Errsysmod { .. } => Ok(()),
     }
@@ -139,6 +156,27 @@ fn push_asked_by(
     }
 }
 
+// Appends the actions that are asked for by an id of this status, if it is one of the ids.
+fn push_if_asked(
+    global: &GlobalZone,
+    extent: Extent,
+    named: bool,
+    id: Id,
+    status: &Status,
+    found: &mut Vec<Action>,
+) -> Result<(), AllocError>
+    ensures { OnOk result (found.new.items ≡ found.old.items
+        ++ (if named then asked_of global.now extent id (status_view status.now) else [])) }
+{
+    if !named {
+        return Ok(());
+    }
+    match status {
+        Status::Failed(failure) => push_asked_by(global, extent, id, failure, found),
+        _ => Ok(()),
+    }
+}
+
 // Appends the actions that the line asks for, if it is the line of one of these ids.
 fn push_asked_in(
     global: &GlobalZone,
@@ -152,13 +190,7 @@ fn push_asked_in(
 {
     match line {
         ReportLine::Status { id, status, .. } => {
-            if !ids.contains(*id) {
-                return Ok(());
-            }
-            match status {
-                Status::Failed(failure) => push_asked_by(global, extent, *id, failure, found),
-                _ => Ok(()),
-            }
+            push_if_asked(global, extent, ids.contains(*id), *id, status, found)
         }
         ReportLine::Nothing | ReportLine::Errsysmod { .. } => Ok(()),
     }

@@ -1,7 +1,8 @@
 //! The search for actions with which the command does it.
 ghost use Rattle.std.specs.Prelude.{◌≡◌, ◌<◌, All, map, length, IsTrue, IsFalse, IfOk, OnOk};
 ghost use Rattle.report.specs.Views.{line_view};
-ghost use Rattle.smpe_mend.specs.Actions.{is_among};
+ghost use Rattle.smpe_mend.specs.Runs.{asked_of};
+ghost use Rattle.smpe_mend.specs.Actions.{is_among, with_new};
 ghost use Rattle.smpe_mend.specs.Asked.{AreAsked};
 ghost use Rattle.smpe_mend.specs.Growth.{IsFound};
 
@@ -29,6 +30,17 @@ pub(crate) enum Found {
     Nothing(Tried),
 }
 
+// Adds the action, if it is not there yet.
+fn add_if_new(actions: &mut Vec<Action>, action: &Action) -> Result<(), AllocError>
+    ensures { OnOk result (actions.new.items ≡ with_new actions.old.items action.now) }
+{
+    if is_among(actions, *action) {
+        return Ok(());
+    }
+    actions.push(*action)?;
+    Ok(())
+}
+
 // Adds those of the actions that are not there yet, and returns whether there are any.
 fn add_new(actions: &mut Vec<Action>, more: &[Action]) -> Result<bool, AllocError>
     ensures none { IfOk result (λ added. IsFalse added → (actions.new.items ≡ actions.old.items)
@@ -37,11 +49,12 @@ fn add_new(actions: &mut Vec<Action>, more: &[Action]) -> Result<bool, AllocErro
 {
     let before = actions.len();
     for action in more {
-        if !is_among(actions, *action) {
-            actions.push(*action)?;
-        }
+        add_if_new(actions, action)?;
     }
-    Ok(actions.len() > before)
+    if actions.len() == before {
+        return Ok(false);
+    }
+    Ok(true)
 }
 
 // Adds what the lines ask for, and returns whether it is anything new.
@@ -70,7 +83,7 @@ pub(crate) fn grow(
     broken: &Broken<'_>,
     mut actions: Vec<Action>,
 ) -> Result<Found, AllocError>
-    ensures found { IfOk result (λ found. IsFound global.old broken.now found) }
+    ensures found { IfOk result (λ found. IsFound global.old (asked_of broken.now) found) }
     ensures back { OnOk result (global.new ≡ global.old) }
 {
     let lines = run(alloc, global, broken, &actions)?;

@@ -1,6 +1,7 @@
 //! Leaving out what is not needed.
 ghost use Rattle.std.specs.Prelude.{◌≡◌, ◌≤◌, ◌<◌, ◌++◌, take, drop, length, List, IfOk, OnOk, IfSome, IfNone};
 ghost use Rattle.machine.specs.Outcome.{Line};
+ghost use Rattle.smpe_mend.specs.Runs.{asked_of};
 ghost use Rattle.smpe_mend.specs.Runs.{DoesNot};
 ghost use Rattle.smpe_mend.specs.Growth.{Repairs};
 ghost use Rattle.smpe_mend.specs.Courses.{IsNext};
@@ -43,10 +44,10 @@ fn try_without(
 ) -> Result<Option<Tried>, AllocError>
     requires order { from ≤ to }
     requires within { to ≤ length actions.now }
-    ensures some { IfOk result (λ tried. IfSome tried (λ t. Repairs global.old broken.now t
+    ensures some { IfOk result (λ tried. IfSome tried (λ t. Repairs global.old (asked_of broken.now) t
         × (t.actions.items ≡ take from actions.now ++ drop to actions.now))) }
     ensures none { IfOk result (λ tried. IfNone tried ((lines : List Line)
-        × DoesNot global.old broken.now (take from actions.now ++ drop to actions.now) lines)) }
+        × DoesNot global.old (asked_of broken.now) (take from actions.now ++ drop to actions.now) lines)) }
     ensures back { OnOk result (global.new ≡ global.old) }
 {
     let actions = without_range(alloc, actions, from, to)?;
@@ -75,8 +76,8 @@ fn leave_out_next(
 ) -> Result<Course, AllocError>
     requires order { course.place ≤ end }
     requires within { end ≤ length course.tried.actions.items }
-    requires repairs { Repairs global.old broken.now course.tried }
-    ensures next { IfOk result (IsNext global.old broken.now course end) }
+    requires repairs { Repairs global.old (asked_of broken.now) course.tried }
+    ensures next { IfOk result (IsNext global.old (asked_of broken.now) course end) }
     ensures back { OnOk result (global.new ≡ global.old) }
 {
     let Course { tried, place } = course;
@@ -98,11 +99,11 @@ fn leave_out(
     size: usize,
 ) -> Result<Tried, AllocError>
     requires some { 0 < size }
-    requires repairs { Repairs global.old broken.now tried }
-    ensures repairs { IfOk result (λ left. Repairs global.old broken.now left) }
+    requires repairs { Repairs global.old (asked_of broken.now) tried }
+    ensures repairs { IfOk result (λ left. Repairs global.old (asked_of broken.now) left) }
     ensures fewer { IfOk result (λ left. length left.actions.items ≤ length tried.actions.items) }
     ensures minimal { IfOk result (λ left. size ≡ 1 → length left.actions.items ≡ length tried.actions.items
-        → IsMinimal global.old broken.now left.actions.items) }
+        → IsMinimal global.old (asked_of broken.now) left.actions.items) }
     ensures back { OnOk result (global.new ≡ global.old) }
 {
     let mut course = Course { tried, place: 0 };
@@ -121,9 +122,9 @@ fn leave_out_single(
     broken: &Broken<'_>,
     tried: Tried,
 ) -> Result<Tried, AllocError>
-    requires { Repairs global.old broken.now tried }
-    ensures repairs { IfOk result (λ left. Repairs global.old broken.now left) }
-    ensures minimal { IfOk result (λ left. IsMinimal global.old broken.now left.actions.items) }
+    requires { Repairs global.old (asked_of broken.now) tried }
+    ensures repairs { IfOk result (λ left. Repairs global.old (asked_of broken.now) left) }
+    ensures minimal { IfOk result (λ left. IsMinimal global.old (asked_of broken.now) left.actions.items) }
     ensures back { OnOk result (global.new ≡ global.old) }
 {
     let before = tried.actions.len();
@@ -141,8 +142,8 @@ fn leave_out_groups(
     broken: &Broken<'_>,
     mut tried: Tried,
 ) -> Result<Tried, AllocError>
-    requires { Repairs global.old broken.now tried }
-    ensures repairs { IfOk result (λ left. Repairs global.old broken.now left) }
+    requires { Repairs global.old (asked_of broken.now) tried }
+    ensures repairs { IfOk result (λ left. Repairs global.old (asked_of broken.now) left) }
     ensures back { OnOk result (global.new ≡ global.old) }
 {
     let mut size = tried.actions.len() / 4;
@@ -171,8 +172,8 @@ fn riskiest_first(
     broken: &Broken<'_>,
     tried: Tried,
 ) -> Result<Tried, AllocError>
-    requires { Repairs global.old broken.now tried }
-    ensures repairs { IfOk result (λ left. Repairs global.old broken.now left) }
+    requires { Repairs global.old (asked_of broken.now) tried }
+    ensures repairs { IfOk result (λ left. Repairs global.old (asked_of broken.now) left) }
     ensures back { OnOk result (global.new ≡ global.old) }
 {
     let mut actions = Vec::from_slice(alloc, &tried.actions)?;
@@ -191,9 +192,9 @@ pub(crate) fn smallest(
     broken: &Broken<'_>,
     tried: Tried,
 ) -> Result<Tried, AllocError>
-    requires { Repairs global.old broken.now tried }
-    ensures repairs { IfOk result (λ left. Repairs global.old broken.now left) }
-    ensures minimal { IfOk result (λ left. IsMinimal global.old broken.now left.actions.items) }
+    requires { Repairs global.old (asked_of broken.now) tried }
+    ensures repairs { IfOk result (λ left. Repairs global.old (asked_of broken.now) left) }
+    ensures minimal { IfOk result (λ left. IsMinimal global.old (asked_of broken.now) left.actions.items) }
     ensures back { OnOk result (global.new ≡ global.old) }
 {
     let tried = riskiest_first(alloc, global, broken, tried)?;

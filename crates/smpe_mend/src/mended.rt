@@ -1,5 +1,6 @@
 //! The smallest repair.
 ghost use Rattle.std.specs.Prelude.{◌≡◌, IfOk, OnOk};
+ghost use Rattle.smpe_mend.specs.Runs.{asked_of};
 ghost use Rattle.smpe_mend.specs.Mends.{Answers};
 
 use crate::asking::concerned_ids;
@@ -33,14 +34,14 @@ fn mend_received(
     global: &mut GlobalZone,
     broken: &Broken<'_>,
 ) -> Result<Mended, AllocError>
-    ensures answers { IfOk result (λ m. Answers global.old broken.now m.text.items m.status) }
+    ensures answers { IfOk result (λ m. Answers global.old (asked_of broken.now) m.text.items m.status) }
     ensures back { OnOk result (global.new ≡ global.old) }
 {
     match grow(alloc, global, broken, Vec::new(alloc))? {
         Found::Repair(tried) => {
             let tried = smallest(alloc, global, broken, tried)?;
             Ok(Mended {
-                text: plan_text(alloc, global, broken, &tried)?,
+                text: plan_text(alloc, global, broken, &tried.actions, &tried.lines)?,
                 status: PLAN_STATUS,
             })
         }
@@ -63,7 +64,7 @@ pub fn mend(
     global: &mut GlobalZone,
     broken: &Broken<'_>,
 ) -> Result<Mended, AllocError>
-    ensures answers { IfOk result (λ m. Answers global.old broken.now m.text.items m.status) }
+    ensures answers { IfOk result (λ m. Answers global.old (asked_of broken.now) m.text.items m.status) }
     ensures back { OnOk result (global.new ≡ global.old) }
 {
     let lines = run(alloc, global, broken, &[])?;

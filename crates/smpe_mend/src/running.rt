@@ -1,11 +1,10 @@
 //! The command of a repair.
-ghost use Rattle.std.specs.Prelude.{◌≡◌, map, IfOk, OnOk};
-ghost use Rattle.terms.specs.Types.{Global as AGlobal, Text as AText, Zone as AZone};
-ghost use Rattle.machine.specs.Installing.{InstallsSelected};
+ghost use Rattle.std.specs.Prelude.{◌≡◌, [], map, IfOk, OnOk};
 ghost use Rattle.fields.specs.Choices.{reasons_in};
 ghost use Rattle.report.specs.Views.{line_view};
+ghost use Rattle.smpe_mend.specs.Runs.{asked_of};
 ghost use Rattle.smpe_mend.specs.Actions.{reasons};
-ghost use Rattle.smpe_mend.specs.Runs.{AreOrdered, AreReasons, IsBypassOf, Runs, selecting};
+ghost use Rattle.smpe_mend.specs.Runs.{AreReasons, IsBypassOf, Runs, RunsWith, selecting};
 
 use crate::action::{Action, orders, reasons};
 use crate::broken::Broken;
@@ -70,8 +69,8 @@ fn install_lines(
     broken: &Broken<'_>,
     bypass: &Bypass,
 ) -> Result<Vec<ReportLine>, AllocError>
-    ensures { IfOk result (λ lines. (date : AText) × (new : AZone) × InstallsSelected global.now broken.now.zone
-        broken.now.related (selecting broken.now.ids) bypass.now date new (map line_view lines.items)) }
+    ensures { IfOk result (λ lines. RunsWith global.now (asked_of broken.now) [] bypass.now
+        (map line_view lines.items)) }
 {
     let selection = selection_of(alloc, broken.ids)?;
     let date = YyDdd::new(ANY_YEAR, ANY_DAY);
@@ -86,6 +85,7 @@ fn install_lines(
     )?;
     // (for the clause: the edits of the delta have the form of edits, so they turn this zone into a new one)
     delta.attest();
+    broken.zone.attest();
     Ok(lines)
 }
 
@@ -97,9 +97,8 @@ fn lines_with_orders(
     bypass: &Bypass,
     ordered: &[Id],
 ) -> Result<Vec<ReportLine>, AllocError>
-    ensures lines { IfOk result (λ lines. (with_orders : AGlobal) × AreOrdered broken.now.zone.srel ordered.now
-        global.old with_orders × (date : AText) × (new : AZone) × InstallsSelected with_orders broken.now.zone
-        broken.now.related (selecting broken.now.ids) bypass.now date new (map line_view lines.items)) }
+    ensures lines { IfOk result (λ lines. RunsWith global.old (asked_of broken.now) ordered.now bypass.now
+        (map line_view lines.items)) }
     ensures back { OnOk result (global.new ≡ global.old) }
 {
     let Some((id, rest)) = ordered.split_first() else {
@@ -122,7 +121,7 @@ pub(crate) fn run(
     broken: &Broken<'_>,
     actions: &[Action],
 ) -> Result<Vec<ReportLine>, AllocError>
-    ensures lines { IfOk result (λ lines. Runs global.old broken.now actions.now (map line_view lines.items)) }
+    ensures lines { IfOk result (λ lines. Runs global.old (asked_of broken.now) actions.now (map line_view lines.items)) }
     ensures back { OnOk result (global.new ≡ global.old) }
 {
     let bypass = bypass_of(alloc, actions)?;

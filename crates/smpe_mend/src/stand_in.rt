@@ -1,5 +1,6 @@
 //! What stands in for a SYSMOD that is ordered.
-ghost use Rattle.std.specs.Prelude.{◌≡◌, Ok, Err, IfOk, IsTrue, IsFalse};
+ghost use Rattle.std.specs.Prelude.{◌≡◌, Ok, Err, IfOk, IsTrue, IsFalse, false, is_some};
+ghost use Rattle.sysmods.specs.Refused.{fault_of};
 ghost use Rattle.terms.specs.Global.{Receives, ReceiveFault};
 ghost use Rattle.smpe_mend.specs.Runs.{kind_for, stand_in};
 
@@ -48,6 +49,19 @@ fn stand_in(alloc: Global, srel: Srel, kind: Kind, id: Id) -> Result<Sysmod, All
     })
 }
 
+// `false` for a fault of the SYSMOD, and an error if memory ran out.
+fn refusal_as_false(why: Refused) -> Result<bool, AllocError>
+    ensures { IfOk result (λ received. (received ≡ false) × IsTrue (is_some (fault_of why))) }
+{
+    match why {
+        Refused::Memory => Err(AllocError),
+        Refused::AlreadyReceived => Ok(false),
+        Refused::MakesLoop => Ok(false),
+        Refused::WrongRole => Ok(false),
+        Refused::NoRoom => Ok(false),
+    }
+}
+
 /// Receives what stands in for this id, and returns whether it was received. If RECEIVE refuses it, nothing changes.
 pub(crate) fn receive_stand_in(
     alloc: Global,
@@ -65,10 +79,6 @@ pub(crate) fn receive_stand_in(
     let sysmod = stand_in(alloc, srel, kind, id)?;
     match global.receive(alloc, sysmod) {
         Ok(()) => Ok(true),
-        Err(Refused::Memory) => Err(AllocError),
-        Err(Refused::AlreadyReceived) => Ok(false),
-        Err(Refused::MakesLoop) => Ok(false),
-        Err(Refused::WrongRole) => Ok(false),
-        Err(Refused::NoRoom) => Ok(false),
+        Err(why) => refusal_as_false(why),
     }
 }

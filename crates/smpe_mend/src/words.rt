@@ -1,5 +1,6 @@
 //! The words of an answer.
-ghost use Rattle.std.specs.Prelude.{◌≡◌, ◌++◌, ◌∷◌, map, codes, OnOk, IfOk, []};
+ghost use Rattle.std.specs.Prelude.{◌≡◌, ◌++◌, ◌∷◌, map, codes, length, OnOk, IfOk, []};
+ghost use Rattle.std.specs.Prelude.{if◌then◌else◌};
 ghost use Rattle.std.specs.List.{flat_map};
 ghost use Rattle.terms.specs.Bytes.{comma};
 ghost use Rattle.terms.specs.Global.{hold_of};
@@ -7,14 +8,14 @@ ghost use Rattle.machine.specs.Report.{words_line, status_word};
 ghost use Rattle.judge_system.specs.TestSets.{tests_of};
 ghost use Rattle.judge_system.specs.Views.{need_view};
 ghost use Rattle.report.specs.Views.{line_view, status_view};
+ghost use Rattle.smpe_mend.specs.Runs.{asked_of};
 ghost use Rattle.smpe_mend.specs.Words.{joined, act_word, act_line, held_line, todo_line, with_comma, with_member};
-ghost use Rattle.smpe_mend.specs.Words.{members, bypass_text, install_word, command_line, plan_head, plan_text};
+ghost use Rattle.smpe_mend.specs.Words.{members, bypass_text, install_word, command_line, plan_head, plan_of, plan_text};
 ghost use Rattle.smpe_mend.specs.Words.{test_line, need_line, why_lines, remaining, refusal_text, is_missing, missing_id};
 ghost use Rattle.smpe_mend.specs.Words.{missing_ids, missing_text};
 
 use crate::action::{Action, reasons};
 use crate::broken::Broken;
-use crate::growing::Tried;
 use crate::todo::{ToDo, todos};
 use fields::spelling::{hold_text, need_text, test_text};
 use fields::{Id, IdList, Reason};
@@ -238,7 +239,7 @@ fn append_command(
     actions: &[Action],
     text: &mut Vec<u8>,
 ) -> Result<(), AllocError>
-    ensures { OnOk result (text.new.items ≡ text.old.items ++ command_line broken.now actions.now) }
+    ensures { OnOk result (text.new.items ≡ text.old.items ++ command_line (asked_of broken.now) actions.now) }
 {
     let members = members(alloc, actions)?;
     append_select(broken.zone.kind(), broken.ids.as_slice(), text)?;
@@ -266,22 +267,37 @@ fn append_plan_head(
     append_words(b"MEND", &words, text)
 }
 
+// The text of a plan of this to do.
+fn plan_of(
+    alloc: Global,
+    global: &GlobalZone,
+    broken: &Broken<'_>,
+    actions: &[Action],
+    todos: &[ToDo],
+) -> Result<Vec<u8>, AllocError>
+    ensures { IfOk result (λ text. text.items
+        ≡ plan_of global.now (asked_of broken.now) actions.now todos.now) }
+{
+    let mut text = Vec::new(alloc);
+    append_plan_head(alloc, broken.ids.as_slice(), todos.len(), &mut text)?;
+    append_todos(global, todos, &mut text)?;
+    append_command(alloc, broken, actions, &mut text)?;
+    Ok(text)
+}
+
 /// The text of a plan: what to do, and then the command.
 pub(crate) fn plan_text(
     alloc: Global,
     global: &GlobalZone,
     broken: &Broken<'_>,
-    tried: &Tried,
+    actions: &[Action],
+    lines: &[ReportLine],
 ) -> Result<Vec<u8>, AllocError>
-    ensures { IfOk result (λ text. text.items ≡ plan_text global.now broken.now tried.now.actions.items
-        (map line_view tried.now.lines.items)) }
+    ensures { IfOk result (λ text. text.items ≡ plan_text global.now (asked_of broken.now) actions.now
+        (map line_view lines.now)) }
 {
-    let todos = todos(alloc, global, &tried.actions, &tried.lines)?;
-    let mut text = Vec::new(alloc);
-    append_plan_head(alloc, broken.ids.as_slice(), todos.len(), &mut text)?;
-    append_todos(global, &todos, &mut text)?;
-    append_command(alloc, broken, &tried.actions, &mut text)?;
-    Ok(text)
+    let todos = todos(alloc, global, actions, lines)?;
+    plan_of(alloc, global, broken, actions, &todos)
 }
 
 // Appends a line for each test.
@@ -330,17 +346,31 @@ fn append_why(status: &Status, text: &mut Vec<u8>) -> Result<(), AllocError>
     }
 }
 
+// Appends what remains of an id of this status, if it is one of the ids.
+fn append_if_concerned<'a>(
+    concerned: bool,
+    id: &'a Id,
+    status: &'a Status,
+    text: &mut Vec<u8>,
+) -> Result<(), AllocError>
+    ensures { OnOk result (text.new.items ≡ text.old.items
+        ++ (if concerned then words_line (codes " " ∷ id.now ∷ status_word (status_view status.now) ∷ [])
+        ++ why_lines (status_view status.now) else [])) }
+{
+    if !concerned {
+        return Ok(());
+    }
+    append_status(id, status, text)?;
+    append_why(status, text)
+}
+
 // Appends what remains of the id of the line, if it is one of these.
 fn append_remaining(ids: &IdList, line: &ReportLine, text: &mut Vec<u8>) -> Result<(), AllocError>
     ensures { OnOk result (text.new.items ≡ text.old.items ++ remaining ids.now (line_view line.now)) }
 {
     match line {
         ReportLine::Status { id, status, .. } => {
-            if !ids.contains(*id) {
-                return Ok(());
-            }
-            append_status(id, status, text)?;
-            append_why(status, text)
+            append_if_concerned(ids.contains(*id), id, status, text)
         }
         ReportLine::Nothing | ReportLine::Errsysmod { .. } => Ok(()),
     }
