@@ -1,5 +1,6 @@
 -- What stands in for an id goes again.
-use Rattle.std.proofs.Common.{◌≡◌, ◌∙◌, ◌&&◌, Bool, true, false, not, [], refl, ap, ap₂, subst, sym, is_some, cond, Option}
+use Rattle.std.proofs.Common.{◌≡◌, ◌∙◌, ◌&&◌, Bool, true, false, not, [], refl, ap, ap₂, subst, sym, is_some, cond}
+use Rattle.std.proofs.Common.{Option}
 use Rattle.std.proofs.Common.{None, Some, All, IsTrue}
 use Rattle.std.specs.Prelude.{Ok}
 use Rattle.std.specs.Str.{bytes_eq}

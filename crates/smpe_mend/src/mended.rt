@@ -55,9 +55,9 @@ fn mend_received(
     }
 }
 
-/// Finds the smallest repair with which an APPLY (in a distribution zone, an ACCEPT) of the ids with GROUPEXTEND installs
-/// or supersedes each of them. The answer is a plan with its command, that there is none with what remains, or that an
-/// id is not received. The command takes up to 1,000 ids. An id that is ordered stands in as a SYSMOD without
+/// Finds the smallest repair with which an APPLY (in a distribution zone, an ACCEPT) of the ids with GROUPEXTEND
+/// installs or supersedes each of them. The answer is a plan with its command, or that there is none and what remains,
+/// or that ids are not received. The command takes up to 1,000 ids. An id that is ordered stands in as a SYSMOD without
 /// requisites and elements, received in the global zone while the command runs; afterwards the zone is as before.
 pub fn mend(
     alloc: Global,

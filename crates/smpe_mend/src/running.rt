@@ -121,7 +121,8 @@ pub(crate) fn run(
     broken: &Broken<'_>,
     actions: &[Action],
 ) -> Result<Vec<ReportLine>, AllocError>
-    ensures lines { IfOk result (λ lines. Runs global.old (asked_of broken.now) actions.now (map line_view lines.items)) }
+    ensures lines { IfOk result (λ lines. Runs global.old (asked_of broken.now) actions.now
+        (map line_view lines.items)) }
     ensures back { OnOk result (global.new ≡ global.old) }
 {
     let bypass = bypass_of(alloc, actions)?;

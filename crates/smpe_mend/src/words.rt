@@ -10,9 +10,9 @@ ghost use Rattle.judge_system.specs.Views.{need_view};
 ghost use Rattle.report.specs.Views.{line_view, status_view};
 ghost use Rattle.smpe_mend.specs.Runs.{asked_of};
 ghost use Rattle.smpe_mend.specs.Words.{joined, act_word, act_line, held_line, todo_line, with_comma, with_member};
-ghost use Rattle.smpe_mend.specs.Words.{members, bypass_text, install_word, command_line, plan_head, plan_of, plan_text};
-ghost use Rattle.smpe_mend.specs.Words.{test_line, need_line, why_lines, remaining, refusal_text, is_missing, missing_id};
-ghost use Rattle.smpe_mend.specs.Words.{missing_ids, missing_text};
+ghost use Rattle.smpe_mend.specs.Words.{members, bypass_text, install_word, command_line, plan_head, plan_of};
+ghost use Rattle.smpe_mend.specs.Words.{plan_text, test_line, need_line, why_lines, remaining, refusal_text};
+ghost use Rattle.smpe_mend.specs.Words.{is_missing, missing_id, missing_ids, missing_text};
 
 use crate::action::{Action, reasons};
 use crate::broken::Broken;
