@@ -2,7 +2,7 @@
 use Rattle.std.proofs.Common.{◌≡◌, ◌∙◌, ◌&&◌, Bool, true, false, not, [], refl, ap, ap₂, subst, sym, is_some, cond}
 use Rattle.std.proofs.Common.{Option}
 use Rattle.std.proofs.Common.{None, Some, All, IsTrue}
-use Rattle.std.specs.Prelude.{Ok}
+use Rattle.std.specs.Prelude.{Result, Ok, Err, IsOk, OnOk}
 use Rattle.std.specs.Str.{bytes_eq}
 use Rattle.std.proofs.lemmas.List.Elements.{All-weaker}
 use Rattle.terms.specs.declared.kinds.Kind.{Kind}
@@ -15,6 +15,11 @@ use Rattle.terms.proofs.Searches.{filter_all}
 use Rattle.terms.proofs.GlobalLookups.{sysmod_of_with_sysmod}
 use Rattle.sysmods.proofs.Taken.{taken_out}
 use Rattle.smpe_mend.specs.Runs.{stand_in}
+
+-- what a call ensures if it succeeds
+pub from_ok : {A E : Type 0} (P : Type 0) (r : Result A E) → IsOk r → OnOk r P → P
+from_ok P (Ok x) is on = on
+from_ok P (Err e) is on = absurd is
 
 none_found : (o : Option Sysmod) → (IsTrue (is_some o) → ⊥) → o ≡ None
 none_found None unknown = refl
