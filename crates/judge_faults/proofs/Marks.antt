@@ -1,11 +1,11 @@
 -- The marks of the claims on one element that clash.
 use Rattle.std.proofs.Common.{◌≡◌, ◌⊎◌, inl, inr, ℕ, Bool, true, false, List, [], ◌∷◌, ◌++◌, refl, sym, subst}
-use Rattle.std.proofs.Common.{Contains, cond, arith}
+use Rattle.std.proofs.Common.{Contains, IsTrue, cond, get_or, arith}
 use Rattle.std.specs.Prelude.{◌↔◌, take, drop}
 use Rattle.std.specs.List.{list_any, insert}
 use Rattle.std.proofs.lemmas.List.{take-append-drop}
 use Rattle.std.proofs.lemmas.List.Elements.{Contains-append_left, Contains-append_right, Contains-append_cases}
-use Rattle.std.proofs.lemmas.List.Elements.{Contains-push, Contains-push_cases, All-contains}
+use Rattle.std.proofs.lemmas.List.Elements.{Contains-push, Contains-push_cases, All-contains, All-push}
 use Rattle.indexmap.specs.IndexSet.{insert_key}
 use Rattle.indexmap.proofs.CallerLemmas.{Contains-insert_key}
 use Rattle.terms.proofs.ListMembers.{none_in, here_or, in_middle, there}
@@ -14,7 +14,7 @@ use Rattle.terms.specs.Types.{Id, Global}
 use Rattle.terms.specs.Choice.{Choice}
 use Rattle.judge_faults.specs.declared.claims.Claim.{Claim}
 use Rattle.judge_faults.specs.Sharing.{StandApart, Clashes, Marks, IsOfPair, IsAgainst, IsAmong, IsBelow, IsChain}
-use Rattle.judge_faults.specs.Sharing.{FitsAt, AreMarked}
+use Rattle.judge_faults.specs.Sharing.{FitsAt, AllMarked, AreSettled, AreMarked}
 
 -- ---- marks one after the other
 
@@ -227,14 +227,39 @@ module _ (g : Global) (c : Choice) where
       whole : Contains (take k chain ++ drop k chain) b → Contains chain b
       whole = subst (λ l. Contains l b) (take-append-drop k chain)
 
+  -- what is marked stays so
+  pub stays_marked : (P : ℕ → Type 0) (old new : List ℕ) (claims : List Claim) → Marks P old new
+      → AllMarked claims old → AllMarked claims new
+  stays_marked P old new claims marks all i d below = (marks (get_or claims i d).place).1 (inl (all i d below))
+
+  -- of those that are marked no more need be compared once the claim is marked
+  pub against_rest : (a : Claim) (front others : List Claim) (old new : List ℕ)
+      → ((b : Claim) → Contains front b → Contains others b) → Contains new a.place
+      → Marks (IsAgainst g c a front) old new → AllMarked others old → Marks (IsAgainst g c a others) old new
+  against_rest a front others old new within own marks all n = (
+    λ h. elim ((marks n).0 h) [
+      | inl was ↦ inl was
+      | inr against ↦ inr (against.0, within against.0 against.1, against.2)
+    ],
+    λ h. elim h [ inl was ↦ (marks n).1 (inl was) | inr against ↦ by against ],
+  )
+    where
+      by : IsAgainst g c a others n → Contains new n
+      by (b, there, (clash, inl is)) = subst (Contains new) (sym is) own
+      by (b, there, (clash, inr is)) =
+          (marks n).1 (inl (subst (Contains old) (sym is)
+          (All-contains (λ (v : Claim). Contains old v.place) others b all there)))
+
   -- it fits into the chain
-  pub taken_in : (claims chain new_chain others : List Claim) (before shared marked : List ℕ) (a : Claim) (k : ℕ)
+  pub taken_in : (claims chain new_chain others : List Claim) (known : Bool) (before shared marked : List ℕ)
+      (a : Claim) (k : ℕ)
       → (IsChain g c chain → FitsAt g c chain a k) → new_chain ≡ insert chain k a
-      → Marks (IsAgainst g c a others) shared marked
-      → AreMarked g c claims chain others before shared
-      → AreMarked g c (claims ++ a ∷ []) new_chain others before marked
-  taken_in claims chain new_chain others before shared marked a k place made against m =
-      subst (λ l. AreMarked g c (claims ++ a ∷ []) l others before marked) (sym made) (record {
+      → (AreSettled known others shared → Marks (IsAgainst g c a others) shared marked)
+      → AreMarked g c claims chain others known before shared
+      → AreMarked g c (claims ++ a ∷ []) new_chain others known before marked
+  taken_in claims chain new_chain others known before shared marked a k place made compared m =
+      subst (λ l. AreMarked g c (claims ++ a ∷ []) l others known before marked) (sym made) (record {
+        settled = λ on. stays_marked (IsAgainst g c a others) shared marked others against (m.settled on);
         members = λ b. (from b, to b);
         ordered = AllPairs_between (IsBelow g c) (take k chain) (drop k chain) a
             (subst (IsChain g c) (sym (take-append-drop k chain)) m.ordered) fits.front fits.back;
@@ -247,6 +272,9 @@ module _ (g : Global) (c : Choice) where
             ]));
       })
     where
+      against : Marks (IsAgainst g c a others) shared marked
+      against = compared m.settled
+
       fits : FitsAt g c chain a k
       fits = place m.ordered
 
@@ -270,13 +298,19 @@ module _ (g : Global) (c : Choice) where
       ]
 
   -- it does not
-  pub left_out : (claims chain others new_others : List Claim) (before shared middle marked : List ℕ) (a : Claim)
-      → new_others ≡ others ++ a ∷ [] → Marks (IsAgainst g c a chain) shared middle
-      → Marks (IsAgainst g c a others) middle marked
-      → AreMarked g c claims chain others before shared
-      → AreMarked g c (claims ++ a ∷ []) chain new_others before marked
-  left_out claims chain others new_others before shared middle marked a made against_chain against_others m =
-      subst (λ l. AreMarked g c (claims ++ a ∷ []) chain l before marked) (sym made) (record {
+  pub left_out : (claims chain others new_others : List Claim) (known new_known : Bool)
+      (before shared middle marked : List ℕ) (a : Claim)
+      → new_others ≡ others ++ a ∷ [] → (IsTrue new_known → IsTrue known × Contains marked a.place)
+      → Marks (IsAgainst g c a chain) shared middle
+      → (AreSettled known others middle → Marks (IsAgainst g c a others) middle marked)
+      → AreMarked g c claims chain others known before shared
+      → AreMarked g c (claims ++ a ∷ []) chain new_others new_known before marked
+  left_out claims chain others new_others known new_known before shared middle marked a made knows against_chain
+      compared m =
+      subst (λ l. AreMarked g c (claims ++ a ∷ []) chain l new_known before marked) (sym made) (record {
+        settled = λ on. All-push (λ (v : Claim). Contains marked v.place) others a
+            (stays_marked (IsAgainst g c a others) middle marked others against_others (between (knows on).0))
+            (knows on).1;
         members = λ b. (from b, to b);
         ordered = m.ordered;
         marks = marks_join (IsAmong (Clashes g c) claims) (IsAgainst g c a (chain ++ others))
@@ -285,6 +319,12 @@ module _ (g : Global) (c : Choice) where
             (among_more claims (chain ++ others) a (λ b h. (m.members b).0 h) (λ b h. inl ((m.members b).1 h)));
       })
     where
+      between : AreSettled known others middle
+      between on = stays_marked (IsAgainst g c a chain) shared middle others against_chain (m.settled on)
+
+      against_others : Marks (IsAgainst g c a others) middle marked
+      against_others = compared between
+
       from : (b : Claim) → Contains (chain ++ (others ++ a ∷ [])) b → Contains (claims ++ a ∷ []) b
       from b h = elim (Contains-append_cases chain (others ++ a ∷ []) b h) [
         | inl front ↦ Contains-append_left claims (a ∷ []) b ((m.members b).0
@@ -307,8 +347,9 @@ module _ (g : Global) (c : Choice) where
             (subst (Contains (others ++ a ∷ [])) is (Contains-push others a))
       ]
 
-  pub marked_none : (shared : List ℕ) → AreMarked g c [] [] [] shared shared
+  pub marked_none : (shared : List ℕ) → AreMarked g c [] [] [] true shared shared
   marked_none shared = record {
+    settled = λ on i d below. absurd (omega (arith, below));
     members = λ a. (λ h. h, λ h. h);
     ordered = λ i j d less below. absurd (omega (arith, below));
     marks = marks_same (IsAmong (Clashes g c) []) shared shared refl (λ n among. absurd (none_in among.a among.own));

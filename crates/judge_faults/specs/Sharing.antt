@@ -1,5 +1,6 @@
 -- Which candidates may not change an element that another one changes.
-use Rattle.std.specs.Prelude.{◌≡◌, ◌≢◌, ◌↔◌, ◌<◌, ◌≤◌, ◌⊎◌, ℕ, List, ◌++◌, Some, All, AllPairs, Contains}
+use Rattle.std.specs.Prelude.{◌≡◌, ◌≢◌, ◌↔◌, ◌<◌, ◌≤◌, ◌⊎◌, ℕ, Bool, IsTrue, List, ◌++◌, Some, All, AllPairs}
+use Rattle.std.specs.Prelude.{Contains}
 use Rattle.std.specs.Prelude.{take, drop, slice_get, length}
 use Rattle.terms.specs.declared.kinds.ElemType.{ElemType}
 use Rattle.terms.specs.Types.{Text, Id, Global}
@@ -57,11 +58,21 @@ pub record FitsAt (g : Global) (c : Choice) (chain : List Claim) (a : Claim) (k 
   pub front : All (λ b. IsBelow g c b a) (take k chain)
   pub back : All (λ b. IsBelow g c a b) (drop k chain)
 
--- after these claims on one element: a chain of them, the others, and the marks since some earlier claims
-pub record AreMarked (g : Global) (c : Choice) (claims chain others : List Claim) (before shared : List ℕ) :
-    Type 0 where
+-- these claims are marked
+abbrev pub AllMarked : List Claim → List ℕ → Type 0
+AllMarked claims marked = All (λ a. Contains marked a.place) claims
+
+-- they are, if they are known to be
+abbrev pub AreSettled : Bool → List Claim → List ℕ → Type 0
+AreSettled known claims marked = IsTrue known → AllMarked claims marked
+
+-- after these claims on one element: a chain of them, the others, whether these are known to be marked, and the marks
+-- since some earlier claims
+pub record AreMarked (g : Global) (c : Choice) (claims chain others : List Claim) (known : Bool)
+    (before shared : List ℕ) : Type 0 where
   pub members : (a : Claim) → Contains (chain ++ others) a ↔ Contains claims a
   pub ordered : IsChain g c chain
+  pub settled : AreSettled known others shared
   pub marks : Marks (IsAmong (Clashes g c) claims) before shared
 
 -- the claims from the place on, up to the end, are those on one element

@@ -1,9 +1,10 @@
 //! Which candidates change an element that they may not share with another candidate.
-ghost use Rattle.std.specs.Prelude.{◌≡◌, ◌↔◌, ◌<◌, ◌⊎◌, [], ◌∷◌, ◌++◌, ℕ, List, length, IsTrue};
+ghost use Rattle.std.specs.Prelude.{◌≡◌, ◌↔◌, ◌<◌, ◌⊎◌, ◌&&◌, [], ◌∷◌, ◌++◌, ℕ, List, length, IsTrue};
 ghost use Rattle.std.specs.Prelude.{Contains, OnOk, IfOk};
 ghost use Rattle.sysmods.specs.Choices.{choice};
+ghost use Rattle.judge_faults.specs.Rows.{is_among};
 ghost use Rattle.judge_faults.specs.Sharing.{Marks, IsOfPair, IsAgainst, IsAmong, Clashes, AreMarked};
-ghost use Rattle.judge_faults.specs.Sharing.{IsRun, IsClashing};
+ghost use Rattle.judge_faults.specs.Sharing.{AllMarked, AreSettled, IsRun, IsClashing};
 
 use crate::chains::{may_not_share, place_in_chain};
 use crate::claims::{Claim, claims_of};
@@ -62,12 +63,66 @@ fn mark_against(
     Ok(())
 }
 
+// Marks each clash of the claim with one of the others, on both sides. If all others are marked, the first clash settles
+// the rest, because both sides of each further one are marked.
+fn mark_until_settled(
+    alloc: Global,
+    overs: &mut Overs<'_, '_>,
+    claim: &Claim,
+    others: &[Claim],
+    marked: &mut IndexSet<usize>,
+) -> Result<(), AllocError>
+    ensures marks { OnOk result (AllMarked others.now marked.old.keys
+        → Marks (IsAgainst overs.old.global.now (choice overs.old) claim.now others.now) marked.old.keys
+        marked.new.keys) }
+    ensures same { overs.new ≡ overs.old }
+{
+    for other in others {
+        if marked.contains(&claim.place) {
+            return Ok(());
+        }
+        mark_pair(alloc, overs, claim, other, marked)?;
+    }
+    Ok(())
+}
+
 /// The claims on one element so far. Those of the chain may share the element with each other, because each of them is
-/// over those before it. The others do not fit into the chain, and are compared one by one.
+/// over those before it. The others do not fit into the chain. All of these are marked, unless a candidate has several
+/// claims on the element.
 #[derive(Drop)]
 struct Claimants {
     chain: Vec<Claim>,
     others: Vec<Claim>,
+    /// Whether all others are known to be marked.
+    are_marked: bool,
+}
+
+// Marks each clash of the claim with one of those outside the chain, on both sides.
+fn mark_against_others(
+    alloc: Global,
+    overs: &mut Overs<'_, '_>,
+    claim: &Claim,
+    claimants: &Claimants,
+    marked: &mut IndexSet<usize>,
+) -> Result<(), AllocError>
+    ensures marks { OnOk result (AreSettled claimants.now.are_marked claimants.now.others.items marked.old.keys
+        → Marks (IsAgainst overs.old.global.now (choice overs.old) claim.now claimants.now.others.items)
+        marked.old.keys marked.new.keys) }
+    ensures same { overs.new ≡ overs.old }
+{
+    let others = claimants.others.as_slice();
+    if claimants.are_marked {
+        mark_until_settled(alloc, overs, claim, others, marked)
+    } else {
+        mark_against(alloc, overs, claim, others, marked)
+    }
+}
+
+// Whether the others are marked, as is known, and the claim is marked too.
+fn is_marked_too(are_marked: bool, claim: &Claim, marked: &IndexSet<usize>) -> bool
+    ensures { result ≡ (are_marked && is_among marked.now.keys claim.now.place) }
+{
+    are_marked && marked.contains(&claim.place)
 }
 
 // Adds one more claim, and marks its clashes with the claims so far.
@@ -80,18 +135,19 @@ fn add_claim(
 ) -> Result<(), AllocError>
     ensures taken { OnOk result ((claims : List Claim) (before : List ℕ)
         → AreMarked overs.old.global.now (choice overs.old) claims claimants.old.chain.items claimants.old.others.items
-        before marked.old.keys
+        claimants.old.are_marked before marked.old.keys
         → AreMarked overs.old.global.now (choice overs.old) (claims ++ claim.now ∷ []) claimants.new.chain.items
-        claimants.new.others.items before marked.new.keys) }
+        claimants.new.others.items claimants.new.are_marked before marked.new.keys) }
     ensures same { overs.new ≡ overs.old }
 {
     let Some(place) = place_in_chain(alloc, overs, claimants.chain.as_slice(), claim)? else {
         mark_against(alloc, overs, claim, claimants.chain.as_slice(), marked)?;
-        mark_against(alloc, overs, claim, claimants.others.as_slice(), marked)?;
+        mark_against_others(alloc, overs, claim, claimants, marked)?;
         claimants.others.push(*claim)?;
+        claimants.are_marked = is_marked_too(claimants.are_marked, claim, marked);
         return Ok(());
     };
-    mark_against(alloc, overs, claim, claimants.others.as_slice(), marked)?;
+    mark_against_others(alloc, overs, claim, claimants, marked)?;
     claimants.chain.insert(place, *claim)?;
     Ok(())
 }
@@ -110,6 +166,7 @@ fn mark_clashes(
     let mut claimants = Claimants {
         chain: Vec::new(alloc),
         others: Vec::new(alloc),
+        are_marked: true,
     };
     for claim in claims {
         add_claim(alloc, overs, claim, &mut claimants, marked)?;

@@ -23,7 +23,7 @@ const CASES: [Case; 11] = [
         text: "++PTF(UA00001).|++VER(Z038) FMID(HAA1100).|++DATA(D1) DISTLIB(A) SYSLIB(S).|ONE|\
             ++PTF(UA00002).|++VER(Z038) FMID(HAA1100).|++DATA(D1) DISTLIB(A) SYSLIB(S).|TWO|",
         status: 8,
-        wanted: "LINT 2 SYSMODs, 1 rule broken: this stream is not clean|\
+        wanted: "LINT 2 SYSMODs, 1 rule broken, 1 finding: this stream is not clean|\
             .. UNORDERED UA00001, UA00002: both change DATA D1, and neither is over the other \
             (ptfs, line 1; ptfs, line 5)|",
     },
@@ -37,7 +37,7 @@ const CASES: [Case; 11] = [
         text: "++PTF(UA00001).|++VER(Z038) FMID(HAA1100).|++DATA(D1) DISTLIB(A) SYSLIB(S).|ONE|\
             ++PTF(UA00002).|++VER(Z038) FMID(HAA1100) SUP(UA00001).|",
         status: 8,
-        wanted: "LINT 2 SYSMODs, 1 rule broken: this stream is not clean|\
+        wanted: "LINT 2 SYSMODs, 1 rule broken, 1 finding: this stream is not clean|\
             .. ELEMENTS UA00002 SUP UA00001: DATA D1 of UA00001 is not changed, so its fix is lost \
             (ptfs, line 5; ptfs, line 1)|",
     },
@@ -45,7 +45,7 @@ const CASES: [Case; 11] = [
         text: "++PTF(UA00001).|++VER(Z038) FMID(HAA1100) PRE(UA00009) SUP(AA00001).|\
             ++PTF(UA00002).|++VER(Z038) FMID(HBB1100) SUP(UA00001).|",
         status: 8,
-        wanted: "LINT 2 SYSMODs, 3 rules broken: this stream is not clean|\
+        wanted: "LINT 2 SYSMODs, 1 rule broken, 3 findings: this stream is not clean|\
             .. REQUISITES UA00002 SUP UA00001: the two have different FMIDs (ptfs, line 3; ptfs, line 1)|\
             .. REQUISITES UA00002 SUP UA00001: PRE UA00009 of UA00001 is in neither PRE nor SUP of UA00002 \
             (ptfs, line 3; ptfs, line 1)|\
@@ -89,7 +89,7 @@ const CASES: [Case; 11] = [
         text: "++PTF(UA00001).|++VER(Z038) FMID(HAA1100).|++MOD(M1) DISTLIB(A).|OBJ|\
             ++PTF(UA00002).|++VER(Z038) FMID(HAA1100).|++MOD(M1) DISTLIB(A).|OBJ|",
         status: 8,
-        wanted: "LINT 2 SYSMODs, 1 rule broken: this stream is not clean|\
+        wanted: "LINT 2 SYSMODs, 1 rule broken, 1 finding: this stream is not clean|\
             .. UNORDERED UA00001, UA00002: both change MOD M1, and neither is over the other \
             (ptfs, line 1; ptfs, line 5)|",
     },
@@ -202,7 +202,7 @@ const OBJECT: &str =
 \"rule\":\"UNORDERED\",\
 \"sysmod\":\"UA00001\",\"type\":\"DATA\",\"unit\":\"line\",\
 \"words\":\"UA00001, UA00002: both change DATA D1, and neither is over the other\"}],\
-\"remarks\":0,\"status\":8,\"sysmods\":2}|";
+\"remarks\":0,\"rules\":1,\"status\":8,\"sysmods\":2}|";
 
 #[test]
 fn programs_get_one_object(rt: HostRuntime) -> Result<(), Fail> {

@@ -41,5 +41,5 @@ pub use places::place_of;
 pub use sink::{Out, Sink, WriteFault};
 pub use superseders::serving_ids;
 pub use terms::{CommandCode, CommandWord, IdRefusal, StatementCode, Test};
-pub use write::write_report;
+pub use write::{line_code, write_report};
 pub use zone_lines::entry_words;

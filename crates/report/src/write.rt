@@ -29,8 +29,8 @@ const FAILED_CODE: u8 = 8;
 // The return code of a refused command or command file.
 const REFUSED_CODE: u8 = 12;
 
-// The return code of a line.
-fn line_code(line: &ReportLine) -> u8
+/// The return code of a line: 0, 4 if it warns, or 8 if it tells of a failure.
+pub fn line_code(line: &ReportLine) -> u8
     ensures code { result ≡ line_code (line_view line.now) }
     ensures most { result ≤ 12 }
 {

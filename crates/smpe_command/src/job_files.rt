@@ -6,16 +6,9 @@ ghost use Rattle.smpe_command.specs.Reading.{FailsToRead, Reads, ReadsAll};
 
 use crate::host::Host;
 use smpe::{Fault, JobError};
+use smpe_rehearsal::JobFiles;
 use std::alloc::Global;
 use std::io::ErrorKind;
-
-/// The bytes of the files of a job.
-#[derive(Drop)]
-pub(crate) struct JobFiles {
-    pub(crate) cntl: Vec<u8>,
-    pub(crate) ptfin: Vec<u8>,
-    pub(crate) hold: Vec<u8>,
-}
 
 /// Reads the files of a job in this order. A file that the words do not name has no bytes. Returns `CannotRead` with
 /// the name of the first that cannot be read, or `Job` with `Memory` if memory runs out.

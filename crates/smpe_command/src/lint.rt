@@ -1,14 +1,15 @@
 //! A service stream is checked against the rules of a clean one.
+ghost use Rattle.std.specs.Prelude.{length};
 ghost use Rattle.smpe_command.specs.Linting.{ServesLint, TellsLint};
 
+use crate::carry::given_files;
 use crate::host::Host;
 use crate::job_files::read_each;
-use crate::jobs::status_or_fault;
-use crate::shop::given_files;
 use report::{Sink, write_all};
 use smpe::{Fault, JobError};
 use smpe_invocation::LintOptions;
 use smpe_lint::lint_files;
+use smpe_rehearsal::status_or_fault;
 use std::alloc::Global;
 
 /// Writes what breaks the rules in the stream of these files, and returns the status of that answer. All files are read
@@ -33,7 +34,7 @@ fn lint_and_write<O: Sink>(
     files: &[Vec<u8>],
     out: &mut O,
 ) -> Result<u8, JobError>
-    ensures { TellsLint O.Sink out.old options.now.srel result out.new }
+    ensures { TellsLint O.Sink out.old (length files.now) options.now.srel result out.new }
 {
     let given = given_files(alloc, options.files.as_slice(), files)?;
     let answer = lint_files(alloc, given.as_slice(), options.srel, options.form)?;

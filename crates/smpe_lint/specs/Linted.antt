@@ -7,7 +7,7 @@ use Rattle.mcs.specs.declared.file.Item.{Item}
 use Rattle.mcs.specs.declared.file.Item.TheVariants.{Sysmod, Assign}
 use Rattle.mcs.specs.declared.hold_item.HoldItem.{HoldItem}
 use Rattle.intake_read.specs.declared.items.WideFile.{WideFile}
-use Rattle.intake_service.specs.Carrying.{CarriesFiles}
+use Rattle.intake_service.specs.Carrying.{CarriesFiles, HasEachSysmod}
 use Rattle.smpe_lint.specs.declared.receiving.RefusedSysmod.{RefusedSysmod}
 
 -- the SYSMOD is received, or one more is refused
@@ -34,11 +34,16 @@ pub record IsCleanStream (srel : Srel) (items : List Item) : Type 0 where
   pub same : global.sysmods ≡ received.sysmods
   pub clean : IsClean global (ver_for global srel)
 
--- Of the files something is carried, as CHECK takes it, whose stream is clean.
-abbrev pub CarriesCleanStream : Srel → Type 0
-CarriesCleanStream srel =
-    (files : List WideFile) × (items : List Item) × (hold_items : List HoldItem)
-    × CarriesFiles true files items hold_items × IsCleanStream srel items
+-- So many files were read. What becomes of their statements is carried, as CHECK takes it, each SYSMOD that they state
+-- included, and the stream of that is clean.
+pub record CarriesCleanStream (given : ℕ) (srel : Srel) : Type 0 where
+  pub files : List WideFile
+  pub each_file : length files ≡ given
+  pub items : List Item
+  pub hold_items : List HoldItem
+  pub carries : CarriesFiles true files items hold_items
+  pub each_sysmod : HasEachSysmod files items
+  pub clean : IsCleanStream srel items
 
 -- the statuses of a clean stream: without remarks, and with some
 abbrev pub IsCleanStatus : ℕ → Type 0

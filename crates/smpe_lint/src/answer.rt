@@ -1,8 +1,9 @@
 //! What `smpe lint` answers.
-ghost use Rattle.std.specs.Prelude.{◌≡◌, ◌⊎◌, [], ℕ, List, IsTrue, IfOk};
+ghost use Rattle.std.specs.Prelude.{◌≡◌, ◌⊎◌, [], ℕ, List, length, IsTrue, IfOk};
 ghost use Rattle.terms.specs.Types.{Global as AGlobal};
 ghost use Rattle.terms.specs.Stream.{IsClean, ver_for};
 ghost use Rattle.stream.specs.Lints.{AreFindings};
+ghost use Rattle.intake_service.specs.Carrying.{HasEachSysmod};
 ghost use Rattle.smpe_lint.specs.Linted.{IsCleanStream, CarriesCleanStream, IsCleanStatus};
 
 use crate::breaches::append_breaches;
@@ -45,6 +46,13 @@ struct Judged {
     received: Received,
     findings: Findings,
     clean: bool,
+}
+
+// Whether each SYSMOD that the files state is carried, and nothing else is left out that may be asked for.
+fn is_whole(carried: &Carried) -> bool
+    ensures { IsTrue result → HasEachSysmod carried.now.files.items carried.now.narrowed.items.items }
+{
+    carried.status() == 0
 }
 
 // Whether nothing is refused and nothing breaks the rules.
@@ -96,10 +104,14 @@ fn all_findings(
 }
 
 // The status of a stream that could be read.
-fn status_of(clean: bool, told: &[Finding]) -> u8
+fn status_of(whole: bool, clean: bool, told: &[Finding]) -> u8
+    ensures whole { IsCleanStatus result → IsTrue whole }
     ensures clean { IsCleanStatus result → IsTrue clean }
     ensures known { IsCleanStatus result ⊎ (result ≡ 8) }
 {
+    if !whole {
+        return BROKEN;
+    }
     let counts = counts_of(told);
     if !clean || counts.faults > 0 {
         BROKEN
@@ -136,10 +148,12 @@ fn answer(
     srel: Srel,
     form: LintForm,
 ) -> Result<LintAnswer, AllocError>
-    ensures clean { IfOk result
-        (λ answer. IsCleanStatus answer.status → IsCleanStream srel carried.narrowed.items.items) }
+    ensures clean { IfOk result (λ answer. IsCleanStatus answer.status
+        → HasEachSysmod carried.files.items carried.narrowed.items.items
+        × IsCleanStream srel carried.narrowed.items.items) }
     ensures known { IfOk result (λ answer. IsCleanStatus answer.status ⊎ (answer.status ≡ 8)) }
 {
+    let whole = is_whole(&carried);
     let Carried { files, narrowed } = carried;
     let Narrowed {
         items,
@@ -151,7 +165,7 @@ fn answer(
     let inputs = Inputs::new(alloc, given, &files, named)?;
     let judged = judge(alloc, items, hold_items, srel)?;
     let told = all_findings(alloc, given, &inputs, &remarks, srel, &judged)?;
-    let status = status_of(judged.clean, &told);
+    let status = status_of(whole, judged.clean, &told);
     formed(
         alloc,
         inputs.files(),
@@ -200,14 +214,16 @@ fn refusal(
 }
 
 /// The answer of `smpe lint` about these files, for systems of this SREL. Elements that the profile lacks count too, by
-/// their stand-ins. The status is 0 or 4 only if what is carried of the files is a clean stream.
+/// their stand-ins. The status is 0 or 4 only if each SYSMOD that the files state is carried, and what is carried is a
+/// clean stream.
 pub fn lint_files(
     alloc: Global,
     files: &[GivenFile<'_>],
     srel: Srel,
     form: LintForm,
 ) -> Result<LintAnswer, AllocError>
-    ensures clean { IfOk result (λ answer. IsCleanStatus answer.status → CarriesCleanStream srel) }
+    ensures clean { IfOk result
+        (λ answer. IsCleanStatus answer.status → CarriesCleanStream (length files.now) srel) }
     ensures known { IfOk result
         (λ answer. IsCleanStatus answer.status ⊎ (answer.status ≡ 8) ⊎ (answer.status ≡ 12)) }
 {

@@ -26,6 +26,8 @@ pub(crate) enum Rule {
     Vers,
     /// A hold is not on the SYSMOD that supersedes its own.
     Hold,
+    /// SYSMODs go on only together.
+    Together,
     /// The stream is empty.
     Empty,
 }
@@ -54,6 +56,7 @@ impl Rule {
             Rule::Absent => "ABSENT",
             Rule::Vers => "VERS",
             Rule::Hold => "HOLD",
+            Rule::Together => "TOGETHER",
             Rule::Empty => "EMPTY",
         }
     }
@@ -63,7 +66,8 @@ impl Rule {
         match self {
             Rule::Requisites | Rule::Elements | Rule::Unordered => Weight::Breach,
             Rule::Refused | Rule::Fault | Rule::Receive => Weight::Fault,
-            Rule::Records | Rule::Absent | Rule::Vers | Rule::Hold | Rule::Empty => Weight::Remark,
+            Rule::Records | Rule::Absent | Rule::Vers | Rule::Hold | Rule::Together | Rule::Empty =>
+                Weight::Remark,
         }
     }
 }

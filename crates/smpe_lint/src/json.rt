@@ -146,6 +146,7 @@ fn put_counts(
     put(members, alloc, "status", Value::from(status))?;
     put_number(alloc, members, "sysmods", sysmods)?;
     put_number(alloc, members, "broken", counts.breaches)?;
+    put_number(alloc, members, "rules", counts.rules)?;
     put_number(alloc, members, "faults", counts.faults)?;
     put_number(alloc, members, "remarks", counts.remarks)
 }

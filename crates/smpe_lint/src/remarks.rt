@@ -1,5 +1,5 @@
 //! Remarks on a stream in words.
-use crate::finding::{Finding, Rule};
+use crate::finding::{Finding, Rule, id_text};
 use crate::inputs::{Inputs, shown};
 use fields::spelling::{as_str, hold_text};
 use fields::{Id, Srel};
@@ -22,6 +22,33 @@ fn about_one(alloc: Global, inputs: &Inputs, rule: Rule, id: Id, words: String) 
     finding.sysmod = Some(id);
     finding.place = inputs.place_of(id);
     finding
+}
+
+// The ids, with commas between them.
+fn id_list(alloc: Global, ids: &[Id]) -> Result<String, AllocError> {
+    let mut text = String::new(alloc);
+    for id in ids {
+        if !text.is_empty() {
+            text.push_str(", ")?;
+        }
+        text.push_str(id_text(alloc, *id)?.as_str())?;
+    }
+    Ok(text)
+}
+
+// A remark on SYSMODs that go on only together. It names the places of the first two.
+fn together_finding(alloc: Global, inputs: &Inputs, ids: &[Id]) -> Result<Finding, AllocError> {
+    let list = id_list(alloc, ids)?;
+    let list = list.as_str();
+    let words = format!(in alloc;
+        "{list}: PRE and REQ lead from each of them to the others, so they go on only together"
+    )?;
+    let mut finding = Finding::new(alloc, Rule::Together, words);
+    finding.sysmod = ids.first().copied();
+    finding.other = ids.get(1).copied();
+    finding.place = finding.sysmod.and_then(|id| inputs.place_of(id));
+    finding.other_place = finding.other.and_then(|id| inputs.place_of(id));
+    Ok(finding)
 }
 
 // A remark as a finding.
@@ -56,6 +83,7 @@ fn remark_finding(
             finding.id = Some(*requisite);
             Ok(finding)
         }
+        Remark::Together { ids } => together_finding(alloc, inputs, ids.as_slice()),
         Remark::HoldNotCarried {
             superseding,
             superseded,

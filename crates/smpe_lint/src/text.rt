@@ -4,17 +4,27 @@ use crate::inputs::ShownFile;
 use intake_cards::CardPlace;
 use std::alloc::{AllocError, Global};
 
-/// How many findings of each weight there are.
+/// How many rules are broken, and how many findings of each weight there are.
 #[derive(Clone, Copy)]
 pub(crate) struct Counts {
+    pub(crate) rules: usize,
     pub(crate) breaches: usize,
     pub(crate) faults: usize,
     pub(crate) remarks: usize,
 }
 
-/// How many findings of each weight there are.
+// How many of the rules of a clean stream are broken.
+fn broken_rules(findings: &[Finding]) -> usize {
+    [Rule::Requisites, Rule::Elements, Rule::Unordered]
+        .iter()
+        .filter(|rule| findings.iter().any(|finding| finding.rule == **rule))
+        .count()
+}
+
+/// How many rules are broken, and how many findings of each weight there are.
 pub(crate) fn counts_of(findings: &[Finding]) -> Counts {
     let mut counts = Counts {
+        rules: broken_rules(findings),
         breaches: 0,
         faults: 0,
         remarks: 0,
@@ -51,17 +61,25 @@ fn verdict(counts: Counts, is_refused: bool) -> &'static str {
     }
 }
 
+// How many rules are broken and how many findings say so, or nothing.
+fn broken_text(alloc: Global, counts: Counts) -> Result<String, AllocError> {
+    if counts.breaches == 0 {
+        return Ok(String::new(alloc));
+    }
+    let rules = counted(alloc, counts.rules, "rule")?;
+    let rules = rules.as_str();
+    let findings = counted(alloc, counts.breaches, "finding")?;
+    let findings = findings.as_str();
+    Ok(format!(in alloc; ", {rules} broken, {findings}")?)
+}
+
 // The first line.
 fn first_line(alloc: Global, sysmods: usize, findings: &[Finding]) -> Result<String, AllocError> {
     let counts = counts_of(findings);
     let is_refused = findings.iter().any(|finding| finding.rule == Rule::Refused);
     let mut line = String::from_str(alloc, "LINT ")?;
     line.push_str(counted(alloc, sysmods, "SYSMOD")?.as_str())?;
-    if counts.breaches > 0 {
-        line.push_str(", ")?;
-        line.push_str(counted(alloc, counts.breaches, "rule")?.as_str())?;
-        line.push_str(" broken")?;
-    }
+    line.push_str(broken_text(alloc, counts)?.as_str())?;
     if counts.faults > 0 {
         line.push_str(", ")?;
         line.push_str(counted(alloc, counts.faults, "fault")?.as_str())?;

@@ -2,6 +2,7 @@
 use crate::asking::{Database, KnownZone, push_if_any, texts, zone_of_name, zones};
 use crate::chosen::{lacking_hint, nothing_hint, unknown_id_hint};
 use crate::deleted::delete_hint;
+use crate::fault::WarningFault;
 use crate::known::{bypass_hints, selection_hints};
 use crate::lowered::lowered_hints;
 use crate::ran::RanCommand;
@@ -37,7 +38,7 @@ pub(crate) fn run_warnings<D: Database>(
     ran: &[RanCommand],
     tomorrow: Option<&str>,
     database: &mut D,
-) -> Result<Vec<String>, AllocError> {
+) -> Result<Vec<String>, WarningFault> {
     let mut warnings = Vec::new(alloc);
     if let (Some(date), Some(tomorrow)) = (line.value("--date"), tomorrow)
         && date > tomorrow
@@ -90,7 +91,7 @@ fn command_warnings<D: Database>(
     view: &JobView<'_>,
     ran: &RanCommand,
     database: &mut D,
-) -> Result<Vec<String>, AllocError> {
+) -> Result<Vec<String>, WarningFault> {
     let alloc = view.alloc;
     let mut warnings = Vec::new(alloc);
     match ran.refusal.as_str() {
@@ -168,7 +169,7 @@ fn install_hints<D: Database>(
     install: &Install,
     database: &mut D,
     warnings: &mut Vec<String>,
-) -> Result<(), AllocError> {
+) -> Result<(), WarningFault> {
     if !has_change_after(view, ran) {
         selection_hints(view.alloc, &install.selection, database, warnings)?;
         bypass_hints(view.alloc, &install.bypass, database, warnings)?;
@@ -205,7 +206,7 @@ fn installed_hints<D: Database>(
     install: &Install,
     database: &mut D,
     warnings: &mut Vec<String>,
-) -> Result<(), AllocError> {
+) -> Result<(), WarningFault> {
     let alloc = view.alloc;
     let Some(zone) = zone_of_name(view.zones, ran.zone.as_str()) else {
         return Ok(());
@@ -234,7 +235,7 @@ fn earlier_date_hint<D: Database>(
     view: &JobView<'_>,
     zone: &str,
     database: &mut D,
-) -> Result<Option<String>, AllocError> {
+) -> Result<Option<String>, WarningFault> {
     let alloc = view.alloc;
     let Some(text) = view.line.value("--date") else {
         return Ok(None);

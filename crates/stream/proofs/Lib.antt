@@ -4,3 +4,4 @@ pub mod Placing
 pub mod Comparing
 pub mod Lost
 pub mod Clean
+pub mod Kept

@@ -3,10 +3,12 @@ ghost use Rattle.std.specs.Prelude.{OnOk};
 ghost use Rattle.terms.specs.Choice.{sup_of};
 ghost use Rattle.sysmods.specs.Choices.{choice};
 ghost use Rattle.stream.specs.Gaining.{Gains, OneOf};
+ghost use Rattle.stream.specs.Kept.{AreKnown};
 ghost use Rattle.stream.specs.Lost.{IsLostStatement, IsLossOf};
 
 use crate::breaches::LostElement;
 use crate::first_vers::is_in_stream;
+use crate::keeping::Suspects;
 use fields::Id;
 use std::alloc::AllocError;
 use sysmods::{GlobalZone, VerChoice};
@@ -58,16 +60,18 @@ fn append_losses(
 
 /// Appends the elements that the SYSMOD does not change, though one of the stream that it names in SUP does.
 pub(crate) fn append_lost_elements(
-    vers: &VerChoice<'_>,
+    suspects: &Suspects<'_, '_>,
     id: Id,
     found: &mut Vec<LostElement>,
 ) -> Result<(), AllocError>
-    ensures { OnOk result (Gains (OneOf (sup_of (choice vers.now) id)
-        (IsLossOf vers.now.global.now (choice vers.now) id)) found.old.items found.new.items) }
+    requires { AreKnown suspects.now }
+    ensures { OnOk result (Gains (OneOf (sup_of (choice suspects.now.vers.now) id)
+        (IsLossOf suspects.now.vers.now.global.now (choice suspects.now.vers.now) id)) found.old.items
+        found.new.items) }
 {
-    let superseded = vers.sup(id);
+    let superseded = suspects.of(id);
     for other in superseded {
-        append_losses(vers, id, *other, found)?;
+        append_losses(suspects.vers, id, *other, found)?;
     }
     Ok(())
 }

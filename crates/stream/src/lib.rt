@@ -7,8 +7,10 @@
 #![tactic(auto)]
 
 mod breaches;
+mod circles;
 mod elements;
 mod first_vers;
+mod keeping;
 mod linting;
 mod naming;
 mod order;
@@ -17,7 +19,7 @@ mod requisites;
 mod unordered;
 
 pub use breaches::{Lack, LostElement, LostRequisite, Unordered};
-pub use fields::{Id, Name, Reason, Srel};
+pub use fields::{Id, IdList, Name, Reason, Srel};
 pub use linting::{Findings, lint};
 pub use remarks::Remark;
 pub use sysmods::GlobalZone;

@@ -1,10 +1,10 @@
 //! All that breaks the rules of a clean stream.
-ghost use Rattle.std.specs.Prelude.{◌≡◌, ◌↔◌, ◌⊎◌, [], ℕ, List, Contains, All, IsTrue, IfOk};
+ghost use Rattle.std.specs.Prelude.{◌≡◌, ◌↔◌, [], ℕ, List, Contains, IsTrue, IfOk};
 ghost use Rattle.terms.specs.Types.{Global as AGlobal};
 ghost use Rattle.terms.specs.Stream.{IsInStream, IsClean, ver_for};
 ghost use Rattle.sysmods.specs.Choices.{choice};
-ghost use Rattle.stream.specs.Breaches.{IsLostRequisite, IsLostElement, IsUnordered};
-ghost use Rattle.stream.specs.Comparing.{HasFound, AreOrdered};
+ghost use Rattle.stream.specs.Breaches.{IsLostRequisite, IsLostElement};
+ghost use Rattle.stream.specs.Kept.{AreKnown};
 ghost use Rattle.stream.specs.Lints.{AreFindings};
 ghost use Rattle.stream.specs.declared.breaches.LostRequisite.{LostRequisite as ALostRequisite};
 ghost use Rattle.stream.specs.declared.breaches.LostElement.{LostElement as ALostElement};
@@ -12,11 +12,13 @@ ghost use Rattle.stream.specs.declared.breaches.LostElement.{LostElement as ALos
 use crate::breaches::{LostElement, LostRequisite, Unordered};
 use crate::elements::append_lost_elements;
 use crate::first_vers::{first_vers, stream_ids};
+use crate::keeping::{Suspects, all_suspects};
 use crate::order::in_order;
 use crate::remarks::{Remark, all_remarks};
 use crate::requisites::append_lost_requisites;
 use crate::unordered::unordered_pairs;
 use fields::{Id, Srel};
+use indexmap::IndexSet;
 use std::alloc::{AllocError, Global};
 use sysmods::{GlobalZone, VerChoice};
 
@@ -70,19 +72,27 @@ impl Findings {
     }
 }
 
+/// What is lost to SYSMODs that supersede others.
+#[derive(Drop)]
+struct Lost {
+    requisites: Vec<LostRequisite>,
+    elements: Vec<LostElement>,
+}
+
 // The requisites that SYSMODs of the stream lack.
 fn lost_requisites(
     alloc: Global,
-    vers: &VerChoice<'_>,
+    suspects: &Suspects<'_, '_>,
     ids: &[Id],
 ) -> Result<Vec<LostRequisite>, AllocError>
-    requires { (x : List ℕ) → Contains ids.now x ↔ IsInStream (choice vers.now) x }
+    requires known { AreKnown suspects.now }
+    requires ids { (x : List ℕ) → Contains ids.now x ↔ IsInStream (choice suspects.now.vers.now) x }
     ensures { IfOk result (λ found. (b : ALostRequisite) → Contains found.items b
-        ↔ IsLostRequisite (choice vers.now) b) }
+        ↔ IsLostRequisite (choice suspects.now.vers.now) b) }
 {
     let mut found = Vec::new(alloc);
     for id in ids {
-        append_lost_requisites(alloc, vers, *id, &mut found)?;
+        append_lost_requisites(alloc, suspects, *id, &mut found)?;
     }
     Ok(found)
 }
@@ -90,33 +100,41 @@ fn lost_requisites(
 // The elements that SYSMODs of the stream do not change.
 fn lost_elements(
     alloc: Global,
-    vers: &VerChoice<'_>,
+    suspects: &Suspects<'_, '_>,
     ids: &[Id],
 ) -> Result<Vec<LostElement>, AllocError>
-    requires { (x : List ℕ) → Contains ids.now x ↔ IsInStream (choice vers.now) x }
+    requires known { AreKnown suspects.now }
+    requires ids { (x : List ℕ) → Contains ids.now x ↔ IsInStream (choice suspects.now.vers.now) x }
     ensures { IfOk result (λ found. (b : ALostElement) → Contains found.items b
-        ↔ IsLostElement vers.now.global.now (choice vers.now) b) }
+        ↔ IsLostElement suspects.now.vers.now.global.now (choice suspects.now.vers.now) b) }
 {
     let mut found = Vec::new(alloc);
     for id in ids {
-        append_lost_elements(vers, *id, &mut found)?;
+        append_lost_elements(suspects, *id, &mut found)?;
     }
     Ok(found)
 }
 
-// The neighbours of one owner that change one element, though neither is over the other, in an order by over.
-fn unordered_neighbours(
+// All that is lost to SYSMODs of the stream, which are compared in this order.
+fn all_lost(
     alloc: Global,
     vers: &VerChoice<'_>,
     ids: &[Id],
-) -> Result<Vec<Unordered>, AllocError>
+    placed: &IndexSet<Id>,
+) -> Result<Lost, AllocError>
     requires { (x : List ℕ) → Contains ids.now x ↔ IsInStream (choice vers.now) x }
-    ensures pairs { IfOk result (λ found. All (IsUnordered vers.now.global.now (choice vers.now)) found.items) }
-    ensures none { IfOk result
-        (λ found. HasFound found.items ⊎ AreOrdered vers.now.global.now (choice vers.now) ids.now) }
+    ensures requisites { IfOk result (λ lost. (b : ALostRequisite) → Contains lost.requisites.items b
+        ↔ IsLostRequisite (choice vers.now) b) }
+    ensures elements { IfOk result (λ lost. (b : ALostElement) → Contains lost.elements.items b
+        ↔ IsLostElement vers.now.global.now (choice vers.now) b) }
 {
-    let placed = in_order(alloc, vers, ids)?;
-    unordered_pairs(alloc, vers, placed.as_slice())
+    let suspects = all_suspects(alloc, vers, placed)?;
+    let requisites = lost_requisites(alloc, &suspects, ids)?;
+    let elements = lost_elements(alloc, &suspects, ids)?;
+    Ok(Lost {
+        requisites,
+        elements,
+    })
 }
 
 /// All that breaks the rules, in the stream for this SREL.
@@ -125,13 +143,13 @@ pub fn lint(alloc: Global, global: &GlobalZone, srel: Srel) -> Result<Findings, 
 {
     let vers = first_vers(alloc, global, srel);
     let ids = stream_ids(alloc, &vers)?;
-    let requisites = lost_requisites(alloc, &vers, ids.as_slice())?;
-    let elements = lost_elements(alloc, &vers, ids.as_slice())?;
-    let unordered = unordered_neighbours(alloc, &vers, ids.as_slice())?;
+    let placed = in_order(alloc, &vers, ids.as_slice())?;
+    let lost = all_lost(alloc, &vers, ids.as_slice(), &placed)?;
+    let unordered = unordered_pairs(alloc, &vers, placed.as_slice())?;
     let remarks = all_remarks(alloc, &vers, srel, ids.as_slice())?;
     Ok(Findings {
-        requisites,
-        elements,
+        requisites: lost.requisites,
+        elements: lost.elements,
         unordered,
         remarks,
     })

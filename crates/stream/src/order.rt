@@ -12,8 +12,8 @@ use indexmap::IndexSet;
 use std::alloc::{AllocError, Global};
 use sysmods::VerChoice;
 
-// Whether the id is a SYSMOD of the stream without a place.
-fn is_open(vers: &VerChoice<'_>, placed: &IndexSet<Id>, id: Id) -> bool
+/// Whether the id is a SYSMOD of the stream without a place among these.
+pub(crate) fn is_open(vers: &VerChoice<'_>, placed: &IndexSet<Id>, id: Id) -> bool
     ensures { result ≡ is_open (choice vers.now) placed.now.keys id }
 {
     !placed.contains(&id) && is_in_stream(vers, id)

@@ -1,6 +1,7 @@
 //! What a builder of service should look at, although it breaks no rule of a clean stream.
+use crate::circles::all_circles;
 use crate::first_vers::is_in_stream;
-use fields::{Id, Reason, Srel, VerNumber};
+use fields::{Id, IdList, Reason, Srel, VerNumber};
 use indexmap::IndexSet;
 use std::alloc::{AllocError, Global};
 use sysmods::{GlobalZone, VerChoice, numbered_ver};
@@ -8,7 +9,7 @@ use sysmods_values::{Hold, Ver};
 use terms::{HoldKind, NeedKind};
 
 /// What breaks no rule, and may yet be a mistake.
-#[derive(Clone, Copy)]
+#[derive(Drop)]
 pub enum Remark {
     /// No SYSMOD has a `++VER` for the SREL.
     Empty,
@@ -30,6 +31,11 @@ pub enum Remark {
         superseded: Id,
         kind: HoldKind,
         reason: Reason,
+    },
+    /// Each of these SYSMODs requires each other one by PRE and REQ, directly or through others of them, and no SYSMOD
+    /// of the stream supersedes one of them. So they go on only together.
+    Together {
+        ids: IdList,
     },
 }
 
@@ -139,6 +145,19 @@ fn tell_holds(
     Ok(())
 }
 
+// Remarks on the SYSMODs that go on only together.
+fn tell_circles(
+    alloc: Global,
+    vers: &VerChoice<'_>,
+    ids: &[Id],
+    remarks: &mut Vec<Remark>,
+) -> Result<(), AllocError> {
+    for circle in all_circles(alloc, vers, ids)? {
+        remarks.push(Remark::Together { ids: circle })?;
+    }
+    Ok(())
+}
+
 /// All remarks on the stream, whose SYSMODs these are.
 pub(crate) fn all_remarks(
     alloc: Global,
@@ -160,5 +179,6 @@ pub(crate) fn all_remarks(
             tell_holds(vers, *id, ver, &mut remarks)?;
         }
     }
+    tell_circles(alloc, vers, ids, &mut remarks)?;
     Ok(remarks)
 }

@@ -4,25 +4,27 @@ ghost use Rattle.terms.specs.Choice.{sup_of};
 ghost use Rattle.terms.specs.Lookups.{is_in};
 ghost use Rattle.sysmods.specs.Choices.{choice};
 ghost use Rattle.stream.specs.Gaining.{Gains, OneOf};
+ghost use Rattle.stream.specs.Kept.{AreKnown};
 ghost use Rattle.stream.specs.Lost.{VerLacks, IsLackOf};
 ghost use Rattle.stream.specs.declared.breaches.Lack.{Lack as ALack};
 ghost use Rattle.stream.specs.declared.breaches.Lack.TheVariants.{Fmid};
 
 use crate::breaches::{Lack, LostRequisite};
+use crate::keeping::Suspects;
 use fields::Id;
 use std::alloc::{AllocError, Global};
 use sysmods::VerChoice;
 use sysmods_values::Ver;
 
-// Whether both have one FMID, or neither has one.
-fn have_one_fmid(ver: &Ver, other: &Ver) -> bool
+/// Whether both have one FMID, or neither has one.
+pub(crate) fn have_one_fmid(ver: &Ver, other: &Ver) -> bool
     ensures { IsTrue result ↔ (ver.now.fmid ≡ other.now.fmid) }
 {
     ver.fmid == other.fmid
 }
 
-// Whether the `++VER` names the id in PRE or SUP.
-fn requires_or_supersedes(ver: &Ver, id: Id) -> bool
+/// Whether the `++VER` names the id in PRE or SUP.
+pub(crate) fn requires_or_supersedes(ver: &Ver, id: Id) -> bool
     ensures { result ≡ is_in (ver.now.pre ++ ver.now.sup) id }
 {
     ver.pre.contains(id) || ver.sup.contains(id)
@@ -111,16 +113,17 @@ fn append_lacks(
 /// Appends the requisites that the SYSMOD lacks of each one of the stream that it names in SUP.
 pub(crate) fn append_lost_requisites(
     alloc: Global,
-    vers: &VerChoice<'_>,
+    suspects: &Suspects<'_, '_>,
     id: Id,
     found: &mut Vec<LostRequisite>,
 ) -> Result<(), AllocError>
-    ensures { OnOk result (Gains (OneOf (sup_of (choice vers.now) id) (IsLackOf (choice vers.now) id))
-        found.old.items found.new.items) }
+    requires { AreKnown suspects.now }
+    ensures { OnOk result (Gains (OneOf (sup_of (choice suspects.now.vers.now) id)
+        (IsLackOf (choice suspects.now.vers.now) id)) found.old.items found.new.items) }
 {
-    let superseded = vers.sup(id);
+    let superseded = suspects.of(id);
     for other in superseded {
-        append_lacks(alloc, vers, id, *other, found)?;
+        append_lacks(alloc, suspects.vers, id, *other, found)?;
     }
     Ok(())
 }

@@ -16,8 +16,8 @@ loop-claim-preserved c =
     let same = c.loop-claim.invariant.same in
     record {
       same = c.in_ok-add_claim.ensures.same ∙ same;
-      marked = subst (λ l. AreMarked g choices l new.claimants.chain.items new.claimants.others.items old
-          new.marked.keys)
+      marked = subst (λ l. AreMarked g choices l new.claimants.chain.items new.claimants.others.items
+          new.claimants.are_marked old new.marked.keys)
           (sym (take_more claims i claim (omega arith) ∙ ap (λ v. take i claims ++ v ∷ []) (sym c.claim-item.is)))
           ((rw same at c.in_ok-add_claim.ensures.taken) (take i claims) old c.loop-claim.invariant.marked);
     }

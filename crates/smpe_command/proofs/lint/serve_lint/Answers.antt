@@ -1,6 +1,8 @@
-use Rattle.std.proofs.Common.{◌≡◌, ◌∙◌, List, Err, Ok, Some, map, ap, inl, inr, refl, subst}
+use Rattle.std.proofs.Common.{◌≡◌, ◌∙◌, ℕ, List, Err, Ok, Some, length, map, ap, inl, inr, sym, refl, subst}
 use Rattle.std.specs.String.{string_bytes}
+use Rattle.std.proofs.lemmas.List.{length-map}
 use Rattle.std.proofs.lemmas.Result.{err_from_is_err_and}
+use Rattle.smpe_command.specs.Linting.{TellsLint}
 use Rattle.smpe_command.specs.Reading.{FailsToRead, ReadsAll}
 use Rattle.smpe_command.proofs.lint.serve_lint.Goals as goal
 
@@ -24,6 +26,9 @@ returns g c =
           (Ok (map (λ file. file.items) files.items)) c.read_each.new.host) c.as_slice.ensures.value
           c.in_ok-files.ensures.ok,
       c.lint_and_write.result,
-      c.lint_and_write.ensures,
+      subst (λ (n : ℕ). TellsLint g.O.Sink c.args.out.now n c.args.options.now.srel c.lint_and_write.result
+          c.lint_and_write.new.out)
+          (ap length c.as_slice-2.ensures.value ∙ sym (length-map files.items (λ file. file.items)))
+          c.lint_and_write.ensures,
       c.status_or_fault.ensures,
     )

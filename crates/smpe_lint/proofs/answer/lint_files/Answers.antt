@@ -5,13 +5,15 @@ use Rattle.smpe_lint.proofs.answer.lint_files.Goals as goal
 pub returns-in-Ok-clause-clean : goal.returns-in-Ok-clause-clean
 returns-in-Ok-clause-clean c =
     let carried = c.in-Ok.carried in
-    IfOk-weaker c.answer.result _ _ (λ a clean status. (
-      carried.files.items,
-      carried.narrowed.items.items,
-      carried.narrowed.hold_items.items,
-      c.in-Ok.ensures.carries,
-      clean status,
-    )) c.answer.ensures.clean
+    IfOk-weaker c.answer.result _ _ (λ a clean status. record {
+      files = carried.files.items;
+      each_file = c.in-Ok.ensures.each;
+      items = carried.narrowed.items.items;
+      hold_items = carried.narrowed.hold_items.items;
+      carries = c.in-Ok.ensures.carries;
+      each_sysmod = (clean status).0;
+      clean = (clean status).1;
+    }) c.answer.ensures.clean
 
 pub returns-in-Ok-clause-known : goal.returns-in-Ok-clause-known
 returns-in-Ok-clause-known c =

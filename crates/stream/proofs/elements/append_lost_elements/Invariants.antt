@@ -6,5 +6,5 @@ use Rattle.stream.proofs.elements.append_lost_elements.Given as goal
 
 abbrev pub invariant-loop-other : goal.invariant-loop-other
 invariant-loop-other l =
-    Gains (OneOf (take l.other-index l.superseded) (IsLossOf l.vers.global.now (choice l.vers) l.id))
-    l.initial.found.items l.found.items
+    Gains (OneOf (take l.other-index l.superseded)
+    (IsLossOf l.suspects.vers.now.global.now (choice l.suspects.vers.now) l.id)) l.initial.found.items l.found.items

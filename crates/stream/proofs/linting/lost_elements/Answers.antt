@@ -10,27 +10,27 @@ use Rattle.stream.proofs.linting.lost_elements.Goals as goal
 
 pub loop-id-init : goal.loop-id-init
 loop-id-init c =
-    let by = choice c.args.vers.now in
-    let g = c.args.vers.now.global.now in
+    let by = choice c.args.suspects.now.vers.now in
+    let g = c.args.suspects.now.vers.now.global.now in
     subst (Gains (OneOf [] (λ x. OneOf (sup_of by x) (IsLossOf g by x))) []) (sym c.new-found.ensures.items)
     (gains_none (λ x. OneOf (sup_of by x) (IsLossOf g by x)) [])
 
 pub loop-id-preserved : goal.loop-id-preserved
 loop-id-preserved c =
-    let by = choice c.args.vers.now in
-    let g = c.args.vers.now.global.now in
+    let by = choice c.args.suspects.now.vers.now in
+    let g = c.args.suspects.now.vers.now.global.now in
     gains_next (λ x. OneOf (sup_of by x) (IsLossOf g by x)) [] c.loop-id.found.items
     c.append_lost_elements.new.found.items c.args.ids.now c.loop-id.id-index c.id-item.result (omega arith)
     c.id-item.is c.loop-id.invariant c.in_ok-append_lost_elements.ensures
 
 pub returns : goal.returns
 returns c =
-    let by = choice c.args.vers.now in
-    let g = c.args.vers.now.global.now in
+    let by = choice c.args.suspects.now.vers.now in
+    let g = c.args.suspects.now.vers.now.global.now in
     let ids = c.args.ids.now in
     let found = c.loop-id.found.items in
     gained (IsLostElement g by) found
     (gains_alike (OneOf ids (λ x. OneOf (sup_of by x) (IsLossOf g by x))) (IsLostElement g by) [] found
-    (all_losses c.args.vers.now ids c.requires)
+    (all_losses c.args.suspects.now.vers.now ids c.requires.ids)
     (subst (λ l. Gains (OneOf l (λ x. OneOf (sup_of by x) (IsLossOf g by x))) [] found)
     (take_all c.loop-id.id-index ids (omega arith)) c.loop-id.invariant))

@@ -7,4 +7,4 @@ use Rattle.stream.proofs.linting.lost_elements.Given as goal
 
 abbrev pub invariant-loop-id : goal.invariant-loop-id
 invariant-loop-id l = Gains (OneOf (take l.id-index l.ids)
-    (λ x. OneOf (sup_of (choice l.vers) x) (IsLossOf l.vers.global.now (choice l.vers) x))) [] l.found.items
+    (λ x. OneOf (sup_of (choice l.suspects.vers.now) x) (IsLossOf l.suspects.vers.now.global.now (choice l.suspects.vers.now) x))) [] l.found.items

@@ -10,24 +10,24 @@ use Rattle.stream.proofs.linting.lost_requisites.Goals as goal
 
 pub loop-id-init : goal.loop-id-init
 loop-id-init c =
-    let by = choice c.args.vers.now in
+    let by = choice c.args.suspects.now.vers.now in
     subst (Gains (OneOf [] (λ x. OneOf (sup_of by x) (IsLackOf by x))) []) (sym c.new-found.ensures.items)
     (gains_none (λ x. OneOf (sup_of by x) (IsLackOf by x)) [])
 
 pub loop-id-preserved : goal.loop-id-preserved
 loop-id-preserved c =
-    let by = choice c.args.vers.now in
+    let by = choice c.args.suspects.now.vers.now in
     gains_next (λ x. OneOf (sup_of by x) (IsLackOf by x)) [] c.loop-id.found.items
     c.append_lost_requisites.new.found.items c.args.ids.now c.loop-id.id-index c.id-item.result (omega arith)
     c.id-item.is c.loop-id.invariant c.in_ok-append_lost_requisites.ensures
 
 pub returns : goal.returns
 returns c =
-    let by = choice c.args.vers.now in
+    let by = choice c.args.suspects.now.vers.now in
     let ids = c.args.ids.now in
     let found = c.loop-id.found.items in
     gained (IsLostRequisite by) found
     (gains_alike (OneOf ids (λ x. OneOf (sup_of by x) (IsLackOf by x))) (IsLostRequisite by) [] found
-    (all_lacks c.args.vers.now ids c.requires)
+    (all_lacks c.args.suspects.now.vers.now ids c.requires.ids)
     (subst (λ l. Gains (OneOf l (λ x. OneOf (sup_of by x) (IsLackOf by x))) [] found)
     (take_all c.loop-id.id-index ids (omega arith)) c.loop-id.invariant))

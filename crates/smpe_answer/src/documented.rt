@@ -1,0 +1,84 @@
+//! The document about a package.
+ghost use Rattle.std.specs.Prelude.{◌≡◌, IfOk, Some};
+ghost use Rattle.report.specs.Views.{header_view};
+ghost use Rattle.smpe_answer.specs.Documented.{IsDocumentAnswer, IsDocumented, install_header};
+
+use crate::asked_ids::{Answer, refuse_unknown_zone};
+use crate::facts::PackageFacts;
+use crate::lines::package_lines;
+use crate::summarized::package_status;
+use fields::ZoneName;
+use report::{CommandWord, Header};
+use smpe_json::check_document;
+use smpe_summary::{Asked, summary_of};
+use smpe_why::LoadedZones;
+use std::alloc::{AllocError, Global};
+use terms::ZoneKind;
+use zones::Zone;
+
+/// The document about the package in the zone. If there is no such zone, that is told as a text. The status is the
+/// greatest of those of the package and of the summary, and stands in the document.
+pub fn json_answer(
+    alloc: Global,
+    zones: &LoadedZones,
+    facts: &PackageFacts<'_>,
+) -> Result<Answer, AllocError>
+    ensures { IfOk result (IsDocumentAnswer zones.now facts.now zones.now.zone) }
+{
+    match &zones.zone {
+        None => refuse_unknown_zone(alloc),
+        Some(zone) => zone_document(alloc, zones, zone, facts),
+    }
+}
+
+// The document for a zone that exists.
+fn zone_document(
+    alloc: Global,
+    zones: &LoadedZones,
+    zone: &Zone,
+    facts: &PackageFacts<'_>,
+) -> Result<Answer, AllocError>
+    ensures { IfOk result (IsDocumentAnswer zones.now facts.now (Some zone.now)) }
+{
+    let related = zones.related.as_ref();
+    let lines = package_lines(alloc, &zones.global, zone, related, facts.source)?;
+    let asked = Asked {
+        global: &zones.global,
+        zone,
+        lines: lines.as_slice(),
+        package: facts.ids,
+        unsure: facts.unsure,
+    };
+    let header = install_header(facts.zone, zone.kind());
+    document(alloc, &header, &asked, facts)
+}
+
+// The document of what is asked.
+fn document(
+    alloc: Global,
+    header: &Header,
+    asked: &Asked<'_>,
+    facts: &PackageFacts<'_>,
+) -> Result<Answer, AllocError>
+    ensures { IfOk result (IsDocumented (header_view header.now) asked.now facts.now) }
+{
+    let summary = summary_of(alloc, asked)?;
+    let status = summary.status().max(package_status(facts));
+    let text = check_document(alloc, header, asked, &summary, facts.remarks, status)?;
+    Ok(Answer { text, status })
+}
+
+// The header of an APPLY CHECK, in a distribution zone of an ACCEPT CHECK.
+fn install_header(zone: ZoneName, kind: ZoneKind) -> Header
+    ensures { header_view result ≡ install_header zone kind }
+{
+    let word = match kind {
+        ZoneKind::Target => CommandWord::Apply,
+        ZoneKind::Distribution => CommandWord::Accept,
+    };
+    Header {
+        word,
+        boundary: Some(zone),
+        check: true,
+    }
+}

@@ -1,0 +1,3 @@
+pub mod TakenBack
+pub mod Leaving
+pub mod SameMembers

@@ -1,0 +1,4 @@
+mod Copying
+mod Greatest
+mod Afterwards
+pub mod OneJob
