@@ -198,7 +198,6 @@ abbrev pub early_groups : List Member → Text
 early_groups ms =
     group_line ms 4 (codes "not decided")
     ++ group_line ms 2 (codes "fail, but others that go on supersede them")
-    ++ group_line ms 1 (codes "would be superseded")
 
 abbrev pub late_groups : List Member → Text
 late_groups ms =
@@ -212,11 +211,12 @@ cause_line c =
     codes "  " ++ decimal c.fails ++ codes "  " ++ c.id ++ codes ": " ++ cause_text c.why ++ codes "\n"
 
 -- how many more lines there would be
-abbrev pub more_line : ℕ → ℕ → Text
-more_line most n = if nat_le n most then [] else codes "     and " ++ decimal (n - most) ++ codes " more\n"
+abbrev pub more_line : ℕ → ℕ → Text → Text
+more_line most n what =
+    if nat_le n most then [] else codes "     and " ++ decimal (n - most) ++ codes " more " ++ what ++ codes "\n"
 
 abbrev pub causes_text : List Cause → Text
-causes_text cs = flat_map cause_line (take 20 cs) ++ more_line 20 (length cs)
+causes_text cs = flat_map cause_line (take 20 cs) ++ more_line 20 (length cs) (codes "causes")
 
 abbrev pub usermods_text : List Id → Text
 usermods_text ids = if is_nil ids then [] else codes "; USERMODs: " ++ some_ids ids
@@ -226,7 +226,7 @@ taken_line t =
     codes "  " ++ t.by ++ codes " takes off " ++ some_ids t.ids ++ usermods_text t.usermods ++ codes "\n"
 
 abbrev pub taken_text : List TakenOff → Text
-taken_text ts = flat_map taken_line (take 3 ts) ++ more_line 3 (length ts)
+taken_text ts = flat_map taken_line (take 2 ts) ++ more_line 2 (length ts) (codes "that take SYSMODs off")
 
 -- ---- what is to be done
 
@@ -260,7 +260,7 @@ abbrev pub order_line : List Id → Text
 order_line ids = if is_nil ids then [] else codes "  order    " ++ some_ids ids ++ codes "\n"
 
 abbrev pub acts_text : ZoneKind → List ToDo → Text
-acts_text zone ts = flat_map (todo_line zone) (take 10 ts) ++ more_line 10 (length ts)
+acts_text zone ts = flat_map (todo_line zone) (take 4 ts) ++ more_line 4 (length ts) (codes "holds")
 
 abbrev pub lists_text : ZoneKind → List Id → List ToDo → Text
 lists_text zone orders others = codes "To do\n" ++ order_line orders ++ acts_text zone others

@@ -99,7 +99,7 @@ fn append_functions(all: usize, functions: &[Id], text: &mut Vec<u8>) -> Result<
     append_function(functions.len(), all, function, text)
 }
 
-// Appends the groups of those that the command took up, except those that go on or would fail.
+// Appends the groups of those that the command took up, and that neither go on nor would fail.
 fn append_early_groups(
     alloc: Global,
     members: &[Member],
@@ -109,8 +109,7 @@ fn append_early_groups(
 {
     append_group(alloc, members, 4, b"not decided", text)?;
     let words = b"fail, but others that go on supersede them";
-    append_group(alloc, members, 2, words, text)?;
-    append_group(alloc, members, 1, b"would be superseded", text)
+    append_group(alloc, members, 2, words, text)
 }
 
 // Appends the groups of those that the command did not take up.

@@ -118,20 +118,25 @@ pub(crate) fn append_pieces(pieces: &[Piece<'_>], text: &mut Vec<u8>) -> Result<
     Ok(())
 }
 
-/// Appends how many more there are than are told.
-pub(crate) fn append_more_line(
+/// Appends how many more of these there are than are told.
+pub(crate) fn append_more_line<'a>(
     most: usize,
     number: usize,
+    what: &'a [u8],
     text: &mut Vec<u8>,
 ) -> Result<(), AllocError>
-    ensures { OnOk result (text.new.items ≡ text.old.items ++ more_line most number) }
+    ensures { OnOk result (text.new.items ≡ text.old.items ++ more_line most number what.now) }
 {
     if number <= most {
         return Ok(());
     }
     let more = Piece::Number(number - most);
-    append_pieces(
-        &[Piece::Text(b"     and "), more, Piece::Text(b" more\n")],
-        text,
-    )
+    let pieces = [
+        Piece::Text(b"     and "),
+        more,
+        Piece::Text(b" more "),
+        Piece::Text(what),
+        Piece::Text(b"\n"),
+    ];
+    append_pieces(&pieces, text)
 }

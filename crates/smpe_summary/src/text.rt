@@ -18,7 +18,7 @@ use std::alloc::{AllocError, Global};
 const MOST_CAUSES: usize = 20;
 
 // How many SYSMODs that take others off are told.
-const MOST_TAKEN: usize = 3;
+const MOST_TAKEN: usize = 2;
 
 // Appends the lines of these causes.
 fn append_cause_lines(causes: &[Cause], text: &mut Vec<u8>) -> Result<(), AllocError>
@@ -35,7 +35,7 @@ fn append_causes(causes: &[Cause], text: &mut Vec<u8>) -> Result<(), AllocError>
     ensures { OnOk result (text.new.items ≡ text.old.items ++ causes_text (map cause_view causes.now)) }
 {
     append_cause_lines(first_of(causes, MOST_CAUSES), text)?;
-    append_more_line(MOST_CAUSES, causes.len(), text)
+    append_more_line(MOST_CAUSES, causes.len(), b"causes", text)
 }
 
 // Appends the USERMODs that are taken off, if there are any.
@@ -78,7 +78,7 @@ fn append_taken_off(taken_off: &[TakenOff], text: &mut Vec<u8>) -> Result<(), Al
     ensures { OnOk result (text.new.items ≡ text.old.items ++ taken_text (map taken_view taken_off.now)) }
 {
     append_taken_lines(first_of(taken_off, MOST_TAKEN), text)?;
-    append_more_line(MOST_TAKEN, taken_off.len(), text)
+    append_more_line(MOST_TAKEN, taken_off.len(), b"that take SYSMODs off", text)
 }
 
 // Appends what goes on and what goes off besides the package.
@@ -102,8 +102,8 @@ fn append_middle(alloc: Global, summary: &Summary, text: &mut Vec<u8>) -> Result
     append_besides(summary, text)
 }
 
-/// Appends the summary as lines: how many SYSMODs there are in each group, the groups, the causes, what goes on and off
-/// besides, and what is to be done.
+/// Appends the summary as at most 40 lines: how many SYSMODs there are in each group, the groups, the causes, what goes
+/// on and off besides, and what is to be done.
 pub fn append_summary(
     alloc: Global,
     summary: &Summary,

@@ -13,7 +13,7 @@ use std::alloc::{AllocError, Global};
 use terms::ZoneKind;
 
 // How many holds are told.
-const MOST_ACTS: usize = 10;
+const MOST_ACTS: usize = 4;
 
 // The command that would take up a SYSMOD whose SYSTEM hold was acted on.
 fn act_command(kind: ZoneKind) -> &'static [u8]
@@ -138,7 +138,7 @@ fn append_acts(kind: ZoneKind, items: &[ToDo], text: &mut Vec<u8>) -> Result<(),
     ensures { OnOk result (text.new.items ≡ text.old.items ++ acts_text kind items.now) }
 {
     append_items(kind, first_of(items, MOST_ACTS), text)?;
-    append_more_line(MOST_ACTS, items.len(), text)
+    append_more_line(MOST_ACTS, items.len(), b"holds", text)
 }
 
 // Whether there is nothing to be done.
