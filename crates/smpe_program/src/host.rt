@@ -27,23 +27,27 @@ pub(crate) type DatabaseFiles = FileStore<FileFrom<Wary>>;
 // checksums would spoil them.
 const NEW_HAS_CHECKSUMS: bool = false;
 
-/// What is known of the database when the program ends.
+/// The database that the words ask for.
 #[derive(Drop)]
-pub(crate) enum Database {
-    /// The words ask for none.
-    None,
+pub(crate) struct Database {
+    pub(crate) name: String,
+    pub(crate) state: DatabaseState,
+}
+
+/// What is known of a database when the program ends.
+#[derive(Clone, Copy)]
+pub(crate) enum DatabaseState {
     /// It does not exist, and was not to be created.
-    Missing(String),
+    Missing,
     /// It was not opened, for this reason.
-    Refused(String, Error),
+    Refused(Error),
     /// It was opened, and this was met when it was closed.
     Opened {
-        name: String,
         is_new: bool,
         closing: Option<Closing>,
     },
     /// Its files were read, for a copy in memory.
-    Copied(String),
+    Copied,
 }
 
 /// What was met when a database was closed.
@@ -88,7 +92,8 @@ pub(crate) struct ProgramHost<'a> {
     /// The zone that `--related` names, and what the database knows of it, for the hints.
     related_name: Option<&'a str>,
     pub(crate) related: RelatedZone,
-    pub(crate) database: Database,
+    /// The database; `None` if the words ask for none, or if memory ran out when it was noted.
+    pub(crate) database: Option<Database>,
     /// The connection that the command has closed, until the hints have asked it.
     pub(crate) left: LeftDatabase,
     /// The files of records that were read.
@@ -111,7 +116,7 @@ impl ProgramHost<'_> {
             may_create_database,
             related_name,
             related: RelatedZone::Unknown,
-            database: Database::None,
+            database: None,
             left: LeftDatabase {
                 alloc: rt.alloc(),
                 conn: None,
@@ -128,7 +133,9 @@ impl ProgramHost<'_> {
                 self.related = query_related_zone(&mut open, name).unwrap_or(RelatedZone::Unknown);
             }
             let met = Closing::close(open);
-            if let Database::Opened { closing, .. } = &mut self.database {
+            if let Some(database) = &mut self.database
+                && let DatabaseState::Opened { closing, .. } = &mut database.state
+            {
                 *closing = Some(met);
             }
         }
@@ -157,9 +164,20 @@ impl ProgramHost<'_> {
         self.unread = format!(in self.rt.alloc(); "{name}: {error}").ok();
     }
 
-    // A copy of the name, or no text if memory runs out.
-    fn copy_name(&self, name: &str) -> String {
-        String::from_str(self.rt.alloc(), name).unwrap_or(String::new(self.rt.alloc()))
+    // Notes what is known of the database of this name. If memory runs out, nothing is said of it at the end.
+    fn note_database(&mut self, name: &str, state: DatabaseState) {
+        self.database = match String::from_str(self.rt.alloc(), name) {
+            Ok(name) => Some(Database { name, state }),
+            Err(_) => None,
+        };
+    }
+
+    // Whether this run has made the database.
+    fn has_made_database(&self) -> bool {
+        match &self.database {
+            Some(database) => matches!(database.state, DatabaseState::Opened { is_new: true, .. }),
+            None => false,
+        }
     }
 
     // Notes why a database was not copied, for what is said at the end.
@@ -171,7 +189,7 @@ impl ProgramHost<'_> {
             }
             CopyFault::NoDatabase => {
                 let error = Error::SqliteFailure(ErrorCode::NotADatabase);
-                self.database = Database::Refused(self.copy_name(name), error);
+                self.note_database(name, DatabaseState::Refused(error));
             }
             CopyFault::Memory => {}
         }
@@ -262,22 +280,19 @@ impl Host for ProgramHost<'_> {
         let name = db.name.as_str();
         let is_missing = is_missing(self.rt, name);
         if is_missing && !self.may_create_database {
-            self.database = Database::Missing(self.copy_name(name));
+            self.note_database(name, DatabaseState::Missing);
             return Err(Error::SqliteFailure(ErrorCode::CannotOpen));
         }
         // (a careful job opens its database twice, and may have made it the first time)
-        let is_new = is_missing || matches!(self.database, Database::Opened { is_new: true, .. });
+        let is_new = is_missing || self.has_made_database();
         match self.open_waiting(name, db.wait) {
             Ok(conn) => {
-                self.database = Database::Opened {
-                    name: self.copy_name(name),
-                    is_new,
-                    closing: None,
-                };
+                let closing = None;
+                self.note_database(name, DatabaseState::Opened { is_new, closing });
                 Ok(conn)
             }
             Err(error) => {
-                self.database = Database::Refused(self.copy_name(name), error);
+                self.note_database(name, DatabaseState::Refused(error));
                 Err(error)
             }
         }
@@ -287,12 +302,12 @@ impl Host for ProgramHost<'_> {
     fn read_database(&mut self, db: &DatabaseFile) -> Result<DatabaseBytes, sqlite::Error> {
         let name = db.name.as_str();
         if is_missing(self.rt, name) {
-            self.database = Database::Missing(self.copy_name(name));
+            self.note_database(name, DatabaseState::Missing);
             return Err(Error::SqliteFailure(ErrorCode::CannotOpen));
         }
         match read_for_copy(self.rt, name, db.wait) {
             Ok(bytes) => {
-                self.database = Database::Copied(self.copy_name(name));
+                self.note_database(name, DatabaseState::Copied);
                 Ok(bytes)
             }
             Err(fault) => {

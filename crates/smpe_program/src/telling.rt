@@ -1,6 +1,6 @@
 //! What is said on standard error when the program ends, besides the line of its fault.
 use crate::copy::{may_have_meta_table, read_for_copy};
-use crate::host::{Closing, Database, ProgramHost};
+use crate::host::{Closing, Database, DatabaseState, ProgramHost};
 use crate::place::{is_surely_no_database, place_fault};
 use jiff::Timestamp;
 use jiff::tz::Offset;
@@ -126,48 +126,51 @@ fn push_if_any(line: Option<String>, lines: &mut Vec<String>) -> Result<(), Allo
 
 // The line that says that the program has created the database, as it does for a misspelled name, or `None` if it has
 // not.
-fn new_database_hint(rt: &HostRuntime, database: &Database) -> Result<Option<String>, AllocError> {
-    match database {
-        Database::Opened {
-            name,
-            is_new: true,
-            ..
-        } => Ok(Some(format!(in rt.alloc(); "there was no database {name}, and it was made")?)),
+fn new_database_hint(
+    rt: &HostRuntime,
+    database: &Option<Database>,
+) -> Result<Option<String>, AllocError> {
+    let Some(database) = database else {
+        return Ok(None);
+    };
+    let name = database.name.as_str();
+    match database.state {
+        DatabaseState::Opened { is_new: true, .. } => {
+            Ok(Some(format!(in rt.alloc(); "there was no database {name}, and it was made")?))
+        }
         _ => Ok(None),
     }
 }
 
 // Why the database failed, as far as the library or the file shows that, or `None` if the words ask for no database.
-fn database_hint(rt: &HostRuntime, database: &Database) -> Result<Option<String>, AllocError> {
-    match database {
-        Database::None => Ok(None),
-        Database::Missing(name) => Ok(Some(format!(in rt.alloc();
-            "there is no database {name}; smpe zone makes one"
-        )?)),
-        Database::Refused(name, Error::SqliteFailure(ErrorCode::CannotOpen)) => {
-            let fault = place_fault(rt, name.as_str());
-            Ok(Some(format!(in rt.alloc(); "the database can't be opened: {name}: {fault}")?))
+fn database_hint(
+    rt: &HostRuntime,
+    database: &Option<Database>,
+) -> Result<Option<String>, AllocError> {
+    let Some(database) = database else {
+        return Ok(None);
+    };
+    let name = database.name.as_str();
+    let text = match database.state {
+        DatabaseState::Missing => {
+            let hint = format!(in rt.alloc(); "there is no database {name}; smpe zone makes one")?;
+            return Ok(Some(hint));
         }
-        Database::Refused(name, Error::SqliteFailure(ErrorCode::NotADatabase))
-            if is_surely_no_database(rt, name.as_str()) => {
-            Ok(Some(String::from_str(rt.alloc(), "the file is no database")?))
+        DatabaseState::Refused(Error::SqliteFailure(ErrorCode::CannotOpen)) => {
+            let fault = place_fault(rt, name);
+            let hint = format!(in rt.alloc(); "the database can't be opened: {name}: {fault}")?;
+            return Ok(Some(hint));
         }
-        Database::Refused(_, error) => Ok(Some(String::from_str(
-            rt.alloc(),
-            open_error_text(*error),
-        )?)),
-        Database::Copied(name) => Ok(Some(String::from_str(
-            rt.alloc(),
-            copy_error_text(rt, name.as_str()),
-        )?)),
-        Database::Opened { closing, .. } => {
-            let text = match closing {
-                Some(closing) => failure_text(closing),
-                None => ALTERED_ROW,
-            };
-            Ok(Some(String::from_str(rt.alloc(), text)?))
-        }
-    }
+        DatabaseState::Refused(Error::SqliteFailure(ErrorCode::NotADatabase))
+            if is_surely_no_database(rt, name) => "the file is no database",
+        DatabaseState::Refused(error) => open_error_text(error),
+        DatabaseState::Copied => copy_error_text(rt, name),
+        DatabaseState::Opened { closing, .. } => match closing {
+            Some(closing) => failure_text(&closing),
+            None => ALTERED_ROW,
+        },
+    };
+    Ok(Some(String::from_str(rt.alloc(), text)?))
 }
 
 // Why the library refused to open the database.
