@@ -7,6 +7,7 @@ ghost use Rattle.sqlite.specs.State.{HasCleanDisk};
 ghost use Rattle.smpe_program.specs.Wary.{IsWary};
 
 use crate::copy::{CopyFault, read_for_copy};
+use crate::input::read_input;
 use crate::left::LeftDatabase;
 use crate::place::{is_missing, is_surely_no_database};
 use crate::related_zone::query_related_zone;
@@ -243,9 +244,15 @@ impl Host for ProgramHost<'_> {
 
     // Files that no option names come as they are, and nothing is said of their records.
     fn read(&mut self, name: &str) -> io::Result<Vec<u8>> {
-        match fs::read(self.rt, name) {
+        let is_named = self.line.names_records(name);
+        let read = if is_named {
+            fs::read(self.rt, name)
+        } else {
+            read_input(self.rt, name)
+        };
+        match read {
             Ok(bytes) => {
-                if self.line.names_records(name) {
+                if is_named {
                     self.keep_records(name, bytes.as_slice());
                 }
                 Ok(bytes)

@@ -7,6 +7,7 @@
 mod command_line;
 mod copy;
 mod host;
+mod input;
 mod left;
 mod place;
 mod related_zone;
