@@ -30,7 +30,7 @@ completions := $(call quoted,$(root)/share/bash-completion/completions)
 man := $(call quoted,$(root)/share/man)
 doc := $(call quoted,$(root)/share/doc/smpe)
 # Those of tools/NAME are installed as smpe-NAME.
-tools = cards query job failures shadow conform
+tools = cards query job failures report shadow conform
 completed = smpe smpe-intake smpe-query smpe-job smpe-failures smpe-shadow smpe-conform
 commands = smpe smpe-intake $(tools:%=smpe-%)
 
@@ -53,7 +53,7 @@ install:
 	install -m 644 -- docs/*.1 $(man)/man1
 	install -m 644 -- docs/*.5 $(man)/man5
 	install -m 644 -- README.md CHANGELOG.md SECURITY.md $(doc)
-	install -m 644 -- docs/*.md docs/*.svg $(doc)/docs
+	install -m 644 -- docs/*.md docs/*.svg docs/*.png docs/*.json $(doc)/docs
 	for command in $(completed); do \
 	  install -m 644 -- tools/smpe.bash-completion $(completions)/$$command || exit; done
 

@@ -17,8 +17,9 @@ pub use command::perform;
 pub use job::run_job;
 pub use jobs::run_jobs;
 pub use smpe_invocation::{
-    ArgFault, CheckedSystem, CommandJob, DatabaseFile, Invocation, LintForm, LintOptions,
-    RunOptions, ServiceSet, SetFiles, SystemCopy, WhyOptions, ZoneDefinition, invocation,
+    ArgFault, CheckAnswer, CheckForm, CheckedSystem, CommandJob, DatabaseFile, Invocation,
+    LintForm, LintOptions, MendOptions, RunOptions, ServiceSet, SetFiles, SystemCopy, WhyOptions,
+    ZoneDefinition, invocation,
 };
 pub use smpe_jobs::{
     Answer, FAULT_STATUS, Fault, Job, JobError, ZoneError, ZoneFault, commands_in_zone,

@@ -1,5 +1,6 @@
 -- The facts of a certificate, as contracts see them.
-use Rattle.std.specs.Prelude.{List}
+use Rattle.std.specs.Prelude.{ℕ, List}
+use Rattle.sha2.specs.Sha256.{sha256}
 use Rattle.terms.specs.declared.codes.NeedKind.{NeedKind}
 use Rattle.terms.specs.Types.{Text, Id}
 use Rattle.smpe_certificate.specs.declared.facts.IneligibleFact.{IneligibleFact}
@@ -22,3 +23,7 @@ pub record Certificate : Type 0 where
 pub record Input : Type 0 where
   pub name : Text
   pub sha256 : Text
+
+-- the file of this name with these bytes
+abbrev pub input_of : Text → List ℕ → Input
+input_of name bytes = record { name = name; sha256 = sha256 bytes }

@@ -1,5 +1,5 @@
 -- A certificate apart from where its lists are in memory.
-use Rattle.std.specs.Prelude.{map}
+use Rattle.std.specs.Prelude.{◌++◌, map}
 use Rattle.smpe_certificate.specs.declared.facts.DroppedFact.{DroppedFact}
 use Rattle.smpe_certificate.specs.declared.facts.Certificate.{Certificate as StoredCertificate}
 use Rattle.smpe_certificate.specs.declared.digest.Digest.{Digest}
@@ -17,4 +17,4 @@ certificate_view c = record {
 }
 
 abbrev pub digest_view : Digest → Input
-digest_view d = record { name = d.name.now; sha256 = d.sha256 }
+digest_view d = record { name = d.name.now ++ d.suffix.now; sha256 = d.sha256 }

@@ -24,11 +24,12 @@ fn shown_byte(byte: u8) -> u8
     byte
 }
 
-// The name of a file as a certificate shows it.
-fn shown_name(alloc: Global, name: &[u8]) -> Result<Vec<u8>, AllocError>
-    ensures { IfOk result (λ text. text.items ≡ map shown name.now) }
+// The name of a file and its suffix, as a certificate shows them.
+fn shown_name(alloc: Global, name: &[u8], suffix: &[u8]) -> Result<Vec<u8>, AllocError>
+    ensures { IfOk result (λ text. text.items ≡ map shown (name.now ++ suffix.now)) }
 {
-    name.iter().map(|byte| shown_byte(*byte)).collect(alloc)
+    let bytes = name.iter().chain(suffix.iter());
+    bytes.map(|byte| shown_byte(*byte)).collect(alloc)
 }
 
 // Appends the line of a file that was read.
@@ -36,7 +37,7 @@ fn append_input(alloc: Global, input: &Digest<'_>, text: &mut Vec<u8>) -> Result
     ensures { OnOk result (text.new.items ≡ text.old.items ++ input_line (digest_view input.now)) }
 {
     let digest = hex::encode(alloc, input.sha256)?;
-    let name = shown_name(alloc, input.name.as_bytes())?;
+    let name = shown_name(alloc, input.name.as_bytes(), input.suffix.as_bytes())?;
     let words = [
         LineWord::Text(b"sha256"),
         LineWord::Text(digest.as_bytes()),

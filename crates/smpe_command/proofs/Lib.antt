@@ -1,8 +1,6 @@
-mod Copying
-mod Greatest
+mod FileNames
 mod Looked
 mod OneJob
 mod ReadingOn
-mod Shops
 mod Texts
 pub mod SetZones

@@ -4,25 +4,23 @@ use Rattle.std.specs.Prelude.{◌≡◌, ◌⊎◌, List, [], ◌∷◌, false, 
 use Rattle.sqlite.specs.declared.error.Error.{Error}
 use Rattle.sqlite.specs.Store.{Ghosts}
 use Rattle.sqlite.specs.Held.{Held, state}
-use Rattle.sqlite.specs.State.{HasCleanDisk, IsUnchanged, Survives}
+use Rattle.sqlite.specs.State.{HasCleanDisk, Survives}
 use Rattle.terms.specs.Types.{Text}
 use Rattle.terms.specs.Closed.{AreClosed}
 use Rattle.machine.specs.State.{State}
 use Rattle.machine.specs.Machine as machine
-use Rattle.machine.specs.Runs.{Stands}
 use Rattle.report.specs.declared.sink.Sink.{Ghosts as SinkGhosts}
 use Rattle.store_schema.specs.declared.error.StoreError.{StoreError}
 use Rattle.store_schema.specs.declared.error.StoreError.TheVariants.{OtherSchema, NoState}
-use Rattle.store_schema.specs.Create.{IsBlank}
 use Rattle.store_schema.specs.Inventory.{Inventory}
-use Rattle.store_schema.specs.Known.{HasOtherNumber, HasNoState, HasOwnTables, told}
+use Rattle.store_schema.specs.Known.{HasOtherNumber, HasNoState, told}
 use Rattle.store_schema.specs.Stands.{IsSetUp}
 use Rattle.store.specs.BadRows.{TellsNoState}
 use Rattle.store.specs.Going.{LoadsAlone}
 use Rattle.store.specs.CallEnds.{EndsLoad}
 use Rattle.store.specs.Kept.{kept}
 use Rattle.store_migration.specs.Migrated.{HasRowids, Migrated, Unmigrated}
-use Rattle.store.specs.View.{Tables, Leaves, LeavesFound, IsFound}
+use Rattle.store.specs.View.{LeavesFound, IsFound}
 use Rattle.smpe_verify.specs.Verified.{verification, StandsIfClosed}
 use Rattle.smpe_verify.specs.declared.verification.Verification.{Verification}
 use Rattle.smpe_why.specs.Telling.{IsFoundIn}
@@ -32,15 +30,8 @@ use Rattle.smpe_jobs.specs.declared.jobs.Answer.{Answer}
 use Rattle.smpe_jobs.specs.Errors.{job_error}
 use Rattle.smpe_jobs.specs.Ending.{EndsJobs, StaysClosed, answer_of, is_write}
 use Rattle.smpe.specs.Going.{GoesJobs}
+use Rattle.smpe_rehearsal.specs.Opened.{IsStoreOver}
 use Rattle.smpe_command.specs.declared.host.Host.{Ghosts as HostGhosts}
-
--- The connection became this store. The store's tables, created if there were none, stand for what was found. A
--- database that was not blank is as it was, whatever its tables hold.
-pub record IsStoreOver {S : Type 0} (g : Ghosts S) (conn store : Held S) : Type 0 where
-  pub stands : (i : Inventory) → IsFound g conn i → Stands (Tables g store) (Leaves g store) i
-  pub ours : HasCleanDisk (state g store) → HasOwnTables (state g store).now
-  pub same : HasCleanDisk (state g store) → ¬ IsBlank (state g conn).now → IsUnchanged (state g conn) (state g store)
-  pub crash : Survives (state g conn) (state g store) (IsSetUp (state g conn).now)
 
 module _ {H D : Type 0} (host : HostGhosts H D) (g : Ghosts D) where
   -- The database could not be made the store's, for this reason, and was closed. It was left in this way: what was last

@@ -2,9 +2,11 @@ pub mod Asking
 pub mod Reading
 pub mod Database
 pub mod Told
-pub mod ServiceSet
 pub mod Copied
+pub mod Systems
 pub mod Shop
+pub mod Packages
+pub mod Mending
 pub mod Linting
 pub mod Serving
 pub mod Answering

@@ -11,7 +11,7 @@ use Rattle.smpe_lint.specs.Linted.{CarriesCleanStream, IsCleanStatus}
 use Rattle.smpe_lint.specs.declared.answer.LintAnswer.{LintAnswer}
 use Rattle.smpe_command.specs.declared.host.Host.{Ghosts as HostGhosts}
 use Rattle.smpe_command.specs.Reading.{FailsToRead, ReadsAll}
-use Rattle.smpe_command.specs.Told.{TellsText, job_told}
+use Rattle.smpe_rehearsal.specs.Told.{TellsText, job_told}
 
 -- The answer has the status of a clean stream only if the stream of so many files is clean.
 pub record IsSound (given : ℕ) (srel : Srel) (answer : LintAnswer) : Type 0 where

@@ -10,11 +10,12 @@ use Rattle.machine.specs.State.{ZoneDefinition}
 use Rattle.machine.specs.Machine.{Files, NewZone, RunFiles}
 use Rattle.report.specs.declared.sink.Sink.{Ghosts as SinkGhosts}
 use Rattle.smpe_jobs.specs.ZoneDefinitions.{definition}
+use Rattle.smpe_invocation.specs.declared.asked.CheckAnswer.{CheckAnswer}
 use Rattle.smpe_invocation.specs.declared.asked.CheckedSystem.{CheckedSystem}
 use Rattle.smpe_invocation.specs.declared.asked.CommandJob.{CommandJob}
 use Rattle.smpe_invocation.specs.declared.asked.Invocation.{Invocation}
 use Rattle.smpe_invocation.specs.declared.asked.Invocation.TheVariants.{Zone, Run, List as ListOf, Why, Check}
-use Rattle.smpe_invocation.specs.declared.asked.Invocation.TheVariants.{Lint, Migrate, Verify}
+use Rattle.smpe_invocation.specs.declared.asked.Invocation.TheVariants.{Lint, Mend, Migrate, Verify}
 use Rattle.smpe_invocation.specs.declared.asked.RunOptions.{RunOptions}
 use Rattle.smpe_invocation.specs.declared.asked.ServiceSet.{ServiceSet}
 use Rattle.smpe_invocation.specs.declared.asked.SetFiles.{SetFiles}
@@ -41,7 +42,10 @@ use Rattle.smpe_command.specs.Database.{FoundOver, JobOver, MigratesOver, Verifi
 use Rattle.smpe_command.specs.Reading.{ReadsAll}
 use Rattle.smpe_command.specs.Linting.{ServesLint}
 use Rattle.smpe_command.specs.Shop.{ServesShop}
-use Rattle.smpe_command.specs.Told.{TellsFound, TellsMigrated, TellsVerified, TellsZone, job_told}
+use Rattle.smpe_command.specs.Mending.{ServesMend}
+use Rattle.smpe_command.specs.Packages.{ServesPackage}
+use Rattle.smpe_command.specs.Told.{TellsMigrated, TellsVerified, TellsZone}
+use Rattle.smpe_rehearsal.specs.Told.{TellsFound, job_told}
 
 -- the status of a job's answer is the program's, and its error the program's fault
 abbrev pub status_told : Result Answer JobError → Result ℕ Fault
@@ -133,16 +137,24 @@ module _ {H D M O : Type 0} (host : HostGhosts H D) (memory : disk.Ghosts M)
       × ChecksIn host memory sink system m out commands cntl (record { ptfin = sysmods; holds = holds }) status after
       out' × (r ≡ job_told status))
 
-  -- so the set of these files
-  abbrev pub ServesSet : H → O → CheckedSystem → Option CommandJob → SetFiles → Result ℕ Fault → H → O → Type 0
-  ServesSet h out system commands (Records ptfin hold) r after out' =
-      ServesRecords h out system commands (string_bytes ptfin) (option_map string_bytes hold) r after out'
-  ServesSet h out system commands (AsTheyCome names) r after out' =
-      ServesShop host memory sink h out system commands (map (λ name. Some (string_bytes name)) names.items) r after
-      out'
+  -- A shop's own files are checked with commands, and without commands the package that they come to is answered for.
+  abbrev pub ServesFiles : H → O → CheckedSystem → CheckAnswer → List Text → Option CommandJob → Result ℕ Fault → H → O
+      → Type 0
+  ServesFiles h out system answer names None r after out' =
+      ServesPackage host memory sink h out system answer names r after out'
+  ServesFiles h out system answer names (Some commands) r after out' =
+      ServesShop host memory sink h out system (Some commands) (map (λ name. Some name) names) r after out'
 
-  abbrev pub ServesCheck : H → O → CheckedSystem → ServiceSet → Result ℕ Fault → H → O → Type 0
-  ServesCheck h out system set r after out' = ServesSet h out system set.commands set.files r after out'
+  -- so the set of these files
+  abbrev pub ServesSet : H → O → CheckedSystem → CheckAnswer → Option CommandJob → SetFiles → Result ℕ Fault → H → O
+      → Type 0
+  ServesSet h out system answer commands (Records ptfin hold) r after out' =
+      ServesRecords h out system commands (string_bytes ptfin) (option_map string_bytes hold) r after out'
+  ServesSet h out system answer commands (AsTheyCome names) r after out' =
+      ServesFiles h out system answer (map string_bytes names.items) commands r after out'
+
+  abbrev pub ServesCheck : H → O → CheckedSystem → ServiceSet → CheckAnswer → Result ℕ Fault → H → O → Type 0
+  ServesCheck h out system set answer r after out' = ServesSet h out system answer set.commands set.files r after out'
 
 module _ {H D M O : Type 0} (host : HostGhosts H D) (g : Ghosts D) (memory : disk.Ghosts M)
     (sink : SinkGhosts O) where
@@ -154,7 +166,10 @@ module _ {H D M O : Type 0} (host : HostGhosts H D) (g : Ghosts D) (memory : dis
   Serves h (Run db options) out r after out' = ServesRun host g sink h (string_bytes db.name) out options r after out'
   Serves h (ListOf db zone) out r after out' = ServesList host g sink h (string_bytes db.name) out zone r after out'
   Serves h (Why db options) out r after out' = ServesWhy host g sink h (string_bytes db.name) out options r after out'
-  Serves h (Check system set) out r after out' = ServesCheck host memory sink h out system set r after out'
+  Serves h (Check system set answer) out r after out' =
+      ServesCheck host memory sink h out system set answer r after out'
+  Serves h (Mend system options) out r after out' = ServesMend host memory sink h out system options.ids.items
+      (map (λ name. Some (string_bytes name)) options.files.items) r after out'
   Serves h (Lint options) out r after out' = ServesLint host sink h out options r after out'
   Serves h (Migrate db) out r after out' = (told : Result ℕ JobError)
       × ServesMigrate host g sink h (string_bytes db.name) out told after out' × (r ≡ job_told told)

@@ -1,54 +1,33 @@
 -- What goes out about an answer, and the status.
-use Rattle.std.specs.Prelude.{◌≡◌, ◌⊎◌, ◌<◌, ℕ, List, length, Result, Ok, Err, is_err, MatchResult}
+use Rattle.std.specs.Prelude.{◌≡◌, ◌⊎◌, ℕ, Result, Ok, Err}
 use Rattle.terms.specs.Types.{Text}
 use Rattle.report.specs.declared.sink.Sink.{Ghosts as SinkGhosts}
-use Rattle.report.specs.Sent.{Sent}
 use Rattle.store_schema.specs.declared.error.StoreError.{StoreError}
 use Rattle.smpe_jobs.specs.declared.error.JobError.{JobError}
-use Rattle.smpe_jobs.specs.declared.error.JobError.TheVariants.{Memory, Write}
+use Rattle.smpe_jobs.specs.declared.error.JobError.TheVariants.{Memory}
 use Rattle.smpe_jobs.specs.declared.jobs.Answer.{Answer}
 use Rattle.smpe_jobs.specs.Ending.{answer_of}
 use Rattle.smpe_jobs.specs.Errors.{job_error}
 use Rattle.smpe_jobs.specs.Messages.{answer_status, migrated_text, zone_text}
-use Rattle.smpe_jobs.specs.declared.messages.Fault.{Fault}
-use Rattle.smpe_jobs.specs.declared.messages.Fault.TheVariants.{Job}
-use Rattle.smpe_why.specs.Telling.{Inquiry, IsTold}
-use Rattle.smpe_why.specs.declared.found.LoadedZones.{LoadedZones}
-use Rattle.smpe_why.specs.declared.told.WhyAnswer.{WhyAnswer}
+use Rattle.smpe_rehearsal.specs.Told.{TellsText}
 use Rattle.smpe_verify.specs.Telling.{IsTold as IsToldOf}
 use Rattle.smpe_verify.specs.declared.verification.Verification.{Verification}
 use Rattle.smpe_verify.specs.declared.told.VerifyAnswer.{VerifyAnswer}
 
--- the error of a job is the program's fault
-abbrev pub job_told : Result ℕ JobError → Result ℕ Fault
-job_told (Ok status) = Ok status
-job_told (Err error) = Err (Job error)
-
 module _ {O : Type 0} (sink : SinkGhosts O) (out out' : O) where
-  -- The text goes to the sink, and the status is this one, or a fault if the text did not go out whole.
-  abbrev pub TellsText : List ℕ → ℕ → Result ℕ JobError → Type 0
-  TellsText text status r = Sent sink out out' text × (0 < length text → sink.has_failed out' ≡ is_err r)
-      × MatchResult r (λ told. told ≡ status) (λ error. error ≡ Write)
-
-  -- so the line of a zone that was to be defined, with the status of the answer
+  -- The line of a zone that was to be defined goes out, with the status of the answer.
   abbrev pub TellsZone : Text → Result Answer JobError → Result ℕ JobError → Type 0
-  TellsZone name (Ok answer) r = TellsText (zone_text name (answer_of answer)) (answer_status (answer_of answer)) r
+  TellsZone name (Ok answer) r =
+      TellsText sink out out' (zone_text name (answer_of answer)) (answer_status (answer_of answer)) r
   TellsZone name (Err error) r = (r ≡ Err error) × (out' ≡ out)
 
   -- so the line of a migrated database, with the status 0
   abbrev pub TellsMigrated : Result (Unit {0}) StoreError → Result ℕ JobError → Type 0
-  TellsMigrated (Ok done) r = TellsText migrated_text 0 r
+  TellsMigrated (Ok done) r = TellsText sink out out' migrated_text 0 r
   TellsMigrated (Err why) r = (r ≡ Err (job_error why)) × (out' ≡ out)
-
-  -- so what is told of the ids of a question, given what was found. Or memory ran out for it, and nothing went out.
-  abbrev pub TellsFound : Inquiry → Result LoadedZones StoreError → Result ℕ JobError → Type 0
-  TellsFound q (Ok found) r = ((r ≡ Err Memory) × (out' ≡ out))
-      ⊎ ((told : WhyAnswer) × IsTold found.global found.zone found.related q told
-      × TellsText told.text.items told.status r)
-  TellsFound q (Err why) r = (r ≡ Err (job_error why)) × (out' ≡ out)
 
   -- so what is told of the zones, given whether they are closed
   abbrev pub TellsVerified : Result Verification StoreError → Result ℕ JobError → Type 0
   TellsVerified (Ok found) r = ((r ≡ Err Memory) × (out' ≡ out))
-      ⊎ ((told : VerifyAnswer) × IsToldOf found told × TellsText told.text.items told.status r)
+      ⊎ ((told : VerifyAnswer) × IsToldOf found told × TellsText sink out out' told.text.items told.status r)
   TellsVerified (Err why) r = (r ≡ Err (job_error why)) × (out' ≡ out)

@@ -2,7 +2,6 @@
 ghost use Rattle.std.specs.Prelude.{◌≡◌, ◌↔◌, IsTrue, All, map, IfOk, IfErr};
 ghost use Rattle.std.specs.Str.{IsUtf8};
 ghost use Rattle.std.specs.String.{string_bytes};
-ghost use Rattle.smpe_invocation.specs.Answers.{IsRead, IsRefused};
 ghost use Rattle.smpe_command.specs.Asking.{IsAsked, IsUnasked, shown};
 
 use smpe::{ArgFault, Invocation, invocation};

@@ -1,21 +1,15 @@
 //! What the program asks of its surroundings.
 ghost use Rattle.std.specs.Prelude.{◌≡◌, ℕ, List, None, false, IfSome, IfOk, IfErr};
 ghost use Rattle.std.specs.String.{string_bytes};
-ghost use Rattle.std.specs.declared.io.Error.{Error as ReadError};
+ghost use Rattle.std.specs.declared.io.Error.{Error as IoError};
 ghost use Rattle.sqlite.specs.declared.error.Error.{Error};
 ghost use Rattle.sqlite.specs.Held.{Held};
 ghost use Rattle.clap.specs.declared.error.Error.{Error as WordsError};
 
 use smpe::DatabaseFile;
+use smpe_rehearsal::DatabaseBytes;
 use sqlite::{Alter, Connection};
 use std::io;
-
-/// The bytes of a database's file and of its log.
-#[derive(Drop)]
-pub struct DatabaseBytes {
-    pub db: Vec<u8>,
-    pub log: Vec<u8>,
-}
 
 /// The surroundings of the program. Each ghost member relates them before a call, what was asked and answered, and them
 /// after it.
@@ -27,7 +21,13 @@ pub trait Host {
     ghost gives: { Self → List ℕ → List ℕ → Self → Type 0 };
 
     /// The file of this name was not read, for this error.
-    ghost withholds: { Self → List ℕ → ReadError → Self → Type 0 };
+    ghost withholds: { Self → List ℕ → IoError → Self → Type 0 };
+
+    /// A new file of this name now has these bytes.
+    ghost writes: { Self → List ℕ → List ℕ → Self → Type 0 };
+
+    /// No new file of this name was made, for this error.
+    ghost cannot_write: { Self → List ℕ → IoError → Self → Type 0 };
 
     /// The database of this name was opened, or created, and this is the connection to it.
     ghost opens: { Self → List ℕ → Held Self.Disk → Self → Type 0 };
@@ -51,6 +51,12 @@ pub trait Host {
     fn read(&mut self, name: &str) -> io::Result<Vec<u8>>
         ensures ok { IfOk result (λ bytes. gives self.old name.now bytes.items self.new) }
         ensures err { IfErr result (λ error. withholds self.old name.now error self.new) };
+
+    /// Writes these bytes into a new file. If there is already something of this name, it is not touched. The error
+    /// says why there is no new file.
+    fn write_new(&mut self, name: &str, bytes: &[u8]) -> io::Result<()>
+        ensures ok { IfOk result (λ _. writes self.old name.now bytes.now self.new) }
+        ensures err { IfErr result (λ error. cannot_write self.old name.now error self.new) };
 
     /// Opens the database, or creates it. If another program has it, this may wait for it, as long as the words say.
     /// The error says why the database cannot be used.

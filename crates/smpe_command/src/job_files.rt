@@ -6,16 +6,9 @@ ghost use Rattle.smpe_command.specs.Reading.{FailsToRead, Reads, ReadsAll};
 
 use crate::host::Host;
 use smpe::{Fault, JobError};
+use smpe_rehearsal::JobFiles;
 use std::alloc::Global;
 use std::io::ErrorKind;
-
-/// The bytes of the files of a job.
-#[derive(Drop)]
-pub(crate) struct JobFiles {
-    pub(crate) cntl: Vec<u8>,
-    pub(crate) ptfin: Vec<u8>,
-    pub(crate) hold: Vec<u8>,
-}
 
 /// Reads the files of a job in this order. A file that the words do not name has no bytes. Returns `CannotRead` with
 /// the name of the first that cannot be read, or `Job` with `Memory` if memory runs out.
@@ -37,8 +30,8 @@ pub(crate) fn read_files<'a, H: Host>(
     Ok(JobFiles { cntl, ptfin, hold })
 }
 
-/// Reads the files of these names in this order. Returns `CannotRead` with the name of the first that cannot be read, or
-/// `Job` with `Memory` if memory runs out.
+/// Reads the files of these names in this order. Returns `CannotRead` with the name of the first that cannot be read,
+/// or `Job` with `Memory` if memory runs out.
 pub(crate) fn read_each<'a, H: Host>(
     alloc: Global,
     host: &mut H,

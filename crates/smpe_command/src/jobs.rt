@@ -1,4 +1,5 @@
-//! The subcommands, except for `why` (in `questions`), `check` (in `checks`) and `lint` (in `lint`).
+//! The subcommands, except for `why` (in `questions`), `check` (in `checks`), `mend` (in `mending`) and `lint` (in
+//! `lint`).
 ghost use Rattle.std.specs.Prelude.{◌≡◌, Result};
 ghost use Rattle.std.specs.String.{string_bytes};
 ghost use Rattle.machine.specs.Machine.{RunFiles};
@@ -8,15 +9,15 @@ ghost use Rattle.smpe_jobs.specs.ZoneDefinitions.{definition};
 ghost use Rattle.smpe_command.specs.Database.{JobOver};
 ghost use Rattle.smpe_command.specs.Serving.{Serves, ServesList, ServesMigrate, ServesRun, ServesVerify, ServesZone};
 ghost use Rattle.smpe_command.specs.Serving.{status_told};
-ghost use Rattle.smpe_command.specs.Told.{job_told};
+ghost use Rattle.smpe_rehearsal.specs.Told.{job_told};
 
-use crate::any_date::any_date;
 use crate::careful::check_commands_if_careful;
 use crate::checks::serve_check;
 use crate::database::{migrate_database, run_job_in_database, verify_database};
 use crate::host::Host;
-use crate::job_files::{JobFiles, read_files};
+use crate::job_files::read_files;
 use crate::lint::serve_lint;
+use crate::mending::serve_mend;
 use crate::questions::serve_why;
 use fields::{YyDdd, ZoneName};
 use report::{Sink, write_all};
@@ -25,6 +26,7 @@ use smpe::{
     write_migrated_line, zone_line,
 };
 use smpe_invocation::{RunOptions, ZoneDefinition};
+use smpe_rehearsal::{JobFiles, any_date, status_or_fault};
 use smpe_verify::describe_verification;
 use sqlite_disk::{Disk, Memory};
 use std::alloc::Global;
@@ -46,18 +48,16 @@ pub(crate) fn serve<'a, H: Host, O: Sink>(
         Invocation::Run { db, options } => serve_run(alloc, host, db, options, out),
         Invocation::List { db, zone } => status_or_fault(serve_list(alloc, host, db, *zone, out)),
         Invocation::Why { db, options } => serve_why(alloc, host, db, options, out),
-        Invocation::Check { system, set } => serve_check(alloc, host, system, set, out),
+        Invocation::Check {
+            system,
+            set,
+            answer,
+        } => serve_check(alloc, host, system, set, answer, out),
+        Invocation::Mend { system, options } => serve_mend(alloc, host, system, options, out),
         Invocation::Lint { options } => serve_lint(alloc, host, options, out),
         Invocation::Migrate { db } => status_or_fault(serve_migrate(alloc, host, db, out)),
         Invocation::Verify { db } => status_or_fault(serve_verify(alloc, host, db, out)),
     }
-}
-
-/// The status, or the error of the job as a fault of the program.
-pub(crate) fn status_or_fault<'a>(status: Result<u8, JobError>) -> Result<u8, Fault<'a>>
-    ensures { result ≡ job_told status }
-{
-    Ok(status?)
 }
 
 // Defines a zone, writes how that ended, and returns the status.

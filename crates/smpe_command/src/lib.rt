@@ -6,23 +6,26 @@
 //! when a database that was opened is not made the store's.
 #![tactic(auto)]
 
-mod any_date;
 mod asked_words;
-mod asking;
 mod careful;
+mod carry;
 mod checks;
 mod copied;
 mod database;
 mod host;
+mod inputs;
 mod job_files;
 mod jobs;
 mod lint;
-mod memory_files;
+mod mending;
+mod packages;
 mod program;
 mod questions;
-mod service_set;
+mod settled;
 mod shop;
+mod systems;
 
-pub use host::{DatabaseBytes, Host};
+pub use host::Host;
 pub use program::command;
 pub use smpe::DatabaseFile;
+pub use smpe_rehearsal::DatabaseBytes;

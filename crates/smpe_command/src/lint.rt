@@ -2,14 +2,14 @@
 ghost use Rattle.std.specs.Prelude.{length};
 ghost use Rattle.smpe_command.specs.Linting.{ServesLint, TellsLint};
 
+use crate::carry::given_files;
 use crate::host::Host;
 use crate::job_files::read_each;
-use crate::jobs::status_or_fault;
-use crate::shop::given_files;
 use report::{Sink, write_all};
 use smpe::{Fault, JobError};
 use smpe_invocation::LintOptions;
 use smpe_lint::lint_files;
+use smpe_rehearsal::status_or_fault;
 use std::alloc::Global;
 
 /// Writes what breaks the rules in the stream of these files, and returns the status of that answer. All files are read

@@ -68,6 +68,7 @@ fn report_fault<H: Host, E: Sink>(host: &mut H, fault: &Fault<'_>, err: &mut E) 
         Fault::Arg(ArgFault::BadOperand) => {}
         Fault::Job(_) => {}
         Fault::CannotRead(_) => {}
+        Fault::CannotWrite(_) => {}
         Fault::NoCommand => {}
         Fault::NoZone(_) => {}
         Fault::NotCarried(_) => {}

@@ -1,18 +1,17 @@
 //! Questions about ids in a zone, and their answers.
-ghost use Rattle.std.specs.Prelude.{◌≡◌, Ok, IfOk, IfErr};
+ghost use Rattle.std.specs.Prelude.{◌≡◌, IfOk, IfErr};
 ghost use Rattle.std.specs.String.{string_bytes};
 ghost use Rattle.smpe_jobs.specs.declared.error.JobError.TheVariants.{Memory};
 ghost use Rattle.smpe_command.specs.Serving.{AsksZone, IsGiven, ServesWhy, inquiry};
-ghost use Rattle.smpe_command.specs.Told.{TellsFound};
 
 use crate::database::load_zones_of_database;
 use crate::host::Host;
-use crate::jobs::status_or_fault;
 use fields::Bypass;
-use report::{Sink, write_all};
+use report::Sink;
 use smpe::{ArgFault, DatabaseFile, Fault, JobError};
 use smpe_invocation::WhyOptions;
-use smpe_why::{LoadedZones, Question, answer_question, read_bypass};
+use smpe_rehearsal::{answer_and_write, status_or_fault};
+use smpe_why::{Question, read_bypass};
 use std::alloc::Global;
 
 /// Asks about the ids in a zone of the database, as the words say, writes the answer, and returns its status. Returns
@@ -65,19 +64,4 @@ fn answer_why<H: Host, O: Sink>(
     };
     let zones = load_zones_of_database(alloc, host, db, options.zone)?;
     answer_and_write(alloc, &zones, &question, out)
-}
-
-/// Answers the question by the zones that were loaded, writes the answer, and returns its status. The whole answer is
-/// made before any of it is written. Returns `Memory` if memory runs out, and `Write` if the answer cannot be written.
-pub(crate) fn answer_and_write<O: Sink>(
-    alloc: Global,
-    zones: &LoadedZones,
-    question: &Question<'_>,
-    out: &mut O,
-) -> Result<u8, JobError>
-    ensures { TellsFound O.Sink out.old out.new question.now (Ok zones.now) result }
-{
-    let answer = answer_question(alloc, zones, question)?;
-    write_all(answer.text.as_slice(), out)?;
-    Ok(answer.status)
 }

@@ -1,37 +1,25 @@
-//! A shop's own files are checked: the package that they come to.
+//! A shop's own files are checked with commands: the package that they come to.
 ghost use Rattle.std.specs.Prelude.{◌≡◌, Some, IfOk, IfErr, length, map};
 ghost use Rattle.std.specs.String.{string_bytes};
-ghost use Rattle.smpe_command.specs.Shop.{AsksPackage, CarriesAndChecks, ChecksItems, ChecksPackage};
-ghost use Rattle.smpe_command.specs.Shop.{IsNotCarried, ServesShop};
-ghost use Rattle.smpe_command.specs.Told.{TellsText};
-ghost use Rattle.smpe_package.specs.Package.{AreRecords, IsPackage};
+ghost use Rattle.smpe_package.specs.Package.{AreRecords};
+ghost use Rattle.smpe_rehearsal.specs.Prepared.{IsNotCarried};
+ghost use Rattle.smpe_command.specs.Shop.{CarriesAndChecks, ChecksItems, ChecksPackage, ServesShop};
 
-use crate::asking::{ask_in_copy, ask_in_empty_system, fault_of};
+use crate::carry::{carry_files, write_remarks};
 use crate::checks::check_in_system;
 use crate::host::Host;
-use crate::job_files::{JobFiles, read_each, read_file};
-use crate::jobs::status_or_fault;
-use mcs::{HoldItem, Item};
-use report::{Sink, write_all};
-use smpe::{CommandJob, Fault, JobError};
+use crate::job_files::{read_each, read_file};
+use report::Sink;
+use smpe::{CommandJob, Fault};
 use smpe_invocation::CheckedSystem;
-use smpe_package::{GivenFile, Package, carry_package, has_sysmod, package_records};
+use smpe_package::{Package, package_records};
+use smpe_rehearsal::{JobFiles, PackageItems, fault_of, status_or_fault};
 use sqlite_disk::{Disk, Memory};
-use std::alloc::{AllocError, Global};
+use std::alloc::Global;
 
-/// The status of a package that has no SYSMOD.
-const NOTHING_CARRIED_STATUS: u8 = 12;
-
-/// The items of a package.
-#[derive(Drop)]
-pub(crate) struct PackageItems {
-    pub(crate) items: Vec<Item>,
-    pub(crate) hold_items: Vec<HoldItem>,
-}
-
-/// Checks the package of the files of these names, and returns the status. All files are read before anything is made
-/// or copied. Returns `CannotRead` if one of them cannot be read, `NotCarried` if they cannot be carried, `NoSource` if
-/// the system uses each source that is kept for checks, and `Job` for a fault of the jobs, of the database or of memory.
+/// Checks the package of the files of these names with the commands, and returns the status. All files are read before
+/// anything is made or copied. Returns `CannotRead` if one of them cannot be read, `NotCarried` if they cannot be
+/// carried, and `Job` for a fault of the jobs, of the database or of memory.
 pub(crate) fn serve_shop<'a, H: Host, O: Sink>(
     alloc: Global,
     host: &mut H,
@@ -67,50 +55,6 @@ fn carry_and_check<'a, H: Host, O: Sink>(
     check_package(alloc, host, system, commands, cntl, carried, out)
 }
 
-// The package of files with these names and bytes. Afterwards their bytes are gone.
-fn carry_files<'a>(
-    alloc: Global,
-    names: &[String],
-    files: Vec<Vec<u8>>,
-) -> Result<Package, Fault<'a>>
-    ensures ok { IfOk result (IsPackage (length files.items)) }
-    ensures err { IfErr result IsNotCarried }
-{
-    let Ok(given) = given_files(alloc, names, files.as_slice()) else {
-        return Err(Fault::Job(JobError::Memory));
-    };
-    match carry_package(alloc, given.as_slice()) {
-        Ok(package) => Ok(package),
-        Err(fault) => Err(fault_of(fault)),
-    }
-}
-
-/// The files with these names and bytes, by which they are carried.
-pub(crate) fn given_files<'a>(
-    alloc: Global,
-    names: &'a [String],
-    files: &'a [Vec<u8>],
-) -> Result<Vec<GivenFile<'a>>, AllocError>
-    ensures { IfOk result (λ given. map (λ file. file.bytes.now) given.items
-        ≡ map (λ file. file.items) files.entry.now) }
-{
-    let mut given: Vec<GivenFile<'a>> = Vec::new(alloc);
-    for file in files {
-        let name = name_at(names, given.len());
-        let bytes = file.as_slice();
-        given.push(GivenFile { name, bytes })?;
-    }
-    Ok(given)
-}
-
-// The name at this place, or an empty one if there is none.
-fn name_at(names: &[String], place: usize) -> &str {
-    match names.get(place) {
-        Some(name) => name.as_str(),
-        None => "",
-    }
-}
-
 // Writes the remarks on the package, and checks it.
 fn check_package<'a, H: Host, O: Sink>(
     alloc: Global,
@@ -133,15 +77,7 @@ fn check_package<'a, H: Host, O: Sink>(
     Ok(checked.max(status))
 }
 
-// Writes the remarks on the package, and returns the status that they bring.
-fn write_remarks<O: Sink>(carried: &Package, out: &mut O) -> Result<u8, JobError>
-    ensures { TellsText O.Sink out.old out.new carried.now.remarks.items carried.now.status result }
-{
-    write_all(carried.remarks.as_slice(), out)?;
-    Ok(carried.status)
-}
-
-// Checks the items with the commands that were given, or asks about the package. If it has no SYSMOD, nothing is asked.
+// Checks the items, as records, with the commands.
 fn check_items<'a, H: Host, O: Sink>(
     alloc: Global,
     host: &mut H,
@@ -151,21 +87,11 @@ fn check_items<'a, H: Host, O: Sink>(
     items: PackageItems,
     out: &mut O,
 ) -> Result<u8, Fault<'a>>
-    ensures { ChecksItems H.Host ⟦<Memory as Disk>⟧ O.Sink host.old out.old items.items.items items.hold_items.items
-        system.now commands.now cntl.items result host.new out.new }
+    ensures { ChecksItems H.Host ⟦<Memory as Disk>⟧ O.Sink system.now commands.now cntl.items host.old out.old
+        items.items.items items.hold_items.items result host.new out.new }
 {
-    match commands {
-        Some(_) => {
-            let files = item_files(alloc, cntl, &items)?;
-            status_or_fault(check_in_system(alloc, host, system, commands, files, out))
-        }
-        None => {
-            if !has_sysmod(items.items.as_slice()) {
-                return Ok(NOTHING_CARRIED_STATUS);
-            }
-            ask_about_package(alloc, host, system, items, out)
-        }
-    }
+    let files = item_files(alloc, cntl, &items)?;
+    status_or_fault(check_in_system(alloc, host, system, commands, files, out))
 }
 
 // The files of a job with these commands that receives these items. Returns `NotCarried` if the records are not read
@@ -183,22 +109,5 @@ fn item_files<'a>(alloc: Global, cntl: Vec<u8>, items: &PackageItems) -> Result<
             hold: records.hold,
         }),
         Err(fault) => Err(fault_of(fault)),
-    }
-}
-
-// Asks about the package in an empty system, or in a copy of a database.
-fn ask_about_package<'a, H: Host, O: Sink>(
-    alloc: Global,
-    host: &mut H,
-    system: &CheckedSystem,
-    items: PackageItems,
-    out: &mut O,
-) -> Result<u8, Fault<'a>>
-    ensures { AsksPackage H.Host ⟦<Memory as Disk>⟧ O.Sink host.old out.old items.items.items items.hold_items.items
-        system.now result host.new out.new }
-{
-    match system {
-        CheckedSystem::Empty(srel) => ask_in_empty_system(alloc, *srel, items, out),
-        CheckedSystem::Copied(copy) => ask_in_copy(alloc, host, copy, items, out),
     }
 }

@@ -6,6 +6,9 @@ use std::alloc::{AllocError, Global};
 // The options that name files of records.
 const RECORD_OPTIONS: &[&str] = &["--cntl", "--ptfin", "--hold"];
 
+// The options of `check` that have no value.
+const CHECK_FLAGS: &[&str] = &["--report", "--json"];
+
 /// What the value of an option, or of an operand of a card, looks like.
 #[derive(Clone, Copy, Debug)]
 pub(crate) enum Form {
@@ -123,8 +126,20 @@ impl<'a> CommandLine<'a> {
         self.value(option).is_some()
     }
 
-    // Whether a word of `check` is the name of a file, and neither an option nor the value of one. Each option of
-    // `check` has a value, and after `--` there are only files.
+    // Whether a word of `check` is this option without a value. After `--` there are only files.
+    fn has_flag(self, flag: &str) -> bool {
+        for place in 2..self.words.len() {
+            match self.word_at(place) {
+                Some("--") => return false,
+                Some(word) if word == flag => return true,
+                _ => {}
+            }
+        }
+        false
+    }
+
+    // Whether a word of `check` is the name of a file, and neither an option nor the value of one. After `--` there are
+    // only files.
     fn has_file(self) -> bool {
         let mut is_value = false;
         for place in 2..self.words.len() {
@@ -134,7 +149,7 @@ impl<'a> CommandLine<'a> {
             } else if word == "--" {
                 return place.saturating_add(1) < self.words.len();
             } else if word.starts_with("--") {
-                is_value = word.split_once('=').is_none();
+                is_value = word.split_once('=').is_none() && !CHECK_FLAGS.contains(&word);
             } else {
                 return true;
             }
@@ -159,12 +174,21 @@ pub fn operand_hint(alloc: Global, words: &[Vec<u8>]) -> Result<Option<String>, 
         }
     }
     match line.subcommand() {
-        Some("check") => match system_fault(line).or(set_fault(line)) {
-            Some(fault) => Ok(Some(String::from_str(alloc, fault)?)),
-            None => Ok(None),
-        },
+        Some("check") => check_hint(alloc, line),
+        Some("mend") => system_hint(alloc, line, "mend"),
         Some("why") => bypass_hint(alloc, line),
         _ => Ok(None),
+    }
+}
+
+// What is wrong with the words of `check` taken together; `None` if that does not show here.
+fn check_hint(alloc: Global, line: CommandLine<'_>) -> Result<Option<String>, AllocError> {
+    if let Some(hint) = system_hint(alloc, line, "check")? {
+        return Ok(Some(hint));
+    }
+    match set_fault(line).or(answer_fault(line)) {
+        Some(fault) => Ok(Some(String::from_str(alloc, fault)?)),
+        None => Ok(None),
     }
 }
 
@@ -186,24 +210,37 @@ fn option_hint(
     }
 }
 
-// Which option that names the system `check` needs but does not have, or which of these exclude each other; `None` if
-// neither.
-fn system_fault(line: CommandLine<'_>) -> Option<&'static str> {
-    Some(match (line.has_option("--db"), line.has_option("--srel")) {
-        (true, true) =>
-            "--srel and --db: check takes the SREL of an empty system or a database, not both",
-        (false, false) =>
-            "--srel is missing, or --db: check needs the SREL of an empty system, or a database",
-        (true, false) if !line.has_option("--zone") =>
-            "--zone is missing: with --db, check needs a zone of the database, as TGT1",
-        (false, true)
-            if line.has_option("--zone") || line.has_option("--why") || line.has_option("--wait") =>
+// Which option that names the system `check` or `mend` needs but does not have, or which of these exclude each other;
+// `None` if neither.
+fn system_hint(
+    alloc: Global,
+    line: CommandLine<'_>,
+    subcommand: &str,
+) -> Result<Option<String>, AllocError> {
+    Ok(match (line.has_option("--db"), line.has_option("--srel")) {
+        (true, true) => Some(format!(in alloc;
+            "--srel and --db: {subcommand} takes the SREL of an empty system or a database, not both"
+        )?),
+        (false, false) => Some(format!(in alloc;
+            "--srel is missing, or --db: {subcommand} needs the SREL of an empty system, or a database"
+        )?),
+        (true, false) if !line.has_option("--zone") => Some(format!(in alloc;
+            "--zone is missing: with --db, {subcommand} needs a zone of the database, as TGT1"
+        )?),
+        (false, true) if has_option_of_copy(line) => Some(String::from_str(
+            alloc,
             "--zone, --why and --wait go with --db, and an empty system has none",
-        _ => return None,
+        )?),
+        _ => None,
     })
 }
 
-// The same of the words that name the files, and of the date of the commands.
+// Whether the words have an option that goes with `--db`.
+fn has_option_of_copy(line: CommandLine<'_>) -> bool {
+    line.has_option("--zone") || line.has_option("--why") || line.has_option("--wait")
+}
+
+// What is wrong with the words that name the files and the date of the commands; `None` if nothing is.
 fn set_fault(line: CommandLine<'_>) -> Option<&'static str> {
     Some(match (line.has_option("--ptfin"), line.has_file()) {
         (true, true) =>
@@ -216,6 +253,23 @@ fn set_fault(line: CommandLine<'_>) -> Option<&'static str> {
             "--date is missing: with --cntl, check needs the date of the job, as 2024-05-17",
         _ => return None,
     })
+}
+
+// What is wrong with the words that say how `check` answers; `None` if nothing is.
+fn answer_fault(line: CommandLine<'_>) -> Option<&'static str> {
+    let is_json = line.has_flag("--json");
+    let has_own_apply = !line.has_option("--cntl") && !line.has_option("--ptfin");
+    if is_json && line.has_flag("--report") {
+        Some("--report and --json: the answer has one form")
+    } else if is_json && line.has_option("--why") {
+        Some("--json and --why: ask about ids with the summary or --report, or by smpe why")
+    } else if is_json && !has_own_apply {
+        Some("--json is for the check's own APPLY of FILE, without --cntl and --ptfin")
+    } else if line.has_option("--certificate") && !has_own_apply {
+        Some("--certificate is for the check's own APPLY of FILE, without --cntl and --ptfin")
+    } else {
+        None
+    }
 }
 
 // The hint about the list of `--bypass`, which must be at fault if all other values of `why` have their forms. `None`

@@ -8,11 +8,14 @@ use Rattle.std.proofs.lemmas.Bool.Decides.{nat_tests}
 use Rattle.terms.specs.Types.{Text}
 use Rattle.clap.specs.Words.{Row}
 use Rattle.smpe_invocation.specs.Answers.{Excludes}
-use Rattle.smpe_invocation.specs.Values.{HasCommands, HasDate, HasOptions, HasRelated, HasSetFiles, HasSystem}
-use Rattle.smpe_invocation.specs.Values.{HasText, HasValues, HasZoneName, Lacks}
+use Rattle.smpe_invocation.specs.Values.{HasCertificate, HasCheckForm, HasCommands, HasCopy, HasDate, HasMendedSystem}
+use Rattle.smpe_invocation.specs.Values.{HasOptions, HasRelated, HasSetFiles, HasSystem, HasText, HasValues}
+use Rattle.smpe_invocation.specs.Values.{HasZoneName, IsEmptySystem, IsGiven, Lacks}
 use Rattle.smpe_invocation.specs.declared.fault.ArgFault.{ArgFault}
 use Rattle.smpe_invocation.specs.declared.fault.ArgFault.TheVariants.{Memory, Clap, BadOperand}
 use Rattle.std.proofs.lemmas.Option.{none-some}
+use Rattle.smpe_invocation.specs.declared.asked.CheckForm.{CheckForm}
+use Rattle.smpe_invocation.specs.declared.asked.CheckForm.TheVariants as check_form
 use Rattle.smpe_invocation.specs.declared.asked.CheckedSystem.{CheckedSystem}
 use Rattle.smpe_invocation.specs.declared.asked.CheckedSystem.TheVariants.{Empty, Copied}
 use Rattle.smpe_invocation.specs.declared.asked.SystemCopy.{SystemCopy}
@@ -51,7 +54,8 @@ module _ (rows : List Row) where
   zone_in (asked.Run db options, h) = two_words (codes "zone") (codes "run") refl h.0
   zone_in (asked.List db zone, h) = two_words (codes "zone") (codes "list") refl h.0
   zone_in (asked.Why db options, h) = two_words (codes "zone") (codes "why") refl h.0
-  zone_in (asked.Check system set, h) = two_words (codes "zone") (codes "check") refl h.0
+  zone_in (asked.Check system set answer, h) = two_words (codes "zone") (codes "check") refl h.0
+  zone_in (asked.Mend system options, h) = two_words (codes "zone") (codes "mend") refl h.0
   zone_in (asked.Lint options, h) = two_words (codes "zone") (codes "lint") refl h.0
   zone_in (asked.Migrate db, h) = two_words (codes "zone") (codes "migrate") refl h.0
   zone_in (asked.Verify db, h) = two_words (codes "zone") (codes "verify") refl h.0
@@ -62,7 +66,8 @@ module _ (rows : List Row) where
   run_in (asked.Run db options, h) = (db, options, h.1)
   run_in (asked.List db zone, h) = two_words (codes "run") (codes "list") refl h.0
   run_in (asked.Why db options, h) = two_words (codes "run") (codes "why") refl h.0
-  run_in (asked.Check system set, h) = two_words (codes "run") (codes "check") refl h.0
+  run_in (asked.Check system set answer, h) = two_words (codes "run") (codes "check") refl h.0
+  run_in (asked.Mend system options, h) = two_words (codes "run") (codes "mend") refl h.0
   run_in (asked.Lint options, h) = two_words (codes "run") (codes "lint") refl h.0
   run_in (asked.Migrate db, h) = two_words (codes "run") (codes "migrate") refl h.0
   run_in (asked.Verify db, h) = two_words (codes "run") (codes "verify") refl h.0
@@ -73,7 +78,8 @@ module _ (rows : List Row) where
   list_in (asked.Run db options, h) = two_words (codes "list") (codes "run") refl h.0
   list_in (asked.List db zone, h) = (db, zone, h.1)
   list_in (asked.Why db options, h) = two_words (codes "list") (codes "why") refl h.0
-  list_in (asked.Check system set, h) = two_words (codes "list") (codes "check") refl h.0
+  list_in (asked.Check system set answer, h) = two_words (codes "list") (codes "check") refl h.0
+  list_in (asked.Mend system options, h) = two_words (codes "list") (codes "mend") refl h.0
   list_in (asked.Lint options, h) = two_words (codes "list") (codes "lint") refl h.0
   list_in (asked.Migrate db, h) = two_words (codes "list") (codes "migrate") refl h.0
   list_in (asked.Verify db, h) = two_words (codes "list") (codes "verify") refl h.0
@@ -84,21 +90,35 @@ module _ (rows : List Row) where
   why_in (asked.Run db options, h) = two_words (codes "why") (codes "run") refl h.0
   why_in (asked.List db zone, h) = two_words (codes "why") (codes "list") refl h.0
   why_in (asked.Why db options, h) = (db, options, h.1)
-  why_in (asked.Check system set, h) = two_words (codes "why") (codes "check") refl h.0
+  why_in (asked.Check system set answer, h) = two_words (codes "why") (codes "check") refl h.0
+  why_in (asked.Mend system options, h) = two_words (codes "why") (codes "mend") refl h.0
   why_in (asked.Lint options, h) = two_words (codes "why") (codes "lint") refl h.0
   why_in (asked.Migrate db, h) = two_words (codes "why") (codes "migrate") refl h.0
   why_in (asked.Verify db, h) = two_words (codes "why") (codes "verify") refl h.0
 
   pub check_in : (i : Invocation) × HasValues (codes "check", rows) i
-      → (system : _) × (set : _) × HasOptions rows (asked.Check system set)
+      → (system : _) × (set : _) × (answer : _) × HasOptions rows (asked.Check system set answer)
   check_in (asked.Zone db definition, h) = two_words (codes "check") (codes "zone") refl h.0
   check_in (asked.Run db options, h) = two_words (codes "check") (codes "run") refl h.0
   check_in (asked.List db zone, h) = two_words (codes "check") (codes "list") refl h.0
   check_in (asked.Why db options, h) = two_words (codes "check") (codes "why") refl h.0
-  check_in (asked.Check system set, h) = (system, set, h.1)
+  check_in (asked.Check system set answer, h) = (system, set, answer, h.1)
+  check_in (asked.Mend system options, h) = two_words (codes "check") (codes "mend") refl h.0
   check_in (asked.Lint options, h) = two_words (codes "check") (codes "lint") refl h.0
   check_in (asked.Migrate db, h) = two_words (codes "check") (codes "migrate") refl h.0
   check_in (asked.Verify db, h) = two_words (codes "check") (codes "verify") refl h.0
+
+  pub mend_in : (i : Invocation) × HasValues (codes "mend", rows) i
+      → (system : _) × (options : _) × HasOptions rows (asked.Mend system options)
+  mend_in (asked.Zone db definition, h) = two_words (codes "mend") (codes "zone") refl h.0
+  mend_in (asked.Run db options, h) = two_words (codes "mend") (codes "run") refl h.0
+  mend_in (asked.List db zone, h) = two_words (codes "mend") (codes "list") refl h.0
+  mend_in (asked.Why db options, h) = two_words (codes "mend") (codes "why") refl h.0
+  mend_in (asked.Check system set answer, h) = two_words (codes "mend") (codes "check") refl h.0
+  mend_in (asked.Mend system options, h) = (system, options, h.1)
+  mend_in (asked.Lint options, h) = two_words (codes "mend") (codes "lint") refl h.0
+  mend_in (asked.Migrate db, h) = two_words (codes "mend") (codes "migrate") refl h.0
+  mend_in (asked.Verify db, h) = two_words (codes "mend") (codes "verify") refl h.0
 
   pub lint_in : (i : Invocation) × HasValues (codes "lint", rows) i
       → (options : _) × HasOptions rows (asked.Lint options)
@@ -106,7 +126,8 @@ module _ (rows : List Row) where
   lint_in (asked.Run db options, h) = two_words (codes "lint") (codes "run") refl h.0
   lint_in (asked.List db zone, h) = two_words (codes "lint") (codes "list") refl h.0
   lint_in (asked.Why db options, h) = two_words (codes "lint") (codes "why") refl h.0
-  lint_in (asked.Check system set, h) = two_words (codes "lint") (codes "check") refl h.0
+  lint_in (asked.Check system set answer, h) = two_words (codes "lint") (codes "check") refl h.0
+  lint_in (asked.Mend system options, h) = two_words (codes "lint") (codes "mend") refl h.0
   lint_in (asked.Lint options, h) = (options, h.1)
   lint_in (asked.Migrate db, h) = two_words (codes "lint") (codes "migrate") refl h.0
   lint_in (asked.Verify db, h) = two_words (codes "lint") (codes "verify") refl h.0
@@ -117,7 +138,8 @@ module _ (rows : List Row) where
   migrate_in (asked.Run db options, h) = two_words (codes "migrate") (codes "run") refl h.0
   migrate_in (asked.List db zone, h) = two_words (codes "migrate") (codes "list") refl h.0
   migrate_in (asked.Why db options, h) = two_words (codes "migrate") (codes "why") refl h.0
-  migrate_in (asked.Check system set, h) = two_words (codes "migrate") (codes "check") refl h.0
+  migrate_in (asked.Check system set answer, h) = two_words (codes "migrate") (codes "check") refl h.0
+  migrate_in (asked.Mend system options, h) = two_words (codes "migrate") (codes "mend") refl h.0
   migrate_in (asked.Lint options, h) = two_words (codes "migrate") (codes "lint") refl h.0
   migrate_in (asked.Migrate db, h) = (db, h.1)
   migrate_in (asked.Verify db, h) = two_words (codes "migrate") (codes "verify") refl h.0
@@ -128,7 +150,8 @@ module _ (rows : List Row) where
   verify_in (asked.Run db options, h) = two_words (codes "verify") (codes "run") refl h.0
   verify_in (asked.List db zone, h) = two_words (codes "verify") (codes "list") refl h.0
   verify_in (asked.Why db options, h) = two_words (codes "verify") (codes "why") refl h.0
-  verify_in (asked.Check system set, h) = two_words (codes "verify") (codes "check") refl h.0
+  verify_in (asked.Check system set answer, h) = two_words (codes "verify") (codes "check") refl h.0
+  verify_in (asked.Mend system options, h) = two_words (codes "verify") (codes "mend") refl h.0
   verify_in (asked.Lint options, h) = two_words (codes "verify") (codes "lint") refl h.0
   verify_in (asked.Migrate db, h) = two_words (codes "verify") (codes "migrate") refl h.0
   verify_in (asked.Verify db, h) = (db, h.1)
@@ -161,13 +184,36 @@ module _ (rows : List Row) where
   as_they_come_in none (Records ptfin hold, h) = absurd (none-some (string_bytes ptfin) (sym none ∙ h.0))
   as_they_come_in none (AsTheyCome files, h) = (files, h)
 
-  -- a service set that is checked in a copy of a database is not checked in an empty system, and the other way round
+  -- if the words have a file for the certificate, it has a name
+  pub certified_in : ¬ Lacks (codes "certificate") rows → (name : Option Text) × HasCertificate rows name
+      → (text : Text) × HasText (codes "certificate") rows text
+  certified_in some (None, h) = absurd (some h)
+  certified_in some (Some name, h) = (name, h.0)
+
+  -- what is checked in a copy of a database is not checked in an empty system, and the other way round
   pub empty_in : Lacks (codes "db") rows → (system : CheckedSystem) × HasSystem rows system
       → (srel : Text) × HasSystem rows (Empty srel)
   empty_in none (Empty srel, h) = (srel, h)
-  empty_in none (Copied copy, h) = absurd (none-some (string_bytes copy.db.name) (sym none ∙ h.0.0))
+  empty_in none (Copied copy, h) = absurd (none-some (string_bytes copy.db.name) (sym none ∙ h.0.0.0))
 
   pub copied_in : ¬ Lacks (codes "db") rows → (system : CheckedSystem) × HasSystem rows system
       → (copy : SystemCopy) × HasSystem rows (Copied copy)
-  copied_in some (Empty srel, h) = absurd (some h.1)
+  copied_in some (Empty srel, h) = absurd (some h.0.1)
   copied_in some (Copied copy, h) = (copy, h)
+
+  pub mended_empty_in : Lacks (codes "db") rows → (system : CheckedSystem) × HasMendedSystem rows system
+      → (srel : Text) × IsEmptySystem rows srel
+  mended_empty_in none (Empty srel, h) = (srel, h)
+  mended_empty_in none (Copied copy, h) = absurd (none-some (string_bytes copy.db.name) (sym none ∙ h.0.0.0))
+
+  pub mended_copy_in : ¬ Lacks (codes "db") rows → (system : CheckedSystem) × HasMendedSystem rows system
+      → (copy : SystemCopy) × HasCopy rows copy
+  mended_copy_in some (Empty srel, h) = absurd (some h.1)
+  mended_copy_in some (Copied copy, h) = (copy, h.0)
+
+  -- there is one form of the answer
+  pub json_in : IsGiven (codes "json") rows → (form : CheckForm) × HasCheckForm rows form
+      → HasCheckForm rows check_form.Json
+  json_in given (check_form.Summary, h) = absurd (h.2 given)
+  json_in given (check_form.Report, h) = absurd (h.1 given)
+  json_in given (check_form.Json, h) = h

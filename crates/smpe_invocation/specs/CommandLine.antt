@@ -90,15 +90,26 @@ why_shape = with_options (codes "why") (database_options (required_arg (codes "z
     ∷ required_repeatable_arg (codes "id") ∷ flag_arg (codes "together") ∷ flag_arg (codes "group")
     ∷ optional_arg (codes "bypass") ∷ []))
 
--- `--srel S`, or `--db F [--wait SECONDS] --zone Z [--why ID]..`, and these after them
+-- `--srel S`, or `--db F [--wait SECONDS] --zone Z`, and these after them
 abbrev pub system_options : List Rule → List Rule
 system_options more = optional_arg (codes "srel") ∷ optional_arg (codes "db") ∷ optional_arg (codes "wait")
-    ∷ optional_arg (codes "zone") ∷ optional_repeatable_arg (codes "why") ∷ more
+    ∷ optional_arg (codes "zone") ∷ more
 
--- `check [--cntl F --date YYYY-MM-DD]` of a system, with `FILE..` or `--ptfin F [--hold F]`
+-- those, `[--why ID]..`, `--ptfin F [--hold F]` and `--cntl F --date YYYY-MM-DD`, and these after them
+abbrev pub set_options : List Rule → List Rule
+set_options more = system_options (optional_repeatable_arg (codes "why") ∷ optional_arg (codes "ptfin")
+    ∷ optional_arg (codes "hold") ∷ optional_arg (codes "cntl") ∷ optional_arg (codes "date") ∷ more)
+
+-- `check` of a system, with `FILE..` or `--ptfin F [--hold F]`, with `--cntl F --date YYYY-MM-DD`, and with
+-- `--report` or `--json`, and `--certificate F`
 abbrev pub check_shape : Shape
-check_shape = with_options (codes "check") (system_options (optional_arg (codes "ptfin") ∷ optional_arg (codes "hold")
-    ∷ optional_arg (codes "cntl") ∷ optional_arg (codes "date") ∷ file_arg ∷ []))
+check_shape = with_options (codes "check") (set_options (flag_arg (codes "report") ∷ flag_arg (codes "json")
+    ∷ optional_arg (codes "certificate") ∷ file_arg ∷ []))
+
+-- `mend --id ID [--id ID].. FILE..` in a system
+abbrev pub mend_shape : Shape
+mend_shape = with_options (codes "mend")
+    (system_options (required_repeatable_arg (codes "id") ∷ required_file_arg ∷ []))
 
 -- `lint --srel S [--form text|json] FILE..`
 abbrev pub lint_shape : ValueParser → Shape
@@ -113,7 +124,7 @@ migrate_shape = with_options (codes "migrate") (database_options [])
 abbrev pub verify_shape : Shape
 verify_shape = with_options (codes "verify") (database_options [])
 
--- `smpe` with one of the eight, and `--version`
+-- `smpe` with one of the nine, and `--version`
 abbrev pub smpe : ValueParser → ValueParser → App
 smpe kinds forms = record {
   top = record (new_app (codes "smpe")).top {
@@ -122,8 +133,8 @@ smpe kinds forms = record {
     subcommand_required = true;
     disable_help_subcommand = true;
   };
-  subs = zone_shape kinds ∷ run_shape ∷ list_shape ∷ why_shape ∷ check_shape ∷ lint_shape forms ∷ migrate_shape
-      ∷ verify_shape ∷ [];
+  subs = zone_shape kinds ∷ run_shape ∷ list_shape ∷ why_shape ∷ check_shape ∷ mend_shape ∷ lint_shape forms
+      ∷ migrate_shape ∷ verify_shape ∷ [];
 }
 
 abbrev pub IsCommandLine : App → Type 0

@@ -9,6 +9,9 @@ use Rattle.terms.specs.Spelling.{zone_kind_text}
 use Rattle.terms.specs.declared.kinds.ZoneKind.{ZoneKind}
 use Rattle.clap.specs.Words.{Row, all_of, first_of}
 use Rattle.smpe_invocation.specs.Dates.{HasDateForm, IsCalendarDay, dotted}
+use Rattle.smpe_invocation.specs.declared.asked.CheckAnswer.{CheckAnswer}
+use Rattle.smpe_invocation.specs.declared.asked.CheckForm.{CheckForm}
+use Rattle.smpe_invocation.specs.declared.asked.CheckForm.TheVariants as check_form
 use Rattle.smpe_invocation.specs.declared.asked.CheckedSystem.{CheckedSystem}
 use Rattle.smpe_invocation.specs.declared.asked.CheckedSystem.TheVariants.{Empty, Copied}
 use Rattle.smpe_invocation.specs.declared.asked.CommandJob.{CommandJob}
@@ -20,6 +23,7 @@ use Rattle.smpe_invocation.specs.declared.asked.LintForm.TheVariants as lint_for
 use Rattle.smpe_invocation.specs.declared.asked.ServiceSet.{ServiceSet}
 use Rattle.smpe_invocation.specs.declared.asked.SetFiles.{SetFiles}
 use Rattle.smpe_invocation.specs.declared.asked.SetFiles.TheVariants.{Records, AsTheyCome}
+use Rattle.smpe_invocation.specs.declared.asked.SystemCopy.{SystemCopy}
 
 abbrev pub HasText : Text → List Row → Text → Type 0
 HasText id rows text = first_of id rows ≡ Some text
@@ -105,12 +109,51 @@ HasSetFiles rows (AsTheyCome files) = HasFiles rows (map string_bytes files.item
 abbrev pub HasServiceSet : List Row → ServiceSet → Type 0
 HasServiceSet rows set = HasSetFiles rows set.files × HasCommands rows set.commands
 
--- an empty system with an SREL, or a copy of a database at a zone, and not both
+-- an empty system with an SREL, and no database
+abbrev pub IsEmptySystem : List Row → Text → Type 0
+IsEmptySystem rows srel = HasSrel rows srel × Lacks (codes "db") rows × Lacks (codes "wait") rows
+    × Lacks (codes "zone") rows
+
+-- a copy of a database at a zone, and no SREL
+abbrev pub HasCopy : List Row → SystemCopy → Type 0
+HasCopy rows copy = HasDatabase rows copy.db × HasZoneName (codes "zone") rows copy.zone × Lacks (codes "srel") rows
+
+-- the one or the other; of a copy there may be ids to ask about
 abbrev pub HasSystem : List Row → CheckedSystem → Type 0
-HasSystem rows (Empty srel) = HasSrel rows srel × Lacks (codes "db") rows × Lacks (codes "wait") rows
-    × Lacks (codes "zone") rows × Lacks (codes "why") rows
-HasSystem rows (Copied copy) = HasDatabase rows copy.db × HasZoneName (codes "zone") rows copy.zone
-    × AreIds (all_of (codes "why") rows) copy.ids.items × Lacks (codes "srel") rows
+HasSystem rows (Empty srel) = IsEmptySystem rows srel × Lacks (codes "why") rows
+HasSystem rows (Copied copy) = HasCopy rows copy × AreIds (all_of (codes "why") rows) copy.ids.items
+
+-- the one or the other, without ids to ask about
+abbrev pub HasMendedSystem : List Row → CheckedSystem → Type 0
+HasMendedSystem rows (Empty srel) = IsEmptySystem rows srel
+HasMendedSystem rows (Copied copy) = HasCopy rows copy × (copy.ids.items ≡ [])
+
+-- the check's own APPLY is asked for: the set is a shop's own files, and there are no commands
+abbrev pub AsksForApply : List Row → Type 0
+AsksForApply rows = Lacks (codes "ptfin") rows × Lacks (codes "cntl") rows
+
+-- the words have the flag
+abbrev pub IsGiven : Text → List Row → Type 0
+IsGiven id rows = HasText id rows (codes "true")
+
+-- The form of the answer: of records and of commands it is the report; of the check's own APPLY it is the summary, or
+-- the report or JSON if the words say so. JSON has no place for ids to ask about.
+abbrev pub HasCheckForm : List Row → CheckForm → Type 0
+HasCheckForm rows check_form.Summary = AsksForApply rows × ¬ IsGiven (codes "report") rows
+    × ¬ IsGiven (codes "json") rows
+HasCheckForm rows check_form.Report = (AsksForApply rows → IsGiven (codes "report") rows)
+    × ¬ IsGiven (codes "json") rows
+HasCheckForm rows check_form.Json = AsksForApply rows × IsGiven (codes "json") rows × ¬ IsGiven (codes "report") rows
+    × Lacks (codes "why") rows
+
+-- the file for the certificate, if the words have one; then the check's own APPLY is asked for
+abbrev pub HasCertificate : List Row → Option Text → Type 0
+HasCertificate rows None = Lacks (codes "certificate") rows
+HasCertificate rows (Some name) = HasText (codes "certificate") rows name × AsksForApply rows
+
+abbrev pub HasAnswer : List Row → CheckAnswer → Type 0
+HasAnswer rows answer = HasCheckForm rows answer.form
+    × HasCertificate rows (option_map string_bytes answer.certificate)
 
 -- the subcommand that asks for it
 abbrev pub subcommand : Invocation → Text
@@ -118,7 +161,8 @@ subcommand (asked.Zone db definition) = codes "zone"
 subcommand (asked.Run db options) = codes "run"
 subcommand (asked.List db zone) = codes "list"
 subcommand (asked.Why db options) = codes "why"
-subcommand (asked.Check system set) = codes "check"
+subcommand (asked.Check system set answer) = codes "check"
+subcommand (asked.Mend system options) = codes "mend"
 subcommand (asked.Lint options) = codes "lint"
 subcommand (asked.Migrate db) = codes "migrate"
 subcommand (asked.Verify db) = codes "verify"
@@ -138,7 +182,9 @@ HasOptions rows (asked.Why db options) = HasDatabase rows db × HasZoneName (cod
     × HasIds rows options.ids.items × HasFlag (codes "together") rows options.together
     × HasFlag (codes "group") rows options.group
     × HasOptional (codes "bypass") rows (option_map string_bytes options.bypass)
-HasOptions rows (asked.Check system set) = HasSystem rows system × HasServiceSet rows set
+HasOptions rows (asked.Check system set answer) = HasSystem rows system × HasServiceSet rows set × HasAnswer rows answer
+HasOptions rows (asked.Mend system options) = HasMendedSystem rows system × HasIds rows options.ids.items
+    × HasFiles rows (map string_bytes options.files.items)
 HasOptions rows (asked.Lint options) = HasSrel rows options.srel × IsForm (first_of (codes "form") rows) options.form
     × HasFiles rows (map string_bytes options.files.items)
 HasOptions rows (asked.Migrate db) = HasDatabase rows db

@@ -97,6 +97,32 @@ pub struct LintOptions {
     pub files: Vec<String>,
 }
 
+/// The form in which `check` answers.
+#[derive(Clone, Copy)]
+pub enum CheckForm {
+    /// What becomes of each SYSMOD of the set, and what keeps the others out.
+    Summary,
+    /// The reports of the commands.
+    Report,
+    Json,
+}
+
+/// The form of the answer of `check`, and the name of a new file for the certificate of its decision.
+#[derive(Drop)]
+pub struct CheckAnswer {
+    pub form: CheckForm,
+    pub certificate: Option<String>,
+}
+
+/// The SYSMODs that do not go on, and the files of the service to mend them with, by their names.
+#[derive(Drop)]
+pub struct MendOptions {
+    /// There is at least one.
+    pub ids: Vec<Id>,
+    /// There is at least one.
+    pub files: Vec<String>,
+}
+
 /// What `smpe` is asked to do. The texts are the names of files.
 #[derive(Drop)]
 pub enum Invocation {
@@ -124,6 +150,12 @@ pub enum Invocation {
     Check {
         system: CheckedSystem,
         set: ServiceSet,
+        answer: CheckAnswer,
+    },
+    /// Tell what to do that SYSMODs go on in a system, and change no database. A copy has no ids to ask about.
+    Mend {
+        system: CheckedSystem,
+        options: MendOptions,
     },
     /// Tell what keeps a service stream from being clean, by its files alone.
     Lint {

@@ -4,10 +4,10 @@ ghost use Rattle.clap.specs.Words.{app_of, rule_of};
 ghost use Rattle.clap.specs.declared.builder.value_parser.ValueParser.{ValueParser};
 ghost use Rattle.smpe_invocation.specs.CommandLine.{IsCommandLine, IsFormParser, IsKindParser, IsSubcommand};
 ghost use Rattle.smpe_invocation.specs.CommandLine.{check_shape, database_options, file_arg, flag_arg, form_arg};
-ghost use Rattle.smpe_invocation.specs.CommandLine.{kind_arg, lint_shape, list_shape, migrate_shape, optional_arg};
-ghost use Rattle.smpe_invocation.specs.CommandLine.{optional_repeatable_arg, required_arg, required_file_arg};
-ghost use Rattle.smpe_invocation.specs.CommandLine.{required_repeatable_arg, run_shape, system_options, verify_shape};
-ghost use Rattle.smpe_invocation.specs.CommandLine.{why_shape, with_options, zone_shape};
+ghost use Rattle.smpe_invocation.specs.CommandLine.{kind_arg, lint_shape, list_shape, mend_shape, migrate_shape};
+ghost use Rattle.smpe_invocation.specs.CommandLine.{optional_arg, optional_repeatable_arg, required_arg};
+ghost use Rattle.smpe_invocation.specs.CommandLine.{required_file_arg, required_repeatable_arg, run_shape, set_options};
+ghost use Rattle.smpe_invocation.specs.CommandLine.{system_options, verify_shape, why_shape, with_options, zone_shape};
 
 use clap::{Arg, ArgAction, Command};
 use std::alloc::{AllocError, Global};
@@ -39,6 +39,7 @@ pub(crate) fn command_line<'a>(alloc: Global) -> Result<Command<'a>, AllocError>
     .subcommand(list_command(alloc)?)?
     .subcommand(why_command(alloc)?)?
     .subcommand(check_command(alloc)?)?
+    .subcommand(mend_command(alloc)?)?
     .subcommand(lint_command(alloc)?)?
     .subcommand(migrate_command(alloc)?)?
     .subcommand(verify_command(alloc)?)
@@ -140,54 +141,95 @@ fn why_command<'a>(alloc: Global) -> Result<Command<'a>, AllocError>
     ))
 }
 
-// `clap` takes any of the options for an empty system (`--srel`) and for a copy of a database, and any of the names of
-// files. The module `checked` refuses a mixture of the two systems, and one of records and other files.
+// `clap` takes any of the options for an empty system (`--srel`) and for a copy of a database, any of the names of
+// files, and any form of the answer. The modules `checked` and `answer_form` refuse a mixture of the two systems, one
+// of records and other files, and a form that the check of records or of commands does not have.
 fn check_command<'a>(alloc: Global) -> Result<Command<'a>, AllocError>
     ensures { IfOk result (IsSubcommand check_shape) }
 {
-    checked_system_command(alloc)?
+    service_set_command(alloc)?
+        .arg(flag_arg(alloc, "report", "Prints the reports of the commands"))?
+        .arg(flag_arg(
+            alloc,
+            "json",
+            "Prints the summary and the decisions as JSON",
+        ))?
         .arg(optional_arg(
             alloc,
-            "ptfin",
-            "The file of records of SYSMODs, in place of FILE",
+            "certificate",
+            "A new file for the certificate of the decision",
         ))?
-        .arg(optional_arg(alloc, "hold", "The file of records of holds, with --ptfin"))?
-        .arg(optional_arg(
-            alloc,
-            "cntl",
-            "The file of commands, in place of the APPLY CHECK",
-        ))?
-        .arg(optional_arg(alloc, "date", "The job's date, as YYYY-MM-DD, for --cntl"))?
         .arg(file_arg(alloc))
 }
 
-// `check` with the options that name the system.
-fn checked_system_command<'a>(alloc: Global) -> Result<Command<'a>, AllocError>
-    ensures { IfOk result (IsSubcommand (with_options (codes "check") (system_options []))) }
+// `check` with the options that name the system, the records and the commands.
+fn service_set_command<'a>(alloc: Global) -> Result<Command<'a>, AllocError>
+    ensures { IfOk result (IsSubcommand (with_options (codes "check") (set_options []))) }
 {
-    new_command(
+    system_command(
         alloc,
         "check",
         "Tells what a service set would do in an empty system, or in a copy of a database",
-        "Example: smpe check --db smpe.db --zone TGT1 --why UA00001 ptfs.txt holddata.txt",
-    )
-    .arg(optional_arg(
-        alloc,
-        "srel",
-        "The SREL of the zones DLIB and TGT of an empty system",
-    ))?
-    .arg(optional_arg(alloc, "db", "The database, which is only read"))?
-    .arg(wait_arg(alloc))?
-    .arg(optional_arg(
-        alloc,
-        "zone",
-        "The target or distribution zone of the database",
-    ))?
+        "Example: smpe check --db smpe.db --zone TGT1 ptfs.txt holddata.txt",
+    )?
     .arg(optional_repeatable_arg(
         alloc,
         "why",
         "An id to ask about afterwards, as why does, once or more often",
-    ))
+    ))?
+    .arg(optional_arg(
+        alloc,
+        "ptfin",
+        "The file of records of SYSMODs, in place of FILE",
+    ))?
+    .arg(optional_arg(alloc, "hold", "The file of records of holds, with --ptfin"))?
+    .arg(optional_arg(
+        alloc,
+        "cntl",
+        "The file of commands, in place of the APPLY CHECK",
+    ))?
+    .arg(optional_arg(alloc, "date", "The job's date, as YYYY-MM-DD, for --cntl"))
+}
+
+// A command over an empty system or a copy of a database, with the options that name it.
+fn system_command<'a>(
+    alloc: Global,
+    name: &'a str,
+    about: &'a str,
+    example: &'a str,
+) -> Result<Command<'a>, AllocError>
+    ensures { IfOk result (IsSubcommand (with_options name.entry.now (system_options []))) }
+{
+    new_command(alloc, name, about, example)
+        .arg(optional_arg(
+            alloc,
+            "srel",
+            "The SREL of the zones DLIB and TGT of an empty system",
+        ))?
+        .arg(optional_arg(alloc, "db", "The database, which is only read"))?
+        .arg(wait_arg(alloc))?
+        .arg(optional_arg(
+            alloc,
+            "zone",
+            "The target or distribution zone of the database",
+        ))
+}
+
+fn mend_command<'a>(alloc: Global) -> Result<Command<'a>, AllocError>
+    ensures { IfOk result (IsSubcommand mend_shape) }
+{
+    system_command(
+        alloc,
+        "mend",
+        "Tells what to do that SYSMODs go on, in an empty system or in a copy of a database",
+        "Example: smpe mend --db smpe.db --zone TGT1 --id UA00001 ptfs.txt holddata.txt",
+    )?
+    .arg(required_repeatable_arg(
+        alloc,
+        "id",
+        "The id of a SYSMOD that does not go on, once or more often",
+    ))?
+    .arg(required_file_arg(alloc))
 }
 
 fn lint_command<'a>(alloc: Global) -> Result<Command<'a>, AllocError>

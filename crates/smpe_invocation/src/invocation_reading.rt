@@ -5,8 +5,9 @@ ghost use Rattle.smpe_invocation.specs.Answers.{Excludes, IsMet, IsRead, IsRefus
 ghost use Rattle.smpe_invocation.specs.Values.{HasValues};
 ghost use Rattle.smpe_invocation.specs.declared.asked.Invocation.{Invocation};
 
-use crate::asked::{Invocation, LintOptions, RunOptions, WhyOptions, ZoneDefinition};
-use crate::checked::{read_checked_system, read_service_set};
+use crate::answer_form::read_check_answer;
+use crate::asked::{Invocation, LintOptions, MendOptions, RunOptions, WhyOptions, ZoneDefinition};
+use crate::checked::{read_checked_system, read_mended_system, read_service_set};
 use crate::command::command_line;
 use crate::fault::ArgFault;
 use crate::option_values::{
@@ -18,8 +19,9 @@ use std::alloc::Global;
 
 /// Reads the words, the first of which is the program's name. Returns `Memory` if memory runs out, `Clap` if `clap`
 /// refuses the words or has a text to show instead of them, as for `--help`, and `BadOperand` if a name, an id, an
-/// SREL, a date or a number of seconds has a bad form, if `check` is asked about no system or about two, or if it gets
-/// no service set or one of both forms, or `--hold` without `--ptfin`.
+/// SREL, a date or a number of seconds has a bad form, if `check` or `mend` is asked about no system or about two, if
+/// `check` gets no service set or one of both forms, or `--hold` without `--ptfin`, if `--json` or `--certificate` is
+/// given with `--ptfin` or `--cntl`, or `--json` with `--report` or `--why`.
 pub fn invocation<'a>(alloc: Global, words: &'a [&'a str]) -> Result<Invocation, ArgFault>
     ensures ok { IfOk result (IsRead (map (λ word. word.now) words.entry.now)) }
     ensures err { IfErr result (IsRefused (map (λ word. word.now) words.entry.now)) }
@@ -50,6 +52,8 @@ fn read_subcommand_options(
         read_why_options(alloc, found)
     } else if name == "check" {
         read_check_options(alloc, found)
+    } else if name == "mend" {
+        read_mend_options(alloc, found)
     } else if name == "lint" {
         read_lint_options(alloc, found)
     } else if name == "migrate" {
@@ -138,7 +142,24 @@ fn read_check_options(alloc: Global, found: &ArgMatches<'_>) -> Result<Invocatio
 {
     let system = read_checked_system(alloc, found)?;
     let set = read_service_set(alloc, found)?;
-    Ok(Invocation::Check { system, set })
+    let answer = read_check_answer(alloc, found)?;
+    Ok(Invocation::Check {
+        system,
+        set,
+        answer,
+    })
+}
+
+fn read_mend_options(alloc: Global, found: &ArgMatches<'_>) -> Result<Invocation, ArgFault>
+    ensures ok { IfOk result (HasValues (codes "mend", rows_of (found_of found.now))) }
+    ensures err { IfErr result (λ e. Excludes e ((invocation : Invocation)
+        × HasValues (codes "mend", rows_of (found_of found.now)) invocation)) }
+{
+    let system = read_mended_system(alloc, found)?;
+    let ids = read_required_ids(alloc, found)?;
+    let files = read_files(alloc, found)?;
+    let options = MendOptions { ids, files };
+    Ok(Invocation::Mend { system, options })
 }
 
 fn read_lint_options(alloc: Global, found: &ArgMatches<'_>) -> Result<Invocation, ArgFault>

@@ -4,6 +4,7 @@
 //! has it. No contract says anything about `clap`'s texts.
 #![tactic(auto)]
 
+mod answer_form;
 mod asked;
 mod checked;
 mod command;
@@ -13,8 +14,9 @@ mod invocation_reading;
 mod option_values;
 
 pub use asked::{
-    CheckedSystem, CommandJob, DatabaseFile, Invocation, LintForm, LintOptions, RunOptions,
-    ServiceSet, SetFiles, SystemCopy, WhyOptions, ZoneDefinition,
+    CheckAnswer, CheckForm, CheckedSystem, CommandJob, DatabaseFile, Invocation, LintForm,
+    LintOptions, MendOptions, RunOptions, ServiceSet, SetFiles, SystemCopy, WhyOptions,
+    ZoneDefinition,
 };
 pub use date::read_date;
 pub use fault::ArgFault;

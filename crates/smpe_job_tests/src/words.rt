@@ -3,7 +3,10 @@
 use fields::Id;
 use scripts::compare;
 use smpe::{ArgFault, DatabaseFile, Invocation, invocation};
-use smpe_invocation::{CheckedSystem, LintForm, LintOptions, ServiceSet, SetFiles, WhyOptions};
+use smpe_invocation::{
+    CheckAnswer, CheckForm, CheckedSystem, LintForm, LintOptions, MendOptions, ServiceSet,
+    SetFiles, WhyOptions,
+};
 use std::alloc::Global;
 use std::test::Fail;
 
@@ -51,32 +54,49 @@ const ASKED: &[(&str, &str)] = &[
         "why --db F --zone TGT1 --bypass HOLDSYSTEM(ACTION),PRE --group --id UA00001",
         "F:0 TGT1 UA00001 - group HOLDSYSTEM(ACTION),PRE",
     ),
-    ("check --srel Z038 --ptfin P", "Z038 ptfin P - - -"),
+    ("check --srel Z038 --ptfin P", "Z038 ptfin P - - - report -"),
     (
-        "check --db F --zone TGT1 --ptfin P",
-        "F:0 TGT1 - ptfin P - - -",
+        "check --db F --zone TGT1 --ptfin P --report",
+        "F:0 TGT1 - ptfin P - - - report -",
     ),
     (
         "check --why UA00001 --db F --wait 5 --zone TGT1 --ptfin P --why UA00002 --hold H",
-        "F:5 TGT1 UA00001,UA00002 ptfin P H - -",
+        "F:5 TGT1 UA00001,UA00002 ptfin P H - - report -",
     ),
     (
         "check --db F --zone TGT1 --ptfin P --cntl C --date 2024-05-17",
-        "F:0 TGT1 - ptfin P - C 24.138",
+        "F:0 TGT1 - ptfin P - C 24.138 report -",
     ),
     (
         "check --ptfin P --hold H --srel Z038 --cntl C --date 2024-05-17",
-        "Z038 ptfin P H C 24.138",
+        "Z038 ptfin P H C 24.138 report -",
     ),
-    ("check --srel Z038 A", "Z038 A - -"),
-    ("check A --srel Z038 B C", "Z038 A,B,C - -"),
+    ("check --srel Z038 A", "Z038 A - - summary -"),
     (
-        "check --why UA00001 A --db F --zone TGT1 B",
-        "F:0 TGT1 UA00001 A,B - -",
+        "check A --srel Z038 --report B C",
+        "Z038 A,B,C - - report -",
+    ),
+    ("check --json --srel Z038 A", "Z038 A - - json -"),
+    (
+        "check --why UA00001 A --db F --zone TGT1 --certificate=D B",
+        "F:0 TGT1 UA00001 A,B - - summary D",
     ),
     (
-        "check --srel Z038 --cntl C --date 2024-05-17 -- A --hold",
-        "Z038 A,--hold C 24.138",
+        "check --json A --db F --zone TGT1 --certificate D",
+        "F:0 TGT1 - A - - json D",
+    ),
+    (
+        "check --report --certificate D --srel Z038 A",
+        "Z038 A - - report D",
+    ),
+    (
+        "check --srel Z038 --cntl C --date 2024-05-17 -- A --json",
+        "Z038 A,--json C 24.138 report -",
+    ),
+    ("mend --srel Z038 --id UA00001 A", "Z038 UA00001 A"),
+    (
+        "mend A --id=UA00002 --zone TGT1 --db F --id UA00001 --wait 5 B",
+        "F:5 TGT1 - UA00002,UA00001 A,B",
     ),
     ("lint --srel Z038 A", "Z038 text A"),
     ("lint A --form=json B --srel Z038", "Z038 json A,B"),
@@ -88,6 +108,14 @@ const ASKED: &[(&str, &str)] = &[
 /// Words that `clap` refuses, or to which it responds itself.
 const CLAP: &[&str] = &[
     "check --db F --db G --zone TGT1 --ptfin P",
+    "check --srel Z038 --certificate C --certificate D A",
+    "check --srel Z038 --json --json A",
+    "check --srel Z038 --json=yes A",
+    "mend --srel Z038 A",
+    "mend --srel Z038 --id UA00001",
+    "mend --srel Z038 --id UA00001 --why UA00002 A",
+    "mend --srel Z038 --id UA00001 --json A",
+    "mend --srel Z038 --id UA00001 --ptfin P",
     "check --srel Z038 -A",
     "lint --srel Z038",
     "lint A",
@@ -133,6 +161,18 @@ const BAD: &[&str] = &[
     "check --srel Z038 --hold H",
     "check --srel Z038 --hold H A",
     "check --srel Z038 --cntl C A",
+    "check --srel Z038 --cntl C --date 2024-05-17 --certificate D A",
+    "check --srel Z038 --cntl C --date 2024-05-17 --json A",
+    "check --srel Z038 --ptfin P --certificate D",
+    "check --srel Z038 --ptfin P --json",
+    "check --srel Z038 --report --json A",
+    "check --db F --zone TGT1 --why UA00001 --json A",
+    "mend --id UA00001 A",
+    "mend --db F --id UA00001 A",
+    "mend --db F --zone TGT1 --srel Z038 --id UA00001 A",
+    "mend --srel Z038 --wait 5 --id UA00001 A",
+    "mend --srel Z038 --zone TGT1 --id UA00001 A",
+    "mend --srel Z038 --id UA0001 A",
     "check --srel Z038 --zone TGT1 A",
     "lint --srel z038 A",
     "check --db F --ptfin P",
@@ -206,11 +246,17 @@ fn invocation_text(alloc: Global, invocation: &Invocation) -> Result<String, Fai
             let db = database_text(alloc, db)?;
             Ok(format!(in alloc; "{db} {zone} {ids} {judged}")?)
         }
-        Invocation::Check { system, set } => {
+        Invocation::Check {
+            system,
+            set,
+            answer,
+        } => {
             let system = system_text(alloc, system)?;
             let set = service_set_text(alloc, set)?;
-            Ok(format!(in alloc; "{system} {set}")?)
+            let answer = answer_text(alloc, answer)?;
+            Ok(format!(in alloc; "{system} {set} {answer}")?)
         }
+        Invocation::Mend { system, options } => mend_text(alloc, system, options),
         Invocation::Lint { options } => lint_text(alloc, options),
         Invocation::Migrate { db } => database_text(alloc, db),
         Invocation::Verify { db } => database_text(alloc, db),
@@ -253,6 +299,28 @@ fn service_set_text(alloc: Global, set: &ServiceSet) -> Result<String, Fail> {
         None => ("-", "-"),
     };
     Ok(format!(in alloc; "{files} {cntl} {date}")?)
+}
+
+// The form in which `check` answers, and the certificate's file.
+fn answer_text(alloc: Global, answer: &CheckAnswer) -> Result<String, Fail> {
+    let form = match answer.form {
+        CheckForm::Summary => "summary",
+        CheckForm::Report => "report",
+        CheckForm::Json => "json",
+    };
+    let certificate = answer
+        .certificate
+        .as_ref()
+        .map_or("-", |text| text.as_str());
+    Ok(format!(in alloc; "{form} {certificate}")?)
+}
+
+// What is mended, with which files.
+fn mend_text(alloc: Global, system: &CheckedSystem, options: &MendOptions) -> Result<String, Fail> {
+    let system = system_text(alloc, system)?;
+    let ids = ids_text(alloc, options.ids.as_slice())?;
+    let files = names_text(alloc, options.files.as_slice())?;
+    Ok(format!(in alloc; "{system} {ids} {files}")?)
 }
 
 // The names of a service set's files.

@@ -12,7 +12,7 @@ use Rattle.smpe_jobs.specs.declared.error.JobError.TheVariants as job
 use Rattle.smpe_invocation.specs.declared.fault.ArgFault.TheVariants as arg
 use Rattle.smpe_jobs.specs.declared.messages.Fault.{Fault}
 use Rattle.smpe_jobs.specs.declared.messages.Fault.TheVariants.{Job, Arg, CannotRead, NoCommand, NoZone}
-use Rattle.smpe_jobs.specs.declared.messages.Fault.TheVariants.{NotCarried, NoSource}
+use Rattle.smpe_jobs.specs.declared.messages.Fault.TheVariants.{NotCarried, NoSource, CannotWrite}
 
 abbrev pub zone_fault_text : ZoneFault → Text
 zone_fault_text NameTaken = codes "Zn1"
@@ -66,6 +66,7 @@ fault_text NoCommand = program_line (codes "no command")
 fault_text (NoZone zone) = program_line (codes "no zone " ++ zone)
 fault_text (NotCarried lines) = lines.items ++ program_line (codes "the files cannot be carried")
 fault_text NoSource = program_line (codes "no free source")
+fault_text (CannotWrite name) = program_line (codes "cannot write " ++ name.now)
 
 -- the status of a program that has none
 abbrev pub fault_status : ℕ

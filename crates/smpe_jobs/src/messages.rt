@@ -126,6 +126,9 @@ pub enum Fault<'a> {
     /// The system uses each source that is kept for checks.
     #[error("no free source")]
     NoSource,
+    /// The new file of this name exists, or cannot be written.
+    #[error("cannot write {0}")]
+    CannotWrite(&'a str),
 }
 
 impl From<JobError> for Fault<'_> {
@@ -192,6 +195,16 @@ fn write_uncarried_files<W: Sink>(lines: &[u8], w: &mut W) -> Result<(), WriteFa
     write_program_line(b"the files cannot be carried", w)
 }
 
+// Writes the line of a file that exists or cannot be written. This text has two pieces as well.
+fn write_unwritten_file<W: Sink>(name: &str, w: &mut W) -> Result<(), WriteFault>
+    ensures sends { Sent W.Sink w.old w.new (program_line (codes "cannot write " ++ name.now)) }
+    ensures fault { W.has_failed w.new ≡ is_err result }
+{
+    print(b"smpe: cannot write ", w);
+    print(name.as_bytes(), w);
+    write_all(b"\n", w)
+}
+
 // Writes the line of a zone that a SET names and that is not defined. This text has two pieces as well.
 fn write_undefined_zone<W: Sink>(name: &ZoneName, w: &mut W) -> Result<(), WriteFault>
     ensures sends { Sent W.Sink w.old w.new (program_line (codes "no zone " ++ name.now)) }
@@ -219,6 +232,7 @@ fn write_fault<W: Sink>(fault: &Fault<'_>, w: &mut W) -> Result<(), WriteFault>
         Fault::NoZone(name) => write_undefined_zone(name, w),
         Fault::NotCarried(lines) => write_uncarried_files(lines.as_slice(), w),
         Fault::NoSource => write_program_line(b"no free source", w),
+        Fault::CannotWrite(name) => write_unwritten_file(name, w),
     }
 }
 

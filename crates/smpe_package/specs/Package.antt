@@ -1,9 +1,10 @@
 -- The package: what a shop's files come to, and the command that asks about it.
-use Rattle.std.specs.Prelude.{◌≡◌, ◌⊎◌, ◌&&◌, ℕ, Bool, true, false, not, List, [], ◌∷◌, ◌++◌, length, codes}
+use Rattle.std.specs.Prelude.{◌≡◌, ◌⊎◌, ◌&&◌, ◌↔◌, ℕ, Bool, true, false, not, List, [], ◌∷◌, ◌++◌, length, codes}
+use Rattle.std.specs.Prelude.{Contains, map}
 use Rattle.std.specs.List.{flat_map, list_any}
 use Rattle.std.specs.Str.{bytes_eq}
-use Rattle.terms.specs.Types.{Text, Sysmod}
-use Rattle.terms.specs.Lookups.{is_in}
+use Rattle.terms.specs.Types.{Text, Id, Sysmod}
+use Rattle.terms.specs.Lookups.{is_in, IsRising}
 use Rattle.terms.specs.Ptfin.{IsPtfin}
 use Rattle.terms.specs.HoldFile.{IsHoldFile}
 use Rattle.mcs.specs.Files as ptfin
@@ -28,6 +29,15 @@ pub record HasStatus (files : List WideFile) (items : List Item) (unsure : List 
 abbrev pub HasStatusOf : Carried → ℕ → Type 0
 HasStatusOf c status = HasStatus c.files.items c.narrowed.items.items c.narrowed.unsure.items status
 
+-- the ids of a list, each once and in rising order
+abbrev pub AreIds : List Id → List Id → Type 0
+AreIds rising ids = IsRising rising × ((x : Id) → Contains rising x ↔ Contains ids x)
+
+-- the id of the item, if it is a SYSMOD
+abbrev pub id_of : Item → List Id
+id_of (item.Sysmod s) = s.id ∷ []
+id_of (item.Assign a) = []
+
 -- So many files were read, and the package has what becomes of their statements, each hold of them included.
 pub record IsPackage (given : ℕ) (p : Package) : Type 0 where
   pub files : List WideFile
@@ -35,6 +45,7 @@ pub record IsPackage (given : ℕ) (p : Package) : Type 0 where
   pub carries : CarriesFiles true files p.items.items p.hold_items.items
   pub unsure : List Unsure
   pub are_unsure : AreUnsure (run_of files) p.items.items unsure
+  pub unsure_ids : AreIds p.unsure (map (λ u. u.id) unsure)
   pub status : HasStatus files p.items.items unsure p.status
 
 -- whether the SYSMOD has the source

@@ -9,7 +9,8 @@ ghost use Rattle.smpe_program.specs.Wary.{IsWary};
 use crate::copy::{CopyFault, read_for_copy};
 use crate::input::read_input;
 use crate::left::LeftDatabase;
-use crate::place::{is_missing, is_surely_no_database};
+use crate::new_file::write_new_file;
+use crate::place::{belongs_to_database, is_missing, is_surely_no_database};
 use crate::related_zone::query_related_zone;
 use clap::Error as WordsError;
 use smpe_command::{DatabaseBytes, DatabaseFile, Host};
@@ -17,7 +18,7 @@ use smpe_hints::{CommandLine, has_whole_records};
 use smpe_warnings::{ReadFile, RelatedZone};
 use sqlite::{Connection, Error, ErrorCode, FileFrom, FileStore, Wary};
 use sqlite_disk::Tally;
-use std::io::IsTerminal;
+use std::io::{ErrorKind, IsTerminal};
 use std::time::Duration;
 use std::{fs, io, thread};
 
@@ -28,23 +29,30 @@ pub(crate) type DatabaseFiles = FileStore<FileFrom<Wary>>;
 // checksums would spoil them.
 const NEW_HAS_CHECKSUMS: bool = false;
 
-/// What is known of the database when the program ends.
+// What is said of a new file that is not made because a database would take it for its own.
+const NAME_OF_DATABASE: &str = "the database beside it has this name for its log or journal";
+
+/// The database that the words ask for.
 #[derive(Drop)]
-pub(crate) enum Database {
-    /// The words ask for none.
-    None,
+pub(crate) struct Database {
+    pub(crate) name: String,
+    pub(crate) state: DatabaseState,
+}
+
+/// What is known of a database when the program ends.
+#[derive(Clone, Copy)]
+pub(crate) enum DatabaseState {
     /// It does not exist, and was not to be created.
-    Missing(String),
+    Missing,
     /// It was not opened, for this reason.
-    Refused(String, Error),
+    Refused(Error),
     /// It was opened, and this was met when it was closed.
     Opened {
-        name: String,
         is_new: bool,
         closing: Option<Closing>,
     },
     /// Its files were read, for a copy in memory.
-    Copied(String),
+    Copied,
 }
 
 /// What was met when a database was closed.
@@ -89,13 +97,14 @@ pub(crate) struct ProgramHost<'a> {
     /// The zone that `--related` names, and what the database knows of it, for the hints.
     related_name: Option<&'a str>,
     pub(crate) related: RelatedZone,
-    pub(crate) database: Database,
+    /// The database; `None` if the words ask for none, or if memory ran out when it was noted.
+    pub(crate) database: Option<Database>,
     /// The connection that the command has closed, until the hints have asked it.
     pub(crate) left: LeftDatabase,
     /// The files of records that were read.
     pub(crate) files: Vec<ReadFile>,
-    /// Why a file was not read.
-    pub(crate) unread: Option<String>,
+    /// Why a file was not read, or not created.
+    pub(crate) file_fault: Option<String>,
 }
 
 impl ProgramHost<'_> {
@@ -112,13 +121,13 @@ impl ProgramHost<'_> {
             may_create_database,
             related_name,
             related: RelatedZone::Unknown,
-            database: Database::None,
+            database: None,
             left: LeftDatabase {
                 alloc: rt.alloc(),
                 conn: None,
             },
             files: Vec::new(rt.alloc()),
-            unread: None,
+            file_fault: None,
         }
     }
 
@@ -129,14 +138,16 @@ impl ProgramHost<'_> {
                 self.related = query_related_zone(&mut open, name).unwrap_or(RelatedZone::Unknown);
             }
             let met = Closing::close(open);
-            if let Database::Opened { closing, .. } = &mut self.database {
+            if let Some(database) = &mut self.database
+                && let DatabaseState::Opened { closing, .. } = &mut database.state
+            {
                 *closing = Some(met);
             }
         }
     }
 
     // Keeps a copy of a file of records, for the hints about its records. If memory runs out, these hints are left out.
-    // A file that does not end with a whole record is refused by RECEIVE, and as a command file. Usually it is typed
+    // If the file does not end with a whole record, it is refused by RECEIVE, and as a command file. Usually it is typed
     // text, so a line on standard error says what to do.
     fn keep_records(&mut self, name: &str, bytes: &[u8]) {
         if !has_whole_records(bytes) {
@@ -153,26 +164,37 @@ impl ProgramHost<'_> {
         }
     }
 
-    // Notes why a file was not read, for what is said at the end.
-    fn note_unread(&mut self, name: &str, error: &io::Error) {
-        self.unread = format!(in self.rt.alloc(); "{name}: {error}").ok();
+    // Notes why a file was not read or not created, for what is said at the end.
+    fn note_file_fault(&mut self, name: &str, error: &io::Error) {
+        self.file_fault = format!(in self.rt.alloc(); "{name}: {error}").ok();
     }
 
-    // A copy of the name, or no text if memory runs out.
-    fn copy_name(&self, name: &str) -> String {
-        String::from_str(self.rt.alloc(), name).unwrap_or(String::new(self.rt.alloc()))
+    // Notes what is known of the database of this name. If memory runs out, nothing is said of it at the end.
+    fn note_database(&mut self, name: &str, state: DatabaseState) {
+        self.database = match String::from_str(self.rt.alloc(), name) {
+            Ok(name) => Some(Database { name, state }),
+            Err(_) => None,
+        };
+    }
+
+    // Whether this run has made the database.
+    fn has_made_database(&self) -> bool {
+        match &self.database {
+            Some(database) => matches!(database.state, DatabaseState::Opened { is_new: true, .. }),
+            None => false,
+        }
     }
 
     // Notes why a database was not copied, for what is said at the end.
     fn note_copy_fault(&mut self, name: &str, fault: &CopyFault) {
         match fault {
-            CopyFault::Unread(error) => self.note_unread(name, error),
+            CopyFault::Unread(error) => self.note_file_fault(name, error),
             CopyFault::Unfit(why) => {
-                self.unread = format!(in self.rt.alloc(); "{name}: {why}").ok();
+                self.file_fault = format!(in self.rt.alloc(); "{name}: {why}").ok();
             }
             CopyFault::NoDatabase => {
                 let error = Error::SqliteFailure(ErrorCode::NotADatabase);
-                self.database = Database::Refused(self.copy_name(name), error);
+                self.note_database(name, DatabaseState::Refused(error));
             }
             CopyFault::Memory => {}
         }
@@ -230,6 +252,10 @@ impl Host for ProgramHost<'_> {
 
     ghost withholds = { λ _ _ _ _. Unit {0} };
 
+    ghost writes = { λ _ _ _ _. Unit {0} };
+
+    ghost cannot_write = { λ _ _ _ _. Unit {0} };
+
     ghost opens = { λ _ _ conn _. IsNew conn × IsWary conn × (HasCleanDisk (file_state conn) → IsOpened conn) };
 
     ghost holds = { λ _ _ _ _ _. Unit {0} };
@@ -258,10 +284,22 @@ impl Host for ProgramHost<'_> {
                 Ok(bytes)
             }
             Err(error) => {
-                self.note_unread(name, &error);
+                self.note_file_fault(name, &error);
                 Err(error)
             }
         }
+    }
+
+    fn write_new(&mut self, name: &str, bytes: &[u8]) -> io::Result<()> {
+        if belongs_to_database(self.rt, name) {
+            self.file_fault = format!(in self.rt.alloc(); "{name}: {NAME_OF_DATABASE}").ok();
+            return Err(io::Error::from(ErrorKind::InvalidInput));
+        }
+        let written = write_new_file(self.rt, name, bytes);
+        if let Err(error) = &written {
+            self.note_file_fault(name, error);
+        }
+        written
     }
 
     fn open(&mut self, db: &DatabaseFile) -> Result<Connection<Self::Disk>, sqlite::Error> {
@@ -269,22 +307,19 @@ impl Host for ProgramHost<'_> {
         let name = db.name.as_str();
         let is_missing = is_missing(self.rt, name);
         if is_missing && !self.may_create_database {
-            self.database = Database::Missing(self.copy_name(name));
+            self.note_database(name, DatabaseState::Missing);
             return Err(Error::SqliteFailure(ErrorCode::CannotOpen));
         }
         // (a careful job opens its database twice, and may have made it the first time)
-        let is_new = is_missing || matches!(self.database, Database::Opened { is_new: true, .. });
+        let is_new = is_missing || self.has_made_database();
         match self.open_waiting(name, db.wait) {
             Ok(conn) => {
-                self.database = Database::Opened {
-                    name: self.copy_name(name),
-                    is_new,
-                    closing: None,
-                };
+                let closing = None;
+                self.note_database(name, DatabaseState::Opened { is_new, closing });
                 Ok(conn)
             }
             Err(error) => {
-                self.database = Database::Refused(self.copy_name(name), error);
+                self.note_database(name, DatabaseState::Refused(error));
                 Err(error)
             }
         }
@@ -294,12 +329,12 @@ impl Host for ProgramHost<'_> {
     fn read_database(&mut self, db: &DatabaseFile) -> Result<DatabaseBytes, sqlite::Error> {
         let name = db.name.as_str();
         if is_missing(self.rt, name) {
-            self.database = Database::Missing(self.copy_name(name));
+            self.note_database(name, DatabaseState::Missing);
             return Err(Error::SqliteFailure(ErrorCode::CannotOpen));
         }
         match read_for_copy(self.rt, name, db.wait) {
             Ok(bytes) => {
-                self.database = Database::Copied(self.copy_name(name));
+                self.note_database(name, DatabaseState::Copied);
                 Ok(bytes)
             }
             Err(fault) => {

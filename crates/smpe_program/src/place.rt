@@ -1,4 +1,5 @@
 //! What is at the name of a database.
+use std::alloc::AllocError;
 use std::fs::{File, OpenOptions};
 use std::io::{ErrorKind, Read};
 use std::os::unix::fs::MetadataExt;
@@ -16,6 +17,21 @@ const HEAD: &[u8] = b"SQLite format 3\0";
 
 // The length of `HEAD`.
 const HEAD_BYTES: usize = 16;
+
+// The ends of the names of the files that a database has beside it.
+const ENDS_BESIDE_DATABASE: [&str; 3] = ["-wal", "-shm", "-journal"];
+
+/// Whether a database that exists would take a file of this name for its own log or journal.
+pub(crate) fn belongs_to_database(rt: &HostRuntime, name: &str) -> bool {
+    for end in ENDS_BESIDE_DATABASE {
+        if let Some(database) = name.strip_suffix(end)
+            && !is_missing(rt, database)
+        {
+            return true;
+        }
+    }
+    false
+}
 
 /// Whether no file has this name. The answer is false if the system does not tell.
 pub(crate) fn is_missing(rt: &HostRuntime, name: &str) -> bool {
@@ -58,12 +74,14 @@ pub(crate) fn has_bytes(rt: &HostRuntime, name: &str) -> io::Result<bool> {
     }
 }
 
-/// Why the library cannot open a database of this name, as far as its file shows that.
-pub(crate) fn place_fault(rt: &HostRuntime, name: &str) -> &'static str {
+/// Why the library cannot open a database of this name, as far as its file shows that. An error means that memory runs
+/// out.
+pub(crate) fn place_fault(rt: &HostRuntime, name: &str) -> Result<&'static str, AllocError> {
     if name.is_empty() || name == ":memory:" || name.starts_with("file:") {
-        return "this is no name of a file";
+        return Ok("this is no name of a file");
     }
-    match fs::metadata(rt, name) {
+    Ok(match fs::metadata(rt, name) {
+        Err(error) if error.kind() == ErrorKind::OutOfMemory => return Err(AllocError),
         Err(error) if error.kind() == ErrorKind::NotFound => {
             "its folder is not there, or nothing can be made in it"
         }
@@ -71,30 +89,25 @@ pub(crate) fn place_fault(rt: &HostRuntime, name: &str) -> &'static str {
         Ok(metadata) if metadata.is_dir() => "it is a folder",
         Ok(metadata) if !metadata.is_file() => NO_PLAIN_FILE,
         Ok(metadata) if metadata.nlink() > 1 => "it has a second name, by a hard link",
-        Ok(_) => file_fault(rt, name),
-    }
+        Ok(_) => file_fault(rt, name)?,
+    })
 }
 
 // Why the library cannot open this plain file.
-fn file_fault(rt: &HostRuntime, name: &str) -> &'static str {
-    match OpenOptions::new().read(true).write(true).open(rt, name) {
-        Err(error) if error.kind() == ErrorKind::PermissionDenied => {
-            "you have no permission to write to it"
-        }
-        Err(error) if error.kind() == ErrorKind::ReadOnlyFilesystem => {
-            "it is on a file system that is read-only"
-        }
-        Err(_) => "it cannot be written",
-        Ok(_) if has_journal(rt, name) => LEFT_JOURNAL,
-        Ok(_) => "nothing can be written in its folder, or its -wal belongs to someone else",
-    }
-}
-
-// Whether a rollback journal with bytes is beside the database. The answer is false if the system does not tell, or if
-// memory runs out.
-fn has_journal(rt: &HostRuntime, name: &str) -> bool {
-    match format!(in rt.alloc(); "{name}-journal") {
-        Ok(journal) => has_bytes(rt, journal.as_str()).unwrap_or(false),
-        Err(_) => false,
-    }
+fn file_fault(rt: &HostRuntime, name: &str) -> Result<&'static str, AllocError> {
+    let journal = format!(in rt.alloc(); "{name}-journal")?;
+    Ok(
+        match OpenOptions::new().read(true).write(true).open(rt, name) {
+            Err(error) if error.kind() == ErrorKind::OutOfMemory => return Err(AllocError),
+            Err(error) if error.kind() == ErrorKind::PermissionDenied => {
+                "you have no permission to write to it"
+            }
+            Err(error) if error.kind() == ErrorKind::ReadOnlyFilesystem => {
+                "it is on a file system that is read-only"
+            }
+            Err(_) => "it cannot be written",
+            Ok(_) if has_bytes(rt, journal.as_str()).unwrap_or(false) => LEFT_JOURNAL,
+            Ok(_) => "nothing can be written in its folder, or its -wal belongs to someone else",
+        },
+    )
 }

@@ -1,6 +1,6 @@
 //! What is said on standard error when the program ends, besides the line of its fault.
 use crate::copy::{may_have_meta_table, read_for_copy};
-use crate::host::{Closing, Database, ProgramHost};
+use crate::host::{Closing, Database, DatabaseState, ProgramHost};
 use crate::place::{is_surely_no_database, place_fault};
 use jiff::Timestamp;
 use jiff::tz::Offset;
@@ -26,8 +26,8 @@ const NO_META_TABLE: &str =
 const UNSOUND: &str =
     "the database is damaged, has rows that break its own keys, or has tables that smpe cannot read";
 
-/// What the job should be warned of, as the database that it has left shows; nothing if the job was broken off, or if
-/// memory runs out.
+/// What the job should be warned of, as the database that it has left shows; nothing if the job was broken off, if the
+/// database does not answer, or if memory runs out.
 pub(crate) fn job_warnings(
     rt: &HostRuntime,
     words: &[Vec<u8>],
@@ -35,7 +35,7 @@ pub(crate) fn job_warnings(
     report: &ReportWatch,
     faults: &ReportWatch,
 ) -> Vec<String> {
-    if !faults.first_line().is_empty() {
+    if !faults.first_line().is_empty() || report.has_lost_line() || faults.has_lost_line() {
         return Vec::new(rt.alloc());
     }
     let tomorrow = tomorrow(rt);
@@ -73,8 +73,8 @@ pub(crate) fn write_hints(
     }
 }
 
-// The lines about the report, the fault, a file that was not read, and a database that was made. Here and below, an
-// error means that memory runs out.
+// The lines about the report, the fault, a file that was not read or not created, and a database that was made. Here and
+// below, an error means that memory runs out.
 fn hint_lines(
     rt: &HostRuntime,
     words: &[Vec<u8>],
@@ -82,6 +82,9 @@ fn hint_lines(
     report: &ReportWatch,
     faults: &ReportWatch,
 ) -> Result<Vec<String>, AllocError> {
+    if report.has_lost_line() || faults.has_lost_line() {
+        return Err(AllocError);
+    }
     let mut lines = report.hints(words, host.files.as_slice(), &host.related)?;
     let hint = match faults.first_line() {
         // (the job has read its files, and printed nothing)
@@ -91,8 +94,8 @@ fn hint_lines(
         fault => fault_hint(rt, words, host, fault)?,
     };
     push_if_any(hint, &mut lines)?;
-    if let Some(unread) = &host.unread {
-        lines.push(String::from_str(rt.alloc(), unread.as_str())?)?;
+    if let Some(fault) = &host.file_fault {
+        lines.push(String::from_str(rt.alloc(), fault.as_str())?)?;
     }
     push_if_any(new_database_hint(rt, &host.database)?, &mut lines)?;
     Ok(lines)
@@ -126,48 +129,54 @@ fn push_if_any(line: Option<String>, lines: &mut Vec<String>) -> Result<(), Allo
 
 // The line that says that the program has created the database, as it does for a misspelled name, or `None` if it has
 // not.
-fn new_database_hint(rt: &HostRuntime, database: &Database) -> Result<Option<String>, AllocError> {
-    match database {
-        Database::Opened {
-            name,
-            is_new: true,
-            ..
-        } => Ok(Some(format!(in rt.alloc(); "there was no database {name}, and it was made")?)),
+fn new_database_hint(
+    rt: &HostRuntime,
+    database: &Option<Database>,
+) -> Result<Option<String>, AllocError> {
+    let Some(database) = database else {
+        return Ok(None);
+    };
+    let name = database.name.as_str();
+    match database.state {
+        DatabaseState::Opened { is_new: true, .. } => Ok(Some(format!(in rt.alloc();
+            "there was no database {name}, and it was made"
+        )?)),
         _ => Ok(None),
     }
 }
 
 // Why the database failed, as far as the library or the file shows that, or `None` if the words ask for no database.
-fn database_hint(rt: &HostRuntime, database: &Database) -> Result<Option<String>, AllocError> {
-    match database {
-        Database::None => Ok(None),
-        Database::Missing(name) => Ok(Some(format!(in rt.alloc();
-            "there is no database {name}; smpe zone makes one"
-        )?)),
-        Database::Refused(name, Error::SqliteFailure(ErrorCode::CannotOpen)) => {
-            let fault = place_fault(rt, name.as_str());
-            Ok(Some(format!(in rt.alloc(); "the database can't be opened: {name}: {fault}")?))
+fn database_hint(
+    rt: &HostRuntime,
+    database: &Option<Database>,
+) -> Result<Option<String>, AllocError> {
+    let Some(database) = database else {
+        return Ok(None);
+    };
+    let name = database.name.as_str();
+    let text = match database.state {
+        DatabaseState::Missing => {
+            let hint = format!(in rt.alloc(); "there is no database {name}; smpe zone makes one")?;
+            return Ok(Some(hint));
         }
-        Database::Refused(name, Error::SqliteFailure(ErrorCode::NotADatabase))
-            if is_surely_no_database(rt, name.as_str()) => {
-            Ok(Some(String::from_str(rt.alloc(), "the file is no database")?))
+        DatabaseState::Refused(Error::SqliteFailure(ErrorCode::CannotOpen)) => {
+            let fault = place_fault(rt, name)?;
+            let hint = format!(in rt.alloc(); "the database can't be opened: {name}: {fault}")?;
+            return Ok(Some(hint));
         }
-        Database::Refused(_, error) => Ok(Some(String::from_str(
-            rt.alloc(),
-            open_error_text(*error),
-        )?)),
-        Database::Copied(name) => Ok(Some(String::from_str(
-            rt.alloc(),
-            copy_error_text(rt, name.as_str()),
-        )?)),
-        Database::Opened { closing, .. } => {
-            let text = match closing {
-                Some(closing) => failure_text(closing),
-                None => ALTERED_ROW,
-            };
-            Ok(Some(String::from_str(rt.alloc(), text)?))
-        }
-    }
+        DatabaseState::Refused(Error::SqliteFailure(ErrorCode::NotADatabase))
+            if is_surely_no_database(rt, name) => "the file is no database",
+        DatabaseState::Refused(error) => open_error_text(error),
+        DatabaseState::Copied => match copy_error_text(rt, name) {
+            Some(text) => text,
+            None => return Ok(None),
+        },
+        DatabaseState::Opened { closing, .. } => match closing {
+            Some(closing) => failure_text(&closing),
+            None => ALTERED_ROW,
+        },
+    };
+    Ok(Some(String::from_str(rt.alloc(), text)?))
 }
 
 // Why the library refused to open the database.
@@ -181,11 +190,13 @@ fn open_error_text(error: Error) -> &'static str {
     }
 }
 
-// Why a database that was copied failed, as far as its files, which are read once more, show the reason.
-fn copy_error_text(rt: &HostRuntime, name: &str) -> &'static str {
+// Why a database that was copied failed, as far as its files, which are read once more, show the reason. `None` if they
+// cannot be read any more.
+fn copy_error_text(rt: &HostRuntime, name: &str) -> Option<&'static str> {
     match read_for_copy(rt, name, 0) {
-        Ok(bytes) if !may_have_meta_table(&bytes) => NO_META_TABLE,
-        _ => UNSOUND,
+        Ok(bytes) if !may_have_meta_table(&bytes) => Some(NO_META_TABLE),
+        Ok(_) => Some(UNSOUND),
+        Err(_) => None,
     }
 }
 

@@ -73,10 +73,10 @@ impl<S: Sink> Sink for Watched<'_, S> {
 
     ghost has_failed = { λ w. S.has_failed w.sink };
 
-    // If memory runs out, less is said about the report.
+    // If memory runs out for the watch, nothing is said about the report.
     fn write(&mut self, piece: &[u8]) -> Result<usize, WriteFault> {
         let count = self.sink.write(piece)?;
-        let _ = self.watch.feed(piece.get(..count).unwrap_or(b""));
+        self.watch.feed(piece.get(..count).unwrap_or(b""));
         if let Some(progress) = &mut self.progress {
             progress.print_time_of_ended_command(&self.watch);
         }

@@ -1,11 +1,12 @@
 //! What the hints ask of the database that a job has left.
+use crate::fault::WarningFault;
 use std::alloc::{AllocError, Global};
 
 /// A database that answers questions, after the job.
 pub trait Database {
-    /// The rows of a SELECT with these texts as its parameters, of texts each. There are no rows if the database does
-    /// not answer.
-    fn rows(&mut self, select: &str, values: &[&str]) -> Result<Vec<Vec<String>>, AllocError>;
+    /// The rows of a SELECT with these texts as its parameters, of texts each. Returns `NoAnswer` if the database does
+    /// not answer, so that it is not taken for one without such rows, and `Memory` if memory runs out.
+    fn rows(&mut self, select: &str, values: &[&str]) -> Result<Vec<Vec<String>>, WarningFault>;
 }
 
 /// A zone, with its kind and its SREL.
@@ -20,7 +21,7 @@ pub(crate) struct KnownZone {
 pub(crate) fn zones<D: Database>(
     alloc: Global,
     database: &mut D,
-) -> Result<Vec<KnownZone>, AllocError> {
+) -> Result<Vec<KnownZone>, WarningFault> {
     let mut zones = Vec::new(alloc);
     for row in database.rows("SELECT name, kind, srel FROM zone ORDER BY name", &[])? {
         zones.push(KnownZone {
@@ -43,7 +44,7 @@ pub(crate) fn texts<D: Database>(
     database: &mut D,
     select: &str,
     values: &[&str],
-) -> Result<Vec<String>, AllocError> {
+) -> Result<Vec<String>, WarningFault> {
     let mut texts = Vec::new(alloc);
     for row in database.rows(select, values)? {
         texts.push(column(alloc, &row, 0)?)?;
@@ -64,7 +65,7 @@ pub(crate) fn is_received<D: Database>(
     alloc: Global,
     database: &mut D,
     id: &str,
-) -> Result<bool, AllocError> {
+) -> Result<bool, WarningFault> {
     let found = texts(
         alloc,
         database,
@@ -80,7 +81,7 @@ pub(crate) fn is_applied<D: Database>(
     database: &mut D,
     zone: &str,
     id: &str,
-) -> Result<bool, AllocError> {
+) -> Result<bool, WarningFault> {
     let select = "SELECT id FROM entry WHERE zone = ?1 AND id = ?2 AND date IS NOT NULL";
     let found = texts(alloc, database, select, &[zone, id])?;
     Ok(!found.is_empty())

@@ -1,5 +1,6 @@
 //! What to say of ids that a command names in vain, and of a command that finds nothing.
 use crate::asking::{Database, KnownZone, is_received, listed, texts, zone_of_name};
+use crate::fault::WarningFault;
 use crate::ran::{RanCommand, StatusLine};
 use crate::received::near_text;
 use crate::warnings::JobView;
@@ -15,7 +16,7 @@ pub(crate) fn unknown_id_hint<D: Database>(
     ran: &RanCommand,
     line: &StatusLine,
     database: &mut D,
-) -> Result<Option<String>, AllocError> {
+) -> Result<Option<String>, WarningFault> {
     let alloc = view.alloc;
     let id = line.id.as_str();
     match line.status.as_str() {
@@ -44,7 +45,7 @@ pub(crate) fn nothing_hint<D: Database>(
     ran: &RanCommand,
     selection: &Selection,
     database: &mut D,
-) -> Result<Option<String>, AllocError> {
+) -> Result<Option<String>, WarningFault> {
     let alloc = view.alloc;
     let word = ran.word.as_str();
     if texts(alloc, database, "SELECT id FROM sysmod LIMIT 1", &[])?.is_empty() {
@@ -68,7 +69,7 @@ fn open_text<D: Database>(
     zone: &KnownZone,
     selection: &Selection,
     database: &mut D,
-) -> Result<String, AllocError> {
+) -> Result<String, WarningFault> {
     let takes_ptfs = selection.ptfs
         || !(selection.functions || selection.apars || selection.usermods);
     let mut open = String::new(alloc);
@@ -93,7 +94,7 @@ fn open_of_type<D: Database>(
     kind: &str,
     operand: &str,
     database: &mut D,
-) -> Result<String, AllocError> {
+) -> Result<String, WarningFault> {
     let select = "SELECT s.id FROM sysmod s JOIN ver v ON v.id = s.id \
          WHERE v.srel = ?1 AND s.kind = ?2 AND NOT EXISTS \
          (SELECT 1 FROM entry e WHERE e.zone = ?3 AND e.id = s.id \
@@ -105,7 +106,7 @@ fn open_of_type<D: Database>(
     }
     let list = listed(alloc, ids.as_slice(), MOST_NAMED)?;
     let list = list.as_str();
-    format!(in alloc; "; {operand} would take {list}")
+    Ok(format!(in alloc; "; {operand} would take {list}")?)
 }
 
 /// What to say of a mass choice that took service of functions that are not installed; `None` if it took none.

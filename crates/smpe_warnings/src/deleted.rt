@@ -1,5 +1,6 @@
 //! What a DELETE takes off.
 use crate::asking::{Database, column, is_applied, is_received, listed, texts};
+use crate::fault::WarningFault;
 use std::alloc::{AllocError, Global};
 
 /// How many functions a DELETE is followed through at most.
@@ -26,7 +27,7 @@ pub(crate) fn delete_hint<D: Database>(
     srel: &str,
     id: &str,
     is_check: bool,
-) -> Result<Option<String>, AllocError> {
+) -> Result<Option<String>, WarningFault> {
     let select = "SELECT del FROM ver WHERE id = ?1 AND srel = ?2";
     let lists = texts(alloc, database, select, &[id, srel])?;
     let mut named = Vec::new(alloc);
@@ -92,7 +93,7 @@ fn service_of<D: Database>(
     srel: &str,
     named: Vec<String>,
     is_check: bool,
-) -> Result<Service, AllocError> {
+) -> Result<Service, WarningFault> {
     let mut service = Service {
         functions: Vec::new(alloc),
         usermods: Vec::new(alloc),
@@ -133,7 +134,7 @@ fn service_rows<D: Database>(
     zone: &str,
     srel: &str,
     function: &str,
-) -> Result<Vec<Vec<String>>, AllocError> {
+) -> Result<Vec<Vec<String>>, WarningFault> {
     let select = "SELECT v.id, s.kind FROM ver v JOIN sysmod s ON s.id = v.id \
          WHERE v.srel = ?1 AND v.fmid = ?2 \
          AND NOT EXISTS (SELECT 1 FROM chosen c WHERE c.zone = ?3 AND c.id = v.id) ORDER BY v.id";

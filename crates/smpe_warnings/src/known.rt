@@ -1,5 +1,6 @@
 //! What a command names and nothing received has: source ids, functions, reasons and classes.
 use crate::asking::{Database, listed, texts};
+use crate::fault::WarningFault;
 use cntl::{Bypass, Selection};
 use fields::Reasons;
 use std::alloc::{AllocError, Global};
@@ -13,7 +14,7 @@ pub(crate) fn selection_hints<D: Database>(
     selection: &Selection,
     database: &mut D,
     warnings: &mut Vec<String>,
-) -> Result<(), AllocError> {
+) -> Result<(), WarningFault> {
     if !selection.sourceid.is_empty() {
         let select = "SELECT DISTINCT name FROM source ORDER BY name";
         let known = texts(alloc, database, select, &[])?;
@@ -81,7 +82,7 @@ pub(crate) fn bypass_hints<D: Database>(
     bypass: &Bypass,
     database: &mut D,
     warnings: &mut Vec<String>,
-) -> Result<(), AllocError> {
+) -> Result<(), WarningFault> {
     reason_hints(alloc, "ERROR", &bypass.holderror, database, warnings)?;
     reason_hints(alloc, "SYSTEM", &bypass.holdsystem, database, warnings)?;
     reason_hints(alloc, "USER", &bypass.holduser, database, warnings)?;
@@ -103,7 +104,7 @@ fn reason_hints<D: Database>(
     reasons: &Reasons,
     database: &mut D,
     warnings: &mut Vec<String>,
-) -> Result<(), AllocError> {
+) -> Result<(), WarningFault> {
     let Reasons::These(reasons) = reasons else {
         return Ok(());
     };

@@ -1,6 +1,7 @@
 //! What BYPASS(ID) puts over another level of an element.
 use crate::asking::{Database, column, texts};
-use std::alloc::{AllocError, Global};
+use crate::fault::WarningFault;
+use std::alloc::Global;
 
 /// How many SYSMODs are followed at most from one to those that it is over.
 const MOST_STEPS: usize = 500;
@@ -13,7 +14,7 @@ pub(crate) fn lowered_hints<D: Database>(
     zone: &str,
     id: &str,
     is_check: bool,
-) -> Result<Vec<String>, AllocError> {
+) -> Result<Vec<String>, WarningFault> {
     let mut lines = Vec::new(alloc);
     let mut over = Vec::new(alloc);
     let select = "SELECT type, name FROM elem WHERE id = ?1 AND upd = 0 ORDER BY type, name";
@@ -54,7 +55,7 @@ fn levels<D: Database>(
     kind: &str,
     name: &str,
     is_check: bool,
-) -> Result<Vec<String>, AllocError> {
+) -> Result<Vec<String>, WarningFault> {
     let select = "SELECT rmid, umid FROM zelem WHERE zone = ?1 AND type = ?2 AND name = ?3";
     let rows = database.rows(select, &[zone, kind, name])?;
     let Some(row) = rows.first() else {
@@ -89,7 +90,7 @@ fn ids_below<D: Database>(
     alloc: Global,
     database: &mut D,
     id: &str,
-) -> Result<Vec<String>, AllocError> {
+) -> Result<Vec<String>, WarningFault> {
     let mut ids = Vec::new(alloc);
     ids.push(String::from_str(alloc, id)?)?;
     for place in 0..MOST_STEPS {

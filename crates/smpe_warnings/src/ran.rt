@@ -1,4 +1,5 @@
 //! The commands of a report, with what their lines say of ids.
+use fields::{Id, IdList};
 use std::alloc::{AllocError, Global};
 
 /// How many lines of SYSMODs and holds are kept. Those of functions are kept beyond it.
@@ -6,6 +7,9 @@ const MOST_LINES: usize = 1_000;
 
 /// How many functions are kept that a command found not to be applied.
 const MOST_FUNCTIONS: usize = 5;
+
+/// How many ids of installed and failed SYSMODs are kept before no further command keeps its own.
+const MOST_IDS: usize = 1_000_000;
 
 /// What a line says of an id: its type or kind, and the words after that.
 #[derive(Drop)]
@@ -27,6 +31,10 @@ pub(crate) struct RanCommand {
     /// The code of its refusal, or no text.
     pub(crate) refusal: String,
     pub(crate) lines: Vec<StatusLine>,
+    /// All SYSMODs that it has installed, or would have with CHECK.
+    pub(crate) installed: IdList,
+    /// All SYSMODs that failed.
+    pub(crate) failed: IdList,
     /// The first functions for which it has `NEED FMID`.
     pub(crate) lacking: Vec<String>,
     /// Whether it found nothing to do.
@@ -43,6 +51,18 @@ impl RanCommand {
     pub(crate) fn installs(&self, line: &StatusLine) -> bool {
         self.is_install() && matches!(line.status.as_str(), "APPLIED" | "ACCEPTED")
     }
+
+    // Keeps the id of a SYSMOD by its status, and returns whether it does. The lines of a command rise by their ids.
+    fn keep_id(&mut self, id: &str, status: &str) -> Result<bool, AllocError> {
+        let Some(id) = Id::read(id.as_bytes()) else {
+            return Ok(false);
+        };
+        match status {
+            "APPLIED" | "ACCEPTED" => self.installed.push_last(id),
+            "FAILED" => self.failed.push_last(id),
+            _ => Ok(false),
+        }
+    }
 }
 
 /// The commands that have begun.
@@ -54,6 +74,10 @@ pub(crate) struct RanCommands {
     begun: usize,
     /// How many lines are kept.
     line_count: usize,
+    /// How many ids of installed and failed SYSMODs are kept.
+    id_count: usize,
+    /// Whether the last command that has begun keeps such ids.
+    has_ids: bool,
     /// Whether the last command that has begun is kept.
     is_kept: bool,
 }
@@ -66,6 +90,8 @@ impl RanCommands {
             commands: Vec::new(alloc),
             begun: 0,
             line_count: 0,
+            id_count: 0,
+            has_ids: false,
             is_kept: false,
         }
     }
@@ -80,6 +106,7 @@ impl RanCommands {
         let place = self.begun;
         self.begun = self.begun.saturating_add(1);
         self.is_kept = !matches!(word, "LIST" | "SET");
+        self.has_ids = self.id_count < MOST_IDS;
         if self.is_kept {
             let word = String::from_str(self.alloc, word)?;
             let zone = String::from_str(self.alloc, zone)?;
@@ -90,6 +117,8 @@ impl RanCommands {
                 is_check,
                 refusal: String::new(self.alloc),
                 lines: Vec::new(self.alloc),
+                installed: IdList::new(self.alloc),
+                failed: IdList::new(self.alloc),
                 lacking: Vec::new(self.alloc),
                 is_nothing: false,
             })?;
@@ -121,14 +150,19 @@ impl RanCommands {
             {
                 command.lacking.push(function)?;
             }
-        } else if !line.starts_with(" ") && !third.is_empty() && has_room {
-            self.line_count = self.line_count.saturating_add(1);
-            command.lines.push(StatusLine {
-                id: String::from_str(alloc, first)?,
-                kind: String::from_str(alloc, second)?,
-                status: String::from_str(alloc, third)?,
-                code: String::from_str(alloc, fourth)?,
-            })?;
+        } else if !line.starts_with(" ") && !third.is_empty() {
+            if self.has_ids && command.keep_id(first, third)? {
+                self.id_count = self.id_count.saturating_add(1);
+            }
+            if has_room {
+                self.line_count = self.line_count.saturating_add(1);
+                command.lines.push(StatusLine {
+                    id: String::from_str(alloc, first)?,
+                    kind: String::from_str(alloc, second)?,
+                    status: String::from_str(alloc, third)?,
+                    code: String::from_str(alloc, fourth)?,
+                })?;
+            }
         }
         Ok(())
     }

@@ -1,5 +1,6 @@
 //! What to say of RECEIVE and REJECT.
 use crate::asking::{Database, is_received, listed, texts};
+use crate::fault::WarningFault;
 use crate::ran::{RanCommand, StatusLine};
 use crate::warnings::JobView;
 use fields::ReceiveOperands;
@@ -19,7 +20,7 @@ pub(crate) fn receive_hints<D: Database>(
     asked: &ReceiveOperands,
     database: &mut D,
     warnings: &mut Vec<String>,
-) -> Result<(), AllocError> {
+) -> Result<(), WarningFault> {
     if !ran.refusal.is_empty() {
         return Ok(());
     }
@@ -90,7 +91,7 @@ pub(crate) fn rejected_hint<D: Database>(
     view: &JobView<'_>,
     line: &StatusLine,
     database: &mut D,
-) -> Result<Option<String>, AllocError> {
+) -> Result<Option<String>, WarningFault> {
     let alloc = view.alloc;
     let id = line.id.as_str();
     match line.code.as_str() {
@@ -118,7 +119,7 @@ pub(crate) fn near_text<D: Database>(
     alloc: Global,
     database: &mut D,
     id: &str,
-) -> Result<String, AllocError> {
+) -> Result<String, WarningFault> {
     let mut near = Vec::new(alloc);
     for place in 0..id.len() {
         let (Some(start), Some(end)) = (id.get(..place), id.get(place.saturating_add(1)..)) else {
@@ -138,5 +139,5 @@ pub(crate) fn near_text<D: Database>(
     let verb = if near.len() == 1 { "is" } else { "are" };
     let list = listed(alloc, near.as_slice(), MOST_NAMED)?;
     let list = list.as_str();
-    format!(in alloc; "; near it {verb} {list}")
+    Ok(format!(in alloc; "; near it {verb} {list}")?)
 }

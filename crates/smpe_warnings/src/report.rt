@@ -1,5 +1,6 @@
 //! What in a report needs an explanation.
 use crate::asking::Database;
+use crate::fault::WarningFault;
 use crate::ran::RanCommands;
 use crate::related::{RelatedZone, related_hint};
 use crate::warnings::run_warnings;
@@ -60,6 +61,8 @@ pub struct ReportWatch {
     refused_zone: Option<String>,
     notices: Vec<Notice>,
     ran: RanCommands,
+    /// Whether memory ran out over a line.
+    has_lost_line: bool,
 }
 
 impl ReportWatch {
@@ -75,7 +78,13 @@ impl ReportWatch {
             refused_zone: None,
             notices: Vec::new(alloc),
             ran: RanCommands::new(alloc),
+            has_lost_line: false,
         }
+    }
+
+    /// Whether memory ran out over a line. Then no more lines are followed, and nothing should be said of the report.
+    pub fn has_lost_line(&self) -> bool {
+        self.has_lost_line
     }
 
     /// The first line, or no text until it has ended.
@@ -93,8 +102,15 @@ impl ReportWatch {
         self.header.as_str()
     }
 
-    /// Takes the next bytes of the report, and follows each line that they end.
-    pub fn feed(&mut self, piece: &[u8]) -> Result<(), AllocError> {
+    /// Takes the next bytes of the report, and follows each line that they end, until memory runs out.
+    pub fn feed(&mut self, piece: &[u8]) {
+        if !self.has_lost_line {
+            self.has_lost_line = self.take_bytes(piece).is_err();
+        }
+    }
+
+    // Takes the next bytes of the report, and follows each line that they end.
+    fn take_bytes(&mut self, piece: &[u8]) -> Result<(), AllocError> {
         for &byte in piece {
             if byte == b'\n' {
                 self.end_line()?;
@@ -235,7 +251,7 @@ impl ReportWatch {
         files: &[ReadFile],
         tomorrow: Option<&str>,
         database: &mut D,
-    ) -> Result<Vec<String>, AllocError> {
+    ) -> Result<Vec<String>, WarningFault> {
         let line = CommandLine { words };
         match file_of_option(line, "--cntl", files) {
             Some(cntl) if line.subcommand() == Some("run") => {

@@ -2,10 +2,12 @@
 use crate::asking::{Database, KnownZone, push_if_any, texts, zone_of_name, zones};
 use crate::chosen::{lacking_hint, nothing_hint, unknown_id_hint};
 use crate::deleted::delete_hint;
+use crate::fault::WarningFault;
 use crate::known::{bypass_hints, selection_hints};
 use crate::lowered::lowered_hints;
 use crate::ran::RanCommand;
 use crate::received::{receive_hints, rejected_hint};
+use crate::superseded::superseded_hint;
 use cntl::{Command, Install, read_cntl};
 use smpe_hints::CommandLine;
 use smpe_invocation::read_date;
@@ -37,7 +39,7 @@ pub(crate) fn run_warnings<D: Database>(
     ran: &[RanCommand],
     tomorrow: Option<&str>,
     database: &mut D,
-) -> Result<Vec<String>, AllocError> {
+) -> Result<Vec<String>, WarningFault> {
     let mut warnings = Vec::new(alloc);
     if let (Some(date), Some(tomorrow)) = (line.value("--date"), tomorrow)
         && date > tomorrow
@@ -90,7 +92,7 @@ fn command_warnings<D: Database>(
     view: &JobView<'_>,
     ran: &RanCommand,
     database: &mut D,
-) -> Result<Vec<String>, AllocError> {
+) -> Result<Vec<String>, WarningFault> {
     let alloc = view.alloc;
     let mut warnings = Vec::new(alloc);
     match ran.refusal.as_str() {
@@ -168,7 +170,7 @@ fn install_hints<D: Database>(
     install: &Install,
     database: &mut D,
     warnings: &mut Vec<String>,
-) -> Result<(), AllocError> {
+) -> Result<(), WarningFault> {
     if !has_change_after(view, ran) {
         selection_hints(view.alloc, &install.selection, database, warnings)?;
         bypass_hints(view.alloc, &install.bypass, database, warnings)?;
@@ -198,18 +200,21 @@ fn has_change_after(view: &JobView<'_>, ran: &RanCommand) -> bool {
     false
 }
 
-// Adds what to say of SYSMODs that were installed, or would be with CHECK.
+// Adds what to say of SYSMODs that were installed, or would be with CHECK, and of failed ones that these supersede.
 fn installed_hints<D: Database>(
     view: &JobView<'_>,
     ran: &RanCommand,
     install: &Install,
     database: &mut D,
     warnings: &mut Vec<String>,
-) -> Result<(), AllocError> {
+) -> Result<(), WarningFault> {
     let alloc = view.alloc;
     let Some(zone) = zone_of_name(view.zones, ran.zone.as_str()) else {
         return Ok(());
     };
+    if !has_change_after(view, ran) {
+        push_if_any(superseded_hint(alloc, database, zone, ran)?, warnings)?;
+    }
     let (name, srel) = (zone.name.as_str(), zone.srel.as_str());
     for line in &ran.lines {
         if !ran.installs(line) {
@@ -234,7 +239,7 @@ fn earlier_date_hint<D: Database>(
     view: &JobView<'_>,
     zone: &str,
     database: &mut D,
-) -> Result<Option<String>, AllocError> {
+) -> Result<Option<String>, WarningFault> {
     let alloc = view.alloc;
     let Some(text) = view.line.value("--date") else {
         return Ok(None);

@@ -10,7 +10,11 @@ use Rattle.smpe_certificate.proofs.text.append_inputs.Goals as goal
 
 pub loop-input-preserved : goal.loop-input-preserved
 loop-input-preserved c =
-    let none : Digest = record { name = record { ref_ptr = (0, 0); now = [] }; sha256 = [] } in
+    let none : Digest = record {
+      name = record { ref_ptr = (0, 0); now = [] };
+      suffix = record { ref_ptr = (0, 0); now = [] };
+      sha256 = [];
+    } in
     let f : Digest → List ℕ = λ d. input_line (digest_view d) in
     let inputs = c.args.inputs.now in
     let i = c.loop-input.input-index in

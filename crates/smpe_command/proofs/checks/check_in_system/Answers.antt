@@ -1,10 +1,10 @@
-use Rattle.std.proofs.Common.{◌≡◌, ◌∙◌, List, Ok, Err, map, ap, refl}
+use Rattle.std.proofs.Common.{◌∙◌, List, Ok, Err, map, ap, refl}
 use Rattle.std.proofs.lemmas.Result.{err_from_is_err_and}
 use Rattle.machine.specs.Machine as machine
 use Rattle.smpe_jobs.specs.Ending.{answer_of}
 use Rattle.smpe_jobs.specs.declared.jobs.Answer.{Answer}
-use Rattle.smpe_command.specs.ServiceSet.{greatest}
-use Rattle.smpe_command.proofs.OneJob.{tries_as, alike_ok, alike_err}
+use Rattle.smpe_rehearsal.specs.ServiceSet.{greatest}
+use Rattle.smpe_rehearsal.proofs.OneJob.{tries_as, alike_ok, alike_err}
 use Rattle.smpe_command.proofs.checks.check_in_system.Goals as goal
 
 pub returns-in_err-answers-in-Empty : goal.returns-in_err-answers-in-Empty

@@ -1,6 +1,7 @@
 use Rattle.std.proofs.Common.{List, inr, refl, subst}
 use Rattle.sqlite_disk.specs.contracts.memory.MemoryDisk.TheImpl.{ghosts as memory_disk}
-use Rattle.smpe_command.specs.Copied.{TriesCopied, copy_jobs}
+use Rattle.smpe_command.specs.Copied.{TriesCopied}
+use Rattle.smpe_rehearsal.specs.Copied.{copy_jobs}
 use Rattle.smpe_command.proofs.copied.rehearse_in_copy.Goals as goal
 
 pub returns-in-Some : goal.returns-in-Some

@@ -6,7 +6,8 @@ use Rattle.smpe_jobs.specs.Ending.{answer_of, job_of}
 use Rattle.smpe_jobs.specs.declared.jobs.Job.{Job}
 use Rattle.smpe_jobs.proofs.Early.{jobs_since}
 use Rattle.smpe_command.specs.Database.{JobsOver}
-use Rattle.smpe_command.proofs.OneJob.{over_as, alike_ok, alike_err, only_one}
+use Rattle.smpe_rehearsal.proofs.OneJob.{alike_ok, alike_err}
+use Rattle.smpe_command.proofs.OneJob.{over_as, only_one}
 use Rattle.smpe_command.proofs.database.run_job_in_database.Given.{Over}
 use Rattle.smpe_command.proofs.database.run_job_in_database.Goals.{After-close-2}
 use Rattle.smpe_command.proofs.database.run_job_in_database.Goals as goal

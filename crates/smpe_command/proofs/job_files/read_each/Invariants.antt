@@ -1,4 +1,4 @@
-use Rattle.std.proofs.Common.{List, Ok, Some, map, take}
+use Rattle.std.proofs.Common.{Ok, Some, map, take}
 use Rattle.std.specs.String.{string_bytes}
 use Rattle.smpe_command.specs.Reading.{ReadsAll}
 use Rattle.smpe_command.proofs.job_files.read_each.Given as goal

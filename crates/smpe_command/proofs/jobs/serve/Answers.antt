@@ -38,6 +38,11 @@ returns-in-Check g c =
     subst (λ asked. Serves g.H.Host g.H.Disk.Store memory_disk g.O.Sink c.args.host.now asked c.args.out.now
     c.serve_check.result c.serve_check.new.host c.serve_check.new.out) (sym c.in-Check.is) c.serve_check.ensures
 
+pub returns-in-Mend : goal.returns-in-Mend
+returns-in-Mend g c =
+    subst (λ asked. Serves g.H.Host g.H.Disk.Store memory_disk g.O.Sink c.args.host.now asked c.args.out.now
+    c.serve_mend.result c.serve_mend.new.host c.serve_mend.new.out) (sym c.in-Mend.is) c.serve_mend.ensures
+
 pub returns-in-Lint : goal.returns-in-Lint
 returns-in-Lint g c =
     subst (λ asked. Serves g.H.Host g.H.Disk.Store memory_disk g.O.Sink c.args.host.now asked c.args.out.now

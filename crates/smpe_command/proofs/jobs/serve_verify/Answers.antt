@@ -1,6 +1,6 @@
 use Rattle.std.proofs.Common.{List, Ok, inr, refl, subst}
 use Rattle.std.proofs.lemmas.Result.{err_from_is_err_and}
-use Rattle.smpe_command.specs.Told.{TellsText}
+use Rattle.smpe_rehearsal.specs.Told.{TellsText}
 use Rattle.smpe_command.proofs.jobs.serve_verify.Goals as goal
 
 pub returns-in_err-write_all : goal.returns-in_err-write_all

@@ -1,8 +1,8 @@
 use Rattle.std.proofs.Common.{◌≡◌, ◌∙◌, ℕ, List, Ok, length, inr, sym, ap, refl, subst}
 use Rattle.std.proofs.lemmas.List.{length-map}
 use Rattle.std.proofs.lemmas.Result.{err_from_is_err_and}
+use Rattle.smpe_rehearsal.specs.Told.{TellsText}
 use Rattle.smpe_command.specs.Linting.{IsSound}
-use Rattle.smpe_command.specs.Told.{TellsText}
 use Rattle.smpe_command.proofs.lint.lint_and_write.Goals as goal
 
 pub returns-in_err-write_all : goal.returns-in_err-write_all

@@ -1,4 +1,4 @@
-use Rattle.std.proofs.Common.{◌≡◌, ◌∙◌, ℕ, List, Err, Ok, Some, length, map, ap, inl, inr, sym, refl, subst}
+use Rattle.std.proofs.Common.{◌∙◌, ℕ, List, Err, Ok, Some, length, map, ap, inl, inr, sym, refl, subst}
 use Rattle.std.specs.String.{string_bytes}
 use Rattle.std.proofs.lemmas.List.{length-map}
 use Rattle.std.proofs.lemmas.Result.{err_from_is_err_and}

@@ -1,6 +1,6 @@
 use Rattle.std.proofs.Common.{List, Ok, subst}
 use Rattle.terms.specs.Types.{Text}
-use Rattle.smpe_command.specs.Told.{TellsFound}
+use Rattle.smpe_rehearsal.specs.Told.{TellsFound}
 use Rattle.smpe_command.proofs.questions.answer_why.Goals as goal
 
 pub returns : goal.returns

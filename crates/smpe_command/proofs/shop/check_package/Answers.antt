@@ -1,6 +1,6 @@
-use Rattle.std.proofs.Common.{◌∙◌, Ok, Err, Result, ap, sym, refl, subst}
+use Rattle.std.proofs.Common.{◌∙◌, Ok, Err, ap, sym, refl}
 use Rattle.std.proofs.lemmas.Result.{err_from_is_err_and}
-use Rattle.smpe_command.specs.Shop.{ChecksAfter, raised_to}
+use Rattle.smpe_command.specs.Shop.{raised_to}
 use Rattle.smpe_command.proofs.shop.check_package.Goals as goal
 
 pub returns-in_err-status : goal.returns-in_err-status

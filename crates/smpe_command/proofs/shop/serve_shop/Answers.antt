@@ -1,4 +1,4 @@
-use Rattle.std.proofs.Common.{◌≡◌, ◌∙◌, ◌∷◌, ℕ, Option, Ok, Err, option_map, map, ap, inl, inr, sym, refl, subst, rules}
+use Rattle.std.proofs.Common.{◌≡◌, ◌∙◌, ℕ, Option, Ok, Err, option_map, map, ap, inl, inr, sym, refl, subst, rules}
 use Rattle.std.specs.Prelude.{option_copied}
 use Rattle.std.specs.String.{string_bytes}
 use Rattle.std.proofs.lemmas.List.{length-map}
@@ -18,8 +18,8 @@ returns-in_err-cntl g c =
     search rules in
     inl (
       fault,
-      inl (inl (subst (λ (name : Option Text). Reads g.H.Host c.args.host.now name (Err fault) c.read_file.new.host) cntl
-          c.in_err-cntl.ensures.err)),
+      inl (inl (subst (λ (name : Option Text). Reads g.H.Host c.args.host.now name (Err fault) c.read_file.new.host)
+          cntl c.in_err-cntl.ensures.err)),
       p.1 ∙ ap Err p.2,
       refl,
     )

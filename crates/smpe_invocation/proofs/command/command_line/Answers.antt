@@ -42,13 +42,15 @@ returns c =
     let with_why = c.in_ok-subcommand-4.ensures.shape why.1 ∙ ap₂ with_subcommand with_list (shape_is _ _ why) in
     let check = c.in_ok-check_command.ensures in
     let with_check = c.in_ok-subcommand-5.ensures.shape check.1 ∙ ap₂ with_subcommand with_why (shape_is _ _ check) in
+    let mend = c.in_ok-mend_command.ensures in
+    let with_mend = c.in_ok-subcommand-6.ensures.shape mend.1 ∙ ap₂ with_subcommand with_check (shape_is _ _ mend) in
     let lint = c.in_ok-lint_command.ensures in
-    let with_lint = c.in_ok-subcommand-6.ensures.shape lint.2.1 ∙ ap₂ with_subcommand with_check (shape_is _ _ lint.2) in
+    let with_lint = c.in_ok-subcommand-7.ensures.shape lint.2.1 ∙ ap₂ with_subcommand with_mend (shape_is _ _ lint.2) in
     let migrate = c.in_ok-migrate_command.ensures in
-    let with_migrate = c.in_ok-subcommand-7.ensures.shape migrate.1
+    let with_migrate = c.in_ok-subcommand-8.ensures.shape migrate.1
     ∙ ap₂ with_subcommand with_lint (shape_is _ _ migrate) in
     let verify = c.in_ok-verify_command.ensures in
-    IfOk-weaker c.subcommand-8.result _ _
+    IfOk-weaker c.subcommand-9.result _ _
     (λ new added. (
       zone.0,
       lint.0,
@@ -56,4 +58,4 @@ returns c =
       lint.1,
       added.shape verify.1 ∙ ap₂ with_subcommand with_migrate (shape_is _ _ verify),
     ))
-    c.subcommand-8.ensures
+    c.subcommand-9.ensures

@@ -56,29 +56,39 @@ returns-then-eq-5-clause-err c =
 pub returns-then-eq-6-clause-ok : goal.returns-then-eq-6-clause-ok
 returns-then-eq-6-clause-ok c =
     rw c.in-Some.is (met_by _ _ (rows_of (found_of c.in-Some.found.now)) (search rules)
-    c.read_lint_options.result c.read_lint_options.ensures.ok)
+    c.read_mend_options.result c.read_mend_options.ensures.ok)
 
 pub returns-then-eq-6-clause-err : goal.returns-then-eq-6-clause-err
 returns-then-eq-6-clause-err c =
     rw c.in-Some.is (unmet_by _ _ (rows_of (found_of c.in-Some.found.now)) (search rules)
-    c.read_lint_options.result c.read_lint_options.ensures.err)
+    c.read_mend_options.result c.read_mend_options.ensures.err)
 
 pub returns-then-eq-7-clause-ok : goal.returns-then-eq-7-clause-ok
 returns-then-eq-7-clause-ok c =
     rw c.in-Some.is (met_by _ _ (rows_of (found_of c.in-Some.found.now)) (search rules)
-    c.read_migrate_options.result c.read_migrate_options.ensures.ok)
+    c.read_lint_options.result c.read_lint_options.ensures.ok)
 
 pub returns-then-eq-7-clause-err : goal.returns-then-eq-7-clause-err
 returns-then-eq-7-clause-err c =
     rw c.in-Some.is (unmet_by _ _ (rows_of (found_of c.in-Some.found.now)) (search rules)
-    c.read_migrate_options.result c.read_migrate_options.ensures.err)
+    c.read_lint_options.result c.read_lint_options.ensures.err)
 
 pub returns-then-eq-8-clause-ok : goal.returns-then-eq-8-clause-ok
 returns-then-eq-8-clause-ok c =
     rw c.in-Some.is (met_by _ _ (rows_of (found_of c.in-Some.found.now)) (search rules)
-    c.read_verify_options.result c.read_verify_options.ensures.ok)
+    c.read_migrate_options.result c.read_migrate_options.ensures.ok)
 
 pub returns-then-eq-8-clause-err : goal.returns-then-eq-8-clause-err
 returns-then-eq-8-clause-err c =
+    rw c.in-Some.is (unmet_by _ _ (rows_of (found_of c.in-Some.found.now)) (search rules)
+    c.read_migrate_options.result c.read_migrate_options.ensures.err)
+
+pub returns-then-eq-9-clause-ok : goal.returns-then-eq-9-clause-ok
+returns-then-eq-9-clause-ok c =
+    rw c.in-Some.is (met_by _ _ (rows_of (found_of c.in-Some.found.now)) (search rules)
+    c.read_verify_options.result c.read_verify_options.ensures.ok)
+
+pub returns-then-eq-9-clause-err : goal.returns-then-eq-9-clause-err
+returns-then-eq-9-clause-err c =
     rw c.in-Some.is (unmet_by _ _ (rows_of (found_of c.in-Some.found.now)) (search rules)
     c.read_verify_options.result c.read_verify_options.ensures.err)

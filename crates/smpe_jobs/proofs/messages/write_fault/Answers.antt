@@ -11,3 +11,6 @@ returns-in-NotCarried-clause-sends g c =
 
 pub returns-in-NoSource-clause-sends : goal.returns-in-NoSource-clause-sends
 returns-in-NoSource-clause-sends g c = rw c.in-NoSource.is c.write_program_line-in-NoSource.ensures.sends
+
+pub returns-in-CannotWrite-clause-sends : goal.returns-in-CannotWrite-clause-sends
+returns-in-CannotWrite-clause-sends g c = rw c.in-CannotWrite.is c.write_unwritten_file.ensures.sends

@@ -20,6 +20,7 @@ returns-in-Ok c =
       unsure = carried.narrowed.unsure.items;
       are_unsure = subst (λ (items : List _). AreUnsure (run_of carried.files.items) items
           carried.narrowed.unsure.items) (sym same.items) c.in-Ok.ensures.unsure;
+      unsure_ids = same.unsure;
       status = subst (λ (items : List _). HasStatus carried.files.items items carried.narrowed.unsure.items made.status)
           (sym same.items) same.status;
     } in

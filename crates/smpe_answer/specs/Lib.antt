@@ -1,0 +1,4 @@
+pub mod Asked
+pub mod Answered
+pub mod Documented
+pub mod Mended

@@ -1,0 +1,39 @@
+use Rattle.std.proofs.Common.{◌∙◌, Ok, Err, ap, sym, refl}
+use Rattle.std.proofs.lemmas.Result.{err_from_is_err_and}
+use Rattle.smpe_command.specs.Shop.{raised_to}
+use Rattle.smpe_command.proofs.mending.mend_package.Goals as goal
+
+pub returns-in_err-status : goal.returns-in_err-status
+returns-in_err-status g c =
+    let p = err_from_is_err_and c.from_residual.result c.from_residual.ensures.1 in (
+      c.write_remarks.new.out,
+      c.write_remarks.result,
+      c.write_remarks.ensures,
+      rw c.in_err-status.was (p.1 ∙ ap Err p.2, refl, refl),
+    )
+
+pub returns-in_err-mended : goal.returns-in_err-mended
+returns-in_err-mended g c =
+    let r = c.from_residual-in_err-mended in
+    let p = err_from_is_err_and r.result r.ensures.1 in (
+      c.write_remarks.new.out,
+      c.write_remarks.result,
+      c.write_remarks.ensures,
+      rw c.in_ok-status.was (
+        c.mend_carried.result,
+        c.mend_carried.ensures,
+        p.1 ∙ ap Err p.2 ∙ sym (ap (raised_to c.in_ok-status.status) c.in_err-mended.was),
+      ),
+    )
+
+pub returns : goal.returns
+returns g c = (
+  c.write_remarks.new.out,
+  c.write_remarks.result,
+  c.write_remarks.ensures,
+  rw c.in_ok-status.was (
+    c.mend_carried.result,
+    c.mend_carried.ensures,
+    ap (λ n. Ok n) c.max.ensures ∙ sym (ap (raised_to c.in_ok-status.status) c.in_ok-mended.was),
+  ),
+)

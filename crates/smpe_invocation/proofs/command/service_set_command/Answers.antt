@@ -1,0 +1,18 @@
+use Rattle.std.proofs.lemmas.Result.{IfOk-weaker}
+use Rattle.smpe_invocation.proofs.Shapes.{one_more}
+use Rattle.smpe_invocation.proofs.command.service_set_command.Goals as goal
+
+pub returns : goal.returns
+returns c =
+    let at1 = one_more _ _ _ _ _ _ c.in_ok-system_command.ensures c.in_ok-arg.ensures
+    c.optional_repeatable_arg.ensures.rule c.optional_repeatable_arg.ensures.global in
+    let at2 = one_more _ _ _ _ _ _ at1 c.in_ok-arg-2.ensures
+    c.optional_arg.ensures.rule c.optional_arg.ensures.global in
+    let at3 = one_more _ _ _ _ _ _ at2 c.in_ok-arg-3.ensures
+    c.optional_arg-2.ensures.rule c.optional_arg-2.ensures.global in
+    let at4 = one_more _ _ _ _ _ _ at3 c.in_ok-arg-4.ensures
+    c.optional_arg-3.ensures.rule c.optional_arg-3.ensures.global in
+    IfOk-weaker c.arg-5.result _ _
+    (λ new added. one_more _ _ _ _ _ _ at4 added
+    c.optional_arg-4.ensures.rule c.optional_arg-4.ensures.global)
+    c.arg-5.ensures

@@ -1,0 +1,4 @@
+pub mod AsciiWords
+pub mod Listed
+pub mod Read
+pub mod Plain

@@ -1,0 +1,5 @@
+pub mod Values
+pub mod Lines
+pub mod Reading
+pub mod Documents
+pub mod Laws

@@ -1,0 +1,10 @@
+use Rattle.std.proofs.Common.{◌≡◌, ◌++◌, ◌∷◌, drop}
+use Rattle.std.specs.List.{flat_map}
+use Rattle.terms.specs.Bytes.{comma}
+use Rattle.smpe_mend.specs.Words.{joined}
+use Rattle.smpe_mend.proofs.words.append_ids.Given as goal
+
+-- with what the rest adds, all of it
+abbrev pub invariant-loop-id : goal.invariant-loop-id
+invariant-loop-id l =
+    l.text.items ++ flat_map (λ y. comma ∷ y) (drop l.id-index l.rest) ≡ l.fn.text.items ++ joined l.ids

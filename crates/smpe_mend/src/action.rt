@@ -1,0 +1,93 @@
+//! The actions of a repair.
+ghost use Rattle.std.specs.Prelude.{◌≡◌, ◌++◌, OnOk, IfOk};
+ghost use Rattle.smpe_mend.specs.Actions.{order_of, orders, reason_of, reasons, is_same, is_among};
+
+use fields::{Id, Reason};
+use std::alloc::{AllocError, Global};
+use terms::HoldKind;
+
+/// Something that a command needs before it installs what it is to install.
+#[derive(Clone, Copy)]
+pub enum Action {
+    /// Order this SYSMOD, which is not received.
+    Order(Id),
+    /// Do what the holds of this kind and reason ask for, and name the reason in BYPASS.
+    Disregard(HoldKind, Reason),
+}
+
+// Appends the id, if the action orders one.
+fn push_order(action: Action, found: &mut Vec<Id>) -> Result<(), AllocError>
+    ensures { OnOk result (found.new.items ≡ found.old.items ++ order_of action) }
+{
+    match action {
+        Action::Order(id) => {
+            found.push(id)?;
+            Ok(())
+        }
+        Action::Disregard(_, _) => Ok(()),
+    }
+}
+
+/// The ids that are ordered, in the order of the actions.
+pub(crate) fn orders(alloc: Global, actions: &[Action]) -> Result<Vec<Id>, AllocError>
+    ensures { IfOk result (λ found. found.items ≡ orders actions.now) }
+{
+    let mut found = Vec::new(alloc);
+    for action in actions {
+        push_order(*action, &mut found)?;
+    }
+    Ok(found)
+}
+
+// Appends the reason, if the action disregards a reason of this kind of hold.
+fn push_reason(kind: HoldKind, action: Action, found: &mut Vec<Reason>) -> Result<(), AllocError>
+    ensures { OnOk result (found.new.items ≡ found.old.items ++ reason_of kind action) }
+{
+    match action {
+        Action::Order(_) => Ok(()),
+        Action::Disregard(held, reason) => {
+            if held == kind {
+                found.push(reason)?;
+            }
+            Ok(())
+        }
+    }
+}
+
+/// The reasons of this kind of hold that are disregarded, in the order of the actions.
+pub(crate) fn reasons(
+    alloc: Global,
+    kind: HoldKind,
+    actions: &[Action],
+) -> Result<Vec<Reason>, AllocError>
+    ensures { IfOk result (λ found. found.items ≡ reasons kind actions.now) }
+{
+    let mut found = Vec::new(alloc);
+    for action in actions {
+        push_reason(kind, *action, &mut found)?;
+    }
+    Ok(found)
+}
+
+// Whether both are the same action.
+fn is_same(action: Action, other: Action) -> bool
+    ensures { result ≡ is_same action other }
+{
+    match action {
+        Action::Order(id) => match other {
+            Action::Order(another) => id == another,
+            Action::Disregard(_, _) => false,
+        },
+        Action::Disregard(kind, reason) => match other {
+            Action::Order(_) => false,
+            Action::Disregard(held, another) => kind == held && reason == another,
+        },
+    }
+}
+
+/// Whether the action is one of these.
+pub(crate) fn is_among(actions: &[Action], action: Action) -> bool
+    ensures { result ≡ is_among actions.now action }
+{
+    actions.iter().any(|other| is_same(action, *other))
+}

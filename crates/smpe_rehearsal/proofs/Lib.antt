@@ -1,0 +1,5 @@
+mod Copying
+mod Greatest
+mod Afterwards
+mod Received
+pub mod OneJob

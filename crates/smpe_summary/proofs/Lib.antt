@@ -1,0 +1,5 @@
+pub mod Growing
+pub mod Partition
+pub mod Superseded
+pub mod Untouched
+pub mod FirstNeeds

@@ -1,0 +1,25 @@
+use Rattle.std.proofs.Common.{◌++◌, ◌∙◌, ap, arith, sym, take_all}
+use Rattle.std.specs.List.{flat_map}
+use Rattle.std.proofs.lemmas.List.Folds.{flat_map-map}
+use Rattle.std.specs.Ordering.{nat_cmp}
+use Rattle.std.specs.Cmp.Lexicographic.{slice_cmp}
+use Rattle.sorted.specs.MultiMap.{listed}
+use Rattle.report.specs.Views.{line_view}
+use Rattle.smpe_summary.specs.Todo.{acts_in}
+use Rattle.smpe_summary.proofs.Growing.{grown_more}
+use Rattle.smpe_summary.proofs.todo.push_all_holds.Goals as goal
+
+pub loop-line-preserved : goal.loop-line-preserved
+loop-line-preserved c =
+    grown_more (λ x. acts_in (c.args.global.now) (listed (slice_cmp nat_cmp) (c.args.blocks.now)) (line_view x))
+    c.args.lines.now c.loop-line.line-index c.line-item.result c.args.todo.now.items
+    (c.loop-line.todo.items) (c.push_line_holds.new.todo.items) (omega arith) c.line-item.is
+    c.loop-line.invariant
+    c.in_ok-push_line_holds.ensures
+
+pub returns : goal.returns
+returns c =
+    c.loop-line.invariant
+    ∙ ap (λ l. c.args.todo.now.items ++ flat_map (λ x. acts_in (c.args.global.now) (listed (slice_cmp nat_cmp) (c.args.blocks.now)) (line_view x)) l)
+    (take_all c.loop-line.line-index c.args.lines.now (omega arith))
+    ∙ ap (λ l. c.args.todo.now.items ++ l) (sym (flat_map-map (acts_in c.args.global.now (listed (slice_cmp nat_cmp) c.args.blocks.now)) line_view c.args.lines.now))

@@ -1,0 +1,12 @@
+pub mod Sets
+pub mod Superseding
+pub mod Causes
+pub mod Todo
+pub mod Views
+pub mod Told
+pub mod Text
+pub mod Asked
+pub mod Groups
+pub mod Blocked
+pub mod Summary
+pub mod Laws
