@@ -37,8 +37,8 @@ enum Notice {
     },
     /// A SET names this zone, which is not defined.
     UndefinedZone(String),
-    /// `why` was asked about a zone that is not defined, or about the global zone.
-    WhyZone,
+    /// `why`, `check` or `mend` was asked about a zone that is not defined, or about the global zone.
+    AskedZone,
     /// The related zone of a zone is at fault.
     Related,
 }
@@ -191,14 +191,14 @@ impl ReportWatch {
         Ok(())
     }
 
-    // Notices that a zone is not defined: within a command the one that the SET names, and otherwise that of `why`.
+    // Notices that a zone is not defined: within a command the one that the SET names, and otherwise that of `--zone`.
     fn notice_refused_zone(&mut self) -> Result<(), AllocError> {
         let notice = match self.header.as_str().strip_prefix("SET ") {
             Some(zone) if self.is_in_command => {
                 self.refused_zone = Some(String::from_str(self.alloc, zone)?);
                 Notice::UndefinedZone(String::from_str(self.alloc, zone)?)
             }
-            _ => Notice::WhyZone,
+            _ => Notice::AskedZone,
         };
         self.notices.push(notice)?;
         Ok(())
@@ -290,7 +290,7 @@ impl Notice {
                 "SET BDY({set_zone}) was refused, and {command} ran in the zone before it, {zone}"
             )?)),
             Notice::UndefinedZone(zone) => Ok(Some(undefined_zone_hint(alloc, zone.as_str())?)),
-            Notice::WhyZone => why_zone_hint(alloc, line.value("--zone")),
+            Notice::AskedZone => asked_zone_hint(alloc, line.value("--zone")),
             Notice::Related => Ok(Some(related_hint(alloc, line, related)?)),
         }
     }
@@ -371,12 +371,12 @@ fn undefined_zone_hint(alloc: Global, zone: &str) -> Result<String, AllocError> 
     format!(in alloc; "zone {zone} is not defined in this database; smpe zone defines one")
 }
 
-// Why `why` has no answer about the zone that it was asked about; `None` if the words name none.
-fn why_zone_hint(alloc: Global, zone: Option<&str>) -> Result<Option<String>, AllocError> {
+// Why there is no answer about the zone that was asked about; `None` if the words name none.
+fn asked_zone_hint(alloc: Global, zone: Option<&str>) -> Result<Option<String>, AllocError> {
     match zone {
         Some("GLOBAL") => Ok(Some(String::from_str(
             alloc,
-            "GLOBAL has what was received; why tells of a target or distribution zone",
+            "GLOBAL has what was received; name a target or distribution zone",
         )?)),
         Some(zone) => Ok(Some(undefined_zone_hint(alloc, zone)?)),
         None => Ok(None),
