@@ -13,6 +13,9 @@ use std::alloc::{AllocError, Global};
 /// How many bytes of a line the watch looks at.
 const MOST_LINE_BYTES: usize = 100;
 
+/// What `check --json` prints for a zone that is not defined.
+const NO_ZONE_DOCUMENT: &str = "{\"fault\":\"REFUSED Cm2\",\"status\":12}";
+
 /// A file that was read.
 #[derive(Drop)]
 pub struct ReadFile {
@@ -139,6 +142,9 @@ impl ReportWatch {
     fn follow_line(&mut self, line: &str) -> Result<(), AllocError> {
         if self.is_in_command {
             self.ran.follow(line)?;
+        }
+        if line == NO_ZONE_DOCUMENT {
+            return self.notice_refused_zone();
         }
         let mut words = line.split(' ');
         let first = words.next().unwrap_or("");
