@@ -72,3 +72,14 @@ members_of a supers cands = flat_map (line_member a supers) a.lines ++ flat_map 
 abbrev pub is_plain_failure : Group → Bool
 is_plain_failure group.Failed = true
 is_plain_failure _ = false
+
+-- ---- functions
+
+-- the function that a SYSMOD of the group lacks
+abbrev pub function_of : Group → List Id
+function_of (group.NoFunction f) = f ∷ []
+function_of _ = []
+
+-- the functions that these lack, one for each of them that lacks one
+abbrev pub functions_of : List Member → List Id
+functions_of ms = flat_map (λ m. function_of m.group) ms

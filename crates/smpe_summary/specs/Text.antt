@@ -1,9 +1,10 @@
 -- The text of a summary.
-use Rattle.std.specs.Prelude.{◌-◌, ◌==◌, ◌||◌, Bool, true, false, not, ℕ, nat_le, List, [], ◌∷◌, ◌++◌, Option, None, Some}
-use Rattle.std.specs.Prelude.{codes, count_by, decimal, filter, length, map, take, if◌then◌else◌}
-use Rattle.std.specs.List.{concat, flat_map, list_all, list_any}
+use Rattle.std.specs.Prelude.{◌-◌, ◌==◌, ◌||◌, Bool, true, false, not, ℕ, min, nat_le, List, [], ◌∷◌, ◌++◌, Option, None}
+use Rattle.std.specs.Prelude.{Some, codes, count_by, decimal, filter, length, map, take, if◌then◌else◌}
+use Rattle.std.specs.List.{concat, dedup, flat_map, list_all, list_any}
 use Rattle.std.specs.Str.{bytes_eq}
 use Rattle.terms.specs.declared.kinds.HoldKind.{HoldKind}
+use Rattle.terms.specs.declared.kinds.HoldKind.TheVariants.{Error, System, User}
 use Rattle.terms.specs.declared.kinds.ZoneKind.{ZoneKind}
 use Rattle.terms.specs.declared.kinds.ZoneKind.TheVariants.{Target, Distribution}
 use Rattle.terms.specs.declared.codes.NeedKind.{NeedKind}
@@ -20,6 +21,7 @@ use Rattle.smpe_summary.specs.declared.values.ToDo.TheVariants as todo
 use Rattle.smpe_summary.specs.declared.values.Summary.{Summary}
 use Rattle.smpe_summary.specs.declared.pieces.Piece.{Piece}
 use Rattle.smpe_summary.specs.declared.pieces.Piece.TheVariants as piece
+use Rattle.smpe_summary.specs.Groups.{functions_of}
 use Rattle.smpe_summary.specs.Causes.{Why, HoldWhy, NeedWhy, TestWhy, UnknownWhy, Cause}
 use Rattle.smpe_summary.specs.Todo.{is_error_hold, TakenOff}
 use Rattle.smpe_summary.specs.Views.{cause_view, taken_view}
@@ -134,9 +136,15 @@ other_parts ms =
     part ms 6 (codes "on already") ++ part ms 7 (codes "deleted") ++ part ms 8 (codes "not received")
     ++ part ms 9 (codes "without a ++VER for the SREL")
 
-abbrev pub is_act : ToDo → Bool
-is_act (todo.Act x reason) = true
-is_act _ = false
+-- whether this is to be done about a hold of the kind
+abbrev pub is_about : HoldKind → ToDo → Bool
+is_about System (todo.Act x reason) = true
+is_about User (todo.Ask x reason) = true
+is_about Error (todo.Wait x reason) = true
+is_about kind t = false
+
+abbrev pub steps_about : HoldKind → List ToDo → List ToDo
+steps_about kind ts = filter (is_about kind) ts
 
 abbrev pub ordered : ToDo → List Id
 ordered (todo.Order x) = x ∷ []
@@ -155,7 +163,9 @@ abbrev pub orders_part : ℕ → ℕ → Text
 orders_part acts n = if n == 0 then [] else before_orders acts ++ counted n (codes "SYSMOD") ++ codes " to order"
 
 abbrev pub todo_parts : List ToDo → Text
-todo_parts ts = acts_part (length (filter is_act ts)) ++ orders_part (length (filter is_act ts)) (length (orders_of ts))
+todo_parts ts =
+    acts_part (length (steps_about System ts))
+    ++ orders_part (length (steps_about System ts)) (length (orders_of ts))
 
 abbrev pub line_start : Summary → Text
 line_start s =
@@ -177,13 +187,6 @@ ids_line words ids =
 
 abbrev pub group_line : List Member → ℕ → Text → Text
 group_line ms n words = ids_line words (ids_in ms n)
-
-abbrev pub function_of : Group → List Id
-function_of (group.NoFunction f) = f ∷ []
-function_of _ = []
-
-abbrev pub functions_of : List Member → List Id
-functions_of ms = flat_map (λ m. function_of m.group) ms
 
 -- so many of all lack this function
 abbrev pub function_line : ℕ → ℕ → Id → Text
@@ -224,8 +227,8 @@ abbrev pub more_line : ℕ → ℕ → Text → Text
 more_line most n what =
     if nat_le n most then [] else codes "     and " ++ decimal (n - most) ++ codes " more " ++ what ++ codes "\n"
 
-abbrev pub causes_text : List Cause → Text
-causes_text cs = flat_map cause_line (take 20 cs) ++ more_line 20 (length cs) (codes "causes")
+abbrev pub causes_text : ℕ → List Cause → Text
+causes_text most cs = flat_map cause_line (take most cs) ++ more_line most (length cs) (codes "causes")
 
 abbrev pub usermods_text : List Id → Text
 usermods_text ids = if is_nil ids then [] else codes "; USERMODs: " ++ some_ids ids
@@ -248,34 +251,82 @@ ask_command Target = codes ", then APPLY .. BYPASS(HOLDUSER("
 ask_command Distribution = codes ", then ACCEPT .. BYPASS(HOLDUSER("
 
 abbrev pub bypass_line : Text → Text → Id → Text → Text
-bypass_line verb command x reason =
-    concat (verb ∷ x ∷ codes " " ∷ reason ∷ command ∷ reason ∷ codes "))\n" ∷ [])
+bypass_line verb command x reasons =
+    concat (verb ∷ x ∷ codes " " ∷ reasons ∷ command ∷ reasons ∷ codes "))\n" ∷ [])
 
-abbrev pub wait_line : Id → Id → Text
-wait_line x reason =
-    concat (codes "  wait     " ∷ x ∷ codes " ERROR " ∷ reason
+abbrev pub wait_line : Id → Text → Text
+wait_line x reasons =
+    concat (codes "  wait     " ∷ x ∷ codes " ERROR " ∷ reasons
     ∷ codes ", until a SYSMOD that resolves it is received\n" ∷ [])
 
-abbrev pub todo_line : ZoneKind → ToDo → Text
-todo_line zone (todo.Order x) = []
-todo_line zone (todo.Act x reason) = bypass_line (codes "  act on   ") (act_command zone) x reason
-todo_line zone (todo.Ask x reason) = bypass_line (codes "  ask      ") (ask_command zone) x reason
-todo_line zone (todo.Wait x reason) = wait_line x reason
+-- the line of the SYSMOD x, which has holds of this kind for these reasons
+abbrev pub hold_line : ZoneKind → HoldKind → Id → Text → Text
+hold_line zone System x reasons = bypass_line (codes "  act on   ") (act_command zone) x reasons
+hold_line zone User x reasons = bypass_line (codes "  ask      ") (ask_command zone) x reasons
+hold_line zone Error x reasons = wait_line x reasons
 
-abbrev pub is_other : ToDo → Bool
-is_other t = is_nil (ordered t)
+-- the SYSMOD to which something is to be done
+abbrev pub subject : ToDo → Id
+subject (todo.Order x) = x
+subject (todo.Act x reason) = x
+subject (todo.Ask x reason) = x
+subject (todo.Wait x reason) = x
+
+-- the reason of its hold
+abbrev pub reason_of : ToDo → Text
+reason_of (todo.Order x) = []
+reason_of (todo.Act x reason) = reason
+reason_of (todo.Ask x reason) = reason
+reason_of (todo.Wait x reason) = reason
+
+-- the reasons of these holds, with a comma between them
+abbrev pub reasons_text : List ToDo → Text
+reasons_text [] = []
+reasons_text (t ∷ ts) = reason_of t ++ flat_map (λ u. codes "," ++ reason_of u) ts
+
+abbrev pub is_of : Id → ToDo → Bool
+is_of x t = bytes_eq (subject t) x
+
+-- the line of the SYSMOD x, with the reasons of all its holds among these, which are of one kind
+abbrev pub sysmod_line : ZoneKind → HoldKind → List ToDo → Id → Text
+sysmod_line zone kind steps x = hold_line zone kind x (reasons_text (filter (is_of x) steps))
+
+-- the SYSMODs with these holds, each once: the holds of a SYSMOD follow each other
+abbrev pub held_ids : List ToDo → List Id
+held_ids steps = dedup bytes_eq (map subject steps)
+
+abbrev pub held_words : HoldKind → Text
+held_words System = codes "with SYSTEM holds"
+held_words User = codes "with USER holds"
+held_words Error = codes "with ERROR holds"
+
+-- a line for each of the first four of these SYSMODs, and how many more there are
+abbrev pub lines_text : ZoneKind → HoldKind → List ToDo → List Id → Text
+lines_text zone kind steps ids =
+    flat_map (sysmod_line zone kind steps) (take 4 ids) ++ more_line 4 (length ids) (held_words kind)
+
+abbrev pub kind_text : ZoneKind → List ToDo → HoldKind → Text
+kind_text zone ts kind = lines_text zone kind (steps_about kind ts) (held_ids (steps_about kind ts))
+
+abbrev pub holds_text : ZoneKind → List ToDo → Text
+holds_text zone ts = kind_text zone ts System ++ kind_text zone ts User ++ kind_text zone ts Error
 
 abbrev pub order_line : List Id → Text
 order_line ids = if is_nil ids then [] else codes "  order    " ++ some_ids ids ++ codes "\n"
 
-abbrev pub acts_text : ZoneKind → List ToDo → Text
-acts_text zone ts = flat_map (todo_line zone) (take 4 ts) ++ more_line 4 (length ts) (codes "holds")
-
-abbrev pub lists_text : ZoneKind → List Id → List ToDo → Text
-lists_text zone orders others = codes "To do\n" ++ order_line orders ++ acts_text zone others
+abbrev pub all_text : ZoneKind → List Id → List ToDo → Text
+all_text zone orders ts = codes "To do\n" ++ order_line orders ++ holds_text zone ts
 
 abbrev pub todo_text : ZoneKind → List ToDo → Text
-todo_text zone ts = if is_nil ts then [] else lists_text zone (orders_of ts) (filter is_other ts)
+todo_text zone ts = if is_nil ts then [] else all_text zone (orders_of ts) ts
+
+-- how many lines tell of the holds of a kind
+abbrev pub lines_about : List ToDo → HoldKind → ℕ
+lines_about ts kind = min (length (held_ids (steps_about kind ts))) 5
+
+-- How many causes are told. They and the holds have at most 25 lines, so that a summary has at most 40.
+abbrev pub most_causes : List ToDo → ℕ
+most_causes ts = min (24 - lines_about ts System - lines_about ts User - lines_about ts Error) 20
 
 -- ---- all
 
@@ -287,7 +338,8 @@ besides s =
     ids_line (codes "of earlier service go on too") s.also.items ++ taken_text (map taken_view s.taken_off.items)
 
 abbrev pub middle : Summary → Text
-middle s = group_lines s.members.items ++ causes_text (map cause_view s.causes.items) ++ besides s
+middle s =
+    group_lines s.members.items ++ causes_text (most_causes s.todo.items) (map cause_view s.causes.items) ++ besides s
 
 abbrev pub summary_text : Summary → Text
 summary_text s = first_line s ++ middle s ++ todo_text s.kind s.todo.items

@@ -1,14 +1,15 @@
 //! The first line of a summary.
-ghost use Rattle.std.specs.Prelude.{◌≡◌, ◌++◌, filter, length, IfOk, OnOk};
-ghost use Rattle.smpe_summary.specs.Text.{group_number, would_text, ids_in, part, failed_parts, open_parts, other_parts, is_act};
+ghost use Rattle.std.specs.Prelude.{◌≡◌, ◌++◌, length, IfOk, OnOk};
+ghost use Rattle.smpe_summary.specs.Text.{group_number, would_text, ids_in, part, failed_parts, open_parts, other_parts};
 ghost use Rattle.smpe_summary.specs.Text.{ordered, orders_of, acts_part, before_orders, orders_part, todo_parts};
 ghost use Rattle.smpe_summary.specs.Text.{line_start, parts, first_line};
 
 use crate::pieces::{Piece, append_pieces};
+use crate::steps::steps_about;
 use crate::values::{Group, Member, Summary, ToDo};
 use fields::Id;
 use std::alloc::{AllocError, Global};
-use terms::ZoneKind;
+use terms::{HoldKind, ZoneKind};
 
 /// The place of the group in the text.
 pub(crate) fn group_number(group: Group) -> usize
@@ -106,23 +107,6 @@ fn append_other_parts(
     append_part(alloc, members, 9, b"without a ++VER for the SREL", text)
 }
 
-// Whether this is a SYSTEM hold to act on.
-fn is_act(item: &ToDo) -> bool
-    ensures { result ≡ is_act item.now }
-{
-    matches!(item, ToDo::Act { .. })
-}
-
-// The SYSTEM holds to act on.
-fn acts_among(alloc: Global, todo: &[ToDo]) -> Result<Vec<ToDo>, AllocError>
-    ensures { IfOk result (λ acts. acts.items ≡ filter is_act todo.now) }
-{
-    todo.iter()
-        .filter(|item| is_act(item))
-        .copied()
-        .collect(alloc)
-}
-
 // Appends the id, if it is to be ordered.
 fn push_ordered(item: &ToDo, ids: &mut Vec<Id>) -> Result<(), AllocError>
     ensures { OnOk result (ids.new.items ≡ ids.old.items ++ ordered item.now) }
@@ -181,7 +165,7 @@ fn append_orders(acts: usize, orders: usize, text: &mut Vec<u8>) -> Result<(), A
 fn append_todo_parts(alloc: Global, todo: &[ToDo], text: &mut Vec<u8>) -> Result<(), AllocError>
     ensures { OnOk result (text.new.items ≡ text.old.items ++ todo_parts todo.now) }
 {
-    let acts = acts_among(alloc, todo)?.len();
+    let acts = steps_about(alloc, HoldKind::System, todo)?.len();
     let orders = orders_of(alloc, todo)?.len();
     append_acts(acts, text)?;
     append_orders(acts, orders, text)

@@ -1,7 +1,8 @@
 //! The lines of groups.
 ghost use Rattle.std.specs.Prelude.{◌≡◌, ◌++◌, count_by, IfOk, OnOk};
 ghost use Rattle.std.specs.Str.{bytes_eq};
-ghost use Rattle.smpe_summary.specs.Text.{ids_line, group_line, function_of, functions_of, function_line, others_line};
+ghost use Rattle.smpe_summary.specs.Groups.{function_of, functions_of};
+ghost use Rattle.smpe_summary.specs.Text.{ids_line, group_line, function_line, others_line};
 ghost use Rattle.smpe_summary.specs.Text.{function_lines};
 ghost use Rattle.smpe_summary.specs.Text.{functions_text, early_groups, late_groups, group_lines};
 
@@ -58,8 +59,8 @@ fn push_function(member: &Member, functions: &mut Vec<Id>) -> Result<(), AllocEr
     Ok(())
 }
 
-// The functions that SYSMODs lack, one for each of these SYSMODs.
-fn functions_of(alloc: Global, members: &[Member]) -> Result<Vec<Id>, AllocError>
+/// The functions that these lack, one for each of them that lacks one.
+pub(crate) fn functions_of(alloc: Global, members: &[Member]) -> Result<Vec<Id>, AllocError>
     ensures { IfOk result (λ functions. functions.items ≡ functions_of members.now) }
 {
     let mut functions = Vec::new(alloc);

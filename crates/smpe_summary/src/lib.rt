@@ -16,6 +16,7 @@ mod lines;
 mod members;
 mod pieces;
 mod status;
+mod steps;
 mod summarize;
 mod superseding;
 mod taken;

@@ -9,13 +9,11 @@ use crate::cause_text::append_cause;
 use crate::first_line::append_first_line;
 use crate::group_lines::{append_group_lines, append_ids_line};
 use crate::pieces::{Piece, append_more_line, append_pieces, first_of};
+use crate::steps::most_causes;
 use crate::todo_text::append_todo;
 use crate::values::{Cause, Summary, TakenOff};
 use fields::Id;
 use std::alloc::{AllocError, Global};
-
-// How many causes are told.
-const MOST_CAUSES: usize = 20;
 
 // How many SYSMODs that take others off are told.
 const MOST_TAKEN: usize = 2;
@@ -30,12 +28,12 @@ fn append_cause_lines(causes: &[Cause], text: &mut Vec<u8>) -> Result<(), AllocE
     Ok(())
 }
 
-// Appends the first causes, and how many more there are.
-fn append_causes(causes: &[Cause], text: &mut Vec<u8>) -> Result<(), AllocError>
-    ensures { OnOk result (text.new.items ≡ text.old.items ++ causes_text (map cause_view causes.now)) }
+// Appends the first causes, at most so many, and how many more there are.
+fn append_causes(most: usize, causes: &[Cause], text: &mut Vec<u8>) -> Result<(), AllocError>
+    ensures { OnOk result (text.new.items ≡ text.old.items ++ causes_text most (map cause_view causes.now)) }
 {
-    append_cause_lines(first_of(causes, MOST_CAUSES), text)?;
-    append_more_line(MOST_CAUSES, causes.len(), b"causes", text)
+    append_cause_lines(first_of(causes, most), text)?;
+    append_more_line(most, causes.len(), b"causes", text)
 }
 
 // Appends the USERMODs that are taken off, if there are any.
@@ -97,8 +95,9 @@ fn append_besides(summary: &Summary, text: &mut Vec<u8>) -> Result<(), AllocErro
 fn append_middle(alloc: Global, summary: &Summary, text: &mut Vec<u8>) -> Result<(), AllocError>
     ensures { OnOk result (text.new.items ≡ text.old.items ++ middle summary.now) }
 {
+    let most = most_causes(alloc, summary.todo.as_slice())?;
     append_group_lines(alloc, summary.members.as_slice(), text)?;
-    append_causes(summary.causes.as_slice(), text)?;
+    append_causes(most, summary.causes.as_slice(), text)?;
     append_besides(summary, text)
 }
 

@@ -1,19 +1,18 @@
 //! The text of what is to be done.
-ghost use Rattle.std.specs.Prelude.{◌≡◌, ◌++◌, filter, IfOk, OnOk};
+ghost use Rattle.std.specs.Prelude.{◌≡◌, ◌++◌, codes, IfOk, OnOk};
 ghost use Rattle.std.specs.List.{flat_map};
 ghost use Rattle.terms.specs.Lookups.{is_nil};
-ghost use Rattle.smpe_summary.specs.Text.{act_command, ask_command, bypass_line, wait_line, todo_line, is_other, order_line};
-ghost use Rattle.smpe_summary.specs.Text.{acts_text, lists_text, todo_text};
+ghost use Rattle.smpe_summary.specs.Text.{act_command, ask_command, bypass_line, wait_line, hold_line, reason_of};
+ghost use Rattle.smpe_summary.specs.Text.{reasons_text, sysmod_line, held_words, lines_text, kind_text, holds_text};
+ghost use Rattle.smpe_summary.specs.Text.{order_line, all_text, todo_text};
 
 use crate::first_line::orders_of;
 use crate::pieces::{Piece, append_more_line, append_pieces, first_of};
+use crate::steps::{MOST_HELD, held_ids, steps_about, steps_of};
 use crate::values::ToDo;
-use fields::{Id, Reason};
+use fields::Id;
 use std::alloc::{AllocError, Global};
-use terms::ZoneKind;
-
-// How many holds are told.
-const MOST_ACTS: usize = 4;
+use terms::{HoldKind, ZoneKind};
 
 // The command that would take up a SYSMOD whose SYSTEM hold was acted on.
 fn act_command(kind: ZoneKind) -> &'static [u8]
@@ -35,78 +34,184 @@ fn ask_command(kind: ZoneKind) -> &'static [u8]
     }
 }
 
-// Appends the line of a hold that BYPASS covers.
+// Appends the line of holds that BYPASS covers.
 fn append_bypass<'a>(
     verb: &'static [u8],
     command: &'static [u8],
     id: &'a Id,
-    reason: &'a Reason,
+    reasons: &'a [u8],
     text: &mut Vec<u8>,
 ) -> Result<(), AllocError>
     ensures { OnOk result (text.new.items
-        ≡ text.old.items ++ bypass_line verb.now command.now id.now reason.now) }
+        ≡ text.old.items ++ bypass_line verb.now command.now id.now reasons.now) }
 {
     let id_bytes = id.as_bytes();
-    let reason_bytes = reason.as_bytes();
     let pieces = [
         Piece::Text(verb),
         Piece::Text(id_bytes),
         Piece::Text(b" "),
-        Piece::Text(reason_bytes),
+        Piece::Text(reasons),
         Piece::Text(command),
-        Piece::Text(reason_bytes),
+        Piece::Text(reasons),
         Piece::Text(b"))\n"),
     ];
     append_pieces(&pieces, text)
 }
 
-// Appends the line of an ERROR hold.
-fn append_wait<'a>(id: &'a Id, reason: &'a Id, text: &mut Vec<u8>) -> Result<(), AllocError>
-    ensures { OnOk result (text.new.items ≡ text.old.items ++ wait_line id.now reason.now) }
+// Appends the line of ERROR holds.
+fn append_wait<'a>(id: &'a Id, reasons: &'a [u8], text: &mut Vec<u8>) -> Result<(), AllocError>
+    ensures { OnOk result (text.new.items ≡ text.old.items ++ wait_line id.now reasons.now) }
 {
     let id_bytes = id.as_bytes();
-    let reason_bytes = reason.as_bytes();
     let pieces = [
         Piece::Text(b"  wait     "),
         Piece::Text(id_bytes),
         Piece::Text(b" ERROR "),
-        Piece::Text(reason_bytes),
+        Piece::Text(reasons),
         Piece::Text(b", until a SYSMOD that resolves it is received\n"),
     ];
     append_pieces(&pieces, text)
 }
 
-// Appends the line of what is to be done, if it is no order.
-fn append_item(kind: ZoneKind, item: &ToDo, text: &mut Vec<u8>) -> Result<(), AllocError>
-    ensures { OnOk result (text.new.items ≡ text.old.items ++ todo_line kind item.now) }
+// Appends the line of the SYSMOD, which has holds of this kind for these reasons.
+fn append_hold_line(
+    zone: ZoneKind,
+    kind: HoldKind,
+    id: &Id,
+    reasons: &[u8],
+    text: &mut Vec<u8>,
+) -> Result<(), AllocError>
+    ensures { OnOk result (text.new.items ≡ text.old.items ++ hold_line zone kind id.now reasons.now) }
 {
-    match item {
-        ToDo::Order(_) => Ok(()),
-        ToDo::Act { id, reason } => {
-            append_bypass(b"  act on   ", act_command(kind), id, reason, text)
-        }
-        ToDo::Ask { id, reason } => {
-            append_bypass(b"  ask      ", ask_command(kind), id, reason, text)
-        }
-        ToDo::Wait { id, reason } => append_wait(id, reason, text),
+    match kind {
+        HoldKind::System => append_bypass(b"  act on   ", act_command(zone), id, reasons, text),
+        HoldKind::User => append_bypass(b"  ask      ", ask_command(zone), id, reasons, text),
+        HoldKind::Error => append_wait(id, reasons, text),
     }
 }
 
-// Whether this is no order.
-fn is_other(item: &ToDo) -> bool
-    ensures { result ≡ is_other item.now }
+// Appends the reason of the hold.
+fn append_reason(step: &ToDo, text: &mut Vec<u8>) -> Result<(), AllocError>
+    ensures { OnOk result (text.new.items ≡ text.old.items ++ reason_of step.now) }
 {
-    !matches!(item, ToDo::Order(_))
+    match step {
+        ToDo::Order(_) => Ok(()),
+        ToDo::Act { reason, .. } => text.extend_from_slice(reason.as_bytes()),
+        ToDo::Ask { reason, .. } => text.extend_from_slice(reason.as_bytes()),
+        ToDo::Wait { reason, .. } => text.extend_from_slice(reason.as_bytes()),
+    }
 }
 
-// What is to be done besides orders.
-fn others_among(alloc: Global, todo: &[ToDo]) -> Result<Vec<ToDo>, AllocError>
-    ensures { IfOk result (λ others. others.items ≡ filter is_other todo.now) }
+// Appends a comma and the reason of the hold.
+fn append_next_reason(step: &ToDo, text: &mut Vec<u8>) -> Result<(), AllocError>
+    ensures { OnOk result (text.new.items ≡ text.old.items ++ (codes "," ++ reason_of step.now)) }
 {
-    todo.iter()
-        .filter(|item| is_other(item))
-        .copied()
-        .collect(alloc)
+    text.extend_from_slice(b",")?;
+    append_reason(step, text)
+}
+
+// The reasons of these holds, with a comma between them.
+fn reasons_text(alloc: Global, steps: &[ToDo]) -> Result<Vec<u8>, AllocError>
+    ensures { IfOk result (λ text. text.items ≡ reasons_text steps.now) }
+{
+    let mut text = Vec::new(alloc);
+    let Some((first, rest)) = steps.split_first() else {
+        return Ok(text);
+    };
+    append_reason(first, &mut text)?;
+    for step in rest {
+        append_next_reason(step, &mut text)?;
+    }
+    Ok(text)
+}
+
+// Appends the line of the SYSMOD, with the reasons of all its holds among these, which are of one kind.
+fn append_sysmod(
+    alloc: Global,
+    zone: ZoneKind,
+    kind: HoldKind,
+    steps: &[ToDo],
+    id: &Id,
+    text: &mut Vec<u8>,
+) -> Result<(), AllocError>
+    ensures { OnOk result (text.new.items ≡ text.old.items ++ sysmod_line zone kind steps.now id.now) }
+{
+    let own = steps_of(alloc, *id, steps)?;
+    let reasons = reasons_text(alloc, own.as_slice())?;
+    append_hold_line(zone, kind, id, reasons.as_slice(), text)
+}
+
+// Appends the lines of these SYSMODs.
+fn append_sysmods(
+    alloc: Global,
+    zone: ZoneKind,
+    kind: HoldKind,
+    steps: &[ToDo],
+    ids: &[Id],
+    text: &mut Vec<u8>,
+) -> Result<(), AllocError>
+    ensures { OnOk result (text.new.items
+        ≡ text.old.items ++ flat_map (sysmod_line zone kind steps.now) ids.now) }
+{
+    for id in ids {
+        append_sysmod(alloc, zone, kind, steps, id, text)?;
+    }
+    Ok(())
+}
+
+// What the SYSMODs have that are not told.
+fn held_words(kind: HoldKind) -> &'static [u8]
+    ensures { result.now ≡ held_words kind }
+{
+    match kind {
+        HoldKind::System => b"with SYSTEM holds",
+        HoldKind::User => b"with USER holds",
+        HoldKind::Error => b"with ERROR holds",
+    }
+}
+
+// Appends the lines of the first of these SYSMODs, and how many more there are.
+fn append_lines(
+    alloc: Global,
+    zone: ZoneKind,
+    kind: HoldKind,
+    steps: &[ToDo],
+    ids: &[Id],
+    text: &mut Vec<u8>,
+) -> Result<(), AllocError>
+    ensures { OnOk result (text.new.items ≡ text.old.items ++ lines_text zone kind steps.now ids.now) }
+{
+    append_sysmods(alloc, zone, kind, steps, first_of(ids, MOST_HELD), text)?;
+    append_more_line(MOST_HELD, ids.len(), held_words(kind), text)
+}
+
+// Appends the lines of the holds of this kind.
+fn append_kind(
+    alloc: Global,
+    zone: ZoneKind,
+    todo: &[ToDo],
+    kind: HoldKind,
+    text: &mut Vec<u8>,
+) -> Result<(), AllocError>
+    ensures { OnOk result (text.new.items ≡ text.old.items ++ kind_text zone todo.now kind) }
+{
+    let steps = steps_about(alloc, kind, todo)?;
+    let ids = held_ids(alloc, steps.as_slice())?;
+    append_lines(alloc, zone, kind, steps.as_slice(), ids.as_slice(), text)
+}
+
+// Appends the lines of the holds.
+fn append_holds(
+    alloc: Global,
+    zone: ZoneKind,
+    todo: &[ToDo],
+    text: &mut Vec<u8>,
+) -> Result<(), AllocError>
+    ensures { OnOk result (text.new.items ≡ text.old.items ++ holds_text zone todo.now) }
+{
+    append_kind(alloc, zone, todo, HoldKind::System, text)?;
+    append_kind(alloc, zone, todo, HoldKind::User, text)?;
+    append_kind(alloc, zone, todo, HoldKind::Error, text)
 }
 
 // Appends the line of the orders, if there are any.
@@ -123,22 +228,19 @@ fn append_order(ids: &[Id], text: &mut Vec<u8>) -> Result<(), AllocError>
     )
 }
 
-// Appends the lines of these.
-fn append_items(kind: ZoneKind, items: &[ToDo], text: &mut Vec<u8>) -> Result<(), AllocError>
-    ensures { OnOk result (text.new.items ≡ text.old.items ++ flat_map (todo_line kind) items.now) }
+// Appends the orders and the holds below their headline.
+fn append_all(
+    alloc: Global,
+    zone: ZoneKind,
+    orders: &[Id],
+    todo: &[ToDo],
+    text: &mut Vec<u8>,
+) -> Result<(), AllocError>
+    ensures { OnOk result (text.new.items ≡ text.old.items ++ all_text zone orders.now todo.now) }
 {
-    for item in items {
-        append_item(kind, item, text)?;
-    }
-    Ok(())
-}
-
-// Appends the first of these, and how many more there are.
-fn append_acts(kind: ZoneKind, items: &[ToDo], text: &mut Vec<u8>) -> Result<(), AllocError>
-    ensures { OnOk result (text.new.items ≡ text.old.items ++ acts_text kind items.now) }
-{
-    append_items(kind, first_of(items, MOST_ACTS), text)?;
-    append_more_line(MOST_ACTS, items.len(), b"holds", text)
+    text.extend_from_slice(b"To do\n")?;
+    append_order(orders, text)?;
+    append_holds(alloc, zone, todo, text)
 }
 
 // Whether there is nothing to be done.
@@ -148,33 +250,18 @@ fn is_nothing(todo: &[ToDo]) -> bool
     todo.is_empty()
 }
 
-/// Appends what is to be done, if there is anything.
+/// Appends what is to be done, if there is anything: what is to be ordered, and the holds of each kind.
 pub(crate) fn append_todo(
     alloc: Global,
-    kind: ZoneKind,
+    zone: ZoneKind,
     todo: &[ToDo],
     text: &mut Vec<u8>,
 ) -> Result<(), AllocError>
-    ensures { OnOk result (text.new.items ≡ text.old.items ++ todo_text kind todo.now) }
+    ensures { OnOk result (text.new.items ≡ text.old.items ++ todo_text zone todo.now) }
 {
     if is_nothing(todo) {
         return Ok(());
     }
     let orders = orders_of(alloc, todo)?;
-    let others = others_among(alloc, todo)?;
-    append_lists(kind, orders.as_slice(), others.as_slice(), text)
-}
-
-// Appends the orders and the others below their headline.
-fn append_lists(
-    kind: ZoneKind,
-    orders: &[Id],
-    others: &[ToDo],
-    text: &mut Vec<u8>,
-) -> Result<(), AllocError>
-    ensures { OnOk result (text.new.items ≡ text.old.items ++ lists_text kind orders.now others.now) }
-{
-    text.extend_from_slice(b"To do\n")?;
-    append_order(orders, text)?;
-    append_acts(kind, others, text)
+    append_all(alloc, zone, orders.as_slice(), todo, text)
 }

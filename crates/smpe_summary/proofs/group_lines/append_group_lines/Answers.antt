@@ -1,6 +1,7 @@
 use Rattle.std.proofs.lemmas.Result.{on_ok_weaker}
 use Rattle.std.proofs.Common.{◌++◌, ◌∙◌, ap, length}
-use Rattle.smpe_summary.specs.Text.{early_groups, functions_of, functions_text, late_groups}
+use Rattle.smpe_summary.specs.Groups.{functions_of}
+use Rattle.smpe_summary.specs.Text.{early_groups, functions_text, late_groups}
 use Rattle.smpe_summary.proofs.Growing.{three}
 use Rattle.smpe_summary.proofs.group_lines.append_group_lines.Goals as goal
 

@@ -1,6 +1,6 @@
 use Rattle.std.proofs.Common.{◌∙◌, [], ap, arith, take_all}
 use Rattle.std.specs.List.{flat_map}
-use Rattle.smpe_summary.specs.Text.{function_of}
+use Rattle.smpe_summary.specs.Groups.{function_of}
 use Rattle.smpe_summary.proofs.Growing.{grown_more}
 use Rattle.smpe_summary.proofs.group_lines.functions_of.Goals as goal
 

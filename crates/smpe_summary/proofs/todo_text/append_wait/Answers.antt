@@ -7,5 +7,4 @@ pub returns : goal.returns
 returns c =
     let old = c.args.text.now.items in
     on_ok_weaker c.append_pieces.result
-    (λ e. e ∙ ap (λ x. old ++ wait_line x c.as_bytes-reason_bytes.result.now) c.as_bytes-id_bytes.ensures.same
-    ∙ ap (λ r. old ++ wait_line c.args.id.now r) c.as_bytes-reason_bytes.ensures.same) c.append_pieces.ensures
+    (λ e. e ∙ ap (λ x. old ++ wait_line x c.args.reasons.now) c.as_bytes-id_bytes.ensures.same) c.append_pieces.ensures
