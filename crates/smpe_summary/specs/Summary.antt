@@ -22,7 +22,7 @@ pub record IsSummary (a : Asked) (s : Summary) : Type 0 where
   pub members : s.members.items ≡ members_of a supers cands
   pub also : s.also.items ≡ filter (λ x. not (is_in a.members x)) (going_on a)
   pub causes : AreRanked a.global (blocked a supers) a.lines s.causes.items
-  pub todo : IsTodo a.global (blocked a supers) a.lines s.todo.items
+  pub todo : IsTodo a.global (blocked a supers) a.lines s.members.items s.todo.items
   pub taken_off : map taken_view s.taken_off.items
       ≡ taken_off a.global (counting a.global a.zone cands) a.zone (going_on a)
   pub has_failures : s.has_failures ≡ not (is_nil (ids_where is_failed a.lines))

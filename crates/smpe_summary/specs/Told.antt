@@ -4,9 +4,11 @@ use Rattle.std.specs.List.{flat_map}
 use Rattle.terms.specs.Types.{Id, Global}
 use Rattle.machine.specs.Outcome.{Line}
 use Rattle.smpe_summary.specs.declared.values.Cause.{Cause as StoredCause}
+use Rattle.smpe_summary.specs.declared.values.Member.{Member}
 use Rattle.smpe_summary.specs.declared.values.ToDo.{ToDo}
 use Rattle.smpe_summary.specs.declared.values.ToDo.TheVariants as todo
 use Rattle.smpe_summary.specs.Sets.{IsSetOf}
+use Rattle.smpe_summary.specs.Groups.{functions_of}
 use Rattle.smpe_summary.specs.Causes.{cause_in}
 use Rattle.smpe_summary.specs.Todo.{wanted, acts_in}
 use Rattle.smpe_summary.specs.Views.{cause_view, is_worse}
@@ -18,8 +20,10 @@ pub record AreRanked (g : Global) (blocks : Id → List Id) (lines : List Line) 
   pub same : IsPermutation by_line causes
   pub worst_first : IsSortedBy is_worse causes
 
--- what is to be done for the causers: orders, each once, and then their holds
-pub record IsTodo (g : Global) (blocks : Id → List Id) (lines : List Line) (ts : List ToDo) : Type 0 where
+-- What is to be done: the functions that these SYSMODs lack and what the causers need are to be ordered, each once, and
+-- then come the holds of the causers.
+pub record IsTodo (g : Global) (blocks : Id → List Id) (lines : List Line) (ms : List Member) (ts : List ToDo) : Type 0
+    where
   pub orders : List Id
-  pub orders_are : IsSetOf orders (wanted g blocks lines)
+  pub orders_are : IsSetOf orders (functions_of ms ++ wanted g blocks lines)
   pub todo : ts ≡ map todo.Order orders ++ flat_map (acts_in g blocks) lines

@@ -23,7 +23,7 @@ use crate::members::members_of;
 use crate::superseding::superseders;
 use crate::taken::{applied_ids, taken_off};
 use crate::todo::todo_of;
-use crate::values::{Cause, Summary, TakenOff, ToDo};
+use crate::values::{Cause, Member, Summary, TakenOff, ToDo};
 use fields::{Id, IdList};
 use report::ReportLine;
 use sorted::multi_map::MultiMap;
@@ -43,15 +43,16 @@ fn causes_and_todo(
     alloc: Global,
     asked: &Asked<'_>,
     supers: &MultiMap<Id, Id>,
+    members: &[Member],
 ) -> Result<Found, AllocError>
     ensures causes { IfOk result (λ found. AreRanked asked.now.global
         (blocked asked.now (listed (slice_cmp nat_cmp) supers.now)) asked.now.lines found.causes.items) }
     ensures todo { IfOk result (λ found. IsTodo asked.now.global
-        (blocked asked.now (listed (slice_cmp nat_cmp) supers.now)) asked.now.lines found.todo.items) }
+        (blocked asked.now (listed (slice_cmp nat_cmp) supers.now)) asked.now.lines members.now found.todo.items) }
 {
     let blocks = blocked(alloc, asked, supers)?;
     let causes = causes_of(alloc, asked.global, &blocks, asked.lines)?;
-    let todo = todo_of(alloc, asked.global, &blocks, asked.lines)?;
+    let todo = todo_of(alloc, asked.global, &blocks, asked.lines, members)?;
     Ok(Found { causes, todo })
 }
 
@@ -102,7 +103,7 @@ fn summary_over(
 {
     let supers = superseders(alloc, vers, going)?;
     let members = members_of(alloc, asked, &supers, candidates)?;
-    let Found { causes, todo } = causes_and_todo(alloc, asked, &supers)?;
+    let Found { causes, todo } = causes_and_todo(alloc, asked, &supers, members.as_slice())?;
     let also = others_among(alloc, asked.package, going)?;
     Ok(Summary {
         kind: asked.zone.kind(),

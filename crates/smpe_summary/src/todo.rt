@@ -11,10 +11,12 @@ ghost use Rattle.report.specs.Views.{line_view};
 ghost use Rattle.smpe_summary.specs.declared.values.ToDo.TheVariants.{Order};
 ghost use Rattle.smpe_summary.specs.Todo.{is_orderable, is_error_hold, order_of, wants_by, wants_in, wanted, act, ask};
 ghost use Rattle.smpe_summary.specs.Todo.{wait_of, acts_of, acts_by, acts_in};
+ghost use Rattle.smpe_summary.specs.Groups.{functions_of};
 ghost use Rattle.smpe_summary.specs.Told.{IsTodo};
 
 use crate::causes::is_causer;
-use crate::values::ToDo;
+use crate::group_lines::functions_of;
+use crate::values::{Member, ToDo};
 use fields::{Id, IdList};
 use judge_system::{Failure, OpenNeed};
 use report::{ReportLine, Status};
@@ -101,20 +103,36 @@ fn push_line_orders(
     }
 }
 
-// What is to be ordered for the causers, more than once if several need it.
-fn wanted(
+// Appends what is to be ordered for the causers, more than once if several need it.
+fn push_wanted(
+    global: &GlobalZone,
+    blocks: &MultiMap<Id, Id>,
+    lines: &[ReportLine],
+    found: &mut Vec<Id>,
+) -> Result<(), AllocError>
+    ensures { OnOk result (found.new.items ≡ found.old.items
+        ++ wanted global.now (listed (slice_cmp nat_cmp) blocks.now) (map line_view lines.now)) }
+{
+    for line in lines {
+        push_line_orders(global, blocks, line, found)?;
+    }
+    Ok(())
+}
+
+// What is to be ordered, more than once if several need it: the functions that these SYSMODs lack, and what the causers
+// need.
+fn all_wanted(
     alloc: Global,
     global: &GlobalZone,
     blocks: &MultiMap<Id, Id>,
     lines: &[ReportLine],
+    members: &[Member],
 ) -> Result<Vec<Id>, AllocError>
-    ensures { IfOk result (λ found. found.items
-        ≡ wanted global.now (listed (slice_cmp nat_cmp) blocks.now) (map line_view lines.now)) }
+    ensures { IfOk result (λ found. found.items ≡ functions_of members.now
+        ++ wanted global.now (listed (slice_cmp nat_cmp) blocks.now) (map line_view lines.now)) }
 {
-    let mut found = Vec::new(alloc);
-    for line in lines {
-        push_line_orders(global, blocks, line, &mut found)?;
-    }
+    let mut found = functions_of(alloc, members)?;
+    push_wanted(global, blocks, lines, &mut found)?;
     Ok(found)
 }
 
@@ -240,17 +258,19 @@ fn order_all(alloc: Global, ids: &IdList) -> Result<Vec<ToDo>, AllocError>
     ids.iter().map(|id| ToDo::Order(*id)).collect(alloc)
 }
 
-/// What is to be done for the causers: first what is to be ordered, and then their holds.
+/// What is to be done: first what is to be ordered, for these SYSMODs or for the causers, and then the holds of the
+/// causers.
 pub(crate) fn todo_of(
     alloc: Global,
     global: &GlobalZone,
     blocks: &MultiMap<Id, Id>,
     lines: &[ReportLine],
+    members: &[Member],
 ) -> Result<Vec<ToDo>, AllocError>
     ensures { IfOk result (λ todo. IsTodo global.now (listed (slice_cmp nat_cmp) blocks.now) (map line_view lines.now)
-        todo.items) }
+        members.now todo.items) }
 {
-    let orders = IdList::from_vec(wanted(alloc, global, blocks, lines)?);
+    let orders = IdList::from_vec(all_wanted(alloc, global, blocks, lines, members)?);
     let mut todo = order_all(alloc, &orders)?;
     push_all_holds(global, blocks, lines, &mut todo)?;
     Ok(todo)

@@ -15,7 +15,7 @@ returns c =
       orders = c.from_vec-orders.result;
       orders_are = record {
         rising = c.from_vec-orders.ensures.rising;
-        members = rw c.in_ok-wanted.ensures at c.from_vec-orders.ensures.members;
+        members = rw c.in_ok-all_wanted.ensures at c.from_vec-orders.ensures.members;
       };
       todo = c.in_ok-push_all_holds.ensures
           ∙ ap (λ l. l ++ acts) c.in_ok-todo.ensures;
