@@ -36,6 +36,7 @@ asked_of found zone p lines = record {
   lines = lines;
   members = p.ids;
   unsure = p.unsure;
+  holds_read = p.holds_read;
 }
 
 -- It is the text of a summary of that. The status is this one, or that of the summary if it is greater.

@@ -10,7 +10,8 @@ use Rattle.smpe_certificate.specs.Facts.{Input}
 use Rattle.smpe_why.specs.declared.found.LoadedZones.{LoadedZones}
 
 -- a package: the name of the zone in question, the source of its SYSMODs, their ids, those of them of which it is not
--- sure that they can be installed, and its remarks, with the status that they bring
+-- sure that they can be installed, its remarks, with the status that they bring, and how many holds were read beside its
+-- SYSMODs
 pub record PackageFacts : Type 0 where
   pub zone : Text
   pub source : Text
@@ -18,6 +19,7 @@ pub record PackageFacts : Type 0 where
   pub unsure : List Id
   pub remarks : Text
   pub status : ℕ
+  pub holds_read : ℕ
 
 -- SOURCEID(x) FUNCTIONS PTFS APARS USERMODS GROUPEXTEND
 abbrev pub package_selection : Text → Selection

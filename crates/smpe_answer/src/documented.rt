@@ -63,6 +63,7 @@ fn zone_document(
         lines: lines.as_slice(),
         package: facts.ids,
         unsure: facts.unsure,
+        holds_read: facts.holds_read,
     };
     let header = install_header(facts.zone, zone.kind());
     document(alloc, &header, &asked, facts)

@@ -3,7 +3,8 @@ use fields::{IdList, Source, ZoneName};
 use std::marker::Model;
 
 /// The name of the zone in question, the source of a package, the ids of its SYSMODs, those of them of which it is not
-/// sure that they can be installed, and its remarks, with the status that they bring.
+/// sure that they can be installed, its remarks, with the status that they bring, and how many holds were read beside
+/// its SYSMODs.
 #[derive(Drop)]
 pub struct PackageFacts<'a> {
     pub zone: ZoneName,
@@ -12,6 +13,7 @@ pub struct PackageFacts<'a> {
     pub unsure: &'a IdList,
     pub remarks: &'a [u8],
     pub status: u8,
+    pub holds_read: usize,
 }
 
 impl<'a> Model for PackageFacts<'a> {
@@ -26,5 +28,6 @@ impl<'a> Model for PackageFacts<'a> {
       unsure = p.unsure.now;
       remarks = p.remarks.now;
       status = p.status;
+      holds_read = p.holds_read;
     } };
 }

@@ -50,6 +50,7 @@ fn summary_part(
         lines: lines.as_slice(),
         package: facts.ids,
         unsure: facts.unsure,
+        holds_read: facts.holds_read,
     };
     summarize(alloc, &asked, package_status(facts))
 }

@@ -1,6 +1,6 @@
 -- A package of a shop's own files is asked about: the answer, and its certificate.
 use Rattle.std.specs.Prelude.{◌≡◌, ◌≢◌, ◌⊎◌, ◌++◌, ◌&&◌, ℕ, Bool, true, false, not, max, List, [], ◌∷◌, length, map}
-use Rattle.std.specs.Prelude.{Vec, Option, None, Some, option_map, Result, Ok, Err, codes}
+use Rattle.std.specs.Prelude.{Vec, Option, None, Some, option_map, Result, Ok, Err, codes, count_by}
 use Rattle.std.specs.IoError.{error_kind}
 use Rattle.std.specs.declared.alloc.Global.{Global as AnyGlobal}
 use Rattle.std.specs.List.{flat_map, list_any}
@@ -10,6 +10,8 @@ use Rattle.std.specs.declared.io.ErrorKind.TheVariants.{OutOfMemory}
 use Rattle.sqlite_disk.specs.declared.Disk as disk
 use Rattle.terms.specs.Types.{Text, Id}
 use Rattle.report.specs.declared.sink.Sink.{Ghosts as SinkGhosts}
+use Rattle.mcs.specs.declared.hold_item.HoldItem.{HoldItem}
+use Rattle.mcs.specs.declared.hold_item.HoldItem.TheVariants as item
 use Rattle.intake_service.specs.Carrying.{is_sysmod}
 use Rattle.smpe_package.specs.Package.{AreIds, IsPackage, id_of}
 use Rattle.smpe_package.specs.declared.carried.Package.{Package}
@@ -76,7 +78,12 @@ facts_of s received = record {
   unsure = s.unsure;
   remarks = s.remarks.items;
   status = max s.status received;
+  holds_read = s.holds_read;
 }
+
+abbrev pub is_hold : HoldItem → Bool
+is_hold (item.Hold h) = true
+is_hold (item.Release r) = false
 
 -- how the error of a write is reported
 abbrev pub TellsWrite : Text → Error → Fault → Type 0
@@ -147,6 +154,7 @@ module _ {H D M : Type 0} (host : HostGhosts H D) (memory : disk.Ghosts M) where
     pub unsure : s.unsure ≡ p.unsure
     pub remarks : s.remarks ≡ p.remarks
     pub status : s.status ≡ p.status
+    pub holds_read : s.holds_read ≡ count_by is_hold p.hold_items.items
     pub inputs_are : map digest_view s.inputs.items ≡ inputs ++ database_inputs system s.system
 
   -- So it is, or memory ran out, or the system was not read, or the jobs were not made.

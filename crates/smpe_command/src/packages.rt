@@ -1,5 +1,5 @@
 //! A package of a shop's own files is asked about: its answer, and its certificate.
-ghost use Rattle.std.specs.Prelude.{◌≡◌, ◌&&◌, not, false, true, map, IfOk, IfErr};
+ghost use Rattle.std.specs.Prelude.{◌≡◌, ◌&&◌, not, false, true, count_by, map, IfOk, IfErr};
 ghost use Rattle.std.specs.List.{flat_map, list_any};
 ghost use Rattle.std.specs.String.{string_bytes};
 ghost use Rattle.intake_service.specs.Carrying.{is_sysmod};
@@ -9,7 +9,7 @@ ghost use Rattle.smpe_rehearsal.specs.ServiceSet.{receive_records};
 ghost use Rattle.smpe_command.specs.Packages.{AnswersCarried, AnswersPackage, AnswersRehearsed, AnswersSettled};
 ghost use Rattle.smpe_command.specs.Packages.{Certifies, ServesPackage, Settles, TellsForm, TellsRemarks, TellsWrite};
 ghost use Rattle.smpe_command.specs.Packages.{AnswersIfAny, WritesCertificate, asked_ids, certificate_name, is_plain};
-ghost use Rattle.smpe_command.specs.Packages.{TellsAnswer, Writes, is_report};
+ghost use Rattle.smpe_command.specs.Packages.{TellsAnswer, Writes, is_hold, is_report};
 ghost use Rattle.smpe_answer.specs.Answered.{IsSummaryAnswer};
 ghost use Rattle.smpe_answer.specs.Documented.{IsDocumentAnswer};
 ghost use Rattle.smpe_rehearsal.specs.Told.{TellsText};
@@ -22,6 +22,7 @@ use crate::job_files::read_each;
 use crate::settled::Settled;
 use crate::systems::read_system;
 use fields::{Id, IdList};
+use mcs::HoldItem;
 use report::{Sink, write_all};
 use smpe::{Fault, JobError};
 use smpe_answer::{Answer, Digest, PackageFacts, json_answer, package_certificate, summary_answer};
@@ -155,6 +156,7 @@ pub(crate) fn settle<'a, H: Host>(
     ensures receive { IfOk result (λ settled. settled.prepared.jobs.receive.items ≡ receive_records) }
 {
     let ids = ids_of_package(alloc, &carried)?;
+    let holds_read = hold_count(carried.hold_items.as_slice());
     let read = read_system(host, system)?;
     let inputs = with_database(system, &read, inputs)?;
     let Package {
@@ -172,8 +174,26 @@ pub(crate) fn settle<'a, H: Host>(
         unsure,
         remarks,
         status,
+        holds_read,
         inputs,
     })
+}
+
+// How many of these are holds.
+fn hold_count(items: &[HoldItem]) -> usize
+    ensures { result ≡ count_by is_hold items.now }
+{
+    items.iter().filter(|item| is_hold(item)).count()
+}
+
+// Whether this is a hold, and no release.
+fn is_hold(item: &HoldItem) -> bool
+    ensures { result ≡ is_hold item.now }
+{
+    match item {
+        HoldItem::Hold(_) => true,
+        HoldItem::Release(_) => false,
+    }
 }
 
 // The ids of the SYSMODs of the package. Returns `Memory` if memory runs out.
@@ -316,6 +336,7 @@ fn tell_in_form<O: Sink>(
         unsure: &settled.unsure,
         remarks: settled.remarks.as_slice(),
         status: settled.status.max(rehearsed.status),
+        holds_read: settled.holds_read,
     };
     match check.answer.form {
         CheckForm::Report => ask_about_package(alloc, &settled.system, &settled.prepared, ids, out),

@@ -15,6 +15,8 @@ pub(crate) struct Settled<'a> {
     pub(crate) remarks: Vec<u8>,
     /// The status that the remarks bring.
     pub(crate) status: u8,
+    /// How many holds were read beside its SYSMODs.
+    pub(crate) holds_read: usize,
     /// The files from which the package and the system come.
     pub(crate) inputs: Vec<Digest<'a>>,
 }

@@ -1,19 +1,20 @@
 -- What is asked about, and what the lines of an APPLY or ACCEPT say.
-use Rattle.std.specs.Prelude.{Bool, true, false, List, [], ◌∷◌, if◌then◌else◌}
+use Rattle.std.specs.Prelude.{Bool, true, false, ℕ, List, [], ◌∷◌, if◌then◌else◌}
 use Rattle.std.specs.List.{flat_map}
 use Rattle.terms.specs.Types.{Id, Global, Zone}
 use Rattle.machine.specs.Outcome.{Status, Applied, Accepted, Superseded, Failed, Line, StatusLine}
 use Rattle.smpe_summary.specs.declared.lines.Condition.{Condition}
 use Rattle.smpe_summary.specs.declared.lines.Condition.TheVariants as condition
 
--- The zones after RECEIVE, the lines of an APPLY or ACCEPT, the ids of the SYSMODs of the package, and those of which it
--- is not sure that all that belongs to them was received.
+-- The zones after RECEIVE, the lines of an APPLY or ACCEPT, the ids of the SYSMODs of the package, those of which it is
+-- not sure that all that belongs to them was received, and how many holds were read beside the SYSMODs.
 pub record Asked : Type 0 where
   pub global : Global
   pub zone : Zone
   pub lines : List Line
   pub members : List Id
   pub unsure : List Id
+  pub holds_read : ℕ
 
 -- it is installed
 abbrev pub goes_on : Status → Bool

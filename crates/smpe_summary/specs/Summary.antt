@@ -25,4 +25,5 @@ pub record IsSummary (a : Asked) (s : Summary) : Type 0 where
   pub todo : IsTodo a.global (blocked a supers) a.lines s.members.items s.todo.items
   pub taken_off : map taken_view s.taken_off.items
       ≡ taken_off a.global (counting a.global a.zone cands) a.zone (going_on a)
+  pub holds_read : s.holds_read ≡ a.holds_read
   pub has_failures : s.has_failures ≡ not (is_nil (ids_where is_failed a.lines))

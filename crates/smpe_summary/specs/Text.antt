@@ -175,8 +175,18 @@ line_start s =
 abbrev pub parts : List Member → Text
 parts ms = failed_parts ms ++ open_parts ms ++ other_parts ms
 
+abbrev pub read_words : ℕ → Text
+read_words n = if n == 1 then codes " was read\n" else codes " were read\n"
+
+-- what is told of files without a SYSMOD, and with so many holds
+abbrev pub empty_line : ℕ → Text
+empty_line n = codes "no SYSMOD to check in these files: " ++ counted n (codes "hold") ++ read_words n
+
+abbrev pub full_line : Summary → Text
+full_line s = line_start s ++ parts s.members.items ++ todo_parts s.todo.items ++ codes "\n"
+
 abbrev pub first_line : Summary → Text
-first_line s = line_start s ++ parts s.members.items ++ todo_parts s.todo.items ++ codes "\n"
+first_line s = if is_nil s.members.items then empty_line s.holds_read else full_line s
 
 -- ---- the lines of groups
 

@@ -5,8 +5,8 @@ use std::marker::Model;
 use sysmods::GlobalZone;
 use zones::Zone;
 
-/// The zones after RECEIVE of a package, the lines of an APPLY or ACCEPT of it, the ids of its SYSMODs, and those ids of
-/// which it is not sure that all that belongs to them was received.
+/// The zones after RECEIVE of a package, the lines of an APPLY or ACCEPT of it, the ids of its SYSMODs, those ids of
+/// which it is not sure that all that belongs to them was received, and how many holds were read beside the SYSMODs.
 #[derive(Drop)]
 pub struct Asked<'a> {
     pub global: &'a GlobalZone,
@@ -14,6 +14,7 @@ pub struct Asked<'a> {
     pub lines: &'a [ReportLine],
     pub package: &'a IdList,
     pub unsure: &'a IdList,
+    pub holds_read: usize,
 }
 
 impl<'a> Model for Asked<'a> {
@@ -29,5 +30,6 @@ impl<'a> Model for Asked<'a> {
       lines = map line_view a.lines.now;
       members = a.package.now;
       unsure = a.unsure.now;
+      holds_read = a.holds_read;
     } };
 }

@@ -2,7 +2,8 @@
 ghost use Rattle.std.specs.Prelude.{◌≡◌, ◌++◌, length, IfOk, OnOk};
 ghost use Rattle.smpe_summary.specs.Text.{group_number, would_text, ids_in, part, failed_parts, open_parts, other_parts};
 ghost use Rattle.smpe_summary.specs.Text.{ordered, orders_of, acts_part, before_orders, orders_part, todo_parts};
-ghost use Rattle.smpe_summary.specs.Text.{line_start, parts, first_line};
+ghost use Rattle.smpe_summary.specs.Text.{line_start, parts, read_words, empty_line, full_line, first_line};
+ghost use Rattle.terms.specs.Lookups.{is_nil};
 
 use crate::pieces::{Piece, append_pieces};
 use crate::steps::steps_about;
@@ -206,7 +207,52 @@ fn append_parts(alloc: Global, members: &[Member], text: &mut Vec<u8>) -> Result
     append_other_parts(alloc, members, text)
 }
 
-/// Appends the first line: how many SYSMODs the groups have, and how much there is to be done.
+// Appends the line of files with SYSMODs.
+fn append_full_line(
+    alloc: Global,
+    summary: &Summary,
+    text: &mut Vec<u8>,
+) -> Result<(), AllocError>
+    ensures { OnOk result (text.new.items ≡ text.old.items ++ full_line summary.now) }
+{
+    append_start(alloc, summary, text)?;
+    append_parts(alloc, summary.members.as_slice(), text)?;
+    append_todo_parts(alloc, summary.todo.as_slice(), text)?;
+    text.extend_from_slice(b"\n")
+}
+
+// What is said of so many holds.
+fn read_words(holds: usize) -> &'static [u8]
+    ensures { result.now ≡ read_words holds }
+{
+    if holds == 1 {
+        b" was read\n"
+    } else {
+        b" were read\n"
+    }
+}
+
+// Appends the line of files without a SYSMOD, and with so many holds.
+fn append_empty_line(holds: usize, text: &mut Vec<u8>) -> Result<(), AllocError>
+    ensures { OnOk result (text.new.items ≡ text.old.items ++ empty_line holds) }
+{
+    let pieces = [
+        Piece::Text(b"no SYSMOD to check in these files: "),
+        Piece::Counted(holds, b"hold"),
+        Piece::Text(read_words(holds)),
+    ];
+    append_pieces(&pieces, text)
+}
+
+// Whether there is no SYSMOD.
+fn are_none(members: &[Member]) -> bool
+    ensures { result ≡ is_nil members.now }
+{
+    members.is_empty()
+}
+
+/// Appends the first line: how many SYSMODs the groups have, and how much there is to be done, or that there is no
+/// SYSMOD.
 pub(crate) fn append_first_line(
     alloc: Global,
     summary: &Summary,
@@ -214,8 +260,8 @@ pub(crate) fn append_first_line(
 ) -> Result<(), AllocError>
     ensures { OnOk result (text.new.items ≡ text.old.items ++ first_line summary.now) }
 {
-    append_start(alloc, summary, text)?;
-    append_parts(alloc, summary.members.as_slice(), text)?;
-    append_todo_parts(alloc, summary.todo.as_slice(), text)?;
-    text.extend_from_slice(b"\n")
+    if are_none(summary.members.as_slice()) {
+        return append_empty_line(summary.holds_read, text);
+    }
+    append_full_line(alloc, summary, text)
 }

@@ -112,6 +112,7 @@ fn summary_over(
         causes,
         todo,
         taken_off: taken_off_by(alloc, asked, vers, going)?,
+        holds_read: asked.holds_read,
         has_failures: has_failures(alloc, asked.lines)?,
     })
 }

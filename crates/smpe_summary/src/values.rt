@@ -91,6 +91,8 @@ pub struct Summary {
     /// First what is to be ordered.
     pub todo: Vec<ToDo>,
     pub taken_off: Vec<TakenOff>,
+    /// How many holds were read beside the SYSMODs.
+    pub holds_read: usize,
     /// Whether any SYSMOD fails, of the package or not.
     pub has_failures: bool,
 }

@@ -19,6 +19,7 @@ returns c =
       unsure = c.facts.inside.unsure.now;
       remarks = c.facts.inside.remarks.now;
       status = c.facts.inside.status;
+      holds_read = c.facts.inside.holds_read;
     } in
     let is : inside ≡ facts = search rules in
     let related : option_copied c.as_ref-related.result ≡ zones.related = search rules in

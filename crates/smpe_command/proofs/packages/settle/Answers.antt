@@ -1,11 +1,11 @@
 use Rattle.std.proofs.Common.{◌∙◌, Result, Err, ap, inl, inr, sym, refl, subst}
 use Rattle.std.proofs.lemmas.Result.{err_from_is_err_and}
-use Rattle.std.specs.Prelude.{map}
+use Rattle.std.specs.Prelude.{count_by, map}
 use Rattle.sqlite_disk.specs.contracts.memory.MemoryDisk.TheImpl.{ghosts as memory_disk}
 use Rattle.smpe_certificate.specs.Views.{digest_view}
 use Rattle.smpe_jobs.specs.declared.messages.Fault.TheVariants.{Job}
 use Rattle.smpe_rehearsal.specs.Prepared.{Prepares}
-use Rattle.smpe_command.specs.Packages.{Settles}
+use Rattle.smpe_command.specs.Packages.{Settles, is_hold}
 use Rattle.smpe_command.proofs.packages.settle.Goals as goal
 
 pub returns-in_err-ids-clause-settles : goal.returns-in_err-ids-clause-settles
@@ -59,5 +59,6 @@ returns-clause-settles g c = record {
   unsure = refl;
   remarks = refl;
   status = refl;
+  holds_read = c.hold_count-holds_read.ensures ∙ ap (count_by is_hold) c.as_slice.ensures.value;
   inputs_are = c.in_ok-inputs.ensures.ok;
 }

@@ -18,6 +18,7 @@ returns-in-Summary g c =
       unsure = s.unsure;
       remarks = remarks;
       status = status;
+      holds_read = s.holds_read;
     } in
     let Told : Text → Text → ℕ → List Id → Type 0 = λ zone remarks status ids. TellsAnswer g.O.Sink c.args.out.now
     (IsSummaryAnswer z.zones (facts zone remarks status) ids) c.tell_summary.result c.tell_summary.new.out in
@@ -39,6 +40,7 @@ returns-in-Json g c =
       unsure = s.unsure;
       remarks = remarks;
       status = status;
+      holds_read = s.holds_read;
     } in
     let Told : Text → Text → ℕ → Type 0 = λ zone remarks status. TellsAnswer g.O.Sink c.args.out.now
     (IsDocumentAnswer z.zones (facts zone remarks status) z.zones.zone) c.tell_document.result

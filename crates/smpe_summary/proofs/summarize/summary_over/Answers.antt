@@ -6,9 +6,6 @@ use Rattle.terms.specs.Types.{Id, Global}
 use Rattle.terms.specs.Lookups.{is_nil, is_in}
 use Rattle.terms.specs.Choice.{Choice, counting}
 use Rattle.sysmods.specs.Choices.{choice}
-use Rattle.smpe_summary.specs.declared.values.Member.{Member}
-use Rattle.smpe_summary.specs.Blocked.{blocked}
-use Rattle.smpe_summary.specs.Told.{IsTodo}
 use Rattle.smpe_summary.specs.Asked.{Asked, is_failed, ids_where, going_on}
 use Rattle.smpe_summary.specs.Superseding.{AreSuperseders}
 use Rattle.smpe_summary.specs.Todo.{taken_off}
@@ -35,12 +32,12 @@ returns c =
           ∙ ap (λ (b : Asked). filter (λ x. not (is_in b.members x)) going) c.asked.view_is
           ∙ ap (filter (λ x. not (is_in a.members x))) c.requires.going;
       causes = c.in_ok-causes.ensures.causes;
-      todo = subst (λ (ms : List Member). IsTodo a.global (blocked a supers) a.lines ms c.in_ok-causes.todo.items)
-          c.as_slice.ensures.value c.in_ok-causes.ensures.todo;
+      todo = rw c.as_slice.ensures.value at c.in_ok-causes.ensures.todo;
       taken_off = c.in_ok-taken_off_by.ensures
           ∙ ap (λ (g : Global). taken_off g ch a.zone going) c.requires.global
           ∙ ap (λ (d : Choice). taken_off a.global d a.zone going) c.requires.choice
           ∙ ap (taken_off a.global (counting a.global a.zone cands) a.zone) c.requires.going;
+      holds_read = ap (λ (b : Asked). b.holds_read) c.asked.view_is;
       has_failures = c.in_ok-has_failures.ensures
           ∙ ap (λ (b : Asked). not (is_nil (ids_where is_failed b.lines))) c.asked.view_is;
     }

@@ -2,7 +2,7 @@ use Rattle.std.proofs.Common.{◌++◌, ◌∙◌, ap}
 use Rattle.std.specs.Prelude.{codes}
 use Rattle.smpe_summary.specs.Text.{line_start, parts, todo_parts}
 use Rattle.smpe_summary.proofs.Growing.{on_ok_from, four}
-use Rattle.smpe_summary.proofs.first_line.append_first_line.Goals as goal
+use Rattle.smpe_summary.proofs.first_line.append_full_line.Goals as goal
 
 pub returns : goal.returns
 returns c =
