@@ -90,24 +90,10 @@ pub(crate) fn grow(
     if are_on(alloc, broken.ids, &lines)? {
         return Ok(Found::Repair(Tried { actions, lines }));
     }
-    if add_asked(
-        alloc,
-        global,
-        broken,
-        Extent::Safe,
-        &lines,
-        &mut actions,
-    )? {
+    if add_asked(alloc, global, broken, Extent::Safe, &lines, &mut actions)? {
         return grow(alloc, global, broken, actions);
     }
-    if add_asked(
-        alloc,
-        global,
-        broken,
-        Extent::Risky,
-        &lines,
-        &mut actions,
-    )? {
+    if add_asked(alloc, global, broken, Extent::Risky, &lines, &mut actions)? {
         return grow(alloc, global, broken, actions);
     }
     Ok(Found::Nothing(Tried { actions, lines }))

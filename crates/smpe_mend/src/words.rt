@@ -270,11 +270,7 @@ fn is_long(count: usize) -> bool
 }
 
 // Whether the list of the reasons of this kind of hold is too long for a command file.
-fn has_long_reasons(
-    alloc: Global,
-    kind: HoldKind,
-    actions: &[Action],
-) -> Result<bool, AllocError>
+fn has_long_reasons(alloc: Global, kind: HoldKind, actions: &[Action]) -> Result<bool, AllocError>
     ensures { IfOk result (λ long. long ≡ nat_lt 1000 (length (reasons kind actions.now))) }
 {
     let reasons = reasons(alloc, kind, actions)?;
@@ -282,11 +278,7 @@ fn has_long_reasons(
 }
 
 // Whether a list of the command is too long for a command file.
-fn has_long_list(
-    alloc: Global,
-    broken: &Broken<'_>,
-    actions: &[Action],
-) -> Result<bool, AllocError>
+fn has_long_list(alloc: Global, broken: &Broken<'_>, actions: &[Action]) -> Result<bool, AllocError>
     ensures { IfOk result (λ long. long ≡ has_long_list (asked_of broken.now) actions.now) }
 {
     let errors = has_long_reasons(alloc, HoldKind::Error, actions)?;
