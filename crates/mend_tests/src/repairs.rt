@@ -22,8 +22,16 @@ const PACKAGE: &str = "++FUNCTION(HAA1100).|++VER(Z038).|\
     ++PTF(UA00004).|++VER(Z038) FMID(HAA1100).|\
     ++PTF(UA00003).|++VER(Z038) FMID(HAA1100) PRE(UA00004) REQ(UA00009).|";
 
+/// A PTF, one that resolves AA00077 and requires a PTF that is not received, and one that resolves AA00099 and requires
+/// a PTF for zones of another SREL. This one supersedes AA00088 there.
+const FIXED: &str = "++FUNCTION(HAA1100).|++VER(Z038).|\
+    ++PTF(UA00005).|++VER(Z038) FMID(HAA1100).|\
+    ++PTF(UA00006).|++VER(Z038) FMID(HAA1100) REQ(UA00009) SUP(AA00077).|\
+    ++PTF(UA00007).|++VER(Z038) FMID(HAA1100) REQ(UA00008) SUP(AA00099).|\
+    ++PTF(UA00008).|++VER(P115) FMID(HAA1100) SUP(AA00088).|";
+
 /// Packages with their repairs.
-const CASES: [Case; 6] = [
+const CASES: [Case; 9] = [
     Case {
         ptfin: PACKAGE,
         hold: "++HOLD(UA00004) SYSTEM FMID(HAA1100) REASON(ACTION)|COMMENT(COPY THE PARAMETERS BEFORE).|\
@@ -31,7 +39,7 @@ const CASES: [Case; 6] = [
         ids: "UA00003",
         status: 0,
         wanted: "MEND UA00003: 3 actions|  ACT      UA00004 SYSTEM ACTION: COPY THE PARAMETERS BEFORE|\
-            \x20 ORDER    UA00009|  ORDER    AA00001|\
+            \x20 FIX      AA00001|  ORDER    UA00009|\
             COMMAND APPLY SELECT(UA00003) GROUPEXTEND BYPASS(HOLDSYSTEM(ACTION)).|",
     },
     Case {
@@ -64,6 +72,30 @@ const CASES: [Case; 6] = [
         ids: "UA00001,UA00002",
         status: 8,
         wanted: "MEND UA00001,UA00002 -|  UA00001 FAILED|    TEST J9|  UA00002 FAILED|    TEST J9|",
+    },
+    Case {
+        ptfin: FIXED,
+        hold: "++HOLD(UA00005) ERROR FMID(HAA1100) REASON(AA00077).|\
+            ++HOLD(UA00006) SYSTEM FMID(HAA1100) REASON(ACTION)|COMMENT(STOP IT).|",
+        ids: "UA00005",
+        status: 0,
+        wanted: "MEND UA00005: 2 actions|  ACT      UA00006 SYSTEM ACTION: STOP IT|  ORDER    UA00009|\
+            COMMAND APPLY SELECT(UA00005) GROUPEXTEND BYPASS(HOLDSYSTEM(ACTION)).|",
+    },
+    Case {
+        ptfin: FIXED,
+        hold: "++HOLD(UA00005) ERROR FMID(HAA1100) REASON(AA00088).|",
+        ids: "UA00005",
+        status: 0,
+        wanted: "MEND UA00005: 1 action|  FIX      AA00088|COMMAND APPLY SELECT(UA00005) GROUPEXTEND.|",
+    },
+    Case {
+        ptfin: FIXED,
+        hold: "++HOLD(UA00005) ERROR FMID(HAA1100) REASON(AA00099).|",
+        ids: "UA00005",
+        status: 0,
+        wanted: "MEND UA00005: 1 action|  RISK     UA00005 ERROR AA00099|\
+            COMMAND APPLY SELECT(UA00005) GROUPEXTEND BYPASS(HOLDERROR(AA00099)).|",
     },
     Case {
         ptfin: "++FUNCTION(HAA1100).|++VER(Z038).|\

@@ -1,5 +1,5 @@
 -- What has to be done so that given SYSMODs go on, given a package of a shop's own files.
-use Rattle.std.specs.Prelude.{◌≡◌, ◌⊎◌, ℕ, List, [], length, Option, Result, Ok, Err}
+use Rattle.std.specs.Prelude.{◌≡◌, ◌⊎◌, ℕ, List, [], length, max, Option, Result, Ok, Err}
 use Rattle.sqlite_disk.specs.declared.Disk as disk
 use Rattle.terms.specs.Types.{Text, Id}
 use Rattle.report.specs.declared.sink.Sink.{Ghosts as SinkGhosts}
@@ -14,11 +14,18 @@ use Rattle.smpe_rehearsal.specs.Prepared.{IsNotCarried}
 use Rattle.smpe_rehearsal.specs.Rehearsed.{Rehearses}
 use Rattle.smpe_rehearsal.specs.Told.{TellsText, job_told}
 use Rattle.smpe_answer.specs.Mended.{IsMendAnswer}
+use Rattle.smpe_answer.specs.declared.asked_ids.Answer.{Answer}
 use Rattle.smpe_command.specs.declared.host.Host.{Ghosts as HostGhosts}
 use Rattle.smpe_command.specs.declared.settled.Settled.{Settled}
 use Rattle.smpe_command.specs.Packages.{Settles, TellsAnswer}
 use Rattle.smpe_command.specs.Reading.{FailsToRead, ReadsAll}
 use Rattle.smpe_command.specs.Shop.{raised_to}
+
+-- It is told what has to be done so that the ids go on, given the zones after RECEIVE. The status is that of the
+-- answer, or that of RECEIVE if it is greater.
+abbrev pub IsMended : Rehearsed → List Id → Answer → Type 0
+IsMended z ids told = (answer : Answer) × IsMendAnswer z.zones ids answer × (told.text.items ≡ answer.text.items)
+    × (told.status ≡ max answer.status z.status)
 
 -- The package is received in the system, and it is told what has to be done so that the ids go on; or that failed.
 abbrev pub MendsSettled : {M O : Type 0} → disk.Ghosts M → SinkGhosts O → Settled → List Id → O → Result ℕ JobError → O
@@ -26,7 +33,7 @@ abbrev pub MendsSettled : {M O : Type 0} → disk.Ghosts M → SinkGhosts O → 
 MendsSettled memory sink s ids out r out' =
     ((error : JobError) × Rehearses memory s.system s.prepared (Err error) × (r ≡ Err error) × (out' ≡ out))
     ⊎ ((z : Rehearsed) × Rehearses memory s.system s.prepared (Ok z)
-    × TellsAnswer sink out (IsMendAnswer z.zones ids) r out')
+    × TellsAnswer sink out (IsMended z ids) r out')
 
 module _ {H D M O : Type 0} (host : HostGhosts H D) (memory : disk.Ghosts M) (sink : SinkGhosts O) where
   module _ (system : CheckedSystem) (ids : List Id) (h : H) (p : Package) where

@@ -1,5 +1,5 @@
 //! What has to be done so that given SYSMODs go on.
-ghost use Rattle.std.specs.Prelude.{◌≡◌, Some, map};
+ghost use Rattle.std.specs.Prelude.{◌≡◌, Some, map, max};
 ghost use Rattle.std.specs.String.{string_bytes};
 ghost use Rattle.smpe_rehearsal.specs.ServiceSet.{receive_records};
 ghost use Rattle.smpe_command.specs.Mending.{MendsCarried, MendsPackage, MendsSettled, ServesMend};
@@ -12,7 +12,7 @@ use crate::settled::Settled;
 use fields::Id;
 use report::Sink;
 use smpe::{Fault, JobError};
-use smpe_answer::mend_answer;
+use smpe_answer::{Answer, mend_answer};
 use smpe_invocation::{CheckedSystem, MendOptions};
 use smpe_package::Package;
 use smpe_rehearsal::{rehearse_package, status_or_fault};
@@ -70,7 +70,7 @@ fn mend_carried<'a, H: Host, O: Sink>(
     status_or_fault(mend_settled(alloc, &settled, ids, out))
 }
 
-// Receives the package, and tells what has to be done.
+// Receives the package, and tells what has to be done. The status is at least that of RECEIVE.
 fn mend_settled<O: Sink>(
     alloc: Global,
     settled: &Settled<'_>,
@@ -81,6 +81,19 @@ fn mend_settled<O: Sink>(
     ensures { MendsSettled ⟦<Memory as Disk>⟧ O.Sink settled.now ids.now out.old result out.new }
 {
     let rehearsed = rehearse_package(alloc, &settled.system, &settled.prepared)?;
+    let received = rehearsed.status;
     let answer = mend_answer(alloc, rehearsed.zones, ids)?;
-    write_answer(&answer, out)
+    write_answer(&raised_answer(answer, received), out)
+}
+
+// The answer, with a status of at least this.
+fn raised_answer(answer: Answer, least: u8) -> Answer
+    ensures text { result.text.items ≡ answer.text.items }
+    ensures status { result.status ≡ max answer.status least }
+{
+    let Answer { text, status } = answer;
+    Answer {
+        text,
+        status: status.max(least),
+    }
 }

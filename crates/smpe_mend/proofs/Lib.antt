@@ -5,3 +5,4 @@ pub mod Gaining
 pub mod WithOrders
 pub mod Faults
 pub mod Answering
+pub mod Namers

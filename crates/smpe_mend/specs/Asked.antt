@@ -1,14 +1,17 @@
 -- The actions that a command asks for by what it tells of the ids that failed and of their causers.
-use Rattle.std.specs.Prelude.{◌≡◌, ◌↔◌, ◌&&◌, ◌++◌, not, List, [], ◌∷◌, map, All, Contains, IsTrue}
+use Rattle.std.specs.Prelude.{◌≡◌, ◌↔◌, ◌&&◌, ◌++◌, Bool, true, false, not, List, [], ◌∷◌, map, All, Contains, IsTrue}
 use Rattle.std.specs.Prelude.{if◌then◌else◌}
-use Rattle.std.specs.List.{flat_map}
+use Rattle.std.specs.List.{flat_map, list_any}
 use Rattle.terms.specs.declared.kinds.HoldKind.{HoldKind}
 use Rattle.terms.specs.declared.kinds.HoldKind.TheVariants.{Error, System, User}
-use Rattle.terms.specs.Types.{Id, Global}
+use Rattle.terms.specs.declared.codes.NeedKind.{NeedKind}
+use Rattle.terms.specs.declared.codes.NeedKind.TheVariants.{HoldError}
+use Rattle.terms.specs.Types.{Srel, Id, Global}
 use Rattle.terms.specs.Lookups.{is_in, is_received, holds_of}
+use Rattle.terms.specs.Candidates.{sups_for}
 use Rattle.machine.specs.Outcome.{Line, StatusLine, Status, Failed, Failure, OpenNeed}
 use Rattle.smpe_mend.specs.declared.action.Action.{Action}
-use Rattle.smpe_mend.specs.declared.action.Action.TheVariants.{Order, Disregard}
+use Rattle.smpe_mend.specs.declared.action.Action.TheVariants.{Order, Fix, Disregard}
 use Rattle.smpe_mend.specs.declared.asking.Extent.{Extent}
 use Rattle.smpe_mend.specs.declared.asking.Extent.TheVariants.{Safe, Risky}
 use Rattle.smpe_mend.specs.Actions.{is_among}
@@ -32,29 +35,48 @@ concern ids lines = flat_map (concern_of ids) lines
 abbrev pub held : Global → HoldKind → Id → List Action
 held g kind x = map (λ h. Disregard kind h.reason) (holds_of g kind x)
 
--- an id that is needed and not received would be ordered
-abbrev pub order_for : Global → OpenNeed → List Action
-order_for g need = if is_received g need.id then [] else Order need.id ∷ []
+-- whether the need is for the reason of an ERROR hold
+abbrev pub is_by_hold : NeedKind → Bool
+is_by_hold HoldError = true
+is_by_hold _ = false
+
+-- whether a received SYSMOD supersedes z by one of its ++VERs for this SREL
+abbrev pub is_superseded : Global → Srel → Id → Bool
+is_superseded g srel z = list_any (λ y. is_in (sups_for g srel y) z) (map (λ s. s.id) g.sysmods)
+
+-- A fix of the APAR z would be ordered, but only if no received SYSMOD supersedes z. GROUPEXTEND brings in one that does:
+-- if it fails, something else is asked for because of it.
+abbrev pub fix_for : Global → Srel → Id → List Action
+fix_for g srel z = if is_superseded g srel z then [] else Fix z ∷ []
+
+-- An id that is needed and not received would be ordered, but for the reason of an ERROR hold a fix would be.
+abbrev pub order_for : Global → Srel → OpenNeed → List Action
+order_for g srel need =
+    if is_received g need.id then []
+    else if is_by_hold need.kind then fix_for g srel need.id
+    else Order need.id ∷ []
 
 -- What is asked for because x failed. An ERROR hold is disregarded only at risk.
-abbrev pub asked_by : Global → Extent → Id → Failure → List Action
-asked_by g Safe x f = held g System x ++ held g User x ++ flat_map (order_for g) f.needs
-asked_by g Risky x f = held g Error x
+abbrev pub asked_by : Global → Srel → Extent → Id → Failure → List Action
+asked_by g srel Safe x f = held g System x ++ held g User x ++ flat_map (order_for g srel) f.needs
+asked_by g srel Risky x f = held g Error x
 
-abbrev pub asked_of : Global → Extent → Id → Status → List Action
-asked_of g extent x (Failed f) = asked_by g extent x f
-asked_of g extent x _ = []
+abbrev pub asked_of : Global → Srel → Extent → Id → Status → List Action
+asked_of g srel extent x (Failed f) = asked_by g srel extent x f
+asked_of g srel extent x _ = []
 
 -- what is asked for by the line of one of these ids
-abbrev pub asked_in : Global → Extent → List Id → Line → List Action
-asked_in g extent ids (StatusLine x place status) = if is_in ids x then asked_of g extent x status else []
-asked_in g extent ids _ = []
+abbrev pub asked_in : Global → Srel → Extent → List Id → Line → List Action
+asked_in g srel extent ids (StatusLine x place status) =
+    if is_in ids x then asked_of g srel extent x status else []
+asked_in g srel extent ids _ = []
 
--- These are all actions that the lines ask for, because of the ids and their causers.
-pub record AreAsked (g : Global) (ids : List Id) (extent : Extent) (lines : List Line) (actions : List Action) :
-    Type 0 where
-  pub concerned : List Id
-  pub are_concerned : (x : Id) → Contains concerned x ↔ Contains (concern ids lines) x
-  pub asked : List Action
-  pub asked_is : asked ≡ flat_map (asked_in g extent concerned) lines
-  pub among : All (λ a. IsTrue (is_among actions a)) asked
+-- These are all actions that the lines ask for in a zone of this SREL, because of the ids and their causers.
+pub record AreAsked (g : Global) (srel : Srel) (ids : List Id) (extent : Extent) (lines : List Line)
+    (actions : List Action) : Type 0
+  where
+    pub concerned : List Id
+    pub are_concerned : (x : Id) → Contains concerned x ↔ Contains (concern ids lines) x
+    pub asked : List Action
+    pub asked_is : asked ≡ flat_map (asked_in g srel extent concerned) lines
+    pub among : All (λ a. IsTrue (is_among actions a)) asked

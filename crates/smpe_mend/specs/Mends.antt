@@ -20,8 +20,8 @@ IsMinimal g a actions =
 -- The command does not do it with all actions that are asked for, not even with those at risk.
 pub record IsHopeless (g : Global) (a : Asked) (actions : List Action) (lines : List Line) : Type 0 where
   pub fails : DoesNot g a actions lines
-  pub safe : AreAsked g a.ids Safe lines actions
-  pub risky : AreAsked g a.ids Risky lines actions
+  pub safe : AreAsked g a.zone.srel a.ids Safe lines actions
+  pub risky : AreAsked g a.zone.srel a.ids Risky lines actions
 
 -- What is answered, with the program's status: a plan that does it and of which no action can be left out; that no
 -- actions do it, with what remains of the ids and their causers; or that ids are not received.

@@ -1,6 +1,6 @@
 -- The text of an answer.
-use Rattle.std.specs.Prelude.{◌++◌, ◌==◌, ℕ, Bool, true, false, List, [], ◌∷◌, Option, None, Some, length, is_some}
-use Rattle.std.specs.Prelude.{codes, decimal, if◌then◌else◌}
+use Rattle.std.specs.Prelude.{◌++◌, ◌==◌, ◌||◌, ℕ, Bool, true, false, List, [], ◌∷◌, Option, None, Some, length, is_some}
+use Rattle.std.specs.Prelude.{codes, decimal, nat_lt, if◌then◌else◌}
 use Rattle.std.specs.List.{flat_map}
 use Rattle.std.specs.Option.{option_map_or}
 use Rattle.terms.specs.declared.kinds.HoldKind.{HoldKind}
@@ -17,7 +17,7 @@ use Rattle.machine.specs.Outcome.{Line, StatusLine, Status, Applied, Accepted, S
 use Rattle.machine.specs.Report.{words_line, left_in, status_word}
 use Rattle.report.specs.WordTexts.{named}
 use Rattle.smpe_mend.specs.declared.action.Action.{Action}
-use Rattle.smpe_mend.specs.declared.action.Action.TheVariants.{Order, Disregard}
+use Rattle.smpe_mend.specs.declared.action.Action.TheVariants.{Order, Fix, Disregard}
 use Rattle.smpe_mend.specs.declared.todo.ToDo.{ToDo}
 use Rattle.smpe_mend.specs.declared.todo.ToDo.TheVariants as todo
 use Rattle.smpe_mend.specs.Actions.{reasons}
@@ -48,6 +48,7 @@ act_on g kind reason x = if is_some (hold_of g x kind reason) then todo.Act x ki
 -- what to do for an action: a reason is acted on for each id that is installed and held for it
 abbrev pub todo_of : Global → List Id → Action → List ToDo
 todo_of g installed (Order x) = todo.Order x ∷ []
+todo_of g installed (Fix x) = todo.Fix x ∷ []
 todo_of g installed (Disregard kind reason) = flat_map (act_on g kind reason) installed
 
 abbrev pub todos : Global → List Action → List Line → List ToDo
@@ -73,6 +74,7 @@ held_line h = option_map_or act_line h []
 
 abbrev pub todo_line : Global → ToDo → Text
 todo_line g (todo.Order x) = words_line (codes " " ∷ left_in 8 (codes "ORDER") ∷ x ∷ [])
+todo_line g (todo.Fix x) = words_line (codes " " ∷ left_in 8 (codes "FIX") ∷ x ∷ [])
 todo_line g (todo.Act x kind reason) = held_line (hold_of g x kind reason)
 
 -- The command.
@@ -107,6 +109,22 @@ command_line a actions =
     codes "COMMAND " ++ install_word a.zone.kind ++ codes " SELECT(" ++ joined a.ids ++ codes ") GROUPEXTEND"
     ++ bypass_text (members actions) ++ codes ".\n"
 
+-- whether the list has more members than one of a command file may have
+abbrev pub is_long : {X : Type 0} → List X → Bool
+is_long xs = nat_lt 1000 (length xs)
+
+-- whether the command has such a list, so that no command file takes it
+abbrev pub has_long_list : Asked → List Action → Bool
+has_long_list a actions =
+    is_long a.ids || is_long (reasons Error actions) || is_long (reasons System actions)
+    || is_long (reasons User actions)
+
+-- the line that says so
+abbrev pub limit_line : Bool → Text
+limit_line true =
+    words_line (codes "LIMIT" ∷ codes "a list in a command file has at most 1000 members (Cn2): ask about fewer ids" ∷ [])
+limit_line false = []
+
 -- The answers.
 
 abbrev pub plan_head : List Id → ℕ → Text
@@ -117,8 +135,9 @@ plan_head ids n =
 abbrev pub plan_of : Global → Asked → List Action → List ToDo → Text
 plan_of g a actions todos =
     plan_head a.ids (length todos) ++ flat_map (todo_line g) todos ++ command_line a actions
+    ++ limit_line (has_long_list a actions)
 
--- what to do, and then the command
+-- what to do, then the command, and whether it has a list that is too long for a command file
 abbrev pub plan_text : Global → Asked → List Action → List Line → Text
 plan_text g a actions lines = plan_of g a actions (todos g actions lines)
 

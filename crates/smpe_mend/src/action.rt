@@ -1,5 +1,6 @@
 //! The actions of a repair.
 ghost use Rattle.std.specs.Prelude.{◌≡◌, ◌++◌, OnOk, IfOk};
+ghost use Rattle.smpe_mend.specs.declared.action.Action.TheVariants.{Order, Fix, Disregard};
 ghost use Rattle.smpe_mend.specs.Actions.{order_of, orders, reason_of, reasons, is_same, is_among};
 
 use fields::{Id, Reason};
@@ -11,11 +12,13 @@ use terms::HoldKind;
 pub enum Action {
     /// Order this SYSMOD, which is not received.
     Order(Id),
+    /// Order a SYSMOD that resolves this APAR, the reason of an ERROR hold. No received SYSMOD supersedes it.
+    Fix(Id),
     /// Do what the holds of this kind and reason ask for, and name the reason in BYPASS.
     Disregard(HoldKind, Reason),
 }
 
-// Appends the id, if the action orders one.
+// Appends the id, if the action orders one, and that of the APAR, if it orders a fix.
 fn push_order(action: Action, found: &mut Vec<Id>) -> Result<(), AllocError>
     ensures { OnOk result (found.new.items ≡ found.old.items ++ order_of action) }
 {
@@ -24,11 +27,15 @@ fn push_order(action: Action, found: &mut Vec<Id>) -> Result<(), AllocError>
             found.push(id)?;
             Ok(())
         }
+        Action::Fix(id) => {
+            found.push(id)?;
+            Ok(())
+        }
         Action::Disregard(_, _) => Ok(()),
     }
 }
 
-/// The ids that are ordered, in the order of the actions.
+/// The ids that are ordered, and those of the APARs of which a fix is, in the order of the actions.
 pub(crate) fn orders(alloc: Global, actions: &[Action]) -> Result<Vec<Id>, AllocError>
     ensures { IfOk result (λ found. found.items ≡ orders actions.now) }
 {
@@ -45,6 +52,7 @@ fn push_reason(kind: HoldKind, action: Action, found: &mut Vec<Reason>) -> Resul
 {
     match action {
         Action::Order(_) => Ok(()),
+        Action::Fix(_) => Ok(()),
         Action::Disregard(held, reason) => {
             if held == kind {
                 found.push(reason)?;
@@ -69,19 +77,47 @@ pub(crate) fn reasons(
     Ok(found)
 }
 
+// Whether the action orders this SYSMOD.
+fn is_order_of(id: Id, action: Action) -> bool
+    ensures { result ≡ is_same (Order id) action }
+{
+    match action {
+        Action::Order(other) => id == other,
+        Action::Fix(_) => false,
+        Action::Disregard(_, _) => false,
+    }
+}
+
+// Whether the action orders a fix of this APAR.
+fn is_fix_of(id: Id, action: Action) -> bool
+    ensures { result ≡ is_same (Fix id) action }
+{
+    match action {
+        Action::Order(_) => false,
+        Action::Fix(other) => id == other,
+        Action::Disregard(_, _) => false,
+    }
+}
+
+// Whether the action disregards this reason of this kind of hold.
+fn is_bypass_of(kind: HoldKind, reason: Reason, action: Action) -> bool
+    ensures { result ≡ is_same (Disregard kind reason) action }
+{
+    match action {
+        Action::Order(_) => false,
+        Action::Fix(_) => false,
+        Action::Disregard(held, other) => kind == held && reason == other,
+    }
+}
+
 // Whether both are the same action.
 fn is_same(action: Action, other: Action) -> bool
     ensures { result ≡ is_same action other }
 {
     match action {
-        Action::Order(id) => match other {
-            Action::Order(another) => id == another,
-            Action::Disregard(_, _) => false,
-        },
-        Action::Disregard(kind, reason) => match other {
-            Action::Order(_) => false,
-            Action::Disregard(held, another) => kind == held && reason == another,
-        },
+        Action::Order(id) => is_order_of(id, other),
+        Action::Fix(id) => is_fix_of(id, other),
+        Action::Disregard(kind, reason) => is_bypass_of(kind, reason, other),
     }
 }
 

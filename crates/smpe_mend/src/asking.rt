@@ -5,15 +5,17 @@ ghost use Rattle.std.specs.List.{flat_map};
 ghost use Rattle.terms.specs.Types.{Id as AnId};
 ghost use Rattle.judge_system.specs.Views.{failure_view, need_view};
 ghost use Rattle.report.specs.Views.{line_view, status_view};
-ghost use Rattle.smpe_mend.specs.Asked.{causers_of, concern_of, concern, held, order_for, asked_by, asked_of, asked_in};
+ghost use Rattle.smpe_mend.specs.Asked.{causers_of, concern_of, concern, held, is_by_hold, fix_for, order_for};
+ghost use Rattle.smpe_mend.specs.Asked.{asked_by, asked_of, asked_in};
 
 use crate::action::Action;
 use crate::on::is_on;
-use fields::{Id, IdList};
+use crate::superseded::is_superseded;
+use fields::{Id, IdList, Srel};
 use report::{Failure, OpenNeed, ReportLine, Status};
 use std::alloc::{AllocError, Global};
 use sysmods::GlobalZone;
-use terms::HoldKind;
+use terms::{HoldKind, NeedKind};
 
 /// Which actions are asked for: those that a shop may take after it has done what they say, or those at risk.
 #[derive(Clone, Copy)]
@@ -106,31 +108,59 @@ fn push_held(
     Ok(())
 }
 
-// Appends the order of the id that is needed, if it is not received.
-fn push_order_for(
+// Whether the need is for the reason of an ERROR hold.
+fn is_by_hold(kind: NeedKind) -> bool
+    ensures { result ≡ is_by_hold kind }
+{
+    matches!(kind, NeedKind::HoldError)
+}
+
+// Appends the order of a fix of the APAR, unless a received SYSMOD supersedes it.
+fn push_fix_for(
     global: &GlobalZone,
-    need: OpenNeed,
+    srel: Srel,
+    id: Id,
     found: &mut Vec<Action>,
 ) -> Result<(), AllocError>
-    ensures { OnOk result (found.new.items ≡ found.old.items ++ order_for global.now (need_view need)) }
+    ensures { OnOk result (found.new.items ≡ found.old.items ++ fix_for global.now srel id) }
 {
-    if !global.is_received(need.id) {
-        found.push(Action::Order(need.id))?;
+    if !is_superseded(*found.allocator(), global, srel, id)? {
+        found.push(Action::Fix(id))?;
     }
     Ok(())
 }
 
-// Appends the orders of the ids that are needed and not received.
+// Appends the order of the id that is needed, or for an ERROR hold that of a fix, if it is not received.
+fn push_order_for(
+    global: &GlobalZone,
+    srel: Srel,
+    need: OpenNeed,
+    found: &mut Vec<Action>,
+) -> Result<(), AllocError>
+    ensures { OnOk result (found.new.items ≡ found.old.items ++ order_for global.now srel (need_view need)) }
+{
+    if global.is_received(need.id) {
+        return Ok(());
+    }
+    if is_by_hold(need.kind) {
+        return push_fix_for(global, srel, need.id, found);
+    }
+    found.push(Action::Order(need.id))?;
+    Ok(())
+}
+
+// Appends the orders of what is needed and not received.
 fn push_orders(
     global: &GlobalZone,
+    srel: Srel,
     needs: &[OpenNeed],
     found: &mut Vec<Action>,
 ) -> Result<(), AllocError>
     ensures { OnOk result (found.new.items ≡ found.old.items
-        ++ flat_map (order_for global.now) (map need_view needs.now)) }
+        ++ flat_map (order_for global.now srel) (map need_view needs.now)) }
 {
     for need in needs {
-        push_order_for(global, *need, found)?;
+        push_order_for(global, srel, *need, found)?;
     }
     Ok(())
 }
@@ -138,19 +168,20 @@ fn push_orders(
 // Appends the actions that are asked for because the id failed.
 fn push_asked_by(
     global: &GlobalZone,
+    srel: Srel,
     extent: Extent,
     id: Id,
     failure: &Failure,
     found: &mut Vec<Action>,
 ) -> Result<(), AllocError>
     ensures { OnOk result (found.new.items ≡ found.old.items
-        ++ asked_by global.now extent id (failure_view failure.now)) }
+        ++ asked_by global.now srel extent id (failure_view failure.now)) }
 {
     match extent {
         Extent::Safe => {
             push_held(global, HoldKind::System, id, found)?;
             push_held(global, HoldKind::User, id, found)?;
-            push_orders(global, failure.needs.as_slice(), found)
+            push_orders(global, srel, failure.needs.as_slice(), found)
         }
         Extent::Risky => push_held(global, HoldKind::Error, id, found),
     }
@@ -159,6 +190,7 @@ fn push_asked_by(
 // Appends the actions that are asked for by an id of this status, if it is one of the ids.
 fn push_if_asked(
     global: &GlobalZone,
+    srel: Srel,
     extent: Extent,
     named: bool,
     id: Id,
@@ -166,13 +198,13 @@ fn push_if_asked(
     found: &mut Vec<Action>,
 ) -> Result<(), AllocError>
     ensures { OnOk result (found.new.items ≡ found.old.items
-        ++ (if named then asked_of global.now extent id (status_view status.now) else [])) }
+        ++ (if named then asked_of global.now srel extent id (status_view status.now) else [])) }
 {
     if !named {
         return Ok(());
     }
     match status {
-        Status::Failed(failure) => push_asked_by(global, extent, id, failure, found),
+        Status::Failed(failure) => push_asked_by(global, srel, extent, id, failure, found),
         _ => Ok(()),
     }
 }
@@ -180,36 +212,38 @@ fn push_if_asked(
 // Appends the actions that the line asks for, if it is the line of one of these ids.
 fn push_asked_in(
     global: &GlobalZone,
+    srel: Srel,
     extent: Extent,
     ids: &IdList,
     line: &ReportLine,
     found: &mut Vec<Action>,
 ) -> Result<(), AllocError>
     ensures { OnOk result (found.new.items ≡ found.old.items
-        ++ asked_in global.now extent ids.now (line_view line.now)) }
+        ++ asked_in global.now srel extent ids.now (line_view line.now)) }
 {
     match line {
         ReportLine::Status { id, status, .. } => {
-            push_if_asked(global, extent, ids.contains(*id), *id, status, found)
+            push_if_asked(global, srel, extent, ids.contains(*id), *id, status, found)
         }
         ReportLine::Nothing | ReportLine::Errsysmod { .. } => Ok(()),
     }
 }
 
-/// The actions that the lines ask for because of these ids, in the order of the lines.
+/// The actions that the lines ask for in a zone of this SREL because of these ids, in the order of the lines.
 pub(crate) fn asked(
     alloc: Global,
     global: &GlobalZone,
+    srel: Srel,
     extent: Extent,
     ids: &IdList,
     lines: &[ReportLine],
 ) -> Result<Vec<Action>, AllocError>
     ensures { IfOk result (λ found. found.items
-        ≡ flat_map (asked_in global.now extent ids.now) (map line_view lines.now)) }
+        ≡ flat_map (asked_in global.now srel extent ids.now) (map line_view lines.now)) }
 {
     let mut found = Vec::new(alloc);
     for line in lines {
-        push_asked_in(global, extent, ids, line, &mut found)?;
+        push_asked_in(global, srel, extent, ids, line, &mut found)?;
     }
     Ok(found)
 }

@@ -11,7 +11,6 @@ use crate::asking::{Extent, asked, concerned_ids};
 use crate::broken::Broken;
 use crate::on::are_on;
 use crate::running::run;
-use fields::IdList;
 use report::ReportLine;
 use std::alloc::{AllocError, Global};
 use sysmods::GlobalZone;
@@ -61,17 +60,18 @@ fn add_new(actions: &mut Vec<Action>, more: &[Action]) -> Result<bool, AllocErro
 fn add_asked(
     alloc: Global,
     global: &GlobalZone,
-    ids: &IdList,
+    broken: &Broken<'_>,
     extent: Extent,
     lines: &[ReportLine],
     actions: &mut Vec<Action>,
 ) -> Result<bool, AllocError>
     ensures none { IfOk result (λ added. IsFalse added → (actions.new.items ≡ actions.old.items)
-        × AreAsked global.now ids.now extent (map line_view lines.now) actions.old.items) }
+        × AreAsked global.now broken.now.zone.now.srel broken.now.ids.now extent (map line_view lines.now)
+        actions.old.items) }
     ensures some { IfOk result (λ added. IsTrue added → length actions.old.items < length actions.new.items) }
 {
-    let concerned = concerned_ids(alloc, ids, lines)?;
-    let more = asked(alloc, global, extent, &concerned, lines)?;
+    let concerned = concerned_ids(alloc, broken.ids, lines)?;
+    let more = asked(alloc, global, broken.zone.srel(), extent, &concerned, lines)?;
     add_new(actions, &more)
 }
 
@@ -90,24 +90,10 @@ pub(crate) fn grow(
     if are_on(alloc, broken.ids, &lines)? {
         return Ok(Found::Repair(Tried { actions, lines }));
     }
-    if add_asked(
-        alloc,
-        global,
-        broken.ids,
-        Extent::Safe,
-        &lines,
-        &mut actions,
-    )? {
+    if add_asked(alloc, global, broken, Extent::Safe, &lines, &mut actions)? {
         return grow(alloc, global, broken, actions);
     }
-    if add_asked(
-        alloc,
-        global,
-        broken.ids,
-        Extent::Risky,
-        &lines,
-        &mut actions,
-    )? {
+    if add_asked(alloc, global, broken, Extent::Risky, &lines, &mut actions)? {
         return grow(alloc, global, broken, actions);
     }
     Ok(Found::Nothing(Tried { actions, lines }))

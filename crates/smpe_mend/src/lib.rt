@@ -17,6 +17,7 @@ mod mended;
 mod on;
 mod running;
 mod stand_in;
+mod superseded;
 mod todo;
 mod words;
 

@@ -16,6 +16,8 @@ use terms::HoldKind;
 pub(crate) enum ToDo {
     /// Order this SYSMOD.
     Order(Id),
+    /// Order a SYSMOD that resolves this APAR.
+    Fix(Id),
     /// Do what the hold of this kind and reason on this SYSMOD asks for.
     Act(Id, HoldKind, Reason),
 }
@@ -100,6 +102,10 @@ fn push_todo_of(
     match action {
         Action::Order(id) => {
             found.push(ToDo::Order(id))?;
+            Ok(())
+        }
+        Action::Fix(id) => {
+            found.push(ToDo::Fix(id))?;
             Ok(())
         }
         Action::Disregard(kind, reason) => push_acts(global, kind, reason, installed, found),

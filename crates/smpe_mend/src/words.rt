@@ -1,5 +1,5 @@
 //! The words of an answer.
-ghost use Rattle.std.specs.Prelude.{◌≡◌, ◌++◌, ◌∷◌, map, codes, length, OnOk, IfOk, []};
+ghost use Rattle.std.specs.Prelude.{◌≡◌, ◌++◌, ◌∷◌, map, codes, length, nat_lt, OnOk, IfOk, []};
 ghost use Rattle.std.specs.Prelude.{if◌then◌else◌};
 ghost use Rattle.std.specs.List.{flat_map};
 ghost use Rattle.terms.specs.Bytes.{comma};
@@ -13,6 +13,8 @@ ghost use Rattle.smpe_mend.specs.Words.{joined, act_word, act_line, held_line, t
 ghost use Rattle.smpe_mend.specs.Words.{members, bypass_text, install_word, command_line, plan_head, plan_of};
 ghost use Rattle.smpe_mend.specs.Words.{plan_text, test_line, need_line, why_lines, remaining, refusal_text};
 ghost use Rattle.smpe_mend.specs.Words.{is_missing, missing_id, missing_ids, missing_text};
+ghost use Rattle.smpe_mend.specs.Words.{has_long_list, limit_line};
+ghost use Rattle.smpe_mend.specs.Actions.{reasons};
 
 use crate::action::{Action, reasons};
 use crate::broken::Broken;
@@ -27,6 +29,13 @@ use terms::{HoldKind, ZoneKind};
 
 // The width of the word for something to do.
 const ACT_WIDTH: usize = 8;
+
+// The most members of a list of a command file.
+const MOST_MEMBERS: usize = 1_000;
+
+// What is said of a command that has a longer list.
+const LIMIT_TEXT: &[u8] =
+    b"a list in a command file has at most 1000 members (Cn2): ask about fewer ids";
 
 // Appends a comma and the text.
 fn append_next(next: &[u8], text: &mut Vec<u8>) -> Result<(), AllocError>
@@ -113,6 +122,10 @@ fn append_todo(global: &GlobalZone, todo: ToDo, text: &mut Vec<u8>) -> Result<()
         ToDo::Order(id) => {
             let order = LineWord::Left(ACT_WIDTH, b"ORDER");
             append_words(b" ", &[order, LineWord::Text(id.as_bytes())], text)
+        }
+        ToDo::Fix(id) => {
+            let fix = LineWord::Left(ACT_WIDTH, b"FIX");
+            append_words(b" ", &[fix, LineWord::Text(id.as_bytes())], text)
         }
         ToDo::Act(id, kind, reason) => append_held(global, id, kind, reason, text),
     }
@@ -249,6 +262,41 @@ fn append_command(
     Ok(())
 }
 
+// Whether a list of so many members has more of them than one of a command file may have.
+fn is_long(count: usize) -> bool
+    ensures { result ≡ nat_lt 1000 count }
+{
+    MOST_MEMBERS < count
+}
+
+// Whether the list of the reasons of this kind of hold is too long for a command file.
+fn has_long_reasons(alloc: Global, kind: HoldKind, actions: &[Action]) -> Result<bool, AllocError>
+    ensures { IfOk result (λ long. long ≡ nat_lt 1000 (length (reasons kind actions.now))) }
+{
+    let reasons = reasons(alloc, kind, actions)?;
+    Ok(is_long(reasons.len()))
+}
+
+// Whether a list of the command is too long for a command file.
+fn has_long_list(alloc: Global, broken: &Broken<'_>, actions: &[Action]) -> Result<bool, AllocError>
+    ensures { IfOk result (λ long. long ≡ has_long_list (asked_of broken.now) actions.now) }
+{
+    let errors = has_long_reasons(alloc, HoldKind::Error, actions)?;
+    let systems = has_long_reasons(alloc, HoldKind::System, actions)?;
+    let users = has_long_reasons(alloc, HoldKind::User, actions)?;
+    Ok(is_long(broken.ids.len()) || errors || systems || users)
+}
+
+// Appends the line that the command has a list that is too long for a command file, if it has one.
+fn append_limit(has_long_list: bool, text: &mut Vec<u8>) -> Result<(), AllocError>
+    ensures { OnOk result (text.new.items ≡ text.old.items ++ limit_line has_long_list) }
+{
+    if !has_long_list {
+        return Ok(());
+    }
+    append_words(b"LIMIT", &[LineWord::Text(LIMIT_TEXT)], text)
+}
+
 // Appends the first line of a plan of so many lines.
 fn append_plan_head(
     alloc: Global,
@@ -282,10 +330,11 @@ fn plan_of(
     append_plan_head(alloc, broken.ids.as_slice(), todos.len(), &mut text)?;
     append_todos(global, todos, &mut text)?;
     append_command(alloc, broken, actions, &mut text)?;
+    append_limit(has_long_list(alloc, broken, actions)?, &mut text)?;
     Ok(text)
 }
 
-/// The text of a plan: what to do, and then the command.
+/// The text of a plan: what to do, then the command, and whether it has a list that is too long for a command file.
 pub(crate) fn plan_text(
     alloc: Global,
     global: &GlobalZone,

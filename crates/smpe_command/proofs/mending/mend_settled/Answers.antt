@@ -21,5 +21,9 @@ pub returns : goal.returns
 returns g c = inr (
   c.in_ok-rehearsed.rehearsed,
   rw c.in_ok-rehearsed.was at c.rehearse_package.ensures,
-  inr (c.in_ok-answer.answer, c.in_ok-answer.ensures, c.write_answer.ensures),
+  inr (
+    c.raised_answer.result,
+    (c.in_ok-answer.answer, c.in_ok-answer.ensures, c.raised_answer.ensures.text, c.raised_answer.ensures.status),
+    c.write_answer.ensures,
+  ),
 )

@@ -7,5 +7,5 @@ use Rattle.smpe_mend.proofs.asking.asked.Given as goal
 -- with what the rest adds, all of it
 abbrev pub invariant-loop-line : goal.invariant-loop-line
 invariant-loop-line l =
-    l.found.items ++ flat_map (asked_in l.global l.fn.extent l.ids) (map line_view (drop l.line-index l.lines))
-    ≡ flat_map (asked_in l.global l.fn.extent l.ids) (map line_view l.lines)
+    l.found.items ++ flat_map (asked_in l.global l.fn.srel l.fn.extent l.ids) (map line_view (drop l.line-index l.lines))
+    ≡ flat_map (asked_in l.global l.fn.srel l.fn.extent l.ids) (map line_view l.lines)
