@@ -33,10 +33,6 @@ const ACT_WIDTH: usize = 8;
 // The most members of a list of a command file.
 const MOST_MEMBERS: usize = 1_000;
 
-// What is said of a command that has a longer list.
-const LIMIT_TEXT: &[u8] =
-    b"a list in a command file has at most 1000 members (Cn2): ask about fewer ids";
-
 // Appends a comma and the text.
 fn append_next(next: &[u8], text: &mut Vec<u8>) -> Result<(), AllocError>
     ensures { OnOk result (text.new.items ≡ text.old.items ++ comma ∷ next.now) }
@@ -288,13 +284,14 @@ fn has_long_list(alloc: Global, broken: &Broken<'_>, actions: &[Action]) -> Resu
 }
 
 // Appends the line that the command has a list that is too long for a command file, if it has one.
-fn append_limit(has_long_list: bool, text: &mut Vec<u8>) -> Result<(), AllocError>
-    ensures { OnOk result (text.new.items ≡ text.old.items ++ limit_line has_long_list) }
+fn append_limit(long: bool, text: &mut Vec<u8>) -> Result<(), AllocError>
+    ensures { OnOk result (text.new.items ≡ text.old.items ++ limit_line long) }
 {
-    if !has_long_list {
+    if !long {
         return Ok(());
     }
-    append_words(b"LIMIT", &[LineWord::Text(LIMIT_TEXT)], text)
+    let what = b"a list in a command file has at most 1000 members (Cn2): ask about fewer ids";
+    append_words(b"LIMIT", &[LineWord::Text(what)], text)
 }
 
 // Appends the first line of a plan of so many lines.
