@@ -23,7 +23,7 @@ pub record AreRanked (g : Global) (blocks : Id → List Id) (lines : List Line) 
 -- What is to be done: the functions that these SYSMODs lack and what the causers need are to be ordered, each once, and
 -- then come the holds of the causers.
 pub record IsTodo (g : Global) (blocks : Id → List Id) (lines : List Line) (ms : List Member) (ts : List ToDo) : Type 0
-    where
-  pub orders : List Id
-  pub orders_are : IsSetOf orders (functions_of ms ++ wanted g blocks lines)
-  pub todo : ts ≡ map todo.Order orders ++ flat_map (acts_in g blocks) lines
+  where
+    pub orders : List Id
+    pub orders_are : IsSetOf orders (functions_of ms ++ wanted g blocks lines)
+    pub todo : ts ≡ map todo.Order orders ++ flat_map (acts_in g blocks) lines

@@ -208,11 +208,7 @@ fn append_parts(alloc: Global, members: &[Member], text: &mut Vec<u8>) -> Result
 }
 
 // Appends the line of files with SYSMODs.
-fn append_full_line(
-    alloc: Global,
-    summary: &Summary,
-    text: &mut Vec<u8>,
-) -> Result<(), AllocError>
+fn append_full_line(alloc: Global, summary: &Summary, text: &mut Vec<u8>) -> Result<(), AllocError>
     ensures { OnOk result (text.new.items ≡ text.old.items ++ full_line summary.now) }
 {
     append_start(alloc, summary, text)?;
