@@ -1,7 +1,7 @@
 //! The first line of a summary.
 ghost use Rattle.std.specs.Prelude.{◌≡◌, ◌++◌, length, IfOk, OnOk};
-ghost use Rattle.smpe_summary.specs.Text.{group_number, would_text, ids_in, part, failed_parts, open_parts, other_parts};
-ghost use Rattle.smpe_summary.specs.Text.{ordered, orders_of, acts_part, before_orders, orders_part, todo_parts};
+ghost use Rattle.smpe_summary.specs.Text.{group_number, would_text, ids_in, part, failed_parts, open_parts};
+ghost use Rattle.smpe_summary.specs.Text.{other_parts, ordered, orders_of, acts_part, before_orders, orders_part, todo_parts};
 ghost use Rattle.smpe_summary.specs.Text.{line_start, parts, read_words, empty_line, full_line, first_line};
 ghost use Rattle.terms.specs.Lookups.{is_nil};
 

@@ -23,4 +23,5 @@ returns-clause-todo c =
     let found = c.in_ok-todo.todo.items in
     subst (λ (a : Asked). IsTodo a.global all a.lines c.args.members.now found) c.asked.view_is
     (subst (λ (blocks : Id → List Id). IsTodo c.asked.inside.global.now blocks
-    (map line_view c.asked.inside.lines.now) c.args.members.now found) (λ i y. c.in_ok-blocks.ensures y i) c.in_ok-todo.ensures)
+    (map line_view c.asked.inside.lines.now) c.args.members.now found) (λ i y. c.in_ok-blocks.ensures y i)
+    c.in_ok-todo.ensures)

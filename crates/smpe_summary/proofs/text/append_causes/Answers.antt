@@ -16,7 +16,8 @@ returns c =
     let most = c.args.most in
     let words = codes "causes" in
     on_ok_weaker c.append_more_line.result
-    (λ e. two old (flat_map cause_line (take most (map cause_view xs))) (more_line most (length (map cause_view xs)) words) one
+    (λ e. two old (flat_map cause_line (take most (map cause_view xs)))
+    (more_line most (length (map cause_view xs)) words) one
     c.append_more_line.new.text.items
     (c.in_ok-append_cause_lines.ensures ∙ ap (λ l. old ++ flat_map cause_line (map cause_view l)) c.first_of.ensures
     ∙ ap (λ l. old ++ flat_map cause_line l) (sym (take-map cause_view most xs)))

@@ -16,6 +16,7 @@ returns c =
     (three old (group_lines s.members.items) (causes_text (most_causes s.todo.items) causes) (besides s) one next
     c.append_besides.new.text.items
     (c.in_ok-append_group_lines.ensures ∙ ap (λ ms. old ++ group_lines ms) c.as_slice-2.ensures.value)
-    (c.in_ok-append_causes.ensures ∙ ap (λ xs. one ++ causes_text c.in_ok-most.most (map cause_view xs)) c.as_slice-3.ensures.value
+    (c.in_ok-append_causes.ensures
+    ∙ ap (λ xs. one ++ causes_text c.in_ok-most.most (map cause_view xs)) c.as_slice-3.ensures.value
     ∙ ap (λ n. one ++ causes_text n causes)
     (c.in_ok-most.ensures ∙ ap (λ ts. most_causes ts) c.as_slice.ensures.value))) c.append_besides.ensures

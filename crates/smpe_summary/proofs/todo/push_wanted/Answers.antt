@@ -11,15 +11,16 @@ use Rattle.smpe_summary.proofs.todo.push_wanted.Goals as goal
 
 pub loop-line-preserved : goal.loop-line-preserved
 loop-line-preserved c =
-    grown_more (λ x. wants_in (c.args.global.now) (listed (slice_cmp nat_cmp) (c.args.blocks.now)) (line_view x))
-    c.args.lines.now c.loop-line.line-index c.line-item.result c.args.found.now.items
-    (c.loop-line.found.items) (c.push_line_orders.new.found.items) (omega arith) c.line-item.is
-    c.loop-line.invariant
+    grown_more (λ x. wants_in c.args.global.now (listed (slice_cmp nat_cmp) c.args.blocks.now) (line_view x))
+    c.args.lines.now c.loop-line.line-index c.line-item.result c.args.found.now.items c.loop-line.found.items
+    c.push_line_orders.new.found.items (omega arith) c.line-item.is c.loop-line.invariant
     c.in_ok-push_line_orders.ensures
 
 pub returns : goal.returns
 returns c =
+    let old = c.args.found.now.items in
+    let wants = wants_in c.args.global.now (listed (slice_cmp nat_cmp) c.args.blocks.now) in
     c.loop-line.invariant
-    ∙ ap (λ l. c.args.found.now.items ++ flat_map (λ x. wants_in (c.args.global.now) (listed (slice_cmp nat_cmp) (c.args.blocks.now)) (line_view x)) l)
+    ∙ ap (λ l. old ++ flat_map (λ x. wants (line_view x)) l)
     (take_all c.loop-line.line-index c.args.lines.now (omega arith))
-    ∙ ap (λ l. c.args.found.now.items ++ l) (sym (flat_map-map (wants_in c.args.global.now (listed (slice_cmp nat_cmp) c.args.blocks.now)) line_view c.args.lines.now))
+    ∙ ap (λ l. old ++ l) (sym (flat_map-map wants line_view c.args.lines.now))
