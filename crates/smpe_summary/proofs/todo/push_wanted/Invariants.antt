@@ -10,5 +10,6 @@ use Rattle.smpe_summary.proofs.todo.push_wanted.Given as goal
 abbrev pub invariant-loop-line : goal.invariant-loop-line
 invariant-loop-line l =
     l.found.items
-    ≡ l.initial.found.items ++ flat_map (λ x. wants_in l.fn.global (listed (slice_cmp nat_cmp) l.fn.blocks) (line_view x))
+    ≡ l.initial.found.items
+    ++ flat_map (λ x. wants_in l.fn.global (listed (slice_cmp nat_cmp) l.fn.blocks) (line_view x))
     (take l.line-index l.lines)
