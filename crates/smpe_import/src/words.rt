@@ -1,0 +1,62 @@
+//! The values of a key, as ids.
+ghost use Rattle.std.specs.Prelude.{◌≡◌, [], ◌∷◌, IfOk, IfSome, IfNone, map};
+ghost use Rattle.intake_list.specs.Rows.{word_at};
+ghost use Rattle.intake_list.specs.Says.{values_under};
+ghost use Rattle.terms.specs.Lookups.{at_most_one};
+ghost use Rattle.smpe_import.specs.Words.{AreIds, AreIdWords, IsIdAtMost, IsIdAlone};
+
+use fields::{Id, IdList};
+use intake_list::{ListEntry, values_under};
+use std::alloc::{AllocError, Global};
+
+/// The first of the words, or no text if there are none.
+pub(crate) fn first_word<'a>(words: &[&'a [u8]]) -> &'a [u8]
+    ensures { result.now ≡ word_at (map (λ word. word.now) words.now) 0 }
+{
+    match words.first() {
+        Some(word) => *word,
+        None => b"",
+    }
+}
+
+/// The words as ids, or `None` if one of them is no id.
+pub(crate) fn read_ids(alloc: Global, words: &[&[u8]]) -> Result<Option<Vec<Id>>, AllocError>
+    ensures some { IfOk result (λ found. IfSome found (λ ids. ids.items ≡ map (λ word. word.now) words.now)) }
+    ensures none { IfOk result (λ found. IfNone found (¬ AreIdWords (map (λ word. word.now) words.now))) }
+{
+    let mut ids = Vec::with_capacity(alloc, words.len())?;
+    for word in words {
+        let Some(id) = Id::read(*word) else {
+            return Ok(None);
+        };
+        ids.push(id)?;
+    }
+    Ok(Some(ids))
+}
+
+/// The words as a list of ids, or `None` if one of them is no id.
+pub(crate) fn read_id_list(alloc: Global, words: &[&[u8]]) -> Result<Option<IdList>, AllocError>
+    ensures some { IfOk result (λ found. IfSome found (AreIds (map (λ word. word.now) words.now))) }
+    ensures none { IfOk result (λ found. IfNone found (¬ AreIdWords (map (λ word. word.now) words.now))) }
+{
+    match read_ids(alloc, words)? {
+        Some(ids) => Ok(Some(IdList::from_vec(ids))),
+        None => Ok(None),
+    }
+}
+
+/// The id that is the only value of the key, or `None` if there is no value, or more than one, or one that is no id.
+pub(crate) fn id_alone(
+    alloc: Global,
+    name: &[u8],
+    listed: &ListEntry<'_>,
+) -> Result<Option<Id>, AllocError>
+    ensures some { IfOk result (λ found. IfSome found (λ id. values_under name.now listed.now ≡ id ∷ [])) }
+    ensures none { IfOk result (λ found. IfNone found (¬ IsIdAlone (values_under name.now listed.now))) }
+{
+    let words = values_under(alloc, name, listed)?;
+    if words.len() != 1 {
+        return Ok(None);
+    }
+    Ok(Id::read(first_word(words.as_slice())))
+}
