@@ -54,6 +54,15 @@ has_key name listed = list_any (λ key. has_name name key) listed.keys
 abbrev pub has_values : Text → ListEntry → Bool
 has_values name listed = list_any (λ key. has_name name key && nat_lt 0 (length key.values)) listed.keys
 
+-- whether the list says nothing of conditional requisites, although it is on
+abbrev pub lacks_conditions : ListEntry → Bool
+lacks_conditions listed =
+    is_sysmod listed && is_on listed && not (has_key (codes "IFREQ") listed || has_key (codes "CIFREQ") listed)
+
+-- whether it is on and none of these
+abbrev pub is_on_without : List Id → ListEntry → Bool
+is_on_without given listed = is_sysmod listed && is_on listed && not (is_in given listed.id)
+
 -- the date of its installation
 abbrev pub date_of : ListEntry → Text
 date_of listed = word_at (values_under (codes "INS") listed) 0

@@ -1,5 +1,5 @@
 -- The zone that a list is of.
-use Rattle.std.specs.Prelude.{◌≡◌, ◌⊎◌, List, Option, IsPermutation, IsTrue, filter}
+use Rattle.std.specs.Prelude.{◌≡◌, List, Option, IsPermutation, IsTrue, filter}
 use Rattle.std.specs.List.{Any}
 use Rattle.std.specs.Ordering.{nat_cmp}
 use Rattle.std.specs.Cmp.Lexicographic.{slice_cmp}
@@ -79,8 +79,11 @@ IsElementRefusal elements ElementTwice = HasTwice IsElementOf (Rises element_cmp
 
 -- why the list is not that of a zone
 abbrev pub IsRefused : List ListEntry → ImportError → Type 0
-IsRefused listed error =
-    IsSysmodRefusal (sysmods_in listed) error ⊎ IsElementRefusal (elements_in listed) error
+IsRefused listed Memory = Unit {0}
+IsRefused listed (Sysmod line fault) = IsSysmodRefusal (sysmods_in listed) (Sysmod line fault)
+IsRefused listed (AnElement line fault) = IsElementRefusal (elements_in listed) (AnElement line fault)
+IsRefused listed SysmodTwice = IsSysmodRefusal (sysmods_in listed) SysmodTwice
+IsRefused listed ElementTwice = IsElementRefusal (elements_in listed) ElementTwice
 
 -- what each entry of a zone has
 abbrev pub MayBeInZone : Entry → Type 0

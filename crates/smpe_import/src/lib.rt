@@ -7,6 +7,7 @@
 mod element;
 mod errors;
 mod listed;
+mod remarks;
 mod stand_in_names;
 mod sysmod;
 mod targets;
@@ -14,4 +15,5 @@ mod words;
 mod zone;
 
 pub use errors::{ElementFault, ImportError, SysmodFault};
+pub use remarks::{not_on, waived_requisites, without_conditions};
 pub use zone::zone_of_lists;

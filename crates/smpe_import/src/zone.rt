@@ -134,25 +134,24 @@ fn table_of<T: Keyed + Drop>(items: Vec<T>, twice: ImportError) -> Result<Table<
     Table::from_vec(items).ok_or(twice)
 }
 
-// The zone's entries of the SYSMODs in the list.
-fn entry_table(alloc: Global, listed: &[ListEntry<'_>]) -> Result<Table<Entry>, ImportError>
-    ensures are { IfOk result (AreOf (IsEntryAmong (sysmods_in listed.now)) (sysmods_in listed.now)) }
+// The zone's entries of the listed SYSMODs.
+fn sysmod_table(alloc: Global, sysmods: &[&ListEntry<'_>]) -> Result<Table<Entry>, ImportError>
+    ensures are { IfOk result (AreOf (IsEntryAmong (map (λ s. s.now) sysmods.now)) (map (λ s. s.now) sysmods.now)) }
     ensures content { IfOk result (All MayBeInZone) }
-    ensures err { IfErr result (IsSysmodRefusal (sysmods_in listed.now)) }
+    ensures err { IfErr result (IsSysmodRefusal (map (λ s. s.now) sysmods.now)) }
 {
-    let sysmods = sysmods_in(alloc, listed)?;
-    let supplied = IdList::from_vec(supplied_ids(alloc, sysmods.as_slice())?);
-    let made = read_entries(alloc, &supplied, sysmods.as_slice())?;
+    let ids = supplied_ids(alloc, sysmods)?;
+    let supplied = IdList::from_vec(ids);
+    let made = read_entries(alloc, &supplied, sysmods)?;
     table_of(made, ImportError::SysmodTwice)
 }
 
-// The zone's entries of the elements in the list.
-fn element_table(alloc: Global, listed: &[ListEntry<'_>]) -> Result<Table<Element>, ImportError>
-    ensures are { IfOk result (AreOf IsElementOf (elements_in listed.now)) }
-    ensures err { IfErr result (IsElementRefusal (elements_in listed.now)) }
+// The zone's entries of the listed elements.
+fn element_table(alloc: Global, elements: &[&ListEntry<'_>]) -> Result<Table<Element>, ImportError>
+    ensures are { IfOk result (AreOf IsElementOf (map (λ e. e.now) elements.now)) }
+    ensures err { IfErr result (IsElementRefusal (map (λ e. e.now) elements.now)) }
 {
-    let elements = elements_in(alloc, listed)?;
-    let made = read_elements(alloc, elements.as_slice())?;
+    let made = read_elements(alloc, elements)?;
     table_of(made, ImportError::ElementTwice)
 }
 
@@ -170,8 +169,10 @@ pub fn zone_of_lists(
     ensures zone { IfOk result (IsZoneOf kind srel related listed.now) }
     ensures err { IfErr result (IsRefused listed.now) }
 {
-    let entries = entry_table(alloc, listed)?;
-    let elements = element_table(alloc, listed)?;
-    let zone = Zone::from_tables(kind, srel, related, entries, elements);
+    let sysmods = sysmods_in(alloc, listed)?;
+    let elements = elements_in(alloc, listed)?;
+    let entry_table = sysmod_table(alloc, sysmods.as_slice())?;
+    let element_table = element_table(alloc, elements.as_slice())?;
+    let zone = Zone::from_tables(kind, srel, related, entry_table, element_table);
     Ok(zone.unwrap())
 }
