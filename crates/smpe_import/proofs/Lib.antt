@@ -1,2 +1,3 @@
-pub mod Reading
+pub mod Ids
 pub mod Supplied
+pub mod Reading

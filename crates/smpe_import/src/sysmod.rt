@@ -17,7 +17,7 @@ ghost use Rattle.smpe_import.specs.Listed.{
 
 use crate::errors::SysmodFault;
 use crate::listed::is_on;
-use crate::words::{first_word, read_id_list, read_ids};
+use crate::words::{first_word, id_alone, read_id_list, read_ids};
 use fields::{Id, IdList, YyDdd};
 use intake_list::{ListEntry, values_under};
 use std::alloc::{AllocError, Global};
@@ -70,12 +70,12 @@ fn deleter_of(alloc: Global, listed: &ListEntry<'_>) -> Result<Option<Option<Id>
     ensures none { IfOk result (λ found. IfNone found (¬ IsIdAtMost (deleters listed.now))) }
 {
     let words = values_under(alloc, b"DELBY", listed)?;
-    if words.len() > 1 {
-        return Ok(None);
+    if words.is_empty() {
+        return Ok(Some(None));
     }
-    match words.first() {
-        Some(word) => Ok(Id::read(*word).map(|id| Some(id))),
-        None => Ok(Some(None)),
+    match id_alone(alloc, b"DELBY", listed)? {
+        Some(id) => Ok(Some(Some(id))),
+        None => Ok(None),
     }
 }
 

@@ -2,8 +2,7 @@
 ghost use Rattle.std.specs.Prelude.{◌≡◌, [], ◌∷◌, IfOk, IfSome, IfNone, map};
 ghost use Rattle.intake_list.specs.Rows.{word_at};
 ghost use Rattle.intake_list.specs.Says.{values_under};
-ghost use Rattle.terms.specs.Lookups.{at_most_one};
-ghost use Rattle.smpe_import.specs.Words.{AreIds, AreIdWords, IsIdAtMost, IsIdAlone};
+ghost use Rattle.smpe_import.specs.Words.{AreIds, AreIdWords, IsIdAlone};
 
 use fields::{Id, IdList};
 use intake_list::{ListEntry, values_under};
@@ -13,7 +12,7 @@ use std::alloc::{AllocError, Global};
 pub(crate) fn first_word<'a>(words: &[&'a [u8]]) -> &'a [u8]
     ensures { result.now ≡ word_at (map (λ word. word.now) words.now) 0 }
 {
-    match words.first() {
+    match words.get(0) {
         Some(word) => *word,
         None => b"",
     }
@@ -58,5 +57,8 @@ pub(crate) fn id_alone(
     if words.len() != 1 {
         return Ok(None);
     }
-    Ok(Id::read(first_word(words.as_slice())))
+    match Id::read(first_word(words.as_slice())) {
+        Some(id) => Ok(Some(id)),
+        None => Ok(None),
+    }
 }
