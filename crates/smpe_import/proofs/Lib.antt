@@ -1,3 +1,4 @@
 pub mod Ids
+pub mod Content
 pub mod Supplied
 pub mod Reading

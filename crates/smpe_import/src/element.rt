@@ -134,7 +134,8 @@ pub(crate) fn element_of(
     let Some(libraries) = libraries_of(alloc, listed, target.name)? else {
         return Ok(Err(ElementFault::BadLibrary));
     };
-    let umids = match umids_of(alloc, listed)? {
+    let read = umids_of(alloc, listed)?;
+    let umids = match read {
         Ok(umids) => umids,
         Err(fault) => return Ok(Err(fault)),
     };

@@ -73,7 +73,8 @@ fn deleter_of(alloc: Global, listed: &ListEntry<'_>) -> Result<Option<Option<Id>
     if words.is_empty() {
         return Ok(Some(None));
     }
-    match id_alone(alloc, b"DELBY", listed)? {
+    let alone = id_alone(alloc, b"DELBY", listed)?;
+    match alone {
         Some(id) => Ok(Some(Some(id))),
         None => Ok(None),
     }
@@ -115,7 +116,8 @@ fn waived_of(
         return Ok(Some(IdList::new(alloc)));
     }
     let words = requisites_of(alloc, listed)?;
-    match read_ids(alloc, words.as_slice())? {
+    let read = read_ids(alloc, words.as_slice())?;
+    match read {
         Some(ids) => {
             let waived = unsupplied(alloc, supplied, ids.as_slice())?;
             Ok(Some(IdList::from_vec(waived)))

@@ -38,7 +38,8 @@ pub(crate) fn read_id_list(alloc: Global, words: &[&[u8]]) -> Result<Option<IdLi
     ensures some { IfOk result (λ found. IfSome found (AreIds (map (λ word. word.now) words.now))) }
     ensures none { IfOk result (λ found. IfNone found (¬ AreIdWords (map (λ word. word.now) words.now))) }
 {
-    match read_ids(alloc, words)? {
+    let read = read_ids(alloc, words)?;
+    match read {
         Some(ids) => Ok(Some(IdList::from_vec(ids))),
         None => Ok(None),
     }

@@ -70,7 +70,8 @@ fn read_entry(
     ensures content { IfOk result MayBeInZone }
     ensures err { IfErr result (IsSysmodFault listed.now) }
 {
-    match entry_of(alloc, supplied, listed)? {
+    let read = entry_of(alloc, supplied, listed)?;
+    match read {
         Ok(entry) => Ok(entry),
         Err(fault) => Err(ImportError::Sysmod {
             line: listed.line(),
@@ -103,7 +104,8 @@ fn read_element(alloc: Global, listed: &ListEntry<'_>) -> Result<Element, Import
     ensures made { IfOk result (IsElementOf listed.now) }
     ensures err { IfErr result (IsElementFault listed.now) }
 {
-    match element_of(alloc, listed)? {
+    let read = element_of(alloc, listed)?;
+    match read {
         Ok(element) => Ok(element),
         Err(fault) => Err(ImportError::AnElement {
             line: listed.line(),

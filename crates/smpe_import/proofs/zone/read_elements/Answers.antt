@@ -17,6 +17,6 @@ returns-clause-made c =
 
 pub returns-in_err-element-clause-err : goal.returns-in_err-element-clause-err
 returns-in_err-element-clause-err c =
-    let p = err_from_is_err_and c.from_residual.result c.from_residual.ensures.1 in
+    let p = err_from_is_err_and c.from_residual-in_err-element.result c.from_residual-in_err-element.ensures.1 in
     rw (p.1, p.2) (element_refused c.args.elements.now c.loop-listed.listed-index _ _ c.loop-listed-test.true
     c.in_err-element.ensures.err)

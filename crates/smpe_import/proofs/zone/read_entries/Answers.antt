@@ -26,6 +26,6 @@ returns-clause-made c =
 
 pub returns-in_err-entry-clause-err : goal.returns-in_err-entry-clause-err
 returns-in_err-entry-clause-err c =
-    let p = err_from_is_err_and c.from_residual.result c.from_residual.ensures.1 in
+    let p = err_from_is_err_and c.from_residual-in_err-entry.result c.from_residual-in_err-entry.ensures.1 in
     rw (p.1, p.2) (sysmod_refused c.args.sysmods.now c.loop-listed.listed-index _ _ c.loop-listed-test.true
     c.in_err-entry.ensures.err)

@@ -1,6 +1,6 @@
 use Rattle.std.proofs.Common.{◌↔◌, List, IsPermutation, subst, sym}
 use Rattle.std.specs.Prelude.{All, Contains}
-use Rattle.std.proofs.lemmas.Result.{IfOk-weaker, IfErr-weaker}
+use Rattle.std.proofs.lemmas.Result.{IfOk-weaker, IfErr-weaker, err_from_is_err_and}
 use Rattle.std.proofs.lemmas.List.Sorted.{All-permutation}
 use Rattle.terms.specs.Types.{Id, Entry}
 use Rattle.terms.specs.Beside.{Beside}
@@ -38,3 +38,13 @@ returns-clause-err c =
     let ns = nows c.args.sysmods.now in
     IfErr-weaker c.table_of.result _ (IsSysmodRefusal ns)
     (λ e h. subst (IsSysmodRefusal ns) (sym h.0) (c.in_ok-made.made.items, beside c, h.1)) c.table_of.ensures.err
+
+pub returns-in_err-ids-clause-err : goal.returns-in_err-ids-clause-err
+returns-in_err-ids-clause-err c =
+    let p = err_from_is_err_and c.from_residual.result c.from_residual.ensures.1 in
+    rw (p.1, p.2) c.in_err-ids.ensures.err
+
+pub returns-in_err-made-clause-err : goal.returns-in_err-made-clause-err
+returns-in_err-made-clause-err c =
+    let p = err_from_is_err_and c.from_residual-in_err-made.result c.from_residual-in_err-made.ensures.1 in
+    rw (p.1, p.2) c.in_err-made.ensures.err
