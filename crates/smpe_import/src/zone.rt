@@ -173,8 +173,8 @@ pub fn zone_of_lists(
 {
     let sysmods = sysmods_in(alloc, listed)?;
     let elements = elements_in(alloc, listed)?;
-    let entry_table = sysmod_table(alloc, sysmods.as_slice())?;
-    let element_table = element_table(alloc, elements.as_slice())?;
-    let zone = Zone::from_tables(kind, srel, related, entry_table, element_table);
+    let entries = sysmod_table(alloc, sysmods.as_slice())?;
+    let parts = element_table(alloc, elements.as_slice())?;
+    let zone = Zone::from_tables(kind, srel, related, entries, parts);
     Ok(zone.unwrap())
 }

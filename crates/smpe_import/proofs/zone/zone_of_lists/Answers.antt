@@ -13,7 +13,7 @@ use Rattle.smpe_import.proofs.zone.zone_of_lists.Goals as goal
 
 pub unwrap-requires : goal.unwrap-requires
 unwrap-requires c =
-    let content = c.in_ok-entry_table.ensures.content in
+    let content = c.in_ok-entries.ensures.content in
     c.from_tables-zone.ensures.form.1 (
       All-weaker MayBeInZone (λ (e : Entry). IsTrue (has_content e)) (λ e m. m.0) _ content,
       All-weaker MayBeInZone (λ (e : Entry). IsTrue (waives_applied e)) (λ e m. m.1) _ content,
@@ -33,29 +33,29 @@ returns-clause-zone c =
       related_is = ap (λ (z : Zone). z.related) same;
       entries_are = subst (λ (z : Zone). AreOf (IsEntryAmong (sysmods_in c.args.listed.now))
           (sysmods_in c.args.listed.now) z.entries) (sym same)
-          (subst (λ (ns : List ListEntry). AreOf (IsEntryAmong ns) ns c.in_ok-entry_table.entry_table) sysmods
-          c.in_ok-entry_table.ensures.are);
+          (subst (λ (ns : List ListEntry). AreOf (IsEntryAmong ns) ns c.in_ok-entries.entries) sysmods
+          c.in_ok-entries.ensures.are);
       elements_are = subst (λ (z : Zone). AreOf IsElementOf (elements_in c.args.listed.now) z.elements) (sym same)
-          (subst (λ (ns : List ListEntry). AreOf IsElementOf ns c.in_ok-element_table.element_table) elements
-          c.in_ok-element_table.ensures.are);
+          (subst (λ (ns : List ListEntry). AreOf IsElementOf ns c.in_ok-parts.parts) elements
+          c.in_ok-parts.ensures.are);
     }
 
-pub returns-in_err-entry_table-clause-err : goal.returns-in_err-entry_table-clause-err
-returns-in_err-entry_table-clause-err c =
-    let p = err_from_is_err_and c.from_residual-in_err-entry_table.result
-    c.from_residual-in_err-entry_table.ensures.1 in
+pub returns-in_err-entries-clause-err : goal.returns-in_err-entries-clause-err
+returns-in_err-entries-clause-err c =
+    let p = err_from_is_err_and c.from_residual-in_err-entries.result
+    c.from_residual-in_err-entries.ensures.1 in
     let sysmods : nows c.as_slice.result.now ≡ sysmods_in c.args.listed.now =
     ap nows c.as_slice.ensures.value ∙ c.in_ok-sysmods.ensures in
     rw (p.1, p.2) (refused_by_sysmods c.args.listed.now _
-    (subst (λ (ns : List ListEntry). IsSysmodRefusal ns c.in_err-entry_table.field-0.0) sysmods
-    c.in_err-entry_table.ensures.err))
+    (subst (λ (ns : List ListEntry). IsSysmodRefusal ns c.in_err-entries.field-0.0) sysmods
+    c.in_err-entries.ensures.err))
 
-pub returns-in_err-element_table-clause-err : goal.returns-in_err-element_table-clause-err
-returns-in_err-element_table-clause-err c =
-    let p = err_from_is_err_and c.from_residual-in_err-element_table.result
-    c.from_residual-in_err-element_table.ensures.1 in
+pub returns-in_err-parts-clause-err : goal.returns-in_err-parts-clause-err
+returns-in_err-parts-clause-err c =
+    let p = err_from_is_err_and c.from_residual-in_err-parts.result
+    c.from_residual-in_err-parts.ensures.1 in
     let elements : nows c.as_slice-2.result.now ≡ elements_in c.args.listed.now =
     ap nows c.as_slice-2.ensures.value ∙ c.in_ok-elements.ensures in
     rw (p.1, p.2) (refused_by_elements c.args.listed.now _
-    (subst (λ (ns : List ListEntry). IsElementRefusal ns c.in_err-element_table.field-0.0) elements
-    c.in_err-element_table.ensures.err))
+    (subst (λ (ns : List ListEntry). IsElementRefusal ns c.in_err-parts.field-0.0) elements
+    c.in_err-parts.ensures.err))
