@@ -15,7 +15,7 @@ ghost use Rattle.smpe_import.specs.Elements.{
 
 use crate::errors::ElementFault;
 use crate::targets::target_of;
-use crate::words::{id_alone, read_id_list};
+use crate::words::{id_alone, read_id_list, read_name};
 use fields::{IdList, Name};
 use intake_list::{ListEntry, values_under};
 use std::alloc::{AllocError, Global};
@@ -64,7 +64,7 @@ fn library_or(stated: Option<&[u8]>, default: Name) -> Option<Name>
     ensures none { IfNone result (IsBadLibrary (option_copied stated.entry)) }
 {
     match stated {
-        Some(text) => Name::read(text),
+        Some(text) => read_name(text),
         None => Some(default),
     }
 }

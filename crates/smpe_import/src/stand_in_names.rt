@@ -5,6 +5,7 @@ ghost use Rattle.terms.specs.Forms.{IsName};
 ghost use Rattle.intake_elements.specs.StandInNames.{hash_step, hash_of, character, name_of, stand_in_name, owner_word};
 ghost use Rattle.intake_elements.specs.Elements.{stand_in_type};
 
+use crate::words::read_name;
 use fields::Name;
 use terms::ElemType;
 
@@ -75,14 +76,20 @@ fn name_of(hash: u64) -> [u8; 8]
     ]
 }
 
-/// The name of the stand-in of an element of this name in an entry under this title, or `None` if it does not have the
+// The name of the stand-in of an element of this name under a title with this word, as bytes.
+fn stand_in_name_bytes(word: &[u8], name: &[u8]) -> [u8; 8]
+    ensures { result ≡ stand_in_name word.now name.now }
+{
+    name_of(hash_of(owner_word(word), name))
+}
+
+/// The name of the stand-in of an element of this name under a title with this word, or `None` if it does not have the
 /// form of a name.
 pub(crate) fn stand_in_name(word: &[u8], name: &[u8]) -> Option<Name>
     ensures some { IfSome result (λ found. found ≡ stand_in_name word.now name.now) }
     ensures none { IfNone result (¬ IsName (stand_in_name word.now name.now)) }
 {
-    let bytes = name_of(hash_of(owner_word(word), name));
-    Name::read(bytes.as_slice())
+    read_name(stand_in_name_bytes(word, name).as_slice())
 }
 
 /// The type of the stand-in of an element in an entry under this title.

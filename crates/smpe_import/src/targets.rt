@@ -1,11 +1,10 @@
 //! The type and the name that a zone has of a listed element.
 ghost use Rattle.std.specs.Prelude.{◌≡◌, IfSome, IfNone};
-ghost use Rattle.terms.specs.Forms.{IsName};
-ghost use Rattle.intake_elements.specs.StandInNames.{stand_in_name};
-ghost use Rattle.intake_elements.specs.Elements.{stand_in_type};
-ghost use Rattle.smpe_import.specs.Elements.{IsTargetOf, HasNoTarget};
+ghost use Rattle.terms.specs.Spelling.{type_text};
+ghost use Rattle.smpe_import.specs.Elements.{IsNoType, IsTargetOf, HasNoTarget};
 
 use crate::stand_in_names::{stand_in_name, stand_in_type};
+use crate::words::read_name;
 use fields::Name;
 use fields::spelling::read_type;
 use terms::ElemType;
@@ -17,24 +16,29 @@ pub(crate) struct Target {
     pub(crate) name: Name,
 }
 
-// The target of an element that the zone holds itself.
-fn own_target(elem_type: ElemType, name: &[u8]) -> Option<Target>
-    ensures some { IfSome result (λ t. (t.elem_type ≡ elem_type) × (t.name ≡ name.now)) }
-    ensures none { IfNone result (¬ IsName name.now) }
+// The target of an element that the zone holds itself, under the title of its type.
+fn own_target(elem_type: ElemType, word: &[u8], name: &[u8]) -> Option<Target>
+    requires { type_text elem_type ≡ word.now }
+    ensures some { IfSome result (λ t. IsTargetOf word.now name.now t.elem_type t.name) }
+    ensures none { IfNone result (HasNoTarget word.now name.now) }
 {
-    let name = Name::read(name)?;
-    Some(Target { elem_type, name })
+    match read_name(name) {
+        Some(name) => Some(Target { elem_type, name }),
+        None => None,
+    }
 }
 
 // The target of an element that has a stand-in.
 fn stand_in_target(word: &[u8], name: &[u8]) -> Option<Target>
-    ensures some { IfSome result (λ t. (t.elem_type ≡ stand_in_type word.now)
-        × (t.name ≡ stand_in_name word.now name.now)) }
-    ensures none { IfNone result (¬ IsName (stand_in_name word.now name.now)) }
+    requires { IsNoType word.now }
+    ensures some { IfSome result (λ t. IsTargetOf word.now name.now t.elem_type t.name) }
+    ensures none { IfNone result (HasNoTarget word.now name.now) }
 {
     let elem_type = stand_in_type(word);
-    let name = stand_in_name(word, name)?;
-    Some(Target { elem_type, name })
+    match stand_in_name(word, name) {
+        Some(name) => Some(Target { elem_type, name }),
+        None => None,
+    }
 }
 
 /// The type and the name that the zone has of the element of this name under a title with this word. Returns `None` if
@@ -44,7 +48,7 @@ pub(crate) fn target_of(word: &[u8], name: &[u8]) -> Option<Target>
     ensures none { IfNone result (HasNoTarget word.now name.now) }
 {
     match read_type(word) {
-        Some(elem_type) => own_target(elem_type, name),
+        Some(elem_type) => own_target(elem_type, word, name),
         None => stand_in_target(word, name),
     }
 }

@@ -1,10 +1,11 @@
 //! The values of a key, as ids.
 ghost use Rattle.std.specs.Prelude.{◌≡◌, [], ◌∷◌, IfOk, IfSome, IfNone, map};
+ghost use Rattle.terms.specs.Forms.{IsName};
 ghost use Rattle.intake_list.specs.Rows.{word_at};
 ghost use Rattle.intake_list.specs.Says.{values_under};
 ghost use Rattle.smpe_import.specs.Words.{AreIds, AreIdWords, IsIdAlone};
 
-use fields::{Id, IdList};
+use fields::{Id, IdList, Name};
 use intake_list::{ListEntry, values_under};
 use std::alloc::{AllocError, Global};
 
@@ -15,6 +16,17 @@ pub(crate) fn first_word<'a>(words: &[&'a [u8]]) -> &'a [u8]
     match words.get(0) {
         Some(word) => *word,
         None => b"",
+    }
+}
+
+/// The name that the word is, or `None` if it is none.
+pub(crate) fn read_name(word: &[u8]) -> Option<Name>
+    ensures some { IfSome result (λ name. name ≡ word.now) }
+    ensures none { IfNone result (¬ IsName word.now) }
+{
+    match Name::read(word) {
+        Some(name) => Some(name),
+        None => None,
     }
 }
 
