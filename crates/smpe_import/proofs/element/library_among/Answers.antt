@@ -1,10 +1,13 @@
-use Rattle.std.proofs.Common.{◌∙◌, sym, arith}
+use Rattle.std.proofs.Common.{◌∙◌, Some, ap, sym, arith}
+use Rattle.std.proofs.lemmas.List.{take_rest}
+use Rattle.terms.specs.Types.{Text}
 use Rattle.smpe_import.proofs.Libraries.{library_here, library_more, library_none}
 use Rattle.smpe_import.proofs.element.library_among.Goals as goal
 
 pub returns-then-has_prefix : goal.returns-then-has_prefix
 returns-then-has_prefix c =
-    library_here c.args.prefix.now c.args.words.now c.loop-word.word-index _ _ c.loop-word-test.true
+    ap (λ (w : Text). Some w) (take_rest _ _)
+    ∙ library_here c.args.prefix.now c.args.words.now c.loop-word.word-index _ _ c.loop-word-test.true
     (sym c.has_prefix.ensures.value ∙ c.if-has_prefix.true) c.loop-word.invariant
 
 pub loop-word-preserved : goal.loop-word-preserved
