@@ -59,7 +59,8 @@ fn add_elements_of_key(
         × AreElementsOfKey key.now own) }
 {
     let word = statement_word(first_word(key.name()));
-    for name in key.values() {
+    let names = key.values();
+    for name in names {
         let element = element_of(alloc, file, key.line(), word, *name)?;
         elements.push(element)?;
     }
