@@ -1,5 +1,5 @@
--- The statements that a SYSMOD would have, by its entry in the list of a zone. (IBM z/OS SMP/E Reference, SYSMOD entry of
--- distribution and target zones, and the MCS ++VER, ++IF and those of elements.)
+-- The statements that a SYSMOD would have, by its entry in the list of a zone. (IBM z/OS SMP/E Reference, SYSMOD entry
+-- of distribution and target zones, and the MCS ++VER, ++IF and those of elements.)
 use Rattle.std.specs.Prelude.{◌≡◌, ◌&&◌, ◌||◌, ◌++◌, ◌==◌, Bool, true, false, not, List, [], ◌∷◌, Option, Some, None}
 use Rattle.std.specs.Prelude.{codes, find, length, unwrap_or, if◌then◌else◌}
 use Rattle.std.specs.List.{Any}

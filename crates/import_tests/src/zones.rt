@@ -256,7 +256,12 @@ const REFUSED: [(&[u8], &[u8]); 11] = [
         b"line 2: the entry's name is no element's name",
     ),
     (
-        b"TGT MAC ENTRIES\nAXMAC01  FMID = HAA1100\n         RMID = HAA1100\nAXMAC01  FMID = HAA1100\n         RMID = HAA1100\n",
+        b"TGT MAC ENTRIES
+AXMAC01  FMID = HAA1100
+         RMID = HAA1100
+AXMAC01  FMID = HAA1100
+         RMID = HAA1100
+",
         b"two entries are of one element: give each list once",
     ),
 ];

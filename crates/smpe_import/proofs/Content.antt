@@ -54,8 +54,10 @@ no_cause ids listed entry is none = (
   where
     outer : ((is_some entry.applied || not (is_nil entry.supby)) ≡ false) × (is_some entry.delby ≡ false)
     outer = or_parts (is_some entry.applied || not (is_nil entry.supby)) (is_some entry.delby) none
+
     front : (is_some entry.applied ≡ false) × (not (is_nil entry.supby) ≡ false)
     front = or_parts (is_some entry.applied) (not (is_nil entry.supby)) outer.0
+
     by : (b : Bool) → is_on listed ≡ b → IsFalse (is_on listed)
     by false e = e
     by true e =

@@ -1,6 +1,6 @@
 -- The first word with a prefix.
-use Rattle.std.proofs.Common.{◌≡◌, ◌∙◌, ◌<◌, ◌≤◌, ◌+◌, ◌∷◌, [], ℕ, true, false, List, Option, Some, None, ap, sym, refl, map}
-use Rattle.std.proofs.Common.{drop, length, get_or}
+use Rattle.std.proofs.Common.{◌≡◌, ◌∙◌, ◌<◌, ◌≤◌, ◌+◌, ◌∷◌, [], ℕ, true, false, List, Option, Some, None, ap}
+use Rattle.std.proofs.Common.{sym, map, drop, length, get_or}
 use Rattle.std.specs.Prelude.{find, nat_eq, option_map, if◌then◌else◌}
 use Rattle.std.specs.List.{starts_with}
 use Rattle.std.specs.Borrow.{Bor}

@@ -1,5 +1,6 @@
 -- Entries that are read one after the other.
-use Rattle.std.proofs.Common.{◌≡◌, ◌∙◌, ◌<◌, ◌≤◌, ◌+◌, ◌++◌, ◌∷◌, [], ℕ, List, ap, sym, subst, map, take, length, get_or}
+use Rattle.std.proofs.Common.{◌≡◌, ◌∙◌, ◌<◌, ◌≤◌, ◌+◌, ◌++◌, ◌∷◌, [], ℕ, List, ap, sym, subst, map, take, length}
+use Rattle.std.proofs.Common.{get_or}
 use Rattle.std.specs.Borrow.{Bor}
 use Rattle.std.proofs.lemmas.List.{take_more, take_all, map-append, get_or_default}
 use Rattle.terms.specs.Types.{Id, Entry, Element}
@@ -8,7 +9,8 @@ use Rattle.terms.proofs.BesideLists.{beside_more}
 use Rattle.terms.proofs.Each.{any_map}
 use Rattle.intake_list.specs.Entries.{ListEntry}
 use Rattle.smpe_import.specs.declared.errors.ImportError.{ImportError}
-use Rattle.smpe_import.specs.declared.errors.ImportError.TheVariants.{Memory, Sysmod, AnElement, SysmodTwice, ElementTwice}
+use Rattle.smpe_import.specs.declared.errors.ImportError.TheVariants.{Memory, Sysmod, AnElement, SysmodTwice}
+use Rattle.smpe_import.specs.declared.errors.ImportError.TheVariants.{ElementTwice}
 use Rattle.smpe_import.specs.Listed.{supplied}
 use Rattle.smpe_import.specs.Zones.{IsSysmodFault, IsSysmodRefusal, IsElementFault, IsElementRefusal, IsRefused}
 use Rattle.smpe_import.specs.Zones.{sysmods_in, elements_in}

@@ -1,5 +1,6 @@
 -- What the SYSMODs of a list supply, in whatever order it is held.
-use Rattle.std.proofs.Common.{◌≡◌, ◌∙◌, ◌++◌, ◌∷◌, [], Bool, true, false, List, ap, sym, subst, refl, filter, map, true≢false}
+use Rattle.std.proofs.Common.{◌≡◌, ◌∙◌, ◌++◌, ◌∷◌, [], Bool, true, false, List, ap, sym, subst}
+use Rattle.std.proofs.Common.{refl, filter, map, true≢false}
 use Rattle.std.specs.Prelude.{Contains, ◌↔◌, not, if◌then◌else◌}
 use Rattle.std.proofs.Math.Path.{fun_ext}
 use Rattle.std.proofs.lemmas.List.{map-append}

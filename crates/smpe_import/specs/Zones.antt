@@ -10,7 +10,8 @@ use Rattle.terms.specs.Rising.{Rises}
 use Rattle.terms.specs.Beside.{Beside}
 use Rattle.intake_list.specs.Entries.{ListEntry}
 use Rattle.smpe_import.specs.declared.errors.ImportError.{ImportError}
-use Rattle.smpe_import.specs.declared.errors.ImportError.TheVariants.{Memory, Sysmod, AnElement, SysmodTwice, ElementTwice}
+use Rattle.smpe_import.specs.declared.errors.ImportError.TheVariants.{Memory, Sysmod, AnElement, SysmodTwice}
+use Rattle.smpe_import.specs.declared.errors.ImportError.TheVariants.{ElementTwice}
 use Rattle.smpe_import.specs.Listed.{is_in_zone, supplied, IsEntryOf, HasSysmodFault}
 use Rattle.smpe_import.specs.Elements.{is_element, IsElementOf, HasElementFault}
 
@@ -30,8 +31,8 @@ abbrev pub IsEntryAmong : List ListEntry → ListEntry → Entry → Type 0
 IsEntryAmong sysmods one entry = IsEntryOf (supplied sysmods) one entry
 
 -- The zone is exactly as it is listed. Zones have their entries and elements in order, so it is determined.
-pub record IsZoneOf (kind : ZoneKind) (srel : Srel) (related : Option ZoneName) (listed : List ListEntry) (zone : Zone) :
-    Type 0 where
+pub record IsZoneOf (kind : ZoneKind) (srel : Srel) (related : Option ZoneName) (listed : List ListEntry)
+    (zone : Zone) : Type 0 where
   pub kind_is : zone.kind ≡ kind
   pub srel_is : zone.srel ≡ srel
   pub related_is : zone.related ≡ related

@@ -7,8 +7,8 @@ use Rattle.smpe_import.proofs.zone.read_elements.Goals as goal
 pub loop-listed-preserved : goal.loop-listed-preserved
 loop-listed-preserved c =
     let l = c.loop-listed in
-    made_more IsElementOf c.args.elements.now l.made.items c.push.new.self.items l.listed-index _ c.in_ok-element.element
-    c.loop-listed-test.true c.in_ok-push.ensures.items c.in_ok-element.ensures.made l.invariant
+    made_more IsElementOf c.args.elements.now l.made.items c.push.new.self.items l.listed-index _
+    c.in_ok-element.element c.loop-listed-test.true c.in_ok-push.ensures.items c.in_ok-element.ensures.made l.invariant
 
 pub returns-clause-made : goal.returns-clause-made
 returns-clause-made c =

@@ -18,7 +18,8 @@ beside c =
     let list = c.from_vec-supplied.result in
     made_weaker (IsEntryOf list) (IsEntryAmong ns)
     (entry_same list (supplied ns) (λ (x : Id). subst (λ (l : List Id). Contains list x ↔ Contains l x)
-    c.in_ok-ids.ensures.ok (c.from_vec-supplied.ensures.members x))) ns c.in_ok-made.made.items c.in_ok-made.ensures.made
+    c.in_ok-ids.ensures.ok (c.from_vec-supplied.ensures.members x))) ns c.in_ok-made.made.items
+    c.in_ok-made.ensures.made
 
 pub returns-clause-are : goal.returns-clause-are
 returns-clause-are c =
