@@ -1,11 +1,15 @@
 -- A document has no floats, and nests a few levels deep, so its text is read as its value.
-use Rattle.std.proofs.Common.{◌≡◌, ◌≤◌, ◌+◌, ◌∙◌, ℕ, List, [], ◌∷◌, ◌++◌, false, Option, None, Some, refl, arith}
-use Rattle.std.proofs.Common.{map, ap, sym, subst}
+use Rattle.std.proofs.Common.{◌≡◌, ◌≤◌, ◌+◌, ◌∙◌, ℕ, Bool, true, false, List, [], ◌∷◌, ◌++◌, Option, None, Some, refl}
+use Rattle.std.proofs.Common.{arith, map, ap, sym, subst}
 use Rattle.std.specs.Prelude.{filter, codes}
-use Rattle.terms.specs.Types.{Text, Id}
+use Rattle.std.specs.List.{list_all}
+use Rattle.terms.specs.declared.kinds.ZoneKind.{ZoneKind}
+use Rattle.terms.specs.declared.kinds.ZoneKind.TheVariants.{Target, Distribution}
+use Rattle.terms.specs.Types.{Text, Id, Applied, Entry}
 use Rattle.terms.specs.declared.codes.Test.{Test}
 use Rattle.machine.specs.Outcome.{Place, OpenNeed, Failure, Received, Failed, Header, Line, StatusLine, NothingLine}
-use Rattle.machine.specs.Outcome.{ErrsysmodLine, or_nothing}
+use Rattle.machine.specs.Outcome.{SysmodLine, HoldLine, EntryLine, ElementLine, TextLine, ErrsysmodLine, or_nothing}
+use Rattle.machine.specs.Outcome.{Refusal, NoBoundary, Outcome, Ran, Refused, Control}
 use Rattle.serde_json.specs.Data.{Data, string, array, Items, depth, items_depth}
 use Rattle.serde_json.specs.Read.{read, max_depth}
 use Rattle.serde_json.specs.Written.{has_float, items_have_float, compact_text}
@@ -19,8 +23,10 @@ use Rattle.smpe_summary.specs.declared.values.Summary.{Summary}
 use Rattle.smpe_summary.specs.Causes.{Cause}
 use Rattle.smpe_summary.specs.Todo.{TakenOff}
 use Rattle.smpe_summary.specs.Views.{cause_view, taken_view}
-use Rattle.smpe_json.specs.Values.{object_of, number_of}
-use Rattle.smpe_json.specs.Lines.{test_value, need_value, line_value, zone_value, command_value}
+use Rattle.smpe_json.specs.Values.{object_of, number_of, text_or_null}
+use Rattle.smpe_json.specs.Lines.{test_value, need_value, applied_value, listed_value, is_ascii_byte, record_member}
+use Rattle.smpe_json.specs.Lines.{line_value, command_value}
+use Rattle.smpe_json.specs.Outcomes.{refused_value, outcome_value, run_value, ended_value}
 use Rattle.smpe_json.specs.Documents.{group_names, id_in_group, member_value, is_named, group_value, cause_value}
 use Rattle.smpe_json.specs.Documents.{taken_value, summary_value, step_value, remark_lines, check_value, fault_value}
 use Rattle.smpe_json.specs.Documents.{IsDocumentOf}
@@ -65,6 +71,43 @@ failed_plain id place why =
       levels = omega (arith, tests.levels, needs.levels, causers.levels);
     }
 
+applied_plain : (applied : Option Applied) → IsPlain 1 (applied_value applied)
+applied_plain None = record { no_float = refl; levels = omega arith }
+applied_plain (Some a) = record { no_float = refl; levels = omega arith }
+
+optional_plain : (text : Option Text) → IsPlain 0 (text_or_null text)
+optional_plain None = record { no_float = refl; levels = omega arith }
+optional_plain (Some text) = record { no_float = refl; levels = omega arith }
+
+entry_plain : (kind : ZoneKind) (e : Entry) → IsPlain 3 (line_value (EntryLine kind e))
+entry_plain Target e =
+    let applied = applied_plain e.applied in
+    let supby = texts_plain e.supby in
+    let delby = optional_plain e.delby in
+    let waived = texts_plain e.waived in
+    record {
+      no_float = rw (applied.no_float, supby.no_float, delby.no_float, waived.no_float) refl;
+      levels = omega (arith, applied.levels, supby.levels, delby.levels, waived.levels);
+    }
+entry_plain Distribution e =
+    let applied = applied_plain e.applied in
+    let supby = texts_plain e.supby in
+    let delby = optional_plain e.delby in
+    let waived = texts_plain e.waived in
+    record {
+      no_float = rw (applied.no_float, supby.no_float, delby.no_float, waived.no_float) refl;
+      levels = omega (arith, applied.levels, supby.levels, delby.levels, waived.levels);
+    }
+
+byte_plain : (byte : ℕ) → IsPlain 0 (number_of byte)
+byte_plain byte = record { no_float = refl; levels = omega arith }
+
+record_plain : (ascii : Bool) (r : List ℕ) → IsPlain 3 (listed_value (codes "TEXT") (record_member ascii r ∷ []))
+record_plain true r = record { no_float = refl; levels = omega arith }
+record_plain false r =
+    let bytes = each_plain 0 number_of byte_plain r in
+    record { no_float = rw bytes.no_float refl; levels = omega (arith, bytes.levels) }
+
 line_plain : (l : Line) → IsPlain 3 (line_value l)
 line_plain (StatusLine id place (Failed why)) = failed_plain id place why
 line_plain (StatusLine id place Received) = record { no_float = refl; levels = omega arith }
@@ -72,21 +115,48 @@ line_plain (StatusLine id place status) = record { no_float = refl; levels = ome
 line_plain (ErrsysmodLine id reason resolvers) =
     let ids = texts_plain resolvers in
     record { no_float = rw ids.no_float refl; levels = omega (arith, ids.levels) }
+line_plain (SysmodLine id kind sources) =
+    let texts = texts_plain sources in
+    record { no_float = rw texts.no_float refl; levels = omega (arith, texts.levels) }
+line_plain (HoldLine id kind reason internal) = record { no_float = refl; levels = omega arith }
+line_plain (EntryLine kind e) = entry_plain kind e
+line_plain (ElementLine row) =
+    let umids = texts_plain row.umids in
+    record { no_float = rw umids.no_float refl; levels = omega (arith, umids.levels) }
+line_plain (TextLine r) = record_plain (list_all is_ascii_byte r) r
 line_plain NothingLine = record { no_float = refl; levels = omega arith }
-line_plain l = record { no_float = refl; levels = omega arith }
-
-zone_plain : (zone : Option Text) → IsPlain 0 (zone_value zone)
-zone_plain None = record { no_float = refl; levels = omega arith }
-zone_plain (Some zone) = record { no_float = refl; levels = omega arith }
 
 command_plain : (h : Header) (ls : List Line) → IsPlain 5 (command_value h ls)
 command_plain h ls =
     let lines = each_plain 3 line_value line_plain ls in
-    let zone = zone_plain h.boundary in
+    let zone = optional_plain h.boundary in
     record {
       no_float = rw (lines.no_float, zone.no_float) refl;
       levels = omega (arith, lines.levels, zone.levels);
     }
+
+refused_plain : (h : Header) (why : Refusal) → IsPlain 5 (refused_value h why)
+refused_plain h NoBoundary =
+    let zone = optional_plain h.boundary in
+    record { no_float = rw zone.no_float refl; levels = omega (arith, zone.levels) }
+refused_plain h why =
+    let zone = optional_plain h.boundary in
+    record { no_float = rw zone.no_float refl; levels = omega (arith, zone.levels) }
+
+outcome_plain : (outcome : Outcome) → IsPlain 5 (outcome_value outcome)
+outcome_plain (Ran h ls) = command_plain h ls
+outcome_plain (Refused h why) = refused_plain h why
+outcome_plain (Control fault) = record { no_float = refl; levels = omega arith }
+
+pub run_plain : (outcomes : List Outcome) (status : ℕ) → IsPlain 7 (run_value outcomes status)
+run_plain outcomes status =
+    let commands = each_plain 5 outcome_value outcome_plain outcomes in
+    record { no_float = rw commands.no_float refl; levels = omega (arith, commands.levels) }
+
+pub ended_plain : (outcomes : List Outcome) (fault : Text) (status : ℕ) → IsPlain 7 (ended_value outcomes fault status)
+ended_plain outcomes fault status =
+    let commands = each_plain 5 outcome_value outcome_plain outcomes in
+    record { no_float = rw commands.no_float refl; levels = omega (arith, commands.levels) }
 
 grouped_plain : (id : Id) (group : Group) → IsPlain 1 (id_in_group id group)
 grouped_plain id (group.SupersededBy by) = record { no_float = refl; levels = omega arith }

@@ -1,9 +1,9 @@
 -- Values in JSON, and how they are read.
-use Rattle.std.specs.Prelude.{◌&&◌, ℕ, nat_le, List, [], ◌∷◌, Bool, Option, Some, find, map}
+use Rattle.std.specs.Prelude.{◌&&◌, ℕ, nat_le, List, [], ◌∷◌, Bool, Option, None, Some, find, map}
 use Rattle.std.specs.Prelude.{option_map, option_and_then, if◌then◌else◌}
 use Rattle.std.specs.Str.{bytes_eq}
 use Rattle.terms.specs.Types.{Text}
-use Rattle.serde_json.specs.Data.{Data, number, unsigned, array, object, Items, no_items, item, Members}
+use Rattle.serde_json.specs.Data.{Data, null, string, number, unsigned, array, object, Items, no_items, item, Members}
 use Rattle.serde_json.specs.Data.{no_members, put}
 use Rattle.serde_json.specs.Find.{get, as_str, as_bool, as_number, as_u64, as_array}
 use Rattle.serde_json.specs.View.{items_of}
@@ -28,6 +28,11 @@ array_of value xs = array (items_of (map value xs))
 abbrev pub number_of : ℕ → Data
 number_of n = number (unsigned n)
 
+-- a text, or null
+abbrev pub text_or_null : Option Text → Data
+text_or_null None = null
+text_or_null (Some text) = string text
+
 -- ---- reading
 
 -- the member of this name, if it is a text, a number, or true or false
@@ -39,6 +44,16 @@ number_at name d = option_and_then as_u64 (option_and_then as_number (get name d
 
 abbrev pub flag_at : Text → Data → Option Bool
 flag_at name d = option_and_then as_bool (get name d)
+
+-- the text of a text, and none of null
+abbrev pub optional_in : Data → Option (Option Text)
+optional_in null = Some None
+optional_in (string text) = Some (Some text)
+optional_in _ = None
+
+-- the member of this name, if it is a text or null
+abbrev pub optional_at : Text → Data → Option (Option Text)
+optional_at name d = option_and_then optional_in (get name d)
 
 -- what each item is read as, if each can be read
 abbrev pub each_in : {X : Type 0} → (Data → Option X) → Items → Option (List X)
