@@ -1,5 +1,5 @@
 -- A document has no floats, and nests a few levels deep, so its text is read as its value.
-use Rattle.std.proofs.Common.{◌≡◌, ◌≤◌, ◌+◌, ◌∙◌, ℕ, Bool, true, false, List, [], ◌∷◌, ◌++◌, Option, None, Some, refl}
+use Rattle.std.proofs.Common.{◌≡◌, ◌≤◌, ◌+◌, ◌∙◌, ℕ, Bool, true, false, List, [], ◌∷◌, Option, None, Some, refl}
 use Rattle.std.proofs.Common.{arith, map, ap, sym, subst}
 use Rattle.std.specs.Prelude.{filter, codes}
 use Rattle.std.specs.List.{list_all}
@@ -11,8 +11,8 @@ use Rattle.machine.specs.Outcome.{Place, OpenNeed, Failure, Received, Failed, He
 use Rattle.machine.specs.Outcome.{SysmodLine, HoldLine, EntryLine, ElementLine, TextLine, ErrsysmodLine, or_nothing}
 use Rattle.machine.specs.Outcome.{Refusal, NoBoundary, Outcome, Ran, Refused, Control}
 use Rattle.serde_json.specs.Data.{Data, string, array, Items, depth, items_depth}
-use Rattle.serde_json.specs.Read.{read, max_depth}
-use Rattle.serde_json.specs.Written.{has_float, items_have_float, compact_text}
+use Rattle.serde_json.specs.Read.{max_depth}
+use Rattle.serde_json.specs.Written.{has_float, items_have_float}
 use Rattle.serde_json.specs.View.{items_of}
 use Rattle.smpe_summary.specs.declared.values.Group.{Group}
 use Rattle.smpe_summary.specs.declared.values.Group.TheVariants as group
@@ -29,7 +29,6 @@ use Rattle.smpe_json.specs.Lines.{line_value, command_value}
 use Rattle.smpe_json.specs.Outcomes.{refused_value, outcome_value, run_value, ended_value}
 use Rattle.smpe_json.specs.Documents.{group_names, id_in_group, member_value, is_named, group_value, cause_value}
 use Rattle.smpe_json.specs.Documents.{taken_value, summary_value, step_value, remark_lines, check_value, fault_value}
-use Rattle.smpe_json.specs.Documents.{IsDocumentOf}
 
 -- it has no float, and nests at most so many levels deep
 pub record IsPlain (n : ℕ) (d : Data) : Type 0 where
@@ -229,14 +228,10 @@ check_plain h ls s remarks status =
 pub fault_plain : (fault : Text) (status : ℕ) → IsPlain 7 (fault_value fault status)
 fault_plain fault status = record { no_float = refl; levels = omega arith }
 
--- the text that is written for the value d, and a newline
-pub document_of : (d value : Data) (s text : Text) → d ≡ value → IsPlain 7 value
-    → (has_float d ≡ false → s ≡ compact_text d) → (depth d ≤ max_depth → read s ≡ Some d) → text ≡ s ++ 10 ∷ []
-    → IsDocumentOf value text
-document_of d value s text same plain writes reads ends =
-    let written : s ≡ compact_text d = writes (ap has_float same ∙ plain.no_float) in
-    let shallow : depth d ≤ max_depth = subst (λ k. depth k ≤ max_depth) (sym same) (omega (arith, plain.levels)) in
-    record {
-      is = ends ∙ ap (λ t. t ++ 10 ∷ []) (written ∙ ap compact_text same);
-      reads = ap read (sym (written ∙ ap compact_text same)) ∙ reads shallow ∙ ap (λ k. Some k) same;
-    }
+-- what is made of a value without floats is made of the value that it is
+pub made_of : (Made : Data → Type 0) (d value : Data) → d ≡ value → IsPlain 7 value
+    → (has_float d ≡ false → depth d ≤ max_depth → Made d) → Made value
+made_of Made d value same plain make =
+    subst Made same
+    (make (ap has_float same ∙ plain.no_float)
+    (subst (λ k. depth k ≤ max_depth) (sym same) (omega (arith, plain.levels))))

@@ -1,5 +1,5 @@
 -- The lines of a report as values.
-use Rattle.std.specs.Prelude.{ℕ, nat_lt, Bool, true, false, List, [], ◌∷◌, Option, None, Some, codes}
+use Rattle.std.specs.Prelude.{ℕ, nat_lt, Bool, true, false, List, [], ◌∷◌, Option, None, Some, codes, map}
 use Rattle.std.specs.List.{list_all}
 use Rattle.terms.specs.declared.kinds.Kind.{Kind}
 use Rattle.terms.specs.declared.kinds.HoldKind.{HoldKind}
@@ -12,7 +12,8 @@ use Rattle.machine.specs.Outcome.{OpenNeed, Failure, Status, RefusedId, Assigned
 use Rattle.machine.specs.Outcome.{Header, ElementRow, Line, StatusLine, NothingLine, ErrsysmodLine, SysmodLine}
 use Rattle.machine.specs.Outcome.{HoldLine, EntryLine, ElementLine, TextLine, lines_code}
 use Rattle.machine.specs.Report.{place_text, status_word}
-use Rattle.serde_json.specs.Data.{Data, null, boolean, string}
+use Rattle.serde_json.specs.Data.{Data, null, boolean, string, array, Items}
+use Rattle.serde_json.specs.View.{items_of}
 use Rattle.smpe_json.specs.Values.{object_of, array_of, number_of, text_or_null}
 
 abbrev pub test_value : Test → Data
@@ -67,12 +68,16 @@ abbrev pub applied_value : Option Applied → Data
 applied_value None = null
 applied_value (Some a) = object_of ((codes "date", string a.date) ∷ (codes "ver", number_of a.number) ∷ [])
 
+-- what supersedes an entry's SYSMOD, what deleted it, and which of its requisites are waived
+abbrev pub entry_ids : Entry → List (Text × Data)
+entry_ids e =
+    (codes "supby", array_of string e.supby) ∷ (codes "delby", text_or_null e.delby)
+    ∷ (codes "waived", array_of string e.waived) ∷ []
+
 abbrev pub entry_value : ZoneKind → Entry → Data
 entry_value kind e =
     listed_value (codes "ENTRY")
-    ((codes "id", string e.id) ∷ (applied_name kind, applied_value e.applied)
-    ∷ (codes "supby", array_of string e.supby) ∷ (codes "delby", text_or_null e.delby)
-    ∷ (codes "waived", array_of string e.waived) ∷ [])
+    ((codes "id", string e.id) ∷ (applied_name kind, applied_value e.applied) ∷ entry_ids e)
 
 abbrev pub element_value : ElementRow → Data
 element_value e =
@@ -109,9 +114,13 @@ line_value (EntryLine kind entry) = entry_value kind entry
 line_value (ElementLine row) = element_value row
 line_value (TextLine r) = record_value r
 
--- a command that ran, with its boundary, its return code and its lines
-abbrev pub command_value : Header → List Line → Data
-command_value h lines =
+-- ---- commands
+
+-- a command that ran, with its boundary, its return code and these values of its lines
+abbrev pub ran_value : Header → ℕ → Items → Data
+ran_value h code lines =
     object_of ((codes "command", string (word_text h.word)) ∷ (codes "zone", text_or_null h.boundary)
-    ∷ (codes "check", boolean h.check) ∷ (codes "rc", number_of (lines_code lines))
-    ∷ (codes "lines", array_of line_value lines) ∷ [])
+    ∷ (codes "check", boolean h.check) ∷ (codes "rc", number_of code) ∷ (codes "lines", array lines) ∷ [])
+
+abbrev pub command_value : Header → List Line → Data
+command_value h lines = ran_value h (lines_code lines) (items_of (map line_value lines))

@@ -25,11 +25,14 @@ refusal_members WrongKind = refused_member (codes "Cm3") []
 refusal_members (BadPtfin number code) = refused_member (codes "Cm4") (fault_members number code)
 refusal_members (BadHoldFile number code) = refused_member (codes "Cm5") (fault_members number code)
 
+abbrev pub header_members : Header → List (Text × Data)
+header_members h =
+    (codes "command", string (word_text h.word)) ∷ (codes "zone", text_or_null h.boundary)
+    ∷ (codes "check", boolean h.check) ∷ []
+
 -- a command that is refused, with its boundary and its return code
 abbrev pub refused_value : Header → Refusal → Data
-refused_value h why =
-    object_of ((codes "command", string (word_text h.word)) ∷ (codes "zone", text_or_null h.boundary)
-    ∷ (codes "check", boolean h.check) ∷ (codes "rc", number_of 12) ∷ refusal_members why)
+refused_value h why = object_of (header_members h ++ (codes "rc", number_of 12) ∷ refusal_members why)
 
 -- the fault of a command file, with the record where the command begins
 abbrev pub control_value : ControlFault → Data

@@ -1,9 +1,11 @@
 //! The document about a package.
-ghost use Rattle.std.specs.Prelude.{◌≡◌, map, IfOk};
+ghost use Rattle.std.specs.Prelude.{◌≡◌, ◌≤◌, false, map, IfOk};
 ghost use Rattle.std.specs.Str.Lines.{lines};
 ghost use Rattle.report.specs.Views.{header_view, line_view};
-ghost use Rattle.serde_json.specs.Data.{string};
+ghost use Rattle.serde_json.specs.Data.{string, depth};
+ghost use Rattle.serde_json.specs.Read.{max_depth};
 ghost use Rattle.serde_json.specs.View.{view};
+ghost use Rattle.serde_json.specs.Written.{has_float};
 ghost use Rattle.smpe_json.specs.Documents.{remark_lines, check_value, fault_value, IsDocumentOf};
 
 use crate::lines::command_value;
@@ -69,6 +71,16 @@ fn check_value(
     json!(in alloc; {"rc": status, "commands": commands, "summary": summed, "todo": todo, "remarks": remarks})
 }
 
+/// The text of a value, as one line.
+pub(crate) fn line_of(alloc: Global, value: &Value) -> Result<Vec<u8>, AllocError>
+    ensures { has_float (view value.now) ≡ false → depth (view value.now) ≤ max_depth
+        → IfOk result (λ line. IsDocumentOf (view value.now) line.items) }
+{
+    let mut text = value.to_string(alloc)?;
+    text.push_str("\n")?;
+    Ok(text.into_bytes())
+}
+
 /// The document about a package, as one line: the command that was tried with its lines, the summary of it, what is to
 /// be done, the remarks on the files, and the status. `header` is that of the command.
 pub fn check_document(
@@ -83,9 +95,7 @@ pub fn check_document(
         (check_value (header_view header.now) asked.now.lines summary.now remarks.now status) document.items) }
 {
     let value = check_value(alloc, header, asked, summary, remarks, status)?;
-    let mut text = value.to_string(alloc)?;
-    text.push_str("\n")?;
-    Ok(text.into_bytes())
+    line_of(alloc, &value)
 }
 
 // The value of a document that says only why there is no answer.
@@ -100,7 +110,5 @@ pub fn fault_document(alloc: Global, fault: &str, status: u8) -> Result<Vec<u8>,
     ensures { IfOk result (λ document. IsDocumentOf (fault_value fault.now status) document.items) }
 {
     let value = fault_value(alloc, fault, status)?;
-    let mut text = value.to_string(alloc)?;
-    text.push_str("\n")?;
-    Ok(text.into_bytes())
+    line_of(alloc, &value)
 }

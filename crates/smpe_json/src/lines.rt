@@ -4,17 +4,17 @@ ghost use Rattle.machine.specs.Outcome.{StatusLine, ErrsysmodLine, lines_code, o
 ghost use Rattle.judge_system.specs.TestSets.{tests_of};
 ghost use Rattle.judge_system.specs.Views.{need_view, failure_view};
 ghost use Rattle.report.specs.Views.{header_view, place_view, status_view, line_view};
-ghost use Rattle.serde_json.specs.View.{view, members_view};
+ghost use Rattle.serde_json.specs.View.{view, items_view, members_view};
 ghost use Rattle.smpe_json.specs.Values.{with_members};
 ghost use Rattle.smpe_json.specs.Lines.{test_value, need_value, failure_members, detail_members, line_value};
-ghost use Rattle.smpe_json.specs.Lines.{zone_value, command_value};
+ghost use Rattle.smpe_json.specs.Lines.{ran_value, command_value};
 
 use crate::texts::{
     id_str, need_str, place_str, reason_str, refusal_str, source_str, status_str, test_str,
-    word_str, zone_str,
+    word_str,
 };
-use crate::values::{Members, id_values, put_text};
-use fields::{Id, Reason, ZoneName};
+use crate::values::{Members, id_values, put_text, zone_value};
+use fields::{Id, Reason};
 use report::{Failure, Header, OpenNeed, Place, ReportLine, Status, TestSet, line_code};
 use serde_json::{Map, Value, json, put};
 use std::alloc::{AllocError, Global};
@@ -123,8 +123,8 @@ fn line_value(alloc: Global, line: &ReportLine) -> Result<Value, AllocError>
     }
 }
 
-// Lines as a list.
-fn line_values(alloc: Global, lines: &[ReportLine]) -> Result<Vec<Value>, AllocError>
+/// Lines as a list.
+pub(crate) fn line_values(alloc: Global, lines: &[ReportLine]) -> Result<Vec<Value>, AllocError>
     ensures { IfOk result (λ values. map view values.items ≡ map line_value (map line_view lines.now)) }
 {
     let mut values = Vec::new(alloc);
@@ -134,8 +134,8 @@ fn line_values(alloc: Global, lines: &[ReportLine]) -> Result<Vec<Value>, AllocE
     Ok(values)
 }
 
-// The highest code of any line, or 0 without lines.
-fn highest_code(lines: &[ReportLine]) -> u8
+/// The highest code of any line, or 0 without lines.
+pub(crate) fn highest_code(lines: &[ReportLine]) -> u8
     ensures { result ≡ lines_code (map line_view lines.now) }
 {
     let mut code: u8 = 0;
@@ -143,16 +143,6 @@ fn highest_code(lines: &[ReportLine]) -> u8
         code = code.max(line_code(line));
     }
     code
-}
-
-// A boundary as a text, or null.
-fn zone_value(alloc: Global, boundary: &Option<ZoneName>) -> Result<Value, AllocError>
-    ensures { IfOk result (λ value. view value ≡ zone_value boundary.now) }
-{
-    match boundary {
-        Some(zone) => Value::try_from_str(alloc, zone_str(zone)),
-        None => Ok(Value::Null),
-    }
 }
 
 // Lines as a list; if there is none, NOTHING in its place.
@@ -176,7 +166,28 @@ fn told_code(lines: &[ReportLine]) -> u8
     highest_code(lines)
 }
 
-/// A command that ran as an object: its word, its boundary, whether it only checks, its return code and its lines.
+/// A command that ran as an object: its word, its boundary, whether it only checks, its return code and the values of
+/// its lines.
+pub(crate) fn ran_value(
+    alloc: Global,
+    header: &Header,
+    code: u8,
+    lines: Vec<Value>,
+) -> Result<Value, AllocError>
+    ensures { IfOk result (λ value. view value
+        ≡ ran_value (header_view header.now) code (items_view lines.items)) }
+{
+    let zone = zone_value(alloc, &header.boundary)?;
+    json!(in alloc; {
+        "command": word_str(header.word),
+        "zone": zone,
+        "check": header.check,
+        "rc": code,
+        "lines": lines
+    })
+}
+
+/// A command that ran as an object, with its lines, or NOTHING if there is none.
 pub(crate) fn command_value(
     alloc: Global,
     header: &Header,
@@ -185,13 +196,6 @@ pub(crate) fn command_value(
     ensures { IfOk result (λ value. view value
         ≡ command_value (header_view header.now) (or_nothing (map line_view lines.now))) }
 {
-    let zone = zone_value(alloc, &header.boundary)?;
     let values = told_values(alloc, lines)?;
-    json!(in alloc; {
-        "command": word_str(header.word),
-        "zone": zone,
-        "check": header.check,
-        "rc": told_code(lines),
-        "lines": values
-    })
+    ran_value(alloc, header, told_code(lines), values)
 }

@@ -1,20 +1,26 @@
 //! Texts as they stand in a document.
 ghost use Rattle.std.specs.Prelude.{◌≡◌, map, string_bytes, IfOk};
 ghost use Rattle.std.specs.Str.{IsAscii};
-ghost use Rattle.terms.specs.Spelling.{test_text, need_text, refusal_text, word_text};
+ghost use Rattle.terms.specs.Spelling.{kind_text, hold_text, type_text, test_text, need_text, refusal_text};
+ghost use Rattle.terms.specs.Spelling.{word_text, statement_code_text, command_code_text};
 ghost use Rattle.machine.specs.Report.{place_text, status_word};
 ghost use Rattle.report.specs.Views.{place_view, status_view};
 ghost use Rattle.smpe_json.specs.Values.{printed};
 ghost use Rattle.smpe_json.specs.Documents.{printed_in_lines};
 
-use fields::spelling::{hold_text, kind_text, need_text, refusal_text, test_text, word_text};
-use fields::{Id, Reason, Source, ZoneName};
+use fields::spelling::{
+    command_code_text, hold_text, kind_text, need_text, refusal_text, statement_code_text,
+    test_text, type_text, word_text,
+};
+use fields::{Id, Name, Reason, Source, YyDdd, ZoneName};
 use report::{Place, Status, status_word};
 use std::alloc::{AllocError, Global};
-use terms::{CommandWord, IdRefusal, NeedKind, Test};
+use terms::{
+    CommandCode, CommandWord, ElemType, HoldKind, IdRefusal, Kind, NeedKind, StatementCode, Test,
+};
 
-// The text of characters of ASCII.
-fn text_of(bytes: &[u8]) -> &str
+/// The text of characters of ASCII.
+pub(crate) fn text_of(bytes: &[u8]) -> &str
     requires { IsAscii bytes.now }
     ensures { result.now ≡ bytes.now }
 {
@@ -52,6 +58,55 @@ pub(crate) fn zone_str(zone: &ZoneName) -> &str
     text_of(zone.as_bytes())
 }
 
+/// The name of an element or a library.
+pub(crate) fn name_str(name: &Name) -> &str
+    ensures { result.now ≡ name.now }
+{
+    text_of(name.as_bytes())
+}
+
+/// The date of an APPLY or ACCEPT.
+pub(crate) fn date_str(date: &YyDdd) -> &str
+    ensures { result.now ≡ date.now }
+{
+    text_of(date.as_bytes())
+}
+
+/// The type of a SYSMOD.
+pub(crate) fn kind_str(kind: Kind) -> &'static str
+    ensures { result.now ≡ kind_text kind }
+{
+    text_of(kind_text(kind))
+}
+
+/// The kind of a hold.
+pub(crate) fn hold_str(kind: HoldKind) -> &'static str
+    ensures { result.now ≡ hold_text kind }
+{
+    text_of(hold_text(kind))
+}
+
+/// The type of an element.
+pub(crate) fn type_str(elem_type: ElemType) -> &'static str
+    ensures { result.now ≡ type_text elem_type }
+{
+    text_of(type_text(elem_type))
+}
+
+/// The code for the fault of a statement.
+pub(crate) fn statement_code_str(code: StatementCode) -> &'static str
+    ensures { result.now ≡ statement_code_text code }
+{
+    text_of(statement_code_text(code))
+}
+
+/// The code for the fault of a command file.
+pub(crate) fn command_code_str(code: CommandCode) -> &'static str
+    ensures { result.now ≡ command_code_text code }
+{
+    text_of(command_code_text(code))
+}
+
 /// The word with which a command begins.
 pub(crate) fn word_str(word: CommandWord) -> &'static str
     ensures { result.now ≡ word_text word }
@@ -64,8 +119,8 @@ pub(crate) fn place_str(place: &Place) -> &'static str
     ensures { result.now ≡ place_text (place_view place.now) }
 {
     match place {
-        Place::Kind(kind) => text_of(kind_text(*kind)),
-        Place::Hold(kind) => text_of(hold_text(*kind)),
+        Place::Kind(kind) => kind_str(*kind),
+        Place::Hold(kind) => hold_str(*kind),
         Place::NotReceived => "-",
     }
 }

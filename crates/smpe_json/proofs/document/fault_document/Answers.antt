@@ -1,9 +1,9 @@
-use Rattle.std.proofs.Common.{◌≡◌, ◌++◌, ◌∷◌, [], string_bytes, rules}
-use Rattle.smpe_json.proofs.Plain.{fault_plain, document_of}
+use Rattle.std.specs.Prelude.{IfOk}
+use Rattle.smpe_json.specs.Documents.{IsDocumentOf}
+use Rattle.smpe_json.proofs.Plain.{fault_plain, made_of}
 use Rattle.smpe_json.proofs.document.fault_document.Goals as goal
 
 pub returns : goal.returns
 returns c =
-    let text : c.into_bytes.result.items ≡ string_bytes c.in_ok-text.text ++ 10 ∷ [] = search rules in
-    document_of _ _ _ _ c.in_ok-value.ensures (fault_plain c.args.fault.now c.args.status)
-    c.in_ok-text.ensures.text c.in_ok-text.ensures.reads_back text
+    made_of (λ v. IfOk c.line_of.result (λ document. IsDocumentOf v document.items)) _ _ c.in_ok-value.ensures
+    (fault_plain c.args.fault.now c.args.status) c.line_of.ensures

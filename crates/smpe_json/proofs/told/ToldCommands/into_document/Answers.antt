@@ -1,0 +1,9 @@
+use Rattle.std.specs.Prelude.{IfOk}
+use Rattle.smpe_json.specs.Documents.{IsDocumentOf}
+use Rattle.smpe_json.proofs.Plain.{run_plain, made_of}
+use Rattle.smpe_json.proofs.told.ToldCommands.into_document.Goals as goal
+
+pub returns : goal.returns
+returns c outcomes are =
+    made_of (λ v. IfOk c.line_of.result (λ document. IsDocumentOf v document.items)) _ _
+    (c.in_ok-value.ensures outcomes are) (run_plain outcomes c.args.status) c.line_of.ensures
