@@ -7,7 +7,8 @@ use Rattle.std.specs.declared.alloc.Global.{Global as AnyGlobal}
 use Rattle.std.proofs.lemmas.Bool.{cases_eq, cases_lt}
 use Rattle.std.proofs.lemmas.List.{take_more, length-set, length-replicate, get_or-replicate, get_or-set_same}
 use Rattle.std.proofs.lemmas.List.{get_or-set_other, get_or_past}
-use Rattle.std.proofs.lemmas.List.Elements.{Contains-append_left, Contains-push, Contains-push_cases, Contains-get_or}
+use Rattle.std.proofs.lemmas.List.Elements.{All-contains, Contains-append_left, Contains-push}
+use Rattle.std.proofs.lemmas.List.Elements.{Contains-push_cases, Contains-get_or}
 use Rattle.std.proofs.lemmas.Option.{get_or_from_slice_get, slice_get_read}
 use Rattle.terms.proofs.ListMembers.{none_in}
 use Rattle.sysmods.specs.Graphs.{Descends, IsFalling, IsSearchDown, LeadsDown, Marks, is_marked, list_at}
@@ -104,6 +105,19 @@ module _ (lists : ℕ → List ℕ) where
 
   pub leads_lower : IsFalling lists → (n m : ℕ) → LeadsDown lists n m → m < n
   leads_lower falling n m down = descends_lower falling n down.0 m down.1
+
+  -- a number that leads to none above the bound leads to the bound in one step, or not at all
+  module _ (falling : IsFalling lists) (high low : ℕ) (none : All (λ n. n ≤ low) (lists high)) where
+    at_once : (between : List ℕ) → Descends lists high between low → Contains (lists high) low
+    at_once [] named = named
+    at_once (k ∷ between) down = absurd (omega (
+      arith,
+      descends_lower falling k between low down.1,
+      All-contains (λ n. n ≤ low) (lists high) k none down.0,
+    ))
+
+    pub leads_at_once : Contains (lists high) low ↔ LeadsDown lists high low
+    leads_at_once = (λ named. ([], named), λ down. at_once down.0 down.1)
 
   -- ---- the search
 

@@ -1,5 +1,5 @@
 //! Searches in a graph of numbers that lead to lower ones.
-ghost use Rattle.std.specs.Prelude.{◌≡◌, ◌<◌, ◌+◌, ◌↔◌, ℕ, length, All, IsTrue, IfOk};
+ghost use Rattle.std.specs.Prelude.{◌≡◌, ◌≤◌, ◌<◌, ◌+◌, ◌↔◌, ℕ, length, All, Contains, IsTrue, IfOk};
 ghost use Rattle.sysmods.specs.Graphs.{IsFalling, IsSearchDown, LeadsDown, Marks, list_at};
 
 use std::alloc::{AllocError, Global};
@@ -28,8 +28,23 @@ fn mark_successors(successors: &[Vec<usize>], number: usize, marks: &mut Vec<boo
     mark_numbers(successors[number].as_slice(), marks);
 }
 
+// Whether none of these numbers is above the bound.
+fn none_above(numbers: &[usize], bound: usize) -> bool
+    ensures { IsTrue result ↔ All (λ n. n ≤ bound) numbers.now }
+{
+    numbers.iter().all(|number| *number <= bound)
+}
+
+// Whether the number is one of these.
+fn has_number(numbers: &[usize], number: usize) -> bool
+    ensures { IsTrue result ↔ Contains numbers.now number }
+{
+    numbers.contains(&number)
+}
+
 /// Whether the number `high` leads to the lower number `low`. `successors` has for each number the lower ones to which
-/// it leads in one step. The search goes through the numbers between the two, from the highest down.
+/// it leads in one step. The search goes through the numbers between the two, from the highest down, unless `high`
+/// itself leads to none of them.
 pub(crate) fn leads_down(
     alloc: Global,
     successors: &[Vec<usize>],
@@ -41,8 +56,12 @@ pub(crate) fn leads_down(
     requires falling { IsFalling (list_at successors.now) }
     ensures { IfOk result (λ found. IsTrue found ↔ LeadsDown (list_at successors.now) high low) }
 {
+    let firsts = successors[high].as_slice();
+    if none_above(firsts, low) {
+        return Ok(has_number(firsts, low));
+    }
     let mut marks = vec![in alloc; false; high]?;
-    mark_numbers(successors[high].as_slice(), &mut marks);
+    mark_numbers(firsts, &mut marks);
     let mut next = high;
     while low + 1 < next {
         if marks[low] {
