@@ -1,4 +1,5 @@
 pub mod AsciiWords
 pub mod Listed
+pub mod Listing
 pub mod Read
 pub mod Plain

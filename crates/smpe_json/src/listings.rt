@@ -58,16 +58,19 @@ fn sysmod_values(alloc: Global, global: &GlobalZone) -> Result<Vec<Value>, Alloc
     Ok(values)
 }
 
-// The holds as a list.
-fn hold_values(alloc: Global, global: &GlobalZone) -> Result<Vec<Value>, AllocError>
-    ensures { IfOk result (λ values. map view values.items
-        ≡ map (λ h. hold_value h.id h.kind h.reason h.internal) global.now.holds) }
+// Appends the holds.
+fn append_holds(
+    alloc: Global,
+    global: &GlobalZone,
+    values: &mut Vec<Value>,
+) -> Result<(), AllocError>
+    ensures { OnOk result (map view values.new.items
+        ≡ map view values.old.items ++ map (λ h. hold_value h.id h.kind h.reason h.internal) global.now.holds) }
 {
-    let mut values = Vec::new(alloc);
     for hold in global.holds() {
         values.push(hold_value(alloc, hold)?)?;
     }
-    Ok(values)
+    Ok(())
 }
 
 /// LIST's lines of a global zone as a list.
@@ -75,8 +78,7 @@ pub(crate) fn global_values(alloc: Global, global: &GlobalZone) -> Result<Vec<Va
     ensures { IfOk result (λ values. map view values.items ≡ map line_value (list_global global.now)) }
 {
     let mut values = sysmod_values(alloc, global)?;
-    let mut holds = hold_values(alloc, global)?;
-    values.append(&mut holds)?;
+    append_holds(alloc, global, &mut values)?;
     Ok(values)
 }
 
@@ -227,7 +229,7 @@ fn append_elements(
     values: &mut Vec<Value>,
 ) -> Result<(), AllocError>
     ensures { OnOk result (map view values.new.items
-        ≡ map view values.old.items ++ map line_value (flat_map (element_lines text) elements.now)) }
+        ≡ map view values.old.items ++ flat_map (λ e. map line_value (element_lines text e)) elements.now) }
 {
     for element in elements {
         append_element(alloc, element, text, values)?;

@@ -44,8 +44,7 @@ impl ToldCommands {
         ensures ok { OnOk result (self.new ≡ self.old ++ outcome_value (outcome_view outcome.now) ∷ []) }
         ensures err { OnErr result (self.new ≡ self.old) }
     {
-        let value = outcome_value(alloc, outcome)?;
-        self.values.push(value)
+        append_outcome(alloc, outcome, &mut self.values)
     }
 
     /// The document of a run that came to its end, as one line.
@@ -70,6 +69,20 @@ impl ToldCommands {
         let value = ended_value(alloc, self.values, fault, status)?;
         line_of(alloc, &value)
     }
+}
+
+// Appends the value of what one more command printed.
+fn append_outcome(
+    alloc: Global,
+    outcome: &Outcome<'_>,
+    values: &mut Vec<Value>,
+) -> Result<(), AllocError>
+    ensures ok { OnOk result (map view values.new.items
+        ≡ map view values.old.items ++ outcome_value (outcome_view outcome.now) ∷ []) }
+    ensures err { OnErr result (values.new.items ≡ values.old.items) }
+{
+    let value = outcome_value(alloc, outcome)?;
+    values.push(value)
 }
 
 // The value of the document of a run that came to its end.

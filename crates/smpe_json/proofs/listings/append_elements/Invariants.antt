@@ -9,4 +9,4 @@ abbrev pub invariant-loop-element : goal.invariant-loop-element
 invariant-loop-element l =
     map view l.values.items
     ≡ map view l.fn.values.items
-    ++ map line_value (flat_map (element_lines l.text) (take l.element-index l.elements))
+    ++ flat_map (λ e. map line_value (element_lines l.text e)) (take l.element-index l.elements)
