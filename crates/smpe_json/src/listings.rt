@@ -179,14 +179,14 @@ fn byte_values(alloc: Global, bytes: &[u8]) -> Result<Vec<Value>, AllocError>
 }
 
 // A record as an object: its text, or its bytes if they are not all ASCII.
-fn record_value(alloc: Global, record: &[u8]) -> Result<Value, AllocError>
-    ensures { IfOk result (λ value. view value ≡ record_value record.now) }
+fn record_value(alloc: Global, bytes: &[u8]) -> Result<Value, AllocError>
+    ensures { IfOk result (λ value. view value ≡ record_value bytes.now) }
 {
-    if is_ascii(record) {
-        return json!(in alloc; {"line": "TEXT", "record": text_of(record)});
+    if is_ascii(bytes) {
+        return json!(in alloc; {"line": "TEXT", "record": text_of(bytes)});
     }
-    let bytes = byte_values(alloc, record)?;
-    json!(in alloc; {"line": "TEXT", "bytes": bytes})
+    let numbers = byte_values(alloc, bytes)?;
+    json!(in alloc; {"line": "TEXT", "bytes": numbers})
 }
 
 // Appends records.

@@ -1,6 +1,5 @@
-use Rattle.std.proofs.Common.{◌∙◌, sym, ap}
+use Rattle.std.proofs.Common.{◌∙◌, ap₂, sym}
 use Rattle.std.proofs.lemmas.Result.{IfOk-weaker}
-use Rattle.machine.specs.Outcome.{list_global}
 use Rattle.report.specs.Views.{header_view}
 use Rattle.report.proofs.Listings.{list_global_code}
 use Rattle.serde_json.specs.View.{items_of}
@@ -10,6 +9,7 @@ use Rattle.smpe_json.proofs.outcomes.global_value.Goals as goal
 pub returns : goal.returns
 returns c =
     IfOk-weaker c.ran_value.result _ _
-    (λ value is. is ∙ ap (λ n. ran_value (header_view c.args.header.now) n (items_of _)) (sym (list_global_code c.args.global.now))
-    ∙ ap (λ l. ran_value (header_view c.args.header.now) _ (items_of l)) c.in_ok-values.ensures)
+    (λ value is.
+    is ∙ ap₂ (λ n l. ran_value (header_view c.args.header.now) n (items_of l)) (sym (list_global_code c.args.global.now))
+    c.in_ok-values.ensures)
     c.ran_value.ensures
