@@ -81,8 +81,8 @@ fn append_outcome(
         ≡ map view values.old.items ++ outcome_value (outcome_view outcome.now) ∷ []) }
     ensures err { OnErr result (values.new.items ≡ values.old.items) }
 {
-    let value = outcome_value(alloc, outcome)?;
-    values.push(value)
+    values.push(outcome_value(alloc, outcome)?)?;
+    Ok(())
 }
 
 // The value of the document of a run that came to its end.
