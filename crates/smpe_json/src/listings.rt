@@ -111,7 +111,12 @@ fn entry_value(alloc: Global, kind: ZoneKind, entry: &Entry) -> Result<Value, Al
     let mut members = Map::new(alloc);
     put_text(alloc, &mut members, "line", "ENTRY")?;
     put_text(alloc, &mut members, "id", id_str(&entry.id))?;
-    put(&mut members, alloc, applied_name(kind), applied_value(alloc, &entry.applied)?)?;
+    put(
+        &mut members,
+        alloc,
+        applied_name(kind),
+        applied_value(alloc, &entry.applied)?,
+    )?;
     put_entry_ids(alloc, &mut members, entry)?;
     Ok(Value::Object(members))
 }
@@ -129,11 +134,7 @@ fn put_entry_ids(alloc: Global, members: &mut Members, entry: &Entry) -> Result<
 }
 
 // Entries as a list.
-fn entry_values(
-    alloc: Global,
-    kind: ZoneKind,
-    entries: &[Entry],
-) -> Result<Vec<Value>, AllocError>
+fn entry_values(alloc: Global, kind: ZoneKind, entries: &[Entry]) -> Result<Vec<Value>, AllocError>
     ensures { IfOk result (λ values. map view values.items ≡ map (entry_value kind) entries.now) }
 {
     let mut values = Vec::new(alloc);
@@ -238,11 +239,7 @@ fn append_elements(
 }
 
 /// LIST's lines of a target or distribution zone as a list, with TEXT also the records of its elements.
-pub(crate) fn zone_values(
-    alloc: Global,
-    zone: &Zone,
-    text: bool,
-) -> Result<Vec<Value>, AllocError>
+pub(crate) fn zone_values(alloc: Global, zone: &Zone, text: bool) -> Result<Vec<Value>, AllocError>
     ensures { IfOk result (λ values. map view values.items ≡ map line_value (list_zone text zone.now)) }
 {
     let mut values = entry_values(alloc, zone.kind(), zone.entries())?;

@@ -96,11 +96,7 @@ fn told_value(alloc: Global, header: &Header, lines: &[ReportLine]) -> Result<Va
 }
 
 // LIST of the global zone as an object.
-fn global_value(
-    alloc: Global,
-    header: &Header,
-    global: &GlobalZone,
-) -> Result<Value, AllocError>
+fn global_value(alloc: Global, header: &Header, global: &GlobalZone) -> Result<Value, AllocError>
     ensures { IfOk result (λ value. view value
         ≡ command_value (header_view header.now) (list_global global.now)) }
 {
