@@ -4,3 +4,4 @@ pub mod Outcomes
 pub mod Reading
 pub mod Documents
 pub mod Laws
+pub mod Told

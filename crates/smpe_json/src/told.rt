@@ -5,34 +5,24 @@ ghost use Rattle.report.specs.Views.{outcome_view};
 ghost use Rattle.serde_json.specs.View.{view};
 ghost use Rattle.smpe_json.specs.Documents.{IsDocumentOf};
 ghost use Rattle.smpe_json.specs.Outcomes.{outcome_value, run_value, ended_value};
+ghost use Rattle.smpe_json.specs.Told.{told_values};
 
 use crate::document::line_of;
 use crate::outcomes::outcome_value;
 use report::Outcome;
 use serde_json::{Value, json};
 use std::alloc::{AllocError, Global};
-use std::marker::Model;
 
-/// What commands printed, for a document. A contract sees it as the values of the commands, in their order.
+/// What commands printed, for a document.
 #[derive(Drop)]
 pub struct ToldCommands {
     values: Vec<Value>,
 }
 
-impl Model for ToldCommands {
-    ghost use Rattle.std.specs.Prelude.{List, map};
-    ghost use Rattle.serde_json.specs.Data.{Data};
-    ghost use Rattle.serde_json.specs.View.{view as data_of};
-
-    ghost Value = { List Data };
-
-    ghost view = { λ told. map data_of told.values.items };
-}
-
 impl ToldCommands {
     /// No command.
     pub fn new(alloc: Global) -> ToldCommands
-        ensures { result ≡ [] }
+        ensures { told_values result ≡ [] }
     {
         ToldCommands {
             values: Vec::new(alloc),
@@ -41,15 +31,16 @@ impl ToldCommands {
 
     /// Tells what one more command printed. If memory runs out, it is not told.
     pub fn tell(&mut self, alloc: Global, outcome: &Outcome<'_>) -> Result<(), AllocError>
-        ensures ok { OnOk result (self.new ≡ self.old ++ outcome_value (outcome_view outcome.now) ∷ []) }
-        ensures err { OnErr result (self.new ≡ self.old) }
+        ensures ok { OnOk result (told_values self.new
+            ≡ told_values self.old ++ outcome_value (outcome_view outcome.now) ∷ []) }
+        ensures err { OnErr result (told_values self.new ≡ told_values self.old) }
     {
         append_outcome(alloc, outcome, &mut self.values)
     }
 
     /// The document of a run that came to its end, as one line.
     pub fn into_document(self, alloc: Global, status: u8) -> Result<Vec<u8>, AllocError>
-        ensures { (outcomes : List AnOutcome) → self ≡ map outcome_value outcomes
+        ensures { (outcomes : List AnOutcome) → told_values self ≡ map outcome_value outcomes
             → IfOk result (λ document. IsDocumentOf (run_value outcomes status) document.items) }
     {
         let value = run_value(alloc, self.values, status)?;
@@ -63,7 +54,7 @@ impl ToldCommands {
         fault: &str,
         status: u8,
     ) -> Result<Vec<u8>, AllocError>
-        ensures { (outcomes : List AnOutcome) → self ≡ map outcome_value outcomes
+        ensures { (outcomes : List AnOutcome) → told_values self ≡ map outcome_value outcomes
             → IfOk result (λ document. IsDocumentOf (ended_value outcomes fault.now status) document.items) }
     {
         let value = ended_value(alloc, self.values, fault, status)?;
