@@ -162,7 +162,12 @@ fn answer_in<'a>(
     ids: &'a IdList,
 ) -> Result<Mended, Fail> {
     let related: Option<&'a Zone> = None;
-    let broken = Broken { zone, related, ids };
+    let broken = Broken {
+        zone,
+        related,
+        distribution: None,
+        ids,
+    };
     Ok(mend(alloc, global, &broken)?)
 }
 

@@ -6,26 +6,33 @@ use Rattle.terms.specs.declared.kinds.Kind.{Kind}
 use Rattle.terms.specs.declared.kinds.Kind.TheVariants.{Function, Ptf}
 use Rattle.terms.specs.declared.kinds.HoldKind.TheVariants.{Error, System, User}
 use Rattle.terms.specs.Types.{Text, Id, Reason, Srel, Ver, Sysmod, Global, Zone, Reasons, NoReason, AnyReason}
-use Rattle.terms.specs.Types.{TheseReasons, Bypass, Selection}
+use Rattle.terms.specs.Types.{TheseReasons, Bypass, Selection, RestoreSelect}
 use Rattle.terms.specs.Lookups.{IsRising, is_in, is_nil}
 use Rattle.terms.specs.CommandForms.{no_bypass}
 use Rattle.terms.specs.Global.{Receives, ReceiveFault}
 use Rattle.fields.specs.Choices.{no_selection}
 use Rattle.sysmods.specs.Namers.{function_namers}
 use Rattle.machine.specs.Installing.{InstallsSelected}
-use Rattle.machine.specs.Outcome.{Line, StatusLine, Status, Already, Applied, Accepted, Superseded}
+use Rattle.machine.specs.Restoring.{RestoresListed}
+use Rattle.machine.specs.Outcome.{Line, StatusLine, Status, Already, Applied, Accepted, Superseded, Restored}
 use Rattle.smpe_mend.specs.declared.broken.Broken.{Broken}
 use Rattle.smpe_mend.specs.declared.action.Action.{Action}
-use Rattle.smpe_mend.specs.Actions.{orders, reasons}
+use Rattle.smpe_mend.specs.Actions.{orders, reasons, restores}
 
 -- what is to be mended: ids that a command into this zone is to install
 pub record Asked : Type 0 where
   pub zone : Zone
   pub related : Option Zone
+  pub distribution : Option Zone
   pub ids : List Id
 
 abbrev pub asked_of : Broken → Asked
-asked_of b = record { zone = b.zone.now; related = option_copied b.related; ids = b.ids.now }
+asked_of b = record {
+  zone = b.zone.now;
+  related = option_copied b.related;
+  distribution = option_copied b.distribution;
+  ids = b.ids.now;
+}
 
 -- a ++VER without requisites
 abbrev pub bare_ver : Srel → Ver
@@ -73,24 +80,58 @@ pub record IsBypassOf (actions : List Action) (b : Bypass) : Type 0 where
 abbrev pub selecting : List Id → Selection
 selecting ids = record no_selection { select = ids; groupextend = true }
 
--- These lines are those of the command with these actions: APPLY, in a distribution zone ACCEPT, of the ids with
--- GROUPEXTEND and this BYPASS, after what is ordered was received.
+-- These are the lines of an APPLY, in a distribution zone of an ACCEPT, of the ids into this zone, with GROUPEXTEND and
+-- this BYPASS.
+pub record Installs (g : Global) (a : Asked) (zone : Zone) (bypass : Bypass) (lines : List Line) : Type 0 where
+  pub date : Text
+  pub new : Zone
+  pub installs : InstallsSelected g zone a.related (selecting a.ids) bypass date new lines
+
+abbrev pub restored_id : Line → List Id
+restored_id (StatusLine x place Restored) = x ∷ []
+restored_id _ = []
+
+-- whether the lines of a RESTORE tell that it took off all of these
+abbrev pub are_restored : List Id → List Line → Bool
+are_restored ids lines = list_all (is_in (flat_map restored_id lines)) ids
+
+-- RESTORE SELECT of these ids, back to this distribution zone, makes this zone and prints these lines.
+pub record TakesOff (g : Global) (zone accepted : Zone) (ids : List Id) (new : Zone) (told : List Line) : Type 0 where
+  pub each : List Id
+  pub rising : IsRising each
+  pub members : (x : Id) → Contains each x ↔ Contains ids x
+  pub restores : RestoresListed g zone accepted (RestoreSelect each) new told
+
+-- RESTORE of these ids comes first, and then the install. If RESTORE does not take off each of them, its lines are all
+-- that is printed.
+pub record RunsAfter (g : Global) (a : Asked) (accepted : Zone) (ids : List Id) (bypass : Bypass) (lines : List Line) :
+    Type 0 where
+  pub restored : Zone
+  pub told : List Line
+  pub takes_off : TakesOff g a.zone accepted ids restored told
+  pub all : IsTrue (are_restored ids told) → Installs g a restored bypass lines
+  pub some : IsFalse (are_restored ids told) → lines ≡ told
+
+-- so if the distribution zone is known; otherwise nothing is printed
+abbrev pub RunsFrom : Option Zone → Global → Asked → List Id → Bypass → List Line → Type 0
+RunsFrom distribution g a [] bypass lines = Installs g a a.zone bypass lines
+RunsFrom None g a (x ∷ xs) bypass lines = lines ≡ []
+RunsFrom (Some accepted) g a (x ∷ xs) bypass lines = RunsAfter g a accepted (x ∷ xs) bypass lines
+
+-- These lines are those of the commands with these actions: RESTORE of what is taken off, if anything is, and then
+-- APPLY, in a distribution zone ACCEPT, of the ids with GROUPEXTEND and this BYPASS, after what is ordered was received.
 pub record Runs (g : Global) (a : Asked) (actions : List Action) (lines : List Line) : Type 0 where
   pub global : Global
   pub ordered : AreOrdered a.zone.srel (orders actions) g global
   pub bypass : Bypass
   pub bypasses : IsBypassOf actions bypass
-  pub date : Text
-  pub new : Zone
-  pub installs : InstallsSelected global a.zone a.related (selecting a.ids) bypass date new lines
+  pub runs : RunsFrom a.distribution global a (restores actions) bypass lines
 
--- the same over this global zone, with this BYPASS and these ids ordered
-pub record RunsWith (g : Global) (a : Asked) (ordered : List Id) (bypass : Bypass) (lines : List Line) : Type 0 where
+-- the same over this global zone, with these ids ordered
+pub record RunsWith (g : Global) (a : Asked) (ordered off : List Id) (bypass : Bypass) (lines : List Line) : Type 0 where
   pub global : Global
   pub are_ordered : AreOrdered a.zone.srel ordered g global
-  pub date : Text
-  pub new : Zone
-  pub installs : InstallsSelected global a.zone a.related (selecting a.ids) bypass date new lines
+  pub runs : RunsFrom a.distribution global a off bypass lines
 
 -- installed, superseded by what is, or so already
 abbrev pub is_on : Status → Bool

@@ -17,10 +17,10 @@ use Rattle.machine.specs.Outcome.{Line, StatusLine, Status, Applied, Accepted, S
 use Rattle.machine.specs.Report.{words_line, left_in, status_word}
 use Rattle.report.specs.WordTexts.{named}
 use Rattle.smpe_mend.specs.declared.action.Action.{Action}
-use Rattle.smpe_mend.specs.declared.action.Action.TheVariants.{Order, Fix, Disregard}
+use Rattle.smpe_mend.specs.declared.action.Action.TheVariants.{Order, Fix, Disregard, Restore}
 use Rattle.smpe_mend.specs.declared.todo.ToDo.{ToDo}
 use Rattle.smpe_mend.specs.declared.todo.ToDo.TheVariants as todo
-use Rattle.smpe_mend.specs.Actions.{reasons}
+use Rattle.smpe_mend.specs.Actions.{reasons, restores}
 use Rattle.smpe_mend.specs.Runs.{Asked}
 
 -- the texts, joined by commas
@@ -49,6 +49,7 @@ act_on g kind reason x = if is_some (hold_of g x kind reason) then todo.Act x ki
 abbrev pub todo_of : Global → List Id → Action → List ToDo
 todo_of g installed (Order x) = todo.Order x ∷ []
 todo_of g installed (Fix x) = todo.Fix x ∷ []
+todo_of g installed (Restore x) = todo.Restore x ∷ []
 todo_of g installed (Disregard kind reason) = flat_map (act_on g kind reason) installed
 
 abbrev pub todos : Global → List Action → List Line → List ToDo
@@ -75,6 +76,7 @@ held_line h = option_map_or act_line h []
 abbrev pub todo_line : Global → ToDo → Text
 todo_line g (todo.Order x) = words_line (codes " " ∷ left_in 8 (codes "ORDER") ∷ x ∷ [])
 todo_line g (todo.Fix x) = words_line (codes " " ∷ left_in 8 (codes "FIX") ∷ x ∷ [])
+todo_line g (todo.Restore x) = words_line (codes " " ∷ left_in 8 (codes "RESTORE") ∷ x ∷ [])
 todo_line g (todo.Act x kind reason) = held_line (hold_of g x kind reason)
 
 -- The command.
@@ -109,6 +111,11 @@ command_line a actions =
     codes "COMMAND " ++ install_word a.zone.kind ++ codes " SELECT(" ++ joined a.ids ++ codes ") GROUPEXTEND"
     ++ bypass_text (members actions) ++ codes ".\n"
 
+-- the RESTORE before it, if something is taken off
+abbrev pub restore_line : List Id → Text
+restore_line [] = []
+restore_line (x ∷ xs) = codes "COMMAND RESTORE SELECT(" ++ joined (x ∷ xs) ++ codes ").\n"
+
 -- whether the list has more members than one of a command file may have
 abbrev pub is_long : {X : Type 0} → List X → Bool
 is_long xs = nat_lt 1000 (length xs)
@@ -117,7 +124,7 @@ is_long xs = nat_lt 1000 (length xs)
 abbrev pub has_long_list : Asked → List Action → Bool
 has_long_list a actions =
     is_long a.ids || is_long (reasons Error actions) || is_long (reasons System actions)
-    || is_long (reasons User actions)
+    || is_long (reasons User actions) || is_long (restores actions)
 
 -- the line that says so
 abbrev pub limit_line : Bool → Text
@@ -134,7 +141,8 @@ plan_head ids n =
 
 abbrev pub plan_of : Global → Asked → List Action → List ToDo → Text
 plan_of g a actions todos =
-    plan_head a.ids (length todos) ++ flat_map (todo_line g) todos ++ command_line a actions
+    plan_head a.ids (length todos) ++ flat_map (todo_line g) todos ++ restore_line (restores actions)
+    ++ command_line a actions
     ++ limit_line (has_long_list a actions)
 
 -- what to do, then the command, and whether it has a list that is too long for a command file

@@ -1,7 +1,7 @@
 //! The actions of a repair.
 ghost use Rattle.std.specs.Prelude.{◌≡◌, ◌++◌, OnOk, IfOk};
-ghost use Rattle.smpe_mend.specs.declared.action.Action.TheVariants.{Order, Fix, Disregard};
-ghost use Rattle.smpe_mend.specs.Actions.{order_of, orders, reason_of, reasons, is_same, is_among};
+ghost use Rattle.smpe_mend.specs.declared.action.Action.TheVariants.{Order, Fix, Disregard, Restore};
+ghost use Rattle.smpe_mend.specs.Actions.{restore_of, restores, order_of, orders, reason_of, reasons, is_same, is_among};
 
 use fields::{Id, Reason};
 use std::alloc::{AllocError, Global};
@@ -16,6 +16,8 @@ pub enum Action {
     Fix(Id),
     /// Do what the holds of this kind and reason ask for, and name the reason in BYPASS.
     Disregard(HoldKind, Reason),
+    /// Take this SYSMOD off the target zone by RESTORE, because what is asked for would regress it.
+    Restore(Id),
 }
 
 // Appends the id, if the action orders one, and that of the APAR, if it orders a fix.
@@ -32,6 +34,7 @@ fn push_order(action: Action, found: &mut Vec<Id>) -> Result<(), AllocError>
             Ok(())
         }
         Action::Disregard(_, _) => Ok(()),
+        Action::Restore(_) => Ok(()),
     }
 }
 
@@ -46,6 +49,32 @@ pub(crate) fn orders(alloc: Global, actions: &[Action]) -> Result<Vec<Id>, Alloc
     Ok(found)
 }
 
+// Appends the id, if the action takes it off.
+fn push_restore(action: Action, found: &mut Vec<Id>) -> Result<(), AllocError>
+    ensures { OnOk result (found.new.items ≡ found.old.items ++ restore_of action) }
+{
+    match action {
+        Action::Order(_) => Ok(()),
+        Action::Fix(_) => Ok(()),
+        Action::Disregard(_, _) => Ok(()),
+        Action::Restore(id) => {
+            found.push(id)?;
+            Ok(())
+        }
+    }
+}
+
+/// The ids that RESTORE takes off, in the order of the actions.
+pub(crate) fn restores(alloc: Global, actions: &[Action]) -> Result<Vec<Id>, AllocError>
+    ensures { IfOk result (λ found. found.items ≡ restores actions.now) }
+{
+    let mut found = Vec::new(alloc);
+    for action in actions {
+        push_restore(*action, &mut found)?;
+    }
+    Ok(found)
+}
+
 // Appends the reason, if the action disregards a reason of this kind of hold.
 fn push_reason(kind: HoldKind, action: Action, found: &mut Vec<Reason>) -> Result<(), AllocError>
     ensures { OnOk result (found.new.items ≡ found.old.items ++ reason_of kind action) }
@@ -53,6 +82,7 @@ fn push_reason(kind: HoldKind, action: Action, found: &mut Vec<Reason>) -> Resul
     match action {
         Action::Order(_) => Ok(()),
         Action::Fix(_) => Ok(()),
+        Action::Restore(_) => Ok(()),
         Action::Disregard(held, reason) => {
             if held == kind {
                 found.push(reason)?;
@@ -85,6 +115,7 @@ fn is_order_of(id: Id, action: Action) -> bool
         Action::Order(other) => id == other,
         Action::Fix(_) => false,
         Action::Disregard(_, _) => false,
+        Action::Restore(_) => false,
     }
 }
 
@@ -96,6 +127,7 @@ fn is_fix_of(id: Id, action: Action) -> bool
         Action::Order(_) => false,
         Action::Fix(other) => id == other,
         Action::Disregard(_, _) => false,
+        Action::Restore(_) => false,
     }
 }
 
@@ -107,6 +139,19 @@ fn is_bypass_of(kind: HoldKind, reason: Reason, action: Action) -> bool
         Action::Order(_) => false,
         Action::Fix(_) => false,
         Action::Disregard(held, other) => kind == held && reason == other,
+        Action::Restore(_) => false,
+    }
+}
+
+// Whether the action takes this SYSMOD off.
+fn is_restore_of(id: Id, action: Action) -> bool
+    ensures { result ≡ is_same (Restore id) action }
+{
+    match action {
+        Action::Order(_) => false,
+        Action::Fix(_) => false,
+        Action::Disregard(_, _) => false,
+        Action::Restore(other) => id == other,
     }
 }
 
@@ -118,6 +163,7 @@ fn is_same(action: Action, other: Action) -> bool
         Action::Order(id) => is_order_of(id, other),
         Action::Fix(id) => is_fix_of(id, other),
         Action::Disregard(kind, reason) => is_bypass_of(kind, reason, other),
+        Action::Restore(id) => is_restore_of(id, other),
     }
 }
 

@@ -5,11 +5,14 @@ ghost use Rattle.std.specs.List.{flat_map};
 ghost use Rattle.terms.specs.Types.{Id as AnId};
 ghost use Rattle.judge_system.specs.Views.{failure_view, need_view};
 ghost use Rattle.report.specs.Views.{line_view, status_view};
-ghost use Rattle.smpe_mend.specs.Asked.{causers_of, concern_of, concern, held, is_by_hold, fix_for, order_for};
+ghost use Rattle.smpe_mend.specs.Asked.{causers_of, concern_of, concern, held, is_by_hold, is_of_restore, fix_for, order_for};
 ghost use Rattle.smpe_mend.specs.Asked.{asked_by, asked_of, asked_in};
+ghost use Rattle.smpe_mend.specs.Runs.{asked_of as asked_from};
 
 use crate::action::Action;
+use crate::broken::Broken;
 use crate::on::is_on;
+use crate::regressed::push_restores_for;
 use crate::superseded::is_superseded;
 use fields::{Id, IdList, Srel};
 use report::{Failure, OpenNeed, ReportLine, Status};
@@ -115,6 +118,13 @@ fn is_by_hold(kind: NeedKind) -> bool
     matches!(kind, NeedKind::HoldError)
 }
 
+// Whether the need is one of RESTORE.
+fn is_of_restore(kind: NeedKind) -> bool
+    ensures { result ≡ is_of_restore kind }
+{
+    matches!(kind, NeedKind::Elem | NeedKind::Dep)
+}
+
 // Appends the order of a fix of the APAR, unless a received SYSMOD supersedes it.
 fn push_fix_for(
     global: &GlobalZone,
@@ -139,6 +149,10 @@ fn push_order_for(
 ) -> Result<(), AllocError>
     ensures { OnOk result (found.new.items ≡ found.old.items ++ order_for global.now srel (need_view need)) }
 {
+    if is_of_restore(need.kind) {
+        found.push(Action::Restore(need.id))?;
+        return Ok(());
+    }
     if global.is_received(need.id) {
         return Ok(());
     }
@@ -168,20 +182,21 @@ fn push_orders(
 // Appends the actions that are asked for because the id failed.
 fn push_asked_by(
     global: &GlobalZone,
-    srel: Srel,
+    broken: &Broken<'_>,
     extent: Extent,
     id: Id,
     failure: &Failure,
     found: &mut Vec<Action>,
 ) -> Result<(), AllocError>
     ensures { OnOk result (found.new.items ≡ found.old.items
-        ++ asked_by global.now srel extent id (failure_view failure.now)) }
+        ++ asked_by global.now (asked_from broken.now) extent id (failure_view failure.now)) }
 {
     match extent {
         Extent::Safe => {
             push_held(global, HoldKind::System, id, found)?;
             push_held(global, HoldKind::User, id, found)?;
-            push_orders(global, srel, failure.needs.as_slice(), found)
+            push_orders(global, broken.zone.srel(), failure.needs.as_slice(), found)?;
+            push_restores_for(global, broken, id, failure.tests, found)
         }
         Extent::Risky => push_held(global, HoldKind::Error, id, found),
     }
@@ -190,7 +205,7 @@ fn push_asked_by(
 // Appends the actions that are asked for by an id of this status, if it is one of the ids.
 fn push_if_asked(
     global: &GlobalZone,
-    srel: Srel,
+    broken: &Broken<'_>,
     extent: Extent,
     named: bool,
     id: Id,
@@ -198,13 +213,13 @@ fn push_if_asked(
     found: &mut Vec<Action>,
 ) -> Result<(), AllocError>
     ensures { OnOk result (found.new.items ≡ found.old.items
-        ++ (if named then asked_of global.now srel extent id (status_view status.now) else [])) }
+        ++ (if named then asked_of global.now (asked_from broken.now) extent id (status_view status.now) else [])) }
 {
     if !named {
         return Ok(());
     }
     match status {
-        Status::Failed(failure) => push_asked_by(global, srel, extent, id, failure, found),
+        Status::Failed(failure) => push_asked_by(global, broken, extent, id, failure, found),
         _ => Ok(()),
     }
 }
@@ -212,38 +227,38 @@ fn push_if_asked(
 // Appends the actions that the line asks for, if it is the line of one of these ids.
 fn push_asked_in(
     global: &GlobalZone,
-    srel: Srel,
+    broken: &Broken<'_>,
     extent: Extent,
     ids: &IdList,
     line: &ReportLine,
     found: &mut Vec<Action>,
 ) -> Result<(), AllocError>
     ensures { OnOk result (found.new.items ≡ found.old.items
-        ++ asked_in global.now srel extent ids.now (line_view line.now)) }
+        ++ asked_in global.now (asked_from broken.now) extent ids.now (line_view line.now)) }
 {
     match line {
         ReportLine::Status { id, status, .. } => {
-            push_if_asked(global, srel, extent, ids.contains(*id), *id, status, found)
+            push_if_asked(global, broken, extent, ids.contains(*id), *id, status, found)
         }
         ReportLine::Nothing | ReportLine::Errsysmod { .. } => Ok(()),
     }
 }
 
-/// The actions that the lines ask for in a zone of this SREL because of these ids, in the order of the lines.
+/// The actions that the lines ask for because of these ids, in the order of the lines.
 pub(crate) fn asked(
     alloc: Global,
     global: &GlobalZone,
-    srel: Srel,
+    broken: &Broken<'_>,
     extent: Extent,
     ids: &IdList,
     lines: &[ReportLine],
 ) -> Result<Vec<Action>, AllocError>
     ensures { IfOk result (λ found. found.items
-        ≡ flat_map (asked_in global.now srel extent ids.now) (map line_view lines.now)) }
+        ≡ flat_map (asked_in global.now (asked_from broken.now) extent ids.now) (map line_view lines.now)) }
 {
     let mut found = Vec::new(alloc);
     for line in lines {
-        push_asked_in(global, srel, extent, ids, line, &mut found)?;
+        push_asked_in(global, broken, extent, ids, line, &mut found)?;
     }
     Ok(found)
 }

@@ -1,16 +1,18 @@
 //! The search for actions with which the command does it.
-ghost use Rattle.std.specs.Prelude.{◌≡◌, ◌<◌, All, map, length, IsTrue, IsFalse, IfOk, OnOk};
+ghost use Rattle.std.specs.Prelude.{◌≡◌, ◌↔◌, ◌<◌, ◌++◌, All, Contains, map, length, IsTrue, IsFalse, IfOk, OnOk};
 ghost use Rattle.report.specs.Views.{line_view};
 ghost use Rattle.smpe_mend.specs.Runs.{asked_of};
-ghost use Rattle.smpe_mend.specs.Actions.{is_among, with_new};
+ghost use Rattle.terms.specs.Types.{Id as AnId};
+ghost use Rattle.smpe_mend.specs.Actions.{is_among, restores, with_new};
 ghost use Rattle.smpe_mend.specs.Asked.{AreAsked};
 ghost use Rattle.smpe_mend.specs.Growth.{IsFound};
 
-use crate::action::{Action, is_among};
+use crate::action::{Action, is_among, restores};
 use crate::asking::{Extent, asked, concerned_ids};
 use crate::broken::Broken;
 use crate::on::are_on;
 use crate::running::run;
+use fields::IdList;
 use report::ReportLine;
 use std::alloc::{AllocError, Global};
 use sysmods::GlobalZone;
@@ -56,6 +58,15 @@ fn add_new(actions: &mut Vec<Action>, more: &[Action]) -> Result<bool, AllocErro
     Ok(true)
 }
 
+/// The ids that are to be installed, and those that are to be taken off.
+pub(crate) fn aimed_at(alloc: Global, ids: &IdList, actions: &[Action]) -> Result<IdList, AllocError>
+    ensures { IfOk result (λ all. (x : AnId) → Contains all x ↔ Contains (ids.now ++ restores actions.now) x) }
+{
+    let mut all = Vec::from_slice(alloc, ids.as_slice())?;
+    all.extend_from_slice(&restores(alloc, actions)?)?;
+    Ok(IdList::from_vec(all))
+}
+
 // Adds what the lines ask for, and returns whether it is anything new.
 fn add_asked(
     alloc: Global,
@@ -66,12 +77,13 @@ fn add_asked(
     actions: &mut Vec<Action>,
 ) -> Result<bool, AllocError>
     ensures none { IfOk result (λ added. IsFalse added → (actions.new.items ≡ actions.old.items)
-        × AreAsked global.now broken.now.zone.now.srel broken.now.ids.now extent (map line_view lines.now)
-        actions.old.items) }
+        × AreAsked global.now (asked_of broken.now) (broken.now.ids.now ++ restores actions.old.items) extent
+        (map line_view lines.now) actions.old.items) }
     ensures some { IfOk result (λ added. IsTrue added → length actions.old.items < length actions.new.items) }
 {
-    let concerned = concerned_ids(alloc, broken.ids, lines)?;
-    let more = asked(alloc, global, broken.zone.srel(), extent, &concerned, lines)?;
+    let ids = aimed_at(alloc, broken.ids, actions)?;
+    let concerned = concerned_ids(alloc, &ids, lines)?;
+    let more = asked(alloc, global, broken, extent, &concerned, lines)?;
     add_new(actions, &more)
 }
 

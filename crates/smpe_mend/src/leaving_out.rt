@@ -154,15 +154,16 @@ fn leave_out_groups(
     Ok(tried)
 }
 
-// How much an action is worth to be left out: what is risky before what is asked and done, and this before what is
-// ordered, a fix first, because nobody knows whether there is one.
+// How much an action is worth to be left out: what is risky before what is taken off, asked and done, and this before
+// what is ordered, a fix first, because nobody knows whether there is one.
 fn rank(action: Action) -> u8 {
     match action {
         Action::Disregard(HoldKind::Error, _) => 0,
-        Action::Disregard(HoldKind::User, _) => 1,
-        Action::Disregard(HoldKind::System, _) => 2,
-        Action::Fix(_) => 3,
-        Action::Order(_) => 4,
+        Action::Restore(_) => 1,
+        Action::Disregard(HoldKind::User, _) => 2,
+        Action::Disregard(HoldKind::System, _) => 3,
+        Action::Fix(_) => 4,
+        Action::Order(_) => 5,
     }
 }
 

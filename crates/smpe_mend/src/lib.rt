@@ -15,6 +15,7 @@ mod growing;
 mod leaving_out;
 mod mended;
 mod on;
+mod regressed;
 mod running;
 mod stand_in;
 mod superseded;

@@ -5,7 +5,7 @@ ghost use Rattle.smpe_mend.specs.Mends.{Answers};
 
 use crate::asking::concerned_ids;
 use crate::broken::Broken;
-use crate::growing::{Found, grow};
+use crate::growing::{Found, aimed_at, grow};
 use crate::leaving_out::smallest;
 use crate::running::run;
 use crate::words::{missing_ids, missing_text, plan_text, refusal_text};
@@ -46,7 +46,8 @@ fn mend_received(
             })
         }
         Found::Nothing(tried) => {
-            let concerned = concerned_ids(alloc, broken.ids, &tried.lines)?;
+            let ids = aimed_at(alloc, broken.ids, &tried.actions)?;
+            let concerned = concerned_ids(alloc, &ids, &tried.lines)?;
             Ok(Mended {
                 text: refusal_text(alloc, broken.ids, &concerned, &tried.lines)?,
                 status: NONE_STATUS,
@@ -55,7 +56,7 @@ fn mend_received(
     }
 }
 
-/// Finds the smallest repair with which an APPLY (in a distribution zone, an ACCEPT) of the ids with GROUPEXTEND
+/// Finds the smallest repair with which, after a RESTORE if it takes something off, an APPLY (in a distribution zone, an ACCEPT) of the ids with GROUPEXTEND
 /// installs or supersedes each of them. The answer is a plan with its command, or that there is none and what remains,
 /// or that ids are not received. The command takes up to 1,000 ids. An id that is ordered stands in as a SYSMOD without
 /// requisites and elements, received in the global zone while the command runs; afterwards the zone is as before.

@@ -18,6 +18,8 @@ pub(crate) enum ToDo {
     Order(Id),
     /// Order a SYSMOD that resolves this APAR.
     Fix(Id),
+    /// Take this SYSMOD off.
+    Restore(Id),
     /// Do what the hold of this kind and reason on this SYSMOD asks for.
     Act(Id, HoldKind, Reason),
 }
@@ -106,6 +108,10 @@ fn push_todo_of(
         }
         Action::Fix(id) => {
             found.push(ToDo::Fix(id))?;
+            Ok(())
+        }
+        Action::Restore(id) => {
+            found.push(ToDo::Restore(id))?;
             Ok(())
         }
         Action::Disregard(kind, reason) => push_acts(global, kind, reason, installed, found),

@@ -13,10 +13,10 @@ ghost use Rattle.smpe_mend.specs.Words.{joined, act_word, act_line, held_line, t
 ghost use Rattle.smpe_mend.specs.Words.{members, bypass_text, install_word, command_line, plan_head, plan_of};
 ghost use Rattle.smpe_mend.specs.Words.{plan_text, test_line, need_line, why_lines, remaining, refusal_text};
 ghost use Rattle.smpe_mend.specs.Words.{is_missing, missing_id, missing_ids, missing_text};
-ghost use Rattle.smpe_mend.specs.Words.{has_long_list, limit_line};
-ghost use Rattle.smpe_mend.specs.Actions.{reasons};
+ghost use Rattle.smpe_mend.specs.Words.{has_long_list, limit_line, restore_line};
+ghost use Rattle.smpe_mend.specs.Actions.{reasons, restores};
 
-use crate::action::{Action, reasons};
+use crate::action::{Action, reasons, restores};
 use crate::broken::Broken;
 use crate::todo::{ToDo, todos};
 use fields::spelling::{hold_text, need_text, test_text};
@@ -126,6 +126,10 @@ fn append_todo(global: &GlobalZone, todo: ToDo, text: &mut Vec<u8>) -> Result<()
         ToDo::Fix(id) => {
             let fix = LineWord::Left(ACT_WIDTH, b"FIX");
             append_words(b" ", &[fix, LineWord::Text(id.as_bytes())], text)
+        }
+        ToDo::Restore(id) => {
+            let restore = LineWord::Left(ACT_WIDTH, b"RESTORE");
+            append_words(b" ", &[restore, LineWord::Text(id.as_bytes())], text)
         }
         ToDo::Act(id, kind, reason) => append_held(global, id, kind, reason, text),
     }
@@ -262,6 +266,19 @@ fn append_command(
     Ok(())
 }
 
+// Appends the line of the RESTORE of these ids, if there are any.
+fn append_restore(ids: &[Id], text: &mut Vec<u8>) -> Result<(), AllocError>
+    ensures { OnOk result (text.new.items ≡ text.old.items ++ restore_line ids.now) }
+{
+    if ids.is_empty() {
+        return Ok(());
+    }
+    text.extend_from_slice(b"COMMAND RESTORE SELECT(")?;
+    append_ids(ids, text)?;
+    text.extend_from_slice(b").\n")?;
+    Ok(())
+}
+
 // Whether a list of so many members has more of them than one of a command file may have.
 fn is_long(count: usize) -> bool
     ensures { result ≡ nat_lt 1000 count }
@@ -292,7 +309,8 @@ fn has_long_list(
     let errors = has_long_reasons(alloc, HoldKind::Error, actions)?;
     let systems = has_long_reasons(alloc, HoldKind::System, actions)?;
     let users = has_long_reasons(alloc, HoldKind::User, actions)?;
-    Ok(is_long(broken.ids.len()) || errors || systems || users)
+    let restored = is_long(restores(alloc, actions)?.len());
+    Ok(is_long(broken.ids.len()) || errors || systems || users || restored)
 }
 
 // Appends the line that the command has a list that is too long for a command file, if it has one.
@@ -337,6 +355,7 @@ fn plan_of(
     let mut text = Vec::new(alloc);
     append_plan_head(alloc, broken.ids.as_slice(), todos.len(), &mut text)?;
     append_todos(global, todos, &mut text)?;
+    append_restore(&restores(alloc, actions)?, &mut text)?;
     append_command(alloc, broken, actions, &mut text)?;
     append_limit(has_long_list(alloc, broken, actions)?, &mut text)?;
     Ok(text)

@@ -20,8 +20,8 @@ returns-then-not-branch-clause-lines t c =
     let refused = subst (λ srel. ((f : ReceiveFault) × Receives g (stand_in srel (kind_for g x) x) (Err f))
     × (next ≡ g)) c.srel.ensures (c.in_ok-receive_stand_in.ensures.refused c.if-not-branch.true) in
     IfOk-weaker c.lines_with_orders.result _ _
-    (λ lines runs. subst (λ l. RunsWith g a l c.args.bypass.now (map line_view lines.items)) (sym all)
-    (with_order g next a x xs c.args.bypass.now (map line_view lines.items) (inr refused) runs))
+    (λ lines runs. subst (λ l. RunsWith g a l c.args.off.now c.args.bypass.now (map line_view lines.items)) (sym all)
+    (with_order g next a x xs c.args.off.now c.args.bypass.now (map line_view lines.items) (inr refused) runs))
     c.lines_with_orders.ensures.lines
 
 pub returns-clause-lines : goal.returns-clause-lines
@@ -35,8 +35,8 @@ returns-clause-lines t c =
     let all : c.args.ordered.now ≡ x ∷ xs = search rules in
     let received = subst (λ srel. Receives g (stand_in srel (kind_for g x) x) (Ok next)) c.srel.ensures
     (c.in_ok-receive_stand_in.ensures.received c.if-not-branch.false) in
-    subst (λ l. RunsWith g a l c.args.bypass.now lines) (sym all)
-    (with_order g next a x xs c.args.bypass.now lines (inl received) c.in_ok-lines.ensures.lines)
+    subst (λ l. RunsWith g a l c.args.off.now c.args.bypass.now lines) (sym all)
+    (with_order g next a x xs c.args.off.now c.args.bypass.now lines (inl received) c.in_ok-lines.ensures.lines)
 
 pub returns-clause-back : goal.returns-clause-back
 returns-clause-back t c =

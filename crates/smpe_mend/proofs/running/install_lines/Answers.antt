@@ -1,4 +1,4 @@
-use Rattle.std.proofs.Common.{map, refl, subst}
+use Rattle.std.proofs.Common.{map, subst}
 use Rattle.std.specs.Prelude.{option_copied}
 use Rattle.zones_maps.specs.Changed.{changed_zone}
 use Rattle.zones_maps.proofs.Changing.{zone_changes}
@@ -8,12 +8,10 @@ use Rattle.smpe_mend.proofs.running.install_lines.Goals as goal
 
 pub returns : goal.returns
 returns c =
-    let zone = c.args.broken.now.zone.now in
+    let zone = c.args.zone.now in
     let edits = c.in_ok-delta.field-0.delta.edits in
     let new = changed_zone edits zone in
     record {
-      global = c.args.global.now;
-      are_ordered = refl;
       date = c.new-date.result;
       new = new;
       installs = subst (λ s. InstallsSelected c.args.global.now zone (option_copied c.args.broken.now.related) s
