@@ -9,14 +9,15 @@ use Rattle.smpe_why.specs.declared.found.LoadedZones.{LoadedZones}
 use Rattle.smpe_answer.specs.declared.asked_ids.Answer.{Answer}
 
 -- The smallest repair of these ids in the zone is told, or that there is none.
-abbrev pub MendsIn : Global → Zone → Option Zone → List Id → Answer → Type 0
-MendsIn g zone related ids answer = (each : List Id) × IsRising each
+abbrev pub MendsIn : Global → Zone → Option Zone → Option Zone → List Id → Answer → Type 0
+MendsIn g zone related distribution ids answer = (each : List Id) × IsRising each
     × ((x : Id) → Contains each x ↔ Contains ids x)
-    × Answers g (record { zone = zone; related = related; ids = each }) answer.text.items answer.status
+    × Answers g (record { zone = zone; related = related; distribution = distribution; ids = each }) answer.text.items
+    answer.status
 
 abbrev pub MendsIfThere : LoadedZones → Option Zone → List Id → Answer → Type 0
 MendsIfThere found None ids answer = (answer.text.items ≡ refused_text NoZone) × (answer.status ≡ 12)
-MendsIfThere found (Some zone) ids answer = MendsIn found.global zone found.related ids answer
+MendsIfThere found (Some zone) ids answer = MendsIn found.global zone found.related found.distribution ids answer
 
 -- If there is no such zone, that is told as SET tells it, and the status is 12.
 abbrev pub IsMendAnswer : LoadedZones → List Id → Answer → Type 0

@@ -61,6 +61,7 @@ pub(crate) fn refuse_unknown_zone(alloc: Global) -> Result<Answer, AllocError>
         global: GlobalZone::new(alloc),
         zone: None,
         related: None,
+        distribution: None,
     };
     let WhyAnswer { text, status } = answer_ids(alloc, &none, &[])?;
     Ok(Answer { text, status })

@@ -19,10 +19,18 @@ pub fn mend_answer(alloc: Global, zones: LoadedZones, ids: &[Id]) -> Result<Answ
         mut global,
         zone,
         related,
+        distribution,
     } = zones;
     match &zone {
         None => refuse_unknown_zone(alloc),
-        Some(zone) => mend_in_zone(alloc, &mut global, zone, related.as_ref(), ids),
+        Some(zone) => mend_in_zone(
+            alloc,
+            &mut global,
+            zone,
+            related.as_ref(),
+            distribution.as_ref(),
+            ids,
+        ),
     }
 }
 
@@ -32,14 +40,17 @@ fn mend_in_zone(
     global: &mut GlobalZone,
     zone: &Zone,
     related: Option<&Zone>,
+    distribution: Option<&Zone>,
     ids: &[Id],
 ) -> Result<Answer, AllocError>
-    ensures { IfOk result (MendsIn global.old zone.now (option_copied related.entry) ids.now) }
+    ensures { IfOk result (MendsIn global.old zone.now (option_copied related.entry) (option_copied distribution.entry)
+        ids.now) }
 {
     let ids = IdList::from_vec(Vec::from_slice(alloc, ids)?);
     let broken = Broken {
         zone,
         related,
+        distribution,
         ids: &ids,
     };
     let Mended { text, status } = mend(alloc, global, &broken)?;

@@ -39,11 +39,17 @@ related_target_name heads name zone = option_and_then (λ z. target_at heads nam
 abbrev pub related_in : Inventory → Text → Option Zone
 related_in i name = option_and_then (zone_in i) (related_target_name (map head_of i.zones) name (zone_in i name))
 
--- the global zone, the zone of this name, if there is one, and the other zone at which an install into it looks
+-- the distribution zone to which RESTORE takes the zone of this name back, if it is a target zone
+abbrev pub distribution_in : Inventory → Text → Option Zone
+distribution_in i name = option_and_then (λ z. option_and_then (zone_in i) z.related) (zone_in i name)
+
+-- the global zone, the zone of this name, if there is one, the other zone at which an install into it looks, and the one
+-- to which RESTORE takes it back
 pub record IsFoundIn (name : Text) (i : Inventory) (found : LoadedZones) : Type 0 where
   pub global : found.global ≡ i.global
   pub zone : found.zone ≡ zone_in i name
   pub related : found.related ≡ related_in i name
+  pub distribution : found.distribution ≡ distribution_in i name
 
 -- what is asked: ids, whether one command selects them all, whether GROUPEXTEND is given, and BYPASS
 pub record Inquiry : Type 0 where

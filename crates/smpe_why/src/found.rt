@@ -1,5 +1,7 @@
 //! What is loaded to answer a question about ids in a zone.
 ghost use Rattle.std.specs.Prelude.{◌≡◌};
+ghost use Rattle.std.specs.Option.{option_and_then};
+ghost use Rattle.store_zones.specs.Found.{zone_in};
 ghost use Rattle.store.specs.Loads.{Loads};
 ghost use Rattle.smpe_why.specs.Telling.{IsFoundIn, related_target_name};
 
@@ -10,17 +12,18 @@ use sysmods::GlobalZone;
 use terms::ZoneKind;
 use zones::Zone;
 
-/// The global zone, the zone of a name, if there is one, and the target zone at which an ACCEPT there also looks, if
-/// there is one.
+/// The global zone, the zone of a name, if there is one, the target zone at which an ACCEPT there also looks, and the
+/// distribution zone to which a RESTORE there goes back, if there are such.
 #[derive(Drop)]
 pub struct LoadedZones {
     pub global: GlobalZone,
     pub zone: Option<Zone>,
     pub related: Option<Zone>,
+    pub distribution: Option<Zone>,
 }
 
-/// Loads the global zone, the zone of this name and the target zone at which an ACCEPT into that zone also looks, and
-/// changes nothing. Returns `Memory` if memory runs out, `Fault` if the database fails, and `NoState` if the rows of
+/// Loads the global zone, the zone of this name, the target zone at which an ACCEPT into that zone also looks and the
+/// distribution zone to which a RESTORE of it goes back, and changes nothing. Returns `Memory` if memory runs out, `Fault` if the database fails, and `NoState` if the rows of
 /// one of them stand for no state.
 pub fn load_zones<S: Alter>(store: &mut Store<S>, name: ZoneName) -> Result<LoadedZones, StoreError>
     ensures { Loads S.Store store.old store.new (IsFoundIn name) result }
@@ -28,19 +31,37 @@ pub fn load_zones<S: Alter>(store: &mut Store<S>, name: ZoneName) -> Result<Load
     let global = store.load_global()?;
     let zone = store.load_zone(name)?;
     let heads = store.zone_heads()?;
-    let Some(target) = related_target_name(heads.as_slice(), name, &zone) else {
-        return Ok(LoadedZones {
-            global,
-            zone,
-            related: None,
-        });
-    };
-    let related = store.load_zone(target)?;
+    let related = load_if_named(store, related_target_name(heads.as_slice(), name, &zone))?;
+    let distribution = load_if_named(store, distribution_name(&zone))?;
     Ok(LoadedZones {
         global,
         zone,
         related,
+        distribution,
     })
+}
+
+// Loads the zone of this name, if one is given.
+fn load_if_named<S: Alter>(
+    store: &mut Store<S>,
+    name: Option<ZoneName>,
+) -> Result<Option<Zone>, StoreError>
+    ensures { Loads S.Store store.old store.new (λ i found. found ≡ option_and_then (zone_in i) name) result }
+{
+    match name {
+        Some(name) => store.load_zone(name),
+        None => Ok(None),
+    }
+}
+
+// The name of the distribution zone to which RESTORE takes the zone back. Only a target zone has one.
+fn distribution_name(zone: &Option<Zone>) -> Option<ZoneName>
+    ensures { result ≡ option_and_then (λ z. z.related) zone.now }
+{
+    match zone {
+        Some(zone) => zone.related(),
+        None => None,
+    }
 }
 
 // The name of the target zone at which an install into this zone looks: for a distribution zone, the first zone that
