@@ -181,3 +181,14 @@ module _ (s : Setting) (is_global : IsGlobal s.global) (alone faults : List OwnF
         λ fails.
             is ∙ ap (λ b. b && deleted) (both.1 fails.0) ∙ meets_all x fails.1.0 fails.1.1 fails.1.2,
       )
+
+-- If no candidate names anything in DELETE, those that pass do not either.
+pub no_deletions : (ids : List Id) (faults : List OwnFaults) (c : Choice) (dels : List Id) → dels ≡ []
+    → deletions c ids ≡ [] → AreDeletions c ids faults dels
+no_deletions ids faults c dels none no_dels z = (
+  λ h. absurd (none_in z (subst (λ l. Contains l z) none h)),
+  λ h.
+      let (n, y, passes, named) = h in
+      absurd (none_in z (subst (λ l. Contains l z) no_dels
+      ((deletions_in c ids z).1 (y, contains_at ids n y passes.at, named)))),
+)

@@ -3,7 +3,8 @@ ghost use Rattle.std.specs.Prelude.{◌≡◌, List, length, IfOk};
 ghost use Rattle.terms.specs.Types.{Id as AnId};
 ghost use Rattle.terms.specs.Deleted.{deletions, is_deleted};
 ghost use Rattle.sysmods.specs.Choices.{choice};
-ghost use Rattle.judge_faults.specs.Deletes.{AreDeletions, with_chain_deleted, IsMarkedDeleted};
+ghost use Rattle.zones.specs.Scopes.{choice_of, global_of};
+ghost use Rattle.judge_faults.specs.Deletes.{AreDeletions, ArePassing, with_chain_deleted, IsMarkedDeleted};
 ghost use Rattle.terms.specs.Beside.{Beside};
 
 use crate::own::OwnFaults;
@@ -11,7 +12,7 @@ use fields::{Id, IdList};
 use judge_system::item_at;
 use std::alloc::{AllocError, Global};
 use sysmods::VerChoice;
-use zones::deletions;
+use zones::{Scope, deletions};
 
 // Whether the chain of the SYSMOD contains one of the deletions. Usually there are none.
 fn is_deleted(vers: &VerChoice<'_>, dels: &IdList, id: Id) -> bool
@@ -54,18 +55,10 @@ fn faults_under_deletions(
     Ok(all)
 }
 
-/// The faults of all candidates, given those of the tests of their own. `chain_deleted` is set for those that pass
-/// these tests and that the DELETE of one that passes them takes out.
-pub(crate) fn faults_with_deletes(
-    alloc: Global,
-    vers: &VerChoice<'_>,
-    ids: &[Id],
-    faults: &[OwnFaults],
-) -> Result<Vec<OwnFaults>, AllocError>
+// The candidates that pass the tests of their own.
+fn passing_ids(alloc: Global, ids: &[Id], faults: &[OwnFaults]) -> Result<Vec<Id>, AllocError>
     requires { length faults.now ≡ length ids.now }
-    ensures { IfOk result (λ all. (dels : List AnId) × AreDeletions (choice vers.now) ids.now faults.now dels
-        × Beside (λ n x own. IsMarkedDeleted vers.now.global.now (choice vers.now) dels faults.now n x own) ids.now
-        all.items) }
+    ensures { IfOk result (λ passing. ArePassing ids.now faults.now (length ids.now) passing.items) }
 {
     let mut passing = Vec::new(alloc);
     for i in 0..ids.len() {
@@ -74,6 +67,37 @@ pub(crate) fn faults_with_deletes(
         }
         passing.push(ids[i])?;
     }
-    let dels = IdList::from_vec(deletions(alloc, vers, passing.as_slice())?);
-    faults_under_deletions(alloc, vers, &dels, ids, faults)
+    Ok(passing)
+}
+
+// What the candidates that pass the tests of their own name in DELETE. Usually no candidate names anything there.
+fn passing_deletions(
+    alloc: Global,
+    scope: &Scope<'_, '_>,
+    faults: &[OwnFaults],
+) -> Result<IdList, AllocError>
+    requires { length faults.now ≡ length scope.now.ids.now }
+    ensures { IfOk result (AreDeletions (choice_of scope.now) scope.now.ids.now faults.now) }
+{
+    if scope.dels.is_empty() {
+        return Ok(IdList::new(alloc));
+    }
+    let passing = passing_ids(alloc, scope.ids.as_slice(), faults)?;
+    Ok(IdList::from_vec(deletions(alloc, scope.vers, passing.as_slice())?))
+}
+
+/// The faults of all candidates, given those of the tests of their own. `chain_deleted` is set for those that pass
+/// these tests and that the DELETE of one that passes them takes out.
+pub(crate) fn faults_with_deletes(
+    alloc: Global,
+    scope: &Scope<'_, '_>,
+    faults: &[OwnFaults],
+) -> Result<Vec<OwnFaults>, AllocError>
+    requires { length faults.now ≡ length scope.now.ids.now }
+    ensures { IfOk result (λ all. (dels : List AnId) × AreDeletions (choice_of scope.now) scope.now.ids.now faults.now dels
+        × Beside (λ n x own. IsMarkedDeleted (global_of scope.now) (choice_of scope.now) dels faults.now n x own)
+        scope.now.ids.now all.items) }
+{
+    let dels = passing_deletions(alloc, scope, faults)?;
+    faults_under_deletions(alloc, scope.vers, &dels, scope.ids.as_slice(), faults)
 }

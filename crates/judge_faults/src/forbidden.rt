@@ -5,6 +5,7 @@ ghost use Rattle.std.specs.Ordering.{nat_cmp};
 ghost use Rattle.std.specs.Cmp.Lexicographic.{slice_cmp};
 ghost use Rattle.sorted.specs.MultiMap.{Gains};
 ghost use Rattle.terms.specs.Lookups.{is_applied};
+ghost use Rattle.terms.specs.Choice.{npre_of};
 ghost use Rattle.sysmods.specs.Choices.{choice};
 ghost use Rattle.judge_faults.specs.Forbidders.{ForbidsBy, AreForbidders, IsForbidden};
 ghost use Rattle.zones.specs.Gone.{left_of};
@@ -57,14 +58,20 @@ fn any_applied(view: &ZoneLess<'_, '_>, ids: &[Id]) -> bool
     ids.iter().any(|id| view.is_applied(*id))
 }
 
-/// Whether the candidate forbids a SYSMOD that is applied in its view, or a function that is applied there forbids the
-/// candidate.
-pub(crate) fn is_forbidden(view: &ZoneLess<'_, '_>, forbidders: &Forbidders, id: Id) -> bool
-    requires { AreForbidders view.now.vers.now.global.now (choice view.now.vers.now) view.now.zone.now.entries
+/// Whether the candidate, which names these ids in NPRE, forbids a SYSMOD that is applied in its view, or a function that
+/// is applied there forbids the candidate.
+pub(crate) fn is_forbidden(
+    view: &ZoneLess<'_, '_>,
+    forbidders: &Forbidders,
+    id: Id,
+    npre: &[Id],
+) -> bool
+    requires npre { npre.now ≡ npre_of (choice view.now.vers.now) id }
+    requires forbidders { AreForbidders view.now.vers.now.global.now (choice view.now.vers.now) view.now.zone.now.entries
         forbidders.now }
     ensures { IsTrue result
         ↔ IsForbidden view.now.vers.now.global.now (choice view.now.vers.now) (left_of view.now) id }
 {
     view.zone.attest();
-    any_applied(view, view.vers.npre(id)) || any_applied(view, listed(forbidders, id))
+    any_applied(view, npre) || any_applied(view, listed(forbidders, id))
 }

@@ -12,6 +12,7 @@ mod deleted;
 mod element_tests;
 mod failed_tests;
 mod forbidden;
+mod looked_up;
 mod own;
 mod sharing;
 mod tested;

@@ -1,11 +1,11 @@
 //! The tests that look at one candidate by itself.
 ghost use Rattle.std.specs.Prelude.{◌≡◌, ◌==◌, ◌&&◌, ◌↔◌, Any, not, IsTrue, IsFalse, IfOk};
-ghost use Rattle.std.specs.Prelude.{filter, length, option_copied, false};
+ghost use Rattle.std.specs.Prelude.{[], filter, length, option_copied, false};
 ghost use Rattle.std.specs.Str.{bytes_eq};
 ghost use Rattle.std.specs.List.{list_any};
 ghost use Rattle.std.specs.Option.{option_map_or};
 ghost use Rattle.terms.specs.Types.{is_distribution};
-ghost use Rattle.terms.specs.Lookups.{holds_of, is_applied, is_in};
+ghost use Rattle.terms.specs.Lookups.{holds_of, is_applied, is_in, sysmod_of};
 ghost use Rattle.terms.specs.Choice.{fits};
 ghost use Rattle.terms.specs.Tests.{HasSeveralFit, is_bypassed_hold};
 ghost use Rattle.sysmods.specs.Choices.{choice};
@@ -19,6 +19,7 @@ use crate::element_tests::{
     any_has_nothing_to_update, any_owned_by_another, regresses_any_element,
 };
 use crate::forbidden::{Forbidders, forbidders, is_forbidden};
+use crate::looked_up::{changes_in, fmid_in, npre_in, owner_in, vers_in};
 use fields::{Bypass, Id, IdList};
 use std::alloc::{AllocError, Global};
 use sysmods::{GlobalZone, Overs};
@@ -134,11 +135,15 @@ fn fitting_count(zone: &Zone, candidates: &IdList, vers: &[Ver]) -> usize
         .count()
 }
 
-// Whether two or more of the `++VER`s of the SYSMOD fit.
-fn several_vers_fit(scope: &Scope<'_, '_>, id: Id) -> bool
+// Whether two or more of the `++VER`s of the SYSMOD fit. Usually it has only one.
+fn several_vers_fit(scope: &Scope<'_, '_>, id: Id, vers: &[Ver]) -> bool
+    requires { vers.now ≡ option_map_or (λ s. s.vers) (sysmod_of (global_of scope.now) id) [] }
     ensures { IsTrue result ↔ HasSeveralFit (setting_of scope.now) id }
 {
-    fitting_count(scope.zone, scope.ids, scope.global().vers_of(id)) >= 2
+    if vers.len() < 2 {
+        return false;
+    }
+    fitting_count(scope.zone, scope.ids, vers) >= 2
 }
 
 // The faults of one candidate by itself, in its view of the zone. Clashes and DELETEs are tested later.
@@ -164,23 +169,25 @@ fn own_faults(
         zone: scope.zone,
     };
     let global = scope.global();
-    let changes = global.changes_of(id);
+    let sysmod = global.get(id);
+    let ver = vers.ver(id);
+    let changes = changes_in(sysmod);
     let regression = has_regression(alloc, &view, overs, scope.bypass, id, changes)?;
     Ok(OwnFaults {
         held_by_system: has_unbypassed_hold(global, scope.bypass, HoldKind::System, id),
         held_by_user: has_unbypassed_hold(global, scope.bypass, HoldKind::User, id),
-        forbidden_by_npre: is_forbidden(&view, forbidders, id),
-        owned_by_another: any_owned_by_another(&view, vers.owner(id), changes),
+        forbidden_by_npre: is_forbidden(&view, forbidders, id, npre_in(ver)),
+        owned_by_another: any_owned_by_another(&view, owner_in(sysmod, ver, id), changes),
         regression,
         nothing_to_update: any_has_nothing_to_update(
             global,
             &view,
             scope.ids,
-            vers.fmid(id),
+            fmid_in(ver),
             changes,
         ),
         not_in_target: fails_applycheck(scope.zone, related, scope.bypass, id),
-        several_fit: several_vers_fit(scope, id),
+        several_fit: several_vers_fit(scope, id, vers_in(sysmod)),
         chain_deleted: false,
     })
 }

@@ -35,7 +35,7 @@ pub fn test_all<'a, 'b>(
     let ids = scope.ids.as_slice();
     let mut overs = Overs::new(alloc, scope.vers);
     let own_faults = all_own_faults(alloc, scope, related, &mut overs)?;
-    let faults = faults_with_deletes(alloc, scope.vers, ids, own_faults.as_slice())?;
+    let faults = faults_with_deletes(alloc, scope, own_faults.as_slice())?;
     let clashing = clashing_places(alloc, &mut overs, ids, faults.as_slice())?;
     let tests = all_failed_tests(alloc, faults.as_slice(), &clashing)?;
     Ok(Tested { tests, overs })

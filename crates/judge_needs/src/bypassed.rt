@@ -45,7 +45,7 @@ fn bypassed_ids(
     )?;
     ids.extend_from_slice(covered_requisites(scope, NeedKind::Req, scope.req(id)))?;
     if scope.is_bypassed(NeedKind::Ifreq) {
-        let by_ifs = conditions.requisites_by_if(alloc, id)?;
+        let by_ifs = conditions.requisites_by_if(alloc, id, scope.ifs(id))?;
         ids.extend_from_slice(by_ifs.as_slice())?;
     }
     Ok(ids)

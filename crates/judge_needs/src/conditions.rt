@@ -3,7 +3,8 @@ ghost use Rattle.std.specs.Prelude.{◌≡◌, ◌↔◌, ◌||◌, [], filter, 
 ghost use Rattle.terms.specs.declared.codes.NeedKind.TheVariants.{Ifreq};
 ghost use Rattle.terms.specs.Types.{Id as AnId};
 ghost use Rattle.terms.specs.Lookups.{IsZone, is_applied, is_function};
-ghost use Rattle.terms.specs.Conditions.{if_reqs};
+ghost use Rattle.terms.specs.Choice.{ifs_of};
+ghost use Rattle.terms.specs.Conditions.{reqs_where};
 ghost use Rattle.terms.specs.Needs.{asked};
 ghost use Rattle.judge_needs.specs.Conditions.{AreStated, is_there, requisites_of};
 ghost use Rattle.zones.specs.Gone.{left_of};
@@ -13,6 +14,7 @@ use crate::stated::{Stated, all_stated_requisites};
 use fields::{Id, IdList};
 use sorted::multi_map::listed;
 use std::alloc::{AllocError, Global};
+use sysmods_values::IfReq;
 use zones::{Scope, ZoneLess};
 
 /// What determines the requisites by `++IF` of the candidates: their scope, and what applied SYSMODs state in their
@@ -41,15 +43,13 @@ impl<'a, 'b> Conditions<'a, 'b> {
         &self,
         alloc: Global,
         left: &ZoneLess<'_, '_>,
-        id: Id,
+        ifs: &[IfReq],
     ) -> Result<Vec<Id>, AllocError>
         ensures { IfOk result (λ found. found.items
-            ≡ if_reqs (choice_of self.now.scope) (is_there (left_of left.now) self.now.scope.ids.now) id) }
+            ≡ reqs_where (is_there (left_of left.now) self.now.scope.ids.now) ifs.now) }
     {
         let scope = &self.scope;
-        scope
-            .ifs(id)
-            .iter()
+        ifs.iter()
             .filter(|condition| {
                 left.is_applied(condition.function) || scope.ids.contains(condition.function)
             })
@@ -68,18 +68,29 @@ impl<'a, 'b> Conditions<'a, 'b> {
         ensures { IfOk result (λ found. found.items ≡ if is_function (global_of self.now.scope) id then map (λ r. r.id)
             (filter (λ r. is_applied (left_of left.now) r.by) (requisites_of self.now.stated id)) else []) }
     {
+        let stated = listed(&self.stated, id);
+        if stated.is_empty() {
+            return Ok(Vec::new(alloc));
+        }
         if !self.scope.global().is_function(id) {
             return Ok(Vec::new(alloc));
         }
-        listed(&self.stated, id)
+        stated
             .iter()
             .filter(|requisite| left.is_applied(requisite.by))
             .map(|requisite| requisite.id)
             .collect(alloc)
     }
 
-    /// The requisites of a candidate by `++IF`, its own and those that others state for it, in its view of the zone.
-    pub(crate) fn requisites_by_if(&self, alloc: Global, id: Id) -> Result<IdList, AllocError>
+    /// The requisites of a candidate by `++IF`, those of its own `++IF`s and those that others state for it, in its view
+    /// of the zone.
+    pub(crate) fn requisites_by_if(
+        &self,
+        alloc: Global,
+        id: Id,
+        ifs: &[IfReq],
+    ) -> Result<IdList, AllocError>
+        requires { ifs.now ≡ ifs_of (choice_of self.now.scope) id }
         ensures { IfOk result (λ ids. (z : AnId) → Contains ids z
             ↔ Contains (asked (setting_of self.now.scope) [] id Ifreq) z) }
     {
@@ -91,7 +102,7 @@ impl<'a, 'b> Conditions<'a, 'b> {
             dels,
             zone: scope.zone,
         };
-        let mut found = self.own_requisites(alloc, &left, id)?;
+        let mut found = self.own_requisites(alloc, &left, ifs)?;
         let stated = self.stated_requisites_for(alloc, &left, id)?;
         found.extend_from_slice(stated.as_slice())?;
         Ok(IdList::from_vec(found))

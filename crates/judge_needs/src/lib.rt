@@ -9,6 +9,7 @@
 mod bypassed;
 mod conditions;
 mod needed;
+mod operands;
 mod reasons;
 mod stated;
 mod superseded;

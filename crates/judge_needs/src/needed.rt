@@ -3,12 +3,14 @@
 ghost use Rattle.std.specs.Prelude.{◌≡◌, ◌↔◌, Contains, OnOk, IfOk};
 ghost use Rattle.terms.specs.Types.{Id as AnId};
 ghost use Rattle.terms.specs.Lookups.{IsRising};
+ghost use Rattle.terms.specs.Choice.{del_of};
 ghost use Rattle.terms.specs.Needs.{asked};
 ghost use Rattle.zones.specs.Gone.{left_of};
-ghost use Rattle.zones.specs.Scopes.{setting_of};
+ghost use Rattle.zones.specs.Scopes.{choice_of, setting_of};
 ghost use Rattle.judge_needs.specs.Needed.{is_open, IsOpen, IsOfKind, AreNeeds, AddsPart};
 
 use crate::conditions::Conditions;
+use crate::operands::{del_in, fmid_in, ifs_in, pre_in, req_in};
 use crate::reasons::open_reasons;
 use fields::{Id, IdList};
 use judge_system::RequisiteOf;
@@ -45,16 +47,21 @@ fn add_open_needs(
 }
 
 // The requisites that the candidate's DELETE takes from SYSMODs that stay applied. Only the DELETE of a survivor takes
-// any.
+// any, and usually a candidate has no DELETE.
 fn orphaned_requisites(
     alloc: Global,
     scope: &Scope<'_, '_>,
     survivors: &IdList,
     id: Id,
+    del: &[Id],
 ) -> Result<IdList, AllocError>
+    requires { del.now ≡ del_of (choice_of scope.now) id }
     ensures { IfOk result (λ ids. (z : AnId) → Contains ids z
         ↔ Contains (asked (setting_of scope.now) survivors.now id NeedKind.Orphan) z) }
 {
+    if del.is_empty() {
+        return Ok(IdList::new(alloc));
+    }
     if survivors.contains(id) {
         let ids = orphans(alloc, scope.vers, scope.zone, id)?;
         return Ok(IdList::from_vec(ids));
@@ -75,11 +82,12 @@ fn add_needs_of_candidate(
         needs.old.items needs.new.items) }
 {
     let scope = &conditions.scope;
-    let fmid = scope.fmid(id);
+    let ver = scope.vers.ver(id);
+    let fmid = fmid_in(ver);
     add_open_needs(scope, left, id, NeedKind::Fmid, fmid.as_slice(), needs)?;
-    add_open_needs(scope, left, id, NeedKind::Pre, scope.pre(id), needs)?;
-    add_open_needs(scope, left, id, NeedKind::Req, scope.req(id), needs)?;
-    let by_ifs = conditions.requisites_by_if(alloc, id)?;
+    add_open_needs(scope, left, id, NeedKind::Pre, pre_in(ver), needs)?;
+    add_open_needs(scope, left, id, NeedKind::Req, req_in(ver), needs)?;
+    let by_ifs = conditions.requisites_by_if(alloc, id, ifs_in(ver))?;
     add_open_needs(scope, left, id, NeedKind::Ifreq, by_ifs.as_slice(), needs)?;
     let reasons = open_reasons(alloc, scope, id)?;
     add_open_needs(
@@ -90,7 +98,7 @@ fn add_needs_of_candidate(
         reasons.as_slice(),
         needs,
     )?;
-    let orphaned = orphaned_requisites(alloc, scope, survivors, id)?;
+    let orphaned = orphaned_requisites(alloc, scope, survivors, id, del_in(ver))?;
     add_open_needs(
         scope,
         left,

@@ -1,12 +1,12 @@
 -- What an APPLY chooses from, by which operands, and the rules for its candidates.
-use Rattle.std.specs.Prelude.{◌&&◌, ◌++◌, Bool, List, []}
+use Rattle.std.specs.Prelude.{◌&&◌, ◌||◌, ◌++◌, Bool, not, List, [], filter, is_some}
 use Rattle.std.specs.Option.{option_map_or}
 use Rattle.std.specs.Str.{bytes_eq}
-use Rattle.terms.specs.Types.{Id, Ver, Global, Zone, Selection}
-use Rattle.terms.specs.Lookups.{sysmod_of}
+use Rattle.terms.specs.Types.{Id, Ver, Sysmod, Global, Zone, Selection}
+use Rattle.terms.specs.Lookups.{sysmod_of, is_in, is_nil, is_supplied, delby_of}
 use Rattle.terms.specs.Choice.{vers_of, fits}
 use Rattle.terms.specs.Candidates.{is_installable, is_open, is_mass_chosen, is_start, is_growing_start, IsClosedPair}
-use Rattle.terms.specs.Candidates.{needed_ids, open_reasons, sups_for}
+use Rattle.terms.specs.Candidates.{needed_ids, open_reasons, sups_for, has_mass_choice, passes_filters}
 
 -- the global zone, the zone into which the SYSMODs go, and the operands that choose among them
 pub record Selecting : Type 0 where
@@ -17,11 +17,32 @@ pub record Selecting : Type 0 where
 abbrev pub is_installable_in : Selecting → Id → Bool
 is_installable_in scope x = is_installable scope.global scope.zone x
 
+-- whether a SYSMOD that has these ++VERs may be installed
+abbrev pub is_installable_with : Selecting → Id → List Ver → Bool
+is_installable_with scope x vers =
+    not (is_nil (filter (λ v. bytes_eq v.srel scope.zone.srel) vers)) && not (is_supplied scope.zone x)
+    && not (is_some (delby_of scope.zone x))
+
+-- and is not excluded
+abbrev pub is_open_with : Selecting → Id → List Ver → Bool
+is_open_with scope x vers = is_installable_with scope x vers && not (is_in scope.selection.exclude x)
+
 abbrev pub is_open_in : Selecting → Id → Bool
 is_open_in scope x = is_open scope.global scope.zone scope.selection x
 
 abbrev pub is_mass_chosen_in : Selecting → Id → Bool
 is_mass_chosen_in scope x = is_mass_chosen scope.global scope.zone scope.selection x
+
+-- whether the mass choice takes the received SYSMOD, if there is one
+abbrev pub is_chosen_by_mass : Selecting → Sysmod → Bool
+is_chosen_by_mass scope s =
+    has_mass_choice scope.selection && passes_filters scope.global scope.zone scope.selection s
+
+-- whether the received SYSMOD is one of the start
+abbrev pub starts : Selecting → Sysmod → Bool
+starts scope s =
+    is_open_with scope s.id s.vers
+    && (is_in scope.selection.select s.id || is_in scope.selection.group s.id || is_chosen_by_mass scope s)
 
 abbrev pub is_start_in : Selecting → Id → Bool
 is_start_in scope x = is_start scope.global scope.zone scope.selection x

@@ -1,13 +1,14 @@
 //! What a SYSMOD that grows asks for by itself: its open FMIDs, and what the zone does not supply of its requisites, of
 //! those that applied SYSMODs state for it, and of the reasons of its ERROR holds.
-ghost use Rattle.std.specs.Prelude.{◌≡◌, ◌++◌, ◌&&◌, ◌||◌, ◌==◌, [], ◌∷◌, filter, map, IfOk, OnOk, if◌then◌else◌};
+ghost use Rattle.std.specs.Prelude.{◌≡◌, ◌++◌, ◌&&◌, ◌||◌, ◌==◌, [], ◌∷◌, false, filter, map, IfOk, OnOk};
+ghost use Rattle.std.specs.Prelude.{option_copied, if◌then◌else◌};
 ghost use Rattle.std.specs.List.{flat_map, filter_map, list_any};
+ghost use Rattle.std.specs.Option.{option_map_or};
 ghost use Rattle.std.specs.Str.{bytes_eq};
 ghost use Rattle.terms.specs.declared.kinds.HoldKind.TheVariants.{Error};
-ghost use Rattle.terms.specs.Types.{is_error};
-ghost use Rattle.terms.specs.Lookups.{is_applied, holds_of};
+ghost use Rattle.terms.specs.Types.{is_error, is_function_kind};
+ghost use Rattle.terms.specs.Lookups.{is_applied, is_function, holds_of, sysmod_of};
 ghost use Rattle.terms.specs.Choice.{fits, ifs_of};
-ghost use Rattle.terms.specs.Candidates.{fmids_for};
 ghost use Rattle.terms.specs.Conditions.{reqs_where};
 ghost use Rattle.select.specs.Scopes.{is_for_and_fits};
 ghost use Rattle.select.specs.Growing.{is_open_among, taken_up, has_grown, is_there, open_fmids, fitting, required_of};
@@ -17,8 +18,8 @@ use crate::scope::Selecting;
 use fields::{Id, Srel};
 use indexmap::IndexSet;
 use std::alloc::{AllocError, Global};
-use sysmods_values::{Hold, IfReq, Ver};
-use terms::HoldKind;
+use sysmods_values::{Hold, IfReq, Sysmod, Ver};
+use terms::{HoldKind, Kind};
 
 // The FMIDs of those `++VER`s that are for the SREL.
 fn fmids_for_srel(alloc: Global, srel: Srel, vers: &[Ver]) -> Result<Vec<Id>, AllocError>
@@ -31,13 +32,6 @@ fn fmids_for_srel(alloc: Global, srel: Srel, vers: &[Ver]) -> Result<Vec<Id>, Al
 }
 
 impl<'a> Selecting<'a> {
-    // The FMIDs of the SYSMOD's `++VER`s for the zone's SREL.
-    fn fmids(&self, alloc: Global, id: Id) -> Result<Vec<Id>, AllocError>
-        ensures { IfOk result (λ ids. ids.items ≡ fmids_for self.now.global self.now.zone.srel id) }
-    {
-        fmids_for_srel(alloc, self.zone.srel(), self.vers(id))
-    }
-
     // Whether the zone has applied one of the ids.
     fn any_applied(&self, ids: &[Id]) -> bool
         ensures { result ≡ list_any (is_applied self.now.zone) ids.now }
@@ -45,12 +39,13 @@ impl<'a> Selecting<'a> {
         ids.iter().any(|id| self.is_applied(*id))
     }
 
-    // The FMIDs of the SYSMOD's `++VER`s for the zone's SREL, or none if the zone has applied one of them.
-    fn open_fmids(&self, alloc: Global, id: Id) -> Result<Vec<Id>, AllocError>
+    // The FMIDs of those of the `++VER`s that are for the zone's SREL, or none if the zone has applied one of them.
+    fn open_fmids(&self, alloc: Global, vers: &[Ver]) -> Result<Vec<Id>, AllocError>
         ensures { IfOk result (λ ids. ids.items
-            ≡ open_fmids self.now.zone (fmids_for self.now.global self.now.zone.srel id)) }
+            ≡ open_fmids self.now.zone (filter_map (λ v. v.fmid) (filter (λ v. bytes_eq v.srel self.now.zone.srel)
+            vers.now))) }
     {
-        let fmids = self.fmids(alloc, id)?;
+        let fmids = fmids_for_srel(alloc, self.zone.srel(), vers)?;
         if self.any_applied(fmids.as_slice()) {
             return Ok(Vec::new(alloc));
         }
@@ -85,11 +80,18 @@ impl<'a> Selecting<'a> {
             .collect(alloc)
     }
 
-    // The requisites that applied SYSMODs state for the id by `++IF`. Only a function has any.
-    fn stated_requisites(&self, alloc: Global, id: Id) -> Result<Vec<Id>, AllocError>
+    // The requisites that applied SYSMODs state for the id by `++IF`. Only a function has any, and `function` says whether
+    // it is one.
+    fn stated_requisites(
+        &self,
+        alloc: Global,
+        id: Id,
+        function: bool,
+    ) -> Result<Vec<Id>, AllocError>
+        requires { function ≡ is_function self.now.global id }
         ensures { IfOk result (λ ids. ids.items ≡ stated self.now id) }
     {
-        if !self.global.is_function(id) {
+        if !function {
             return Ok(Vec::new(alloc));
         }
         let namers = self.function_namers(alloc, id)?;
@@ -198,6 +200,17 @@ impl<'a> Asked<'a> {
         self.scope.is_for_zone_srel(ver) && self.fits(ver)
     }
 
+    // Those of the `++VER`s that are for the zone's SREL and fit.
+    fn fitting_among(&self, alloc: Global, vers: &'a [Ver]) -> Result<Vec<&'a Ver>, AllocError>
+        ensures { IfOk result (λ found. map (λ v. v.now) found.items
+            ≡ filter (is_for_and_fits self.now.scope.now.zone (taken_up self.now.scope.now self.now.seen.now.keys))
+            vers.now) }
+    {
+        vers.iter()
+            .filter(|ver| self.is_for_zone_and_fits(ver))
+            .collect(alloc)
+    }
+
     /// The `++VER`s of these SYSMODs that are for the zone's SREL and fit.
     pub(crate) fn fitting_vers(&self, alloc: Global, ids: &[Id]) -> Result<Vec<&'a Ver>, AllocError>
         ensures { IfOk result (λ vers. map (λ v. v.now) vers.items
@@ -237,15 +250,21 @@ impl<'a> Asked<'a> {
 
     // What the SYSMOD requires, what applied SYSMODs state for it, and under GROUPEXTEND the reason IDs of its ERROR
     // holds.
-    fn requisites_and_reasons(&self, alloc: Global, id: Id) -> Result<Vec<Id>, AllocError>
+    fn requisites_and_reasons(
+        &self,
+        alloc: Global,
+        id: Id,
+        sysmod: Option<&'a Sysmod>,
+    ) -> Result<Vec<Id>, AllocError>
+        requires { option_copied sysmod.entry ≡ sysmod_of self.now.scope.now.global id }
         ensures { IfOk result (λ ids. ids.items
             ≡ required_of self.now.scope.now.zone (taken_up self.now.scope.now self.now.seen.now.keys)
             (fitting self.now.scope.now (taken_up self.now.scope.now self.now.seen.now.keys) (id ∷ []))
             ++ stated self.now.scope.now id ++ reasons self.now.scope.now id) }
     {
-        let vers = self.fitting_vers(alloc, &[id])?;
+        let vers = self.fitting_among(alloc, vers_in(sysmod))?;
         let mut ids = self.required_by(alloc, vers.as_slice())?;
-        let stated = self.scope.stated_requisites(alloc, id)?;
+        let stated = self.scope.stated_requisites(alloc, id, is_function(sysmod))?;
         ids.extend_from_slice(stated.as_slice())?;
         let reasons = self.scope.wanted_reasons(alloc, id)?;
         ids.extend_from_slice(reasons.as_slice())?;
@@ -257,10 +276,31 @@ impl<'a> Asked<'a> {
     pub(crate) fn asked_by_itself(&self, alloc: Global, id: Id) -> Result<Vec<Id>, AllocError>
         ensures { IfOk result (λ found. found.items ≡ own_asked self.now.scope.now self.now.seen.now.keys id) }
     {
-        let mut found = self.scope.open_fmids(alloc, id)?;
-        let wanted = self.requisites_and_reasons(alloc, id)?;
+        let sysmod = self.scope.sysmod(id);
+        let mut found = self.scope.open_fmids(alloc, vers_in(sysmod))?;
+        let wanted = self.requisites_and_reasons(alloc, id, sysmod)?;
         let unsupplied = self.scope.unsupplied(alloc, wanted.as_slice())?;
         found.extend_from_slice(unsupplied.as_slice())?;
         Ok(found)
+    }
+}
+
+// The `++VER`s of the SYSMOD, or none if it is not received.
+fn vers_in(sysmod: Option<&Sysmod>) -> &[Ver]
+    ensures { result.now ≡ option_map_or (λ s. s.vers) (option_copied sysmod.entry) [] }
+{
+    match sysmod {
+        Some(sysmod) => sysmod.vers.as_slice(),
+        None => &[],
+    }
+}
+
+// Whether the SYSMOD is received and is a function.
+fn is_function(sysmod: Option<&Sysmod>) -> bool
+    ensures { result ≡ option_map_or (λ s. is_function_kind s.kind) (option_copied sysmod.entry) false }
+{
+    match sysmod {
+        Some(sysmod) => sysmod.kind == Kind::Function,
+        None => false,
     }
 }

@@ -1,11 +1,11 @@
 //! What is asked for once an id is: what it asks for by itself, what those that name it as a function ask for because
 //! of it, and those that supersede it.
-ghost use Rattle.std.specs.Prelude.{◌≡◌, filter, map, IfOk};
+ghost use Rattle.std.specs.Prelude.{◌≡◌, false, filter, map, IfOk};
 ghost use Rattle.std.specs.List.{flat_map};
 ghost use Rattle.std.specs.Str.{bytes_eq};
 ghost use Rattle.terms.specs.Lookups.{at_most_one, is_in};
 ghost use Rattle.terms.specs.Conditions.{reqs_where};
-ghost use Rattle.select.specs.Scopes.{sups_in};
+ghost use Rattle.select.specs.Scopes.{is_growing_start_in, sups_in};
 ghost use Rattle.select.specs.Growing.{has_grown, fitting_namers, asked_by_namers, brought_by};
 ghost use Rattle.select.specs.Growing.{superseders, next_asked};
 
@@ -117,16 +117,14 @@ impl<'a> Asked<'a> {
         self.scope.unsupplied(alloc, ids.as_slice())
     }
 
-    // What the search asks for because of an open id that it has come to. An id of the start that brings others in has
-    // asked for them before the search, and adds nothing. Any other id of the start has been a candidate from the
-    // beginning. Its namers have counted it, so it adds only what it asks for by itself. An id that becomes a candidate
-    // only now also adds what its namers ask for because of it.
+    // What the search asks for because of an open id that it has come to and that has not asked for others before the
+    // search. An id of the start has been a candidate from the beginning. Its namers have counted it, so it adds only
+    // what it asks for by itself. An id that becomes a candidate only now also adds what its namers ask for because of
+    // it.
     fn brought_by(&self, alloc: Global, id: Id) -> Result<Vec<Id>, AllocError>
+        requires { is_growing_start_in self.now.scope.now id ≡ false }
         ensures { IfOk result (λ found. found.items ≡ brought_by self.now.scope.now self.now.seen.now.keys id) }
     {
-        if self.scope.is_growing_start_id(id) {
-            return Ok(Vec::new(alloc));
-        }
         let mut found = self.asked_by_itself(alloc, id)?;
         if self.scope.is_start_id(id) {
             return Ok(found);
@@ -136,10 +134,14 @@ impl<'a> Asked<'a> {
         Ok(found)
     }
 
-    /// What the search asks for after the id: if it is open, what it brings in, and in any case its superseders.
+    /// What the search asks for after the id: if it is open, what it brings in, and in any case its superseders. An id
+    /// of the start that brings others in has asked for them before the search, and adds only its superseders.
     pub(crate) fn asked_after(&self, alloc: Global, id: Id) -> Result<Vec<Id>, AllocError>
         ensures { IfOk result (λ found. found.items ≡ next_asked self.now.scope.now self.now.seen.now.keys id) }
     {
+        if self.scope.is_growing_start_id(id) {
+            return self.scope.superseders(alloc, id);
+        }
         if !self.scope.is_open(id) {
             return self.scope.superseders(alloc, id);
         }

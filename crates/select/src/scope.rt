@@ -2,16 +2,15 @@
 ghost use Rattle.std.specs.Prelude.{◌≡◌, ◌&&◌, not, filter, option_copied, IfOk};
 ghost use Rattle.std.specs.List.{list_any};
 ghost use Rattle.std.specs.Str.{bytes_eq};
-ghost use Rattle.terms.specs.Lookups.{is_in, is_applied, is_supplied};
-ghost use Rattle.sysmods.specs.Choices.{has_ver};
-ghost use Rattle.select.specs.Scopes.{is_installable_in, is_open_in, received_vers, sups_in};
+ghost use Rattle.terms.specs.Lookups.{is_in, is_nil, is_applied, is_supplied, sysmod_of};
+ghost use Rattle.select.specs.Scopes.{is_installable_with, is_open_with, is_open_in, received_vers, sups_in};
 ghost use Rattle.select.specs.Growing.{installed_ver, namers_in};
 
 use fields::{Id, Selection, Srel};
 use std::alloc::{AllocError, Global};
 use std::marker::Model;
-use sysmods::{GlobalZone, has_ver, numbered_ver};
-use sysmods_values::Ver;
+use sysmods::{GlobalZone, numbered_ver};
+use sysmods_values::{Sysmod, Ver};
 use zones::Zone;
 
 /// What an APPLY chooses from, and by which operands.
@@ -31,6 +30,13 @@ impl<'a> Model for Selecting<'a> {
 }
 
 impl<'a> Selecting<'a> {
+    /// The SYSMOD, if it is received.
+    pub(crate) fn sysmod(&self, id: Id) -> Option<&'a Sysmod>
+        ensures { option_copied result ≡ sysmod_of self.now.global id }
+    {
+        self.global.get(id)
+    }
+
     /// The SYSMOD's `++VER`s, or none if it is not received.
     pub(crate) fn vers(&self, id: Id) -> &'a [Ver]
         ensures { result.now ≡ received_vers self.now id }
@@ -50,13 +56,6 @@ impl<'a> Selecting<'a> {
         ensures { result ≡ is_applied self.now.zone id }
     {
         self.zone.is_applied(id)
-    }
-
-    // Whether the SYSMOD is received and has a `++VER` for the zone's SREL.
-    fn has_ver(&self, id: Id) -> bool
-        ensures { result ≡ has_ver self.now.global self.now.zone.srel id }
-    {
-        has_ver(self.global, self.zone.srel(), id)
     }
 
     /// The `++VER` by which the SYSMOD was installed, if it is applied.
@@ -93,20 +92,36 @@ impl<'a> Selecting<'a> {
             .collect(alloc)
     }
 
-    // Whether the SYSMOD has a `++VER` for the zone's SREL, and is neither supplied nor deleted.
-    fn is_installable(&self, id: Id) -> bool
-        ensures { result ≡ is_installable_in self.now id }
+    // Whether a SYSMOD that has these `++VER`s has one for the zone's SREL, and is neither supplied nor deleted.
+    fn is_installable_with(&self, id: Id, vers: &[Ver]) -> bool
+        ensures { result ≡ is_installable_with self.now id vers.now }
     {
-        self.has_ver(id) && !self.zone.supplies(id) && !self.zone.is_deleted(id)
+        has_ver_among(vers, self.zone.srel())
+            && !self.zone.supplies(id)
+            && !self.zone.is_deleted(id)
+    }
+
+    /// Whether a SYSMOD that has these `++VER`s may be installed and is not excluded.
+    pub(crate) fn is_open_with(&self, id: Id, vers: &[Ver]) -> bool
+        ensures { result ≡ is_open_with self.now id vers.now }
+    {
+        let selection = self.selection;
+        self.is_installable_with(id, vers) && !selection.exclude.contains(id)
     }
 
     /// Whether the SYSMOD may be installed and is not excluded.
     pub(crate) fn is_open(&self, id: Id) -> bool
         ensures { result ≡ is_open_in self.now id }
     {
-        let selection = self.selection;
-        self.is_installable(id) && !selection.exclude.contains(id)
+        self.is_open_with(id, self.vers(id))
     }
+}
+
+// Whether one of the `++VER`s is for the SREL.
+fn has_ver_among(vers: &[Ver], srel: Srel) -> bool
+    ensures { result ≡ not (is_nil (filter (λ v. bytes_eq v.srel srel) vers.now)) }
+{
+    vers.iter().any(|ver| ver.srel == srel)
 }
 
 // Whether one of the `++VER`s is for the SREL and names the id in SUP.

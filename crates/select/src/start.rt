@@ -1,17 +1,16 @@
 //! What the mass choice, SELECT and GROUP name.
-ghost use Rattle.std.specs.Prelude.{◌≡◌, ◌||◌, ◌↔◌, false, filter, map, Contains, IsTrue, IfOk};
-ghost use Rattle.std.specs.Option.{option_map_or};
+ghost use Rattle.std.specs.Prelude.{◌≡◌, ◌||◌, ◌↔◌, ◌++◌, ◌∷◌, [], filter, map, Contains, IsTrue, IfOk, OnOk};
 ghost use Rattle.terms.specs.Types.{Id as AnId};
-ghost use Rattle.terms.specs.Lookups.{is_in, sysmod_of};
-ghost use Rattle.terms.specs.Candidates.{passes_filters};
-ghost use Rattle.select.specs.Scopes.{is_mass_chosen_in, is_start_in, is_growing_start_in, named_ids};
+ghost use Rattle.terms.specs.Global.{IsGlobal};
+ghost use Rattle.terms.specs.Lookups.{is_in};
+ghost use Rattle.select.specs.Scopes.{is_chosen_by_mass, starts, is_start_in, is_growing_start_in, named_ids};
 ghost use Rattle.select.specs.Growing.{brings_others};
 
 use crate::filters::{has_mass_choice, passes_filters};
 use crate::scope::Selecting;
 use fields::{Id, Selection};
 use std::alloc::{AllocError, Global};
-use sysmods::GlobalZone;
+use sysmods_values::Sysmod;
 
 /// Whether SELECT or GROUP names the id.
 pub(crate) fn is_named(selection: &Selection, id: Id) -> bool
@@ -28,29 +27,30 @@ pub(crate) fn brings_others(selection: &Selection, id: Id) -> bool
 }
 
 impl<'a> Selecting<'a> {
-    // Whether the id is received and its SYSMOD passes all filters.
-    fn passes_its_filters(&self, id: Id) -> bool
-        ensures { result ≡ option_map_or (passes_filters self.now.global self.now.zone self.now.selection)
-            (sysmod_of self.now.global id) false }
-    {
-        match self.global.get(id) {
-            Some(sysmod) => passes_filters(self.global, self.zone, self.selection, sysmod),
-            None => false,
-        }
-    }
-
     // Whether the command chooses by mass and the SYSMOD passes its filters.
-    fn is_mass_chosen(&self, id: Id) -> bool
-        ensures { result ≡ is_mass_chosen_in self.now id }
+    fn is_mass_chosen(&self, sysmod: &Sysmod) -> bool
+        ensures { result ≡ is_chosen_by_mass self.now sysmod.now }
     {
-        has_mass_choice(self.selection) && self.passes_its_filters(id)
+        has_mass_choice(self.selection)
+            && passes_filters(self.global, self.zone, self.selection, sysmod)
     }
 
-    /// Whether the search starts with the id: it is open, and the mass choice, SELECT or GROUP names it.
+    // Whether the search starts with this SYSMOD: it is open, and the mass choice, SELECT or GROUP names it.
+    fn is_start(&self, sysmod: &Sysmod) -> bool
+        ensures { result ≡ starts self.now sysmod.now }
+    {
+        self.is_open_with(sysmod.id, sysmod.vers.as_slice())
+            && (is_named(self.selection, sysmod.id) || self.is_mass_chosen(sysmod))
+    }
+
+    /// Whether the search starts with the id.
     pub(crate) fn is_start_id(&self, id: Id) -> bool
         ensures { result ≡ is_start_in self.now id }
     {
-        self.is_open(id) && (is_named(self.selection, id) || self.is_mass_chosen(id))
+        match self.sysmod(id) {
+            Some(sysmod) => self.is_start(sysmod),
+            None => false,
+        }
     }
 
     /// Whether the search starts with the id, and the id brings others in.
@@ -70,26 +70,28 @@ pub(crate) fn named_ids(alloc: Global, selection: &Selection) -> Result<Vec<Id>,
     Ok(ids)
 }
 
-// The ids of all received SYSMODs.
-fn received_ids(alloc: Global, global: &GlobalZone) -> Result<Vec<Id>, AllocError>
-    ensures { IfOk result (λ ids. ids.items ≡ map (λ s. s.id) global.now.sysmods) }
+// Adds the id of the SYSMOD, if the search starts with it.
+fn push_if_start(scope: &Selecting, sysmod: &Sysmod, ids: &mut Vec<Id>) -> Result<(), AllocError>
+    ensures { OnOk result (ids.new.items
+        ≡ ids.old.items ++ map (λ s. s.id) (filter (starts scope.now) (sysmod.now ∷ []))) }
 {
-    let mut ids = Vec::new(alloc);
-    for sysmod in global.sysmods() {
+    if scope.is_start(sysmod) {
         ids.push(sysmod.id)?;
     }
-    Ok(ids)
+    Ok(())
 }
 
-// A list that has all ids of the start: the named ones, or all received ones if the command chooses by mass.
-fn possible_start_ids(alloc: Global, scope: &Selecting) -> Result<Vec<Id>, AllocError>
-    ensures { IfOk result (λ ids. (x : AnId) → IsTrue (is_start_in scope.now x) → Contains ids.items x) }
+// The ids of the start among those of all received SYSMODs.
+fn received_start_ids(alloc: Global, scope: &Selecting) -> Result<Vec<Id>, AllocError>
+    ensures form { IsGlobal scope.now.global }
+    ensures start { IfOk result (λ start. start.items
+        ≡ map (λ s. s.id) (filter (starts scope.now) scope.now.global.sysmods)) }
 {
-    if has_mass_choice(scope.selection) {
-        received_ids(alloc, scope.global)
-    } else {
-        named_ids(alloc, scope.selection)
+    let mut ids = Vec::new(alloc);
+    for sysmod in scope.global.sysmods() {
+        push_if_start(scope, sysmod, &mut ids)?;
     }
+    Ok(ids)
 }
 
 // The ids of the start among these.
@@ -106,6 +108,9 @@ fn start_ids_among(alloc: Global, scope: &Selecting, ids: &[Id]) -> Result<Vec<I
 pub(crate) fn start_ids(alloc: Global, scope: &Selecting) -> Result<Vec<Id>, AllocError>
     ensures { IfOk result (λ start. (x : AnId) → Contains start.items x ↔ IsTrue (is_start_in scope.now x)) }
 {
-    let ids = possible_start_ids(alloc, scope)?;
+    if has_mass_choice(scope.selection) {
+        return received_start_ids(alloc, scope);
+    }
+    let ids = named_ids(alloc, scope.selection)?;
     start_ids_among(alloc, scope, ids.as_slice())
 }

@@ -10,7 +10,7 @@ pub returns-then-any_applied : goal.returns-then-any_applied
 returns-then-any_applied c = (
   λ on. forbidden_names c.args.view.now.vers.now.global.now (choice c.args.view.now.vers.now) c.args.view.now.dels.now
       c.args.view.now.zone.now c.args.id
-      (ap (list_any (is_applied (left_of c.args.view.now))) (sym c.npre.ensures) ∙ sym c.any_applied.ensures
+      (ap (list_any (is_applied (left_of c.args.view.now))) (sym c.requires.npre) ∙ sym c.any_applied.ensures
       ∙ c.if-any_applied.true),
   λ forbidden. c.if-any_applied.true,
 )
@@ -19,13 +19,13 @@ pub returns-else-any_applied : goal.returns-else-any_applied
 returns-else-any_applied c =
     let view = c.args.view.now in
     let g = view.vers.now.global.now in (
-      λ on. forbidden_listed g (choice view.vers.now) view.dels.now view.zone.now c.args.forbidders.now c.requires
+      λ on. forbidden_listed g (choice view.vers.now) view.dels.now view.zone.now c.args.forbidders.now c.requires.forbidders
           c.args.id (ap (list_any (is_applied (left_of view))) (sym c.listed.ensures)
           ∙ sym c.any_applied-else-any_applied.ensures ∙ on),
       λ forbidden. c.any_applied-else-any_applied.ensures ∙ ap (list_any (is_applied (left_of view)))
           c.listed.ensures
-          ∙ forbidden_else g (choice view.vers.now) view.dels.now view.zone.now c.args.forbidders.now c.requires
+          ∙ forbidden_else g (choice view.vers.now) view.dels.now view.zone.now c.args.forbidders.now c.requires.forbidders
           c.attest.ensures c.args.id
-          (ap (list_any (is_applied (left_of view))) (sym c.npre.ensures) ∙ sym c.any_applied.ensures
+          (ap (list_any (is_applied (left_of view))) (sym c.requires.npre) ∙ sym c.any_applied.ensures
           ∙ c.if-any_applied.false) forbidden,
     )

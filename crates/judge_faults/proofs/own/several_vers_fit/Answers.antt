@@ -7,6 +7,7 @@ use Rattle.std.proofs.lemmas.Bool.{leb-true, le-leb}
 use Rattle.terms.specs.Types.{Ver, Sysmod}
 use Rattle.terms.specs.Lookups.{is_in, sysmod_of}
 use Rattle.terms.specs.Choice.{fits}
+use Rattle.zones.specs.Scopes.{global_of}
 use Rattle.judge_faults.proofs.own.several_vers_fit.Goals as goal
 
 vers_among : (p : Ver → Bool) (o : Option Sysmod) → filter p (option_map_or (λ s. s.vers) o [])
@@ -26,6 +27,5 @@ returns c =
     let fit = filter (fits s.zone.now (is_in s.ids.now)) in
     let for : Ver → Bool = λ v. bytes_eq v.srel s.zone.now.srel in
     at_least 2 _ _ (c.fitting_count.ensures
-    ∙ ap (λ vs. length (fit (filter for vs))) c.vers_of.ensures
-    ∙ ap (λ vs. length (fit vs)) (vers_among for (sysmod_of c.global.result.now c.args.id))
-    ∙ ap (λ g. length (fit (option_map_or (λ r. filter for r.vers) (sysmod_of g c.args.id) []))) c.global.ensures)
+    ∙ ap (λ vs. length (fit (filter for vs))) c.requires
+    ∙ ap (λ vs. length (fit vs)) (vers_among for (sysmod_of (global_of s) c.args.id)))

@@ -1,6 +1,8 @@
-use Rattle.std.proofs.Common.{◌∙◌, ap, subst, sym}
+use Rattle.std.proofs.Common.{◌≡◌, ◌∙◌, [], Option, ap, subst, sym}
+use Rattle.std.specs.Option.{option_and_then, option_map_or}
 use Rattle.std.proofs.lemmas.Result.{on_ok_weaker}
 use Rattle.terms.specs.declared.codes.NeedKind.TheVariants.{Fmid, Pre, Req, Ifreq, HoldError, Orphan}
+use Rattle.terms.specs.Types.{Ver}
 use Rattle.terms.specs.Lookups.{IsRising, at_most_one}
 use Rattle.zones.specs.Gone.{left_of}
 use Rattle.zones.specs.Scopes.{setting_of}
@@ -10,8 +12,16 @@ use Rattle.judge_needs.proofs.needed.add_needs_of_candidate.Goals as goal
 
 pub add_open_needs-requires : goal.add_open_needs-requires
 add_open_needs-requires c =
-    subst IsRising (sym (one_of c.fmid-fmid.result c.as_slice.result.now c.as_slice.ensures))
-    (one_rises c.fmid-fmid.result)
+    subst IsRising (sym (one_of c.fmid_in-fmid.result c.as_slice.result.now c.as_slice.ensures))
+    (one_rises c.fmid_in-fmid.result)
+
+pub requisites_by_if-requires : goal.requisites_by_if-requires
+requisites_by_if-requires c =
+    c.ifs_in.ensures ∙ ap (λ (o : Option Ver). option_map_or (λ v. v.ifs) o []) c.ver-ver.ensures
+
+pub orphaned_requisites-requires : goal.orphaned_requisites-requires
+orphaned_requisites-requires c =
+    c.del_in.ensures ∙ ap (λ (o : Option Ver). option_map_or (λ v. v.del) o []) c.ver-ver.ensures
 
 pub returns : goal.returns
 returns c =
@@ -28,10 +38,13 @@ returns c =
     on_ok_weaker c.add_open_needs-6.result
     (λ orphan. all_parts s c.args.survivors.now left x none fmid pre req ifreq hold c.add_open_needs-6.new.needs.items
     (subst (λ l. AddsPart x (IsOfKind left b Fmid l) none fmid)
-    (one_of c.fmid-fmid.result c.as_slice.result.now c.as_slice.ensures ∙ ap at_most_one c.fmid-fmid.ensures)
+    (one_of c.fmid_in-fmid.result c.as_slice.result.now c.as_slice.ensures ∙ ap at_most_one (c.fmid_in-fmid.ensures
+    ∙ ap (λ (o : Option Ver). option_and_then (λ v. v.fmid) o) c.ver-ver.ensures))
     c.in_ok-add_open_needs.ensures)
-    (subst (λ l. AddsPart x (IsOfKind left b Pre l) fmid pre) c.pre.ensures.items c.in_ok-add_open_needs-2.ensures)
-    (subst (λ l. AddsPart x (IsOfKind left b Req l) pre req) c.req.ensures.items c.in_ok-add_open_needs-3.ensures)
+    (subst (λ l. AddsPart x (IsOfKind left b Pre l) fmid pre) (c.pre_in.ensures.items
+    ∙ ap (λ (o : Option Ver). option_map_or (λ v. v.pre) o []) c.ver-ver.ensures) c.in_ok-add_open_needs-2.ensures)
+    (subst (λ l. AddsPart x (IsOfKind left b Req l) pre req) (c.req_in.ensures.items
+    ∙ ap (λ (o : Option Ver). option_map_or (λ v. v.req) o []) c.ver-ver.ensures) c.in_ok-add_open_needs-3.ensures)
     (same_asked left b Ifreq x _ _ _ _ (rw c.as_slice-2.ensures.items c.in_ok-by_ifs.ensures)
     c.in_ok-add_open_needs-4.ensures)
     (same_asked left b HoldError x _ _ _ _ (rw c.as_slice-3.ensures.items c.in_ok-reasons.ensures)

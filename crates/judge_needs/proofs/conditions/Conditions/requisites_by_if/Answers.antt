@@ -4,7 +4,7 @@ use Rattle.terms.specs.Types.{Id}
 use Rattle.terms.specs.Lookups.{is_applied, is_function, is_in}
 use Rattle.terms.specs.Over.{chain}
 use Rattle.terms.specs.Deleted.{deletions, zone_less}
-use Rattle.terms.specs.Conditions.{if_needed, if_reqs}
+use Rattle.terms.specs.Conditions.{if_needed, if_reqs, reqs_where}
 use Rattle.judge_needs.specs.declared.stated.StatedRequisite.{StatedRequisite}
 use Rattle.judge_needs.specs.Conditions.{is_there}
 use Rattle.zones.specs.Scopes.{choice_of}
@@ -27,7 +27,7 @@ returns c =
     ∙ c.in_ok-dels.ensures in
     subst (λ l. (z : Id) → Contains c.from_vec.result z ↔ Contains l z)
     (c.in_ok-extend_from_slice.ensures.items
-    ∙ ap (λ l. l ++ c.as_slice.result.now) c.in_ok-found.ensures
+    ∙ ap (λ l. l ++ c.as_slice.result.now) (c.in_ok-found.ensures ∙ ap (reqs_where (is_there left ids)) c.requires)
     ∙ ap (λ l. own ++ l) (c.as_slice.ensures.value ∙ c.in_ok-stated.ensures)
     ∙ ap (λ l. own ++ cond (is_function g x)
     (map (λ (r : StatedRequisite). r.id) (filter (λ r. is_applied left r.by) l)) [])

@@ -1,5 +1,5 @@
 use Rattle.judge_faults.specs.Deletes.{ArePassing}
-use Rattle.judge_faults.proofs.deleted.faults_with_deletes.Given as goal
+use Rattle.judge_faults.proofs.deleted.passing_ids.Given as goal
 
 abbrev pub invariant-loop-i : goal.invariant-loop-i
 invariant-loop-i l = ArePassing l.ids l.faults l.i l.passing.items
