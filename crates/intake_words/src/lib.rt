@@ -1,7 +1,7 @@
 //! The words of `smpe-intake`: what its command line asks for, how a run ends without output, and what is told of a
-//! run. Nothing here reads or writes a file. If `clap` takes the words, `read_options` returns the values that it found,
-//! each of its form. It returns `clap`'s error only if the contract names that fault of the words. Every call that
-//! allocates fails with `AllocError`, or a fault that says so, if memory runs out.
+//! run. Nothing here reads or writes a file. If `clap` takes the words, `read_options` returns the values that it
+//! found, each of its form. It returns `clap`'s error only if the contract names that fault of the words. Every call
+//! that allocates fails with `AllocError`, or a fault that says so, if memory runs out.
 #![tactic(auto)]
 
 mod command_line;

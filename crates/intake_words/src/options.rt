@@ -202,8 +202,8 @@ fn check_some_file(files: &[String]) -> Result<(), WordsFault>
     }
 }
 
-// The SYSLIBs of all --syslib, each with its DISTLIB. Returns `BadOperand` if a value is not DISTLIB=SYSLIB, `Memory` if
-// memory runs out.
+// The SYSLIBs of all --syslib, each with its DISTLIB. Returns `BadOperand` if a value is not DISTLIB=SYSLIB, `Memory`
+// if memory runs out.
 fn syslib_options(alloc: Global, found: &ArgMatches<'_>) -> Result<Vec<Syslib>, WordsFault>
     ensures { IfErr result IsOwn }
 {

@@ -244,8 +244,8 @@ fn text_summary(
     Ok(lines)
 }
 
-// Appends a line for each SYSMOD of which it is not sure that it can be installed, and after `MOST_UNSURE_LINES` one for
-// all others.
+// Appends a line for each SYSMOD of which it is not sure that it can be installed, and after `MOST_UNSURE_LINES` one
+// for all others.
 fn append_unsure_lines(
     alloc: Global,
     unsure: &[Unsure],

@@ -63,8 +63,8 @@ fn mark_against(
     Ok(())
 }
 
-// Marks each clash of the claim with one of the others, on both sides. If all others are marked, the first clash settles
-// the rest, because both sides of each further one are marked.
+// Marks each clash of the claim with one of the others, on both sides. If all others are marked, the first clash
+// settles the rest, because both sides of each further one are marked.
 fn mark_until_settled(
     alloc: Global,
     overs: &mut Overs<'_, '_>,

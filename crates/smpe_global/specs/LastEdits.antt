@@ -15,8 +15,8 @@ abbrev pub HasLater : List GlobalEdit → Id → Type 0
 HasLater [] x = ⊥
 HasLater (e ∷ edits) x = Replaces x e ⊎ HasLater edits x
 
--- Later edits replace the sources of the SYSMODs of `later`. Those of `now` are these and the edit's own, if the edit is
--- the last of its SYSMOD. If not, a later one replaces what it replaces.
+-- Later edits replace the sources of the SYSMODs of `later`. Those of `now` are these and the edit's own, if the edit
+-- is the last of its SYSMOD. If not, a later one replaces what it replaces.
 abbrev pub IsLast : GlobalEdit → List Id → List Id → Bool → Type 0
 IsLast e later now true = All (λ x. Replaces x e ⊎ Contains later x) now
 IsLast e later now false = (now ≡ later) × ((x : Id) × Replaces x e × Contains later x)

@@ -1,6 +1,6 @@
 //! What is wrong with a word of the command line, or with a card of a file: which option has which value and what it
-//! should look like, and which card, with the word of it that is at fault and what to write in its place. The crate makes
-//! texts, and no contract says which. Every call that makes one returns an error if memory runs out.
+//! should look like, and which card, with the word of it that is at fault and what to write in its place. The crate
+//! makes texts, and no contract says which. Every call that makes one returns an error if memory runs out.
 #![tactic(auto)]
 
 mod card;

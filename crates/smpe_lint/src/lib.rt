@@ -1,8 +1,8 @@
 //! What `smpe lint` answers about the files of a service stream. The files are carried as for CHECK, each SYSMOD is
 //! received into an empty global zone, and `stream` says what breaks the rules there. All is told at once: faults of
 //! statements, SYSMODs that RECEIVE refuses, broken rules, and remarks. `lint_files` promises that its status is 0 or 4
-//! only if each SYSMOD of the files is carried, RECEIVE takes all that is carried, and this is a clean stream. Its texts have no
-//! contracts. Every call that allocates returns `AllocError` if memory runs out.
+//! only if each SYSMOD of the files is carried, RECEIVE takes all that is carried, and this is a clean stream. Its
+//! texts have no contracts. Every call that allocates returns `AllocError` if memory runs out.
 #![tactic(auto)]
 
 mod answer;

@@ -147,8 +147,8 @@ impl ProgramHost<'_> {
     }
 
     // Keeps a copy of a file of records, for the hints about its records. If memory runs out, these hints are left out.
-    // If the file does not end with a whole record, it is refused by RECEIVE, and as a command file. Usually it is typed
-    // text, so a line on standard error says what to do.
+    // If the file does not end with a whole record, it is refused by RECEIVE, and as a command file. Usually it is
+    // typed text, so a line on standard error says what to do.
     fn keep_records(&mut self, name: &str, bytes: &[u8]) {
         if !has_whole_records(bytes) {
             let _ = eprintln!(self.rt;

@@ -1,7 +1,7 @@
 //! `smpe`: defines a zone of a database, runs a job over it, lists a zone, migrates the database to its schema, tells
 //! what a service set would do without one and how to mend it, or lints a service stream. `smpe_command::command` does
-//! all of this. Here is the input and output for which it asks, which is proved safe, and what is said on standard error
-//! besides its lines.
+//! all of this. Here is the input and output for which it asks, which is proved safe, and what is said on standard
+//! error besides its lines.
 #![tactic(auto)]
 
 mod command_line;

@@ -4,8 +4,8 @@ use std::io::Write;
 use std::{fs, io};
 
 /// Creates the file, writes the bytes into it, and has the system write them to the disk. The file is created
-/// exclusively: no link is followed, and nothing that exists is opened. Returns `AlreadyExists` if the name is taken. If
-/// the bytes cannot be written, no file is left.
+/// exclusively: no link is followed, and nothing that exists is opened. Returns `AlreadyExists` if the name is taken.
+/// If the bytes cannot be written, no file is left.
 pub(crate) fn write_new_file(rt: &HostRuntime, name: &str, bytes: &[u8]) -> io::Result<()> {
     let file = OpenOptions::new()
         .write(true)

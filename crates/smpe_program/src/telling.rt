@@ -73,8 +73,8 @@ pub(crate) fn write_hints(
     }
 }
 
-// The lines about the report, the fault, a file that was not read or not created, and a database that was made. Here and
-// below, an error means that memory runs out.
+// The lines about the report, the fault, a file that was not read or not created, and a database that was made. Here
+// and below, an error means that memory runs out.
 fn hint_lines(
     rt: &HostRuntime,
     words: &[Vec<u8>],

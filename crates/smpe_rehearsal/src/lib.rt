@@ -1,10 +1,10 @@
-//! A rehearsal: what a service set would do in an empty system, or in a copy of a database. Both are kept in memory, and
-//! gone afterwards. `rehearse_in_empty_system` and `run_over_bytes` run the jobs of a set, and report them. A package of
-//! a shop's files is first given a source that nothing else in the system has (`prepare_package`). Then
-//! `ask_about_package` runs the jobs that receive it and ask about its SYSMODs, and `rehearse_package` only receives it,
-//! and loads the zones that an install then looks at. The law (`laws`): those are the zones of the
-//! state to which the machine's RECEIVE leads. Nothing here knows the surroundings of the program: the bytes of
-//! a database are given. No contract says when memory runs out.
+//! A rehearsal: what a service set would do in an empty system, or in a copy of a database. Both are kept in memory,
+//! and gone afterwards. `rehearse_in_empty_system` and `run_over_bytes` run the jobs of a set, and report them. A
+//! package of a shop's files is first given a source that nothing else in the system has (`prepare_package`). Then
+//! `ask_about_package` runs the jobs that receive it and ask about its SYSMODs, and `rehearse_package` only receives
+//! it, and loads the zones that an install then looks at. The law (`laws`): those are the zones of the state to which
+//! the machine's RECEIVE leads. Nothing here knows the surroundings of the program: the bytes of a database are given.
+//! No contract says when memory runs out.
 #![tactic(auto)]
 
 mod asking;

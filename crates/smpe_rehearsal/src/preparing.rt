@@ -1,5 +1,5 @@
-//! The jobs that rehearse a package are made. The package gets a source that nothing else in the system has, so that the
-//! question chooses just its SYSMODs.
+//! The jobs that rehearse a package are made. The package gets a source that nothing else in the system has, so that
+//! the question chooses just its SYSMODs.
 ghost use Rattle.std.specs.Prelude.{◌≡◌, ◌≤◌, IfOk, length};
 ghost use Rattle.smpe_rehearsal.specs.Prepared.{IsNotCarried, Prepares, PreparesBeside, package_commands, zone_of};
 ghost use Rattle.smpe_rehearsal.specs.ServiceSet.{receive_records};
@@ -25,9 +25,9 @@ pub fn fault_of<'a>(fault: PackageFault) -> Fault<'a>
     }
 }
 
-/// Makes the jobs that rehearse the package in the system. Returns `NotCarried` if RECEIVE would not read the records as
-/// the items, `NoSource` if each source that is kept for checks is used, and `Job` if memory runs out or the database
-/// cannot be read.
+/// Makes the jobs that rehearse the package in the system. Returns `NotCarried` if RECEIVE would not read the records
+/// as the items, `NoSource` if each source that is kept for checks is used, and `Job` if memory runs out or the
+/// database cannot be read.
 pub fn prepare_package<'a>(
     alloc: Global,
     system: &System,

@@ -1,9 +1,9 @@
 //! What `smpe verify` finds in a store: whether its zones are closed. `verify` loads the global zone and then one zone
 //! after the other, and finds the first rule of a closed zone that one of them breaks, or counts what it has seen.
 //! `describe_verification` puts that into words, with the program's status. `first_breach` is the test of a single
-//! zone. If all zones are closed, the tables stand for a state, whatever they hold. There are two laws: the status is 0 exactly if all zones are closed (`verified_is_closed`), and a breach that
-//! is told is one (`told_is_broken`). Every call that allocates returns an error if memory runs out; no contract says
-//! when.
+//! zone. If all zones are closed, the tables stand for a state, whatever they hold. There are two laws: the status is 0
+//! exactly if all zones are closed (`verified_is_closed`), and a breach that is told is one (`told_is_broken`). Every
+//! call that allocates returns an error if memory runs out; no contract says when.
 #![tactic(auto)]
 
 mod breach;
