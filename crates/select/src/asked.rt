@@ -264,7 +264,9 @@ impl<'a> Asked<'a> {
     {
         let vers = self.fitting_among(alloc, vers_in(sysmod))?;
         let mut ids = self.required_by(alloc, vers.as_slice())?;
-        let stated = self.scope.stated_requisites(alloc, id, is_function(sysmod))?;
+        let stated = self
+            .scope
+            .stated_requisites(alloc, id, is_function(sysmod))?;
         ids.extend_from_slice(stated.as_slice())?;
         let reasons = self.scope.wanted_reasons(alloc, id)?;
         ids.extend_from_slice(reasons.as_slice())?;
